@@ -1,0 +1,134 @@
+// The key of an item, and its hash.
+ghost use Rattle.std.specs.Prelude.{◌≡◌, ◌<◌, ◌≤◌, ◌⊎◌, ◌↔◌, length, nat_eq, IfOk, IfErr, OnOk, IsErrOf, fold};
+ghost use Rattle.std.specs.Hash as fed;
+ghost use Rattle.std.specs.Cmp.Lexicographic.{pointwise, nat_list_eq_equiv};
+ghost use Rattle.std.specs.Cmp.{partial_equiv_from_equiv};
+ghost use Rattle.hc_types.specs.Fnv.{fnv_1a};
+ghost use Rattle.hc_types.specs.KeyHash.{fnv_respects_eq};
+
+use crate::refusal::Refusal;
+use bytes::Bytes;
+use std::alloc::{AllocError, Allocator, Global};
+use std::hash::{Hash, Hasher};
+use std::marker::Model;
+
+/// The most bytes of a key.
+pub const KEY_MAX: usize = 255;
+
+/// The key of an item: 1 to 255 bytes, which its copies share. Contracts see it as its bytes.
+///
+/// It keeps its hash, so that no map that holds it feeds the bytes to a hasher.
+#[derive(Drop)]
+pub struct Key<A: Allocator = Global> {
+    bytes: Bytes<A>,
+    hash: u64,
+}
+
+impl<A: Allocator> Model for Key<A> {
+    ghost use Rattle.std.specs.Prelude.{◌≡◌, ◌≤◌, List, ℕ, length};
+    ghost use Rattle.hc_types.specs.Fnv.{fnv_1a};
+
+    ghost Value = { List ℕ };
+
+    ghost view = { λ k. k.bytes };
+
+    ghost invariant = { λ k. (1 ≤ length k.bytes) × (length k.bytes ≤ 255) × (k.hash ≡ fnv_1a k.bytes) };
+}
+
+impl<A: Allocator + Clone> Key<A> {
+    /// The key of these bytes, which are copied once. Refused with `KeyEmpty` for no byte and with `KeyTooLong` for
+    /// more than 255, whether there is memory or not.
+    pub fn new(alloc: A, bytes: &[u8]) -> Result<Key<A>, Refusal>
+        ensures ok { IfOk result (λ key. key ≡ bytes.now) }
+        ensures fits { OnOk result ((1 ≤ length bytes.now) × (length bytes.now ≤ 255)) }
+        ensures empty { IsErrOf result Refusal.KeyEmpty ↔ (length bytes.now ≡ 0) }
+        ensures too_long { IsErrOf result Refusal.KeyTooLong ↔ (255 < length bytes.now) }
+        ensures others { IfErr result (λ refusal. (refusal ≡ Refusal.KeyEmpty) ⊎ (refusal ≡ Refusal.KeyTooLong) ⊎ (refusal ≡ Refusal.NoMemory)) }
+    {
+        if bytes.is_empty() {
+            return Err(Refusal::KeyEmpty);
+        }
+        if bytes.len() > KEY_MAX {
+            return Err(Refusal::KeyTooLong);
+        }
+        let hash = hash_of(bytes);
+        match Bytes::copy_from_slice(alloc, bytes) {
+            Ok(bytes) => Ok(Key { bytes, hash }),
+            Err(_) => Err(Refusal::NoMemory),
+        }
+    }
+}
+
+impl<A: Allocator> Key<A> {
+    /// How many bytes it has.
+    #[allow(clippy::len_without_is_empty)]
+    pub fn len(&self) -> usize
+        ensures value { result ≡ length self.now }
+        ensures least { 1 ≤ result }
+        ensures most { result ≤ 255 }
+    {
+        let _hash = self.hash;
+        self.bytes.len()
+    }
+
+    /// Its bytes.
+    pub fn as_slice(&self) -> &[u8]
+        ensures { result.now ≡ self.now }
+    {
+        self.bytes.as_slice()
+    }
+}
+
+/// The full hash of the key: FNV-1a in 64 bits, which the key keeps.
+#[must_use]
+pub fn hash<A: Allocator>(key: &Key<A>) -> u64
+    ensures { result ≡ fnv_1a key.now }
+{
+    key.hash
+}
+
+/// FNV-1a in 64 bits (Fowler, Noll and Vo).
+fn hash_of(bytes: &[u8]) -> u64
+    ensures { result ≡ fnv_1a bytes.now }
+{
+    let mut hash: u64 = 14_695_981_039_346_656_037;
+    for byte in bytes {
+        hash = (hash ^ u64::from(*byte)).wrapping_mul(1_099_511_628_211);
+    }
+    hash
+}
+
+impl<A: Allocator> Clone for Key<A> {
+    ghost is_clone = { λ key copy. copy ≡ key };
+
+    fn clone(&self) -> Result<Key<A>, AllocError> {
+        Ok(Key {
+            bytes: self.bytes.clone()?,
+            hash: self.hash,
+        })
+    }
+}
+
+impl<A: Allocator> PartialEq for Key<A> {
+    ghost eq = { pointwise nat_eq };
+
+    ghost laws = { partial_equiv_from_equiv nat_list_eq_equiv };
+
+    fn eq(&self, other: &Self) -> bool {
+        self.bytes == other.bytes
+    }
+}
+
+impl<A: Allocator> Eq for Key<A> {
+    ghost laws = { nat_list_eq_equiv };
+}
+
+impl<A: Allocator> Hash for Key<A> {
+    ghost hash_input = { λ key. fed.u64 (fnv_1a key) };
+
+    ghost respects_eq = { fnv_respects_eq };
+
+    fn hash<H: Hasher>(&self, state: &mut H) {
+        state.write_u64(self.hash);
+    }
+}

@@ -1,0 +1,18 @@
+//! The words of the cache: keys and their hash, entries, the configuration, what a call is refused with, and what is
+//! forgotten and why.
+#![tactic(auto)]
+
+mod config;
+mod entry;
+mod key;
+mod loss;
+mod refusal;
+
+pub use config::{Config, PoolSize};
+pub use entry::{Entry, VALUE_MAX, charge};
+pub use key::{KEY_MAX, Key, hash};
+pub use loss::{Cause, Scope, Why};
+pub use refusal::Refusal;
+
+#[cfg(test)]
+mod tests;
