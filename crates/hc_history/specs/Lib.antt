@@ -1,0 +1,6 @@
+-- What a log says, and what it comes to.
+pub mod Note
+pub mod Seen
+pub mod Told
+pub mod Tally
+pub mod Stats

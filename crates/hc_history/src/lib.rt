@@ -1,13 +1,13 @@
-// A library with one function.
+//! The log: its notes, and whom they are told.
 #![tactic(auto)]
 
-ghost use Rattle.std.specs.Prelude.{◌≡◌};
-ghost use Rattle.hc_history.specs.Echo.{echo_of};
+mod note;
+mod notes;
+mod stats;
 
-// The `ensures` clause is the contract: what `echo` returns is `echo_of` of its argument, a definition
-// in `specs/Echo.antt`, which a caller's clause can cite too.
-pub fn echo(x: usize) -> usize
-    ensures { result ≡ echo_of x }
-{
-    x
-}
+pub use note::{Note, Op, Reply, Said};
+pub use notes::{Kept, Notes, Silent};
+pub use stats::Stats;
+
+#[cfg(test)]
+mod tests;

@@ -1,0 +1,12 @@
+-- A log that may not be kept.
+use Rattle.std.specs.Prelude.{List, ◌++◌, Option, Some, None}
+
+-- the log with this part after it, where it is kept
+abbrev pub told_more : {T : Type 0} → Option (List T) → List T → Option (List T)
+told_more None part = None
+told_more (Some log) part = Some (log ++ part)
+
+-- a note that is made only where the log is kept
+abbrev pub where_kept : {T : Type 0} → Option (List T) → T → Option T
+where_kept None note = None
+where_kept (Some log) note = Some note
