@@ -1,0 +1,9 @@
+-- What each call of the core does.
+pub mod Item
+pub mod Cache
+pub mod Pool
+pub mod Sound
+pub mod Refused
+pub mod Answers
+pub mod Steps
+pub mod Ready

@@ -1,13 +1,15 @@
-// A library with one function.
+//! The core of the cache: each call does one step, tells its notes, and answers.
 #![tactic(auto)]
 
-ghost use Rattle.std.specs.Prelude.{◌≡◌};
-ghost use Rattle.hc_core.specs.Echo.{echo_of};
+mod answers;
+mod cache;
+mod item;
+mod plans;
+mod pool;
+mod tells;
 
-// The `ensures` clause is the contract: what `echo` returns is `echo_of` of its argument, a definition
-// in `specs/Echo.antt`, which a caller's clause can cite too.
-pub fn echo(x: usize) -> usize
-    ensures { result ≡ echo_of x }
-{
-    x
-}
+pub use answers::{Found, Removed, Unset};
+pub use cache::Core;
+
+#[cfg(test)]
+mod tests;
