@@ -4,3 +4,4 @@ pub mod Numbers
 pub mod Pages
 pub mod PutEntries
 pub mod Room
+pub mod Zeros

@@ -8,8 +8,11 @@ ghost use Rattle.hc_bighash.specs.Reading.{Gives, key_at, entry_at, entries_at, 
 use crate::fields::{take_part, take_u8, take_u16, take_u64};
 use crate::read_error::ReadError;
 use bytes::Bytes;
-use hc_types::{Entry, Key};
+use hc_types::{Entry, Key, hash};
 use std::alloc::{AllocError, Allocator};
+
+/// The fewest bytes of an entry.
+const LEAST_ENTRY: usize = 13;
 
 /// The entry at the front.
 #[tactic(auto, unfolding(crate::specs::Reading::entry_at))]
@@ -49,7 +52,8 @@ fn take_entries<A: Allocator>(
 ) -> Result<Vec<Entry<A>, A>, ReadError>
     ensures { Gives (λ entries. (entries_of entries.items, rest.new)) result (entries_at count rest.old) }
 {
-    let mut entries = Vec::new(alloc);
+    let most = (count as usize).min(rest.len() / LEAST_ENTRY);
+    let mut entries = Vec::with_capacity(alloc, most)?;
     for _ in 0..count {
         let entry = take_entry(rest)?;
         entries.push(entry)?;
@@ -76,13 +80,25 @@ fn keys_differ<A: Allocator>(entries: &[Entry<A>]) -> bool
 fn has_key<A: Allocator>(entries: &[Entry<A>], key: &Key<A>) -> bool
     ensures { result ≡ list_any (λ other. pointwise nat_eq other.key key.now) entries.now }
 {
-    entries.iter().any(|entry| entry.key == *key)
+    entries.iter().any(|entry| is_same(&entry.key, key))
+}
+
+/// Whether two keys are the same. Their hashes tell most of them apart.
+#[tactic(auto, using(crate::proofs::Distinct::other_hash))]
+fn is_same<A: Allocator>(one: &Key<A>, other: &Key<A>) -> bool
+    ensures { result ≡ pointwise nat_eq one.now other.now }
+{
+    hash(one) == hash(other) && one == other
 }
 
 fn is_zero(bytes: &[u8]) -> bool
     ensures { result ≡ list_all (λ byte. byte == 0) bytes.now }
 {
-    bytes.iter().all(|byte| *byte == 0)
+    let mut seen = 0;
+    for byte in bytes {
+        seen |= *byte;
+    }
+    seen == 0
 }
 
 /// The bytes that are used, behind the two numbers.

@@ -1,5 +1,5 @@
 // A device that fails once.
-ghost use Rattle.std.specs.Prelude.{◌≡◌, ◌+◌, ◌-◌, ◌<◌, ◌≤◌, ◌⊎◌, ◌^◌, ◌==◌, if◌then◌else◌, ℕ, Option, Some, None, IfOk, IfSome, IfErr, OnOk, IsErrOf};
+ghost use Rattle.std.specs.Prelude.{◌≡◌, ◌+◌, ◌-◌, ◌<◌, ◌^◌, ◌==◌, ℕ, Option, Some, None, IfOk, IfSome, OnOk, IsErrOf};
 ghost use Rattle.hc_flash.specs.Answers.{failures_in};
 ghost use Rattle.hc_flash.specs.Devices.{without};
 

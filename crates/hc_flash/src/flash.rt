@@ -1,5 +1,5 @@
 // What a paged device is.
-ghost use Rattle.std.specs.Prelude.{◌≡◌, ◌+◌, ◌^◌, ℕ, List, Option, Some, None, IfOk, IfSome, OnOk, IsErrOf};
+ghost use Rattle.std.specs.Prelude.{◌≡◌, ◌+◌, ℕ, List, Option, Some, None, IfOk, IfSome, OnOk, IsErrOf};
 ghost use Rattle.hc_flash.specs.Answers.{failures_in};
 ghost use Rattle.hc_flash.specs.declared.flash.FlashError.TheVariants.{NoMemory};
 

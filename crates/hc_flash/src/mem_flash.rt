@@ -1,5 +1,5 @@
 // A device in memory.
-ghost use Rattle.std.specs.Prelude.{◌≡◌, ◌+◌, ◌<◌, ◌≤◌, ◌⊎◌, ◌^◌, ℕ, Some, None, IfOk, IsOk, IfSome, OnOk, IsErrOf, length};
+ghost use Rattle.std.specs.Prelude.{◌≡◌, ◌+◌, ◌<◌, ◌≤◌, ◌⊎◌, ℕ, Some, None, IfOk, OnOk, IsErrOf, length};
 ghost use Rattle.hc_flash.specs.Answers.{failures_in};
 ghost use Rattle.hc_flash.specs.Devices.{held_by};
 
