@@ -136,7 +136,7 @@ fn read_page<A: Allocator>(
 }
 
 /// The entries of this page, the oldest first, or `None` where these bytes are no page of this size. The entries share
-/// the page: no key and no value is copied.
+/// the page: no key and no value is copied, and the page stays in memory as long as one of them does.
 pub fn decode_shared<A: Allocator>(
     alloc: A,
     page: &Bytes<A>,
