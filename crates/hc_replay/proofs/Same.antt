@@ -8,8 +8,8 @@ use Rattle.hc_replay.specs.declared.state.State.TheVariants.{Bare, Sized, Runnin
 use Rattle.hc_replay.specs.Lines.{lines_of}
 use Rattle.hc_replay.specs.Grammar.{Line, Skipped, Says, Fault, Pool, NoFlash, Do, line_of}
 use Rattle.hc_replay.specs.Moves.{move}
-use Rattle.hc_replay.specs.Texts.{line_text, refusal_text, fault_text}
-use Rattle.hc_replay.specs.Trace.{Trace, Runs, Refused, Steps, steps_line, steps_from, fits, trace_line, trace_from, empty_cache, step_text, steps_text, after_steps, ending, onto, run_output, trace_output, output_of}
+use Rattle.hc_replay.specs.Texts.{line_text, refusal_text}
+use Rattle.hc_replay.specs.Trace.{Runs, Refused, steps_line, steps_from, fits, trace_line, trace_from, empty_cache, step_text, steps_text, after_steps, ending, onto, run_output, trace_output, output_of}
 use Rattle.hc_replay.specs.Machine.{turned, after_turn, output_from, output_after, stops, goes}
 
 onto-onto : (a b : List ℕ) (output : List ℕ × ℕ) → onto a (onto b output) ≡ onto (a ++ b) output

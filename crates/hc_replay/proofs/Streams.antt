@@ -1,5 +1,5 @@
 -- What was written so far, and what is left to write.
-use Rattle.std.proofs.Common.{◌≡◌, ℕ, ◌+◌, ◌<◌, ◌≤◌, List, [], ◌∷◌, ◌++◌, length, Bool, true, false, ◌==◌, nat_lt, if◌then◌else◌, Option, None, Some, refl, sym, ◌∙◌, ap, arith, append_assoc, append-nil, length-append}
+use Rattle.std.proofs.Common.{◌≡◌, ℕ, ◌+◌, ◌<◌, List, [], ◌∷◌, ◌++◌, length, Bool, true, false, ◌==◌, nat_lt, if◌then◌else◌, Option, None, Some, refl, sym, ◌∙◌, ap, arith, append_assoc, append-nil, length-append}
 use Rattle.std.proofs.lemmas.Bool.{lt-ltb}
 use Rattle.std.proofs.lemmas.Grind.{common_steps}
 use Rattle.std.proofs.KnownBytes.{Appends-nil, Appends-trans, Consumes-nil, Consumes-trans, Keeps-refl, append_known-grown}
@@ -7,10 +7,9 @@ use Rattle.std.specs.Io.KnownBytes.{Appends, Consumes, IsAtEnd, append_known}
 use Rattle.hc_replay.specs.declared.state.State.{State}
 use Rattle.hc_replay.specs.declared.state.State.TheVariants.{Bare}
 use Rattle.hc_replay.specs.Lines.{onto_first, lines_of, Lacks}
-use Rattle.hc_replay.specs.Grammar.{Fault, line_of}
 use Rattle.hc_replay.specs.Texts.{fault_text}
 use Rattle.hc_replay.specs.Trace.{onto, output_of, Answers}
-use Rattle.hc_replay.specs.Machine.{stops, turned, turn_of, ended, after_turn, output_from, output_after, Leads, Ends}
+use Rattle.hc_replay.specs.Machine.{stops, turn_of, ended, after_turn, output_from, output_after, Leads, Ends}
 use Rattle.hc_replay.proofs.Parts.{lacks-append, lines-ended}
 use Rattle.hc_replay.proofs.Same.{whole-same}
 

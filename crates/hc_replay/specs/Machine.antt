@@ -1,5 +1,5 @@
 -- The same one line after another: where a trace stands, and what comes of its next line.
-use Rattle.std.specs.Prelude.{◌≡◌, ℕ, ◌+◌, Bool, true, false, List, [], ◌∷◌, ◌++◌, Option, Some, None, if◌then◌else◌}
+use Rattle.std.specs.Prelude.{◌≡◌, ℕ, ◌+◌, Bool, true, false, List, [], ◌∷◌, ◌++◌, Option, None, if◌then◌else◌}
 use Rattle.std.specs.Io.KnownBytes.{Appends}
 use Rattle.hc_types.specs.declared.refusal.Refusal.TheVariants.{BadPool}
 use Rattle.hc_replay.specs.declared.state.State.{State}

@@ -9,7 +9,7 @@ use Rattle.hc_history.specs.Stats.{counts_of}
 use Rattle.hc_core.specs.Cache.{Cache}
 use Rattle.hc_replay.specs.Lines.{lines_of}
 use Rattle.hc_replay.specs.Steps.{Step}
-use Rattle.hc_replay.specs.Grammar.{Line, Skipped, Says, Fault, Pool, NoFlash, Do, line_of}
+use Rattle.hc_replay.specs.Grammar.{Line, Skipped, Says, Pool, NoFlash, Do, line_of}
 use Rattle.hc_replay.specs.Moves.{Moved, move}
 use Rattle.hc_replay.specs.Texts.{line_text, answer_text, refusal_text, losses_text, stats_text, verdict_text, fault_text}
 

@@ -1,4 +1,4 @@
-use Rattle.std.proofs.Common.{◌<◌, ◌++◌, ◌∷◌, [], length, ap, ◌∙◌, arith, length-append}
+use Rattle.std.proofs.Common.{◌<◌, ◌++◌, ◌∷◌, length, ap, ◌∙◌, arith, length-append}
 use Rattle.hc_replay.proofs.Parts.{lacks-append}
 use Rattle.hc_replay.proofs.Streams.{leads-line, leads-fault, leads-long}
 use Rattle.hc_replay.proofs.replay.take_chunk.Goals as goal
