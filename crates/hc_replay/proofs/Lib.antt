@@ -3,3 +3,5 @@ pub mod Parts
 pub mod Orders
 pub mod Same
 pub mod Streams
+pub mod Values
+pub mod Logs

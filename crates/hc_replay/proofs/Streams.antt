@@ -150,14 +150,6 @@ written (Some x) None c out text h w = absurd h
 written (Some x) (Some y) None out text h w = absurd w
 written (Some x) (Some y) (Some z) out text h w = append-nil z ∙ w ∙ h
 
-pub answers-flushed : (read a b c : Option (List ℕ)) (first out : List ℕ) (status : ℕ) → first ≡ [] → Answers read (append_known a first) (append_known b out) status → Appends b c out → Answers read a c status
-answers-flushed None a b c first out status none h w = tt
-answers-flushed (Some input) None b c first out status none h w = (h.0, tt)
-answers-flushed (Some input) (Some x) None c first out status none h w = absurd h.1
-answers-flushed (Some input) (Some x) (Some y) None first out status none h w = absurd w
-answers-flushed (Some input) (Some x) (Some y) (Some z) first out status none h w =
-    let text = (output_of input).0 in (h.0, w ∙ h.1 ∙ ap (λ t. (x ++ t) ++ text) none ∙ ap (λ t. t ++ text) (append-nil x))
-
 -- the bytes that were read so far, and what was written of them
 pub record Progress (read now old new : Option (List ℕ)) (m : ℕ) (state : State) (line : List ℕ) : Type 0 where
   pub bytes : List ℕ

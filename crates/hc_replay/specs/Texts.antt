@@ -1,5 +1,5 @@
 -- The texts of what a trace is answered.
-use Rattle.std.specs.Prelude.{ℕ, ◌==◌, nat_le, Bool, false, not, ◌&&◌, List, [], ◌∷◌, ◌++◌, length, codes, if◌then◌else◌}
+use Rattle.std.specs.Prelude.{◌≡◌, ℕ, ◌≤◌, ◌==◌, nat_le, Bool, true, false, not, ◌&&◌, List, [], ◌∷◌, ◌++◌, length, Some, codes, if◌then◌else◌}
 use Rattle.std.specs.Char.{is_ascii_digit}
 use Rattle.std.specs.List.{list_all}
 use Rattle.std.specs.Fmt.{decimal}
@@ -10,6 +10,7 @@ use Rattle.hc_types.specs.Refusals as refusals
 use Rattle.hc_types.specs.Loss.{Key}
 use Rattle.hc_history.specs.Note.{Note, Lose}
 use Rattle.hc_history.specs.declared.stats.Stats.{Stats}
+use Rattle.hc_replay.specs.Numbers.{is_visible, value_of}
 use Rattle.hc_replay.specs.Steps.{Answer, Stored, Refused, Hit, Miss, Found, Absent}
 
 -- four bytes or more, all equal, and no digits
@@ -24,6 +25,10 @@ first_of (c ∷ value) = c ∷ []
 -- a value: `*`, how many bytes and which, or `=` and its bytes
 abbrev pub value_text : List ℕ → List ℕ
 value_text value = if is_repeated value then 42 ∷ decimal (length value) ++ first_of value else 61 ∷ value
+
+-- it is read as what it was
+abbrev pub ReadsBack : List ℕ → Type 0
+ReadsBack value = list_all is_visible value ≡ true → length value ≤ 2097152 → value_of (value_text value) ≡ Some value
 
 abbrev pub refusal_text : Refusal → List ℕ
 refusal_text refusal = codes "refused " ++ decimal (refusals.number_of refusal) ++ codes " " ++ refusals.name_of refusal

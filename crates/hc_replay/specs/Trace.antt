@@ -71,6 +71,16 @@ abbrev pub after_steps : Cache → List Step → Cache
 after_steps cache [] = cache
 after_steps cache (step ∷ steps) = after_steps (move step cache).cache steps
 
+-- the notes of steps, one after another
+abbrev pub notes_of : Cache → List Step → List Note
+notes_of cache [] = []
+notes_of cache (step ∷ steps) = (move step cache).notes ++ notes_of (move step cache).cache steps
+
+-- whatever the steps, their notes are the log of the cache that they leave: those whose losses are printed, and that are
+-- counted at the end
+abbrev pub LogIsThatOfSteps : Type 0
+LogIsThatOfSteps = (config : Config) (steps : List Step) → (after_steps (empty_cache config) steps).log ≡ Some (notes_of (empty_cache config) steps)
+
 abbrev pub log_of : Option (List Note) → List Note
 log_of None = []
 log_of (Some log) = log

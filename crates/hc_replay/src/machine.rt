@@ -131,7 +131,7 @@ pub fn end(state: &State, out: &mut Vec<u8>, taken: u64) -> Result<u8, AllocErro
     ensures status { IfOk result (λ status. status ≡ (ended taken state.now).1) }
 {
     let State::Running(core) = state else {
-        add_fault(out, taken + 1)?;
+        fault(out, taken)?;
         return Ok(1);
     };
     add_stats(out, &core.notes().stats())?;

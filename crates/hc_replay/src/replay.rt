@@ -2,7 +2,7 @@
 ghost use Rattle.std.specs.Prelude.{◌≡◌, ◌≢◌, ◌<◌, ◌≤◌, ◌+◌, ◌++◌, ◌∷◌, ◌^◌, ◌==◌, [], length, take, vec_len, None, IfOk, OnOk, IfSome, OnSome, MatchOption, if◌then◌else◌};
 ghost use Rattle.std.specs.Io.KnownBytes.{Appends, Consumes, IsAtEnd, append_known};
 ghost use Rattle.hc_replay.specs.Lines.{Lacks};
-ghost use Rattle.hc_replay.specs.Trace.{Answers};
+ghost use Rattle.hc_replay.specs.Trace.{Answers, LogIsThatOfSteps};
 ghost use Rattle.hc_replay.specs.Machine.{turn_of, output_from, Leads, Ends};
 ghost use Rattle.hc_replay.specs.declared.state.State.TheVariants.{Bare};
 
@@ -234,7 +234,8 @@ pub fn replay<R: Read, W: Write>(
     clients: Option<u8>,
 ) -> u8
     requires { clients ≡ None }
-    ensures { result ≢ 4 → Answers (R.remaining reader.old) (W.contents writer.old) (W.contents writer.new) result }
+    ensures answers { result ≢ 4 → Answers (R.remaining reader.old) (W.contents writer.old) (W.contents writer.new) result }
+    ensures log { LogIsThatOfSteps }
 {
     let mut out = Vec::new(alloc);
     let status = match run(alloc, reader, writer, &mut out) {

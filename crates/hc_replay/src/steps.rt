@@ -1,5 +1,6 @@
 // The steps of a trace, and their answers.
 ghost use Rattle.std.specs.Prelude.{◌≡◌, ◌++◌, OnOk, IfOk, None, Some, MatchResult};
+ghost use Rattle.hc_history.specs.Told.{told_more};
 ghost use Rattle.hc_replay.specs.Seen.{bytes_of, step_seen};
 ghost use Rattle.hc_replay.specs.Steps.{Set, Get, Del};
 ghost use Rattle.hc_replay.specs.Moves.{key_refusal, move};
@@ -110,7 +111,8 @@ fn answer(
     }
 }
 
-/// A step by client 0, its answer, and then what it forgot. An error is want of memory.
+/// A step by client 0, its answer, and then what it forgot by its notes, which are what the log grows by. An error is
+/// want of memory.
 pub fn take_step(
     alloc: Global,
     core: &mut Core<Kept>,
@@ -118,6 +120,7 @@ pub fn take_step(
     step: Step<'_>,
 ) -> Result<(), AllocError>
     ensures cache { OnOk result (core.new ≡ (move (step_seen step.entry) core.old).cache) }
+    ensures log { OnOk result (core.new.log ≡ told_more core.old.log (move (step_seen step.entry) core.old).notes) }
     ensures text { OnOk result (out.new.items ≡ out.old.items ++ step_text (move (step_seen step.entry) core.old)) }
 {
     let before = core.notes().notes.len();

@@ -374,3 +374,30 @@ fn a_write_that_fails_at_each_line(rt: HostRuntime) {
     assert_eq!(rt; status, 0);
     assert_eq!(rt; written.as_slice(), SHORT_TEXT);
 }
+
+// The traces and lines of docs/FORMATS.md.
+#[test]
+fn examples_of_the_formats_page(rt: HostRuntime) -> Result<(), Fail> {
+    let first = b"pool 100 10\nnoflash\nset 0 a *20x 0\nset 0 b *20y 0\nget a\nget b\n";
+    let answers =
+        b"stored\nstored\nlose key a evicted noflash\nmiss\nhit *20y\nstats stored 2 hits 1 misses 1 removes 0 losses 1 reads 0 writes 0\nverdict legal, honest\n";
+    assert_answers(&rt, first, 0, answers);
+    let refused =
+        b"pool 97 2\nnoflash\nset 1 a = 0\nset 0 a *1048577x 0\nset 0 a *65x 0\nset 0 a *31x 0\nget a\ndel a\ndel a\n";
+    let answers =
+        b"refused 13 NoPool\nrefused 14 ValueTooLong\nrefused 15 NoRoom\nstored\nhit *31x\nfound\nabsent\nstats stored 1 hits 1 misses 0 removes 2 losses 0 reads 0 writes 0\nverdict legal, honest\n";
+    assert_answers(&rt, refused, 0, answers);
+    assert_answers(&rt, b"get k\n", 1, b"fault line 1\n");
+    for line in [
+        b"set 0 k =v\n".as_slice(),
+        b"set 0 k =v 1\n".as_slice(),
+        b"set 00 k =v 0\n".as_slice(),
+        b"set 0 k *5 0\n".as_slice(),
+        b"set 0 k *0x 0\n".as_slice(),
+        b"get  k\n".as_slice(),
+    ] {
+        let trace = configured(rt.alloc(), line)?;
+        assert_answers(&rt, trace.as_slice(), 1, b"fault line 3\n");
+    }
+    Ok(())
+}

@@ -3,7 +3,7 @@ ghost use Rattle.std.specs.Prelude.{◌≡◌, ◌^◌, ◌<◌, ◌∷◌, ◌+
 ghost use Rattle.std.specs.List.{list_all};
 ghost use Rattle.std.specs.Fmt.{decimal};
 ghost use Rattle.hc_replay.specs.Texts as spec;
-ghost use Rattle.hc_replay.specs.Texts.{value_text, refusal_text, line_text, losses_text, finds_text, calls_text, others_text, stats_text, verdict_text, fault_text};
+ghost use Rattle.hc_replay.specs.Texts.{value_text, ReadsBack, refusal_text, line_text, losses_text, finds_text, calls_text, others_text, stats_text, verdict_text, fault_text};
 ghost use Rattle.hc_replay.specs.Steps.{Hit};
 
 use hc_history::{Note, Said, Stats};
@@ -59,9 +59,10 @@ pub fn add_word(out: &mut Vec<u8>, word: &[u8]) -> Result<(), AllocError>
     Ok(())
 }
 
-/// The line of a value that was found.
+/// The line of a value that was found. A trace that has the value so is read as having this value.
 pub fn add_hit(out: &mut Vec<u8>, value: &[u8]) -> Result<(), AllocError>
-    ensures { OnOk result (out.new.items ≡ out.old.items ++ line_text (spec.answer_text (Hit value.now))) }
+    ensures reads_back { OnOk result (ReadsBack value.now) }
+    ensures text { OnOk result (out.new.items ≡ out.old.items ++ line_text (spec.answer_text (Hit value.now))) }
 {
     out.extend_from_slice(b"hit ")?;
     add_value(out, value)?;
@@ -117,10 +118,10 @@ pub fn add_losses(out: &mut Vec<u8>, notes: &[Note]) -> Result<(), AllocError>
 }
 
 // A word and its count.
-fn add_count(out: &mut Vec<u8>, word: &[u8], count: u64) -> Result<(), AllocError>
-    ensures { OnOk result (out.new.items ≡ out.old.items ++ (word.now ++ decimal count)) }
+fn add_count(out: &mut Vec<u8>, name: &[u8], count: u64) -> Result<(), AllocError>
+    ensures { OnOk result (out.new.items ≡ out.old.items ++ (name.now ++ decimal count)) }
 {
-    out.extend_from_slice(word)?;
+    out.extend_from_slice(name)?;
     add_number(out, count)
 }
 

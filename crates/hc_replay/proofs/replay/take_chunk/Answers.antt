@@ -27,8 +27,7 @@ returns-then-len-gt-LONGEST-clause-leads g c =
     let i = c.lines.invariant in
     let items = c.in_ok-extend_from_slice.ensures.items in
     let line = c.lines.spill.items ++ c.lines.rest.now in
-    let is = c.deref.ensures.value ∙ items in
-    let done = rw is at c.in_ok-put_line.ensures in
+    let done = rw items at (rw c.deref.ensures.value at c.in_ok-put_line.ensures) in
     let much : 2097152 < length line = rw items at (rw c.extend_from_slice.new.self.ok.0 at (rw c.len.ensures at c.if-len-gt-LONGEST.true)) in
     leads-long _ i.leads (lacks-append 10 _ _ i.unbroken c.in_default.ensures) much done.bytes
 
