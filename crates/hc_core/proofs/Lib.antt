@@ -2,5 +2,11 @@ pub mod Places
 pub mod Tallies
 pub mod Telling
 pub mod Evicting
-pub mod Within
+pub mod Limits
 pub mod Made
+pub mod Same
+pub mod Mirror
+pub mod Ends
+pub mod Calls
+pub mod Keeps
+pub mod Going

@@ -1,6 +1,7 @@
 // The core of a cache of one pool, and no flash.
 ghost use Rattle.std.specs.Prelude.{◌≡◌, ◌+◌, ◌*◌, ◌^◌, ◌≤◌, ◌⊎◌, ◌↔◌, [], None, Some, length, IfOk, OnOk, OnErr, IfErr, IfSome, IsSome, IsOk, IsErrOf, vec_len, vec_capacity};
 ghost use Rattle.hc_types.specs.Limits.{FitsPool};
+ghost use Rattle.hc_history.specs.Lawful.{Legal};
 ghost use Rattle.hc_core.specs.Answers.{found_value};
 ghost use Rattle.hc_core.specs.Steps.{after_set, after_find, after_remove, value_of, removed_of};
 ghost use Rattle.hc_core.specs.Pool.{item_at};
@@ -37,10 +38,11 @@ impl<N: Notes<Note<A>>, A: Allocator> Model for Core<N, A> {
     ghost Value = { Cache };
 
     ghost use Rattle.hc_core.specs.Sound.{Sound};
+    ghost use Rattle.hc_core.specs.Mirrors.{Follows};
 
     ghost view = { λ c. record { config = c.config; items = c.items.items; charges = c.charges; calls = c.calls; log = N.told c.notes } };
 
-    ghost invariant = { λ c. Sound c.config c.items.items };
+    ghost invariant = { λ c. Sound c.config c.items.items × Follows (N.told c.notes) c.config c.items.items c.charges c.calls };
 }
 
 impl<N: Notes<Note<A>>, A: Allocator> Core<N, A> {
@@ -78,10 +80,11 @@ impl<N: Notes<Note<A>>, A: Allocator> Core<N, A> {
         &self.config
     }
 
-    /// Who was told the notes.
+    /// Who was told the notes. A log that is kept is legal.
     #[must_use]
     pub fn notes(&self) -> &N
-        ensures { N.told result.now ≡ self.now.log }
+        ensures log { N.told result.now ≡ self.now.log }
+        ensures legal { IfSome self.now.log (Legal self.now.config) }
     {
         &self.notes
     }
@@ -169,10 +172,11 @@ impl<N: Notes<Note<A>>, A: Allocator> Core<N, A> {
 }
 
 impl<A: Allocator> Core<Kept<A>, A> {
-    /// The log, which outlives the cache. The items are dropped.
+    /// The log, which is legal and outlives the cache. The items are dropped.
     #[must_use]
     pub fn into_notes(self) -> Kept<A>
-        ensures { Some result.notes.items ≡ self.log }
+        ensures log { Some result.notes.items ≡ self.log }
+        ensures legal { Legal self.config result.notes.items }
     {
         let Core {
             config: _,

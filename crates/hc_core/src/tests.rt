@@ -1,7 +1,7 @@
 // That calls succeed, and answer and tell what worked runs want.
-use crate::{Core, Found, Removed};
+use crate::{Call, Core, Found, Removed, Request, run};
 use bytes::Bytes;
-use hc_history::{Kept, Note, Said, Silent, Stats};
+use hc_history::{Kept, Note, Reply, Said, Silent, Stats};
 use hc_types::{Config, Key, PoolSize, Refusal};
 use std::alloc::{AllocError, Global};
 use std::test::Fail;
@@ -87,5 +87,43 @@ fn refusals_give_key_and_value_back(rt: HostRuntime) -> Result<(), Fail> {
             .is_ok()
     );
     assert!(rt; is_hit(&core.find(0, &key)?, &[b'x'; 64]));
+    Ok(())
+}
+
+fn set(alloc: Global, key: &Key, byte: u8, len: usize) -> Result<Call, AllocError> {
+    let request = Request::Set {
+        pool: 0,
+        key: key.clone()?,
+        value: filled(alloc, byte, len)?,
+    };
+    Ok(Call { client: 0, request })
+}
+
+#[test]
+fn a_run_tells_where_each_call_ends(rt: HostRuntime) -> Result<(), Fail> {
+    let alloc = rt.alloc();
+    let a = Key::new(alloc, b"a")?;
+    let b = Key::new(alloc, b"b")?;
+    let mut calls = Vec::new(alloc);
+    calls.push(set(alloc, &a, b'x', 20)?)?;
+    calls.push(set(alloc, &b, b'y', 20)?)?;
+    calls.push(set(alloc, &b, b'y', 100)?)?;
+    calls.push(Call {
+        client: 1,
+        request: Request::Find(a.clone()?),
+    })?;
+    calls.push(Call {
+        client: 2,
+        request: Request::Remove(b.clone()?),
+    })?;
+    let ran = run(alloc, &config(100), calls.as_slice())?;
+    assert_eq!(rt; ran.stopped, None);
+    assert_eq!(rt; ran.ends.as_slice(), [5, 12, 12, 15, 19].as_slice());
+    assert_eq!(rt; ran.answers.len(), 5);
+    assert!(rt; matches!(ran.answers[0].outcome, Ok(Reply::Stored)));
+    assert!(rt; matches!(ran.answers[2].outcome, Err(Refusal::NoRoom)));
+    assert!(rt; matches!(ran.answers[3].outcome, Ok(Reply::Miss)));
+    assert!(rt; matches!(ran.answers[4].outcome, Ok(Reply::FoundInMemory)));
+    assert_eq!(rt; ran.log.notes.len(), 19);
     Ok(())
 }

@@ -4,3 +4,5 @@ pub mod Seen
 pub mod Told
 pub mod Tally
 pub mod Stats
+pub mod Books
+pub mod Lawful

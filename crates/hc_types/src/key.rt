@@ -60,6 +60,25 @@ impl<A: Allocator + Clone> Key<A> {
 }
 
 impl<A: Allocator> Key<A> {
+    /// The key of these bytes, which it shares. Refused with `KeyEmpty` for no byte and with `KeyTooLong` for more
+    /// than 255, and never for memory.
+    pub fn from_bytes(bytes: Bytes<A>) -> Result<Key<A>, Refusal>
+        ensures ok { IfOk result (λ key. key ≡ bytes) }
+        ensures fits { OnOk result ((1 ≤ length bytes) × (length bytes ≤ 255)) }
+        ensures empty { IsErrOf result Refusal.KeyEmpty ↔ (length bytes ≡ 0) }
+        ensures too_long { IsErrOf result Refusal.KeyTooLong ↔ (255 < length bytes) }
+        ensures others { IfErr result (λ refusal. (refusal ≡ Refusal.KeyEmpty) ⊎ (refusal ≡ Refusal.KeyTooLong)) }
+    {
+        match bytes.len() {
+            0 => Err(Refusal::KeyEmpty),
+            len if len > KEY_MAX => Err(Refusal::KeyTooLong),
+            _ => {
+                let hash = hash_of(bytes.as_slice());
+                Ok(Key { bytes, hash })
+            }
+        }
+    }
+
     /// How many bytes it has.
     #[allow(clippy::len_without_is_empty)]
     pub fn len(&self) -> usize

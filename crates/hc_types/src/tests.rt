@@ -28,6 +28,8 @@ fn keys_are_shared(rt: HostRuntime) -> Result<(), Fail> {
     let copy = key.clone()?;
     assert!(rt; key == copy);
     assert_eq!(rt; copy.len(), 255);
+    let shared = Key::from_bytes(Bytes::copy_from_slice(rt.alloc(), &[7; 255])?)?;
+    assert!(rt; shared == key && hash(&shared) == hash(&key));
     let entry = Entry {
         key: copy,
         value: Bytes::copy_from_slice(rt.alloc(), b"value")?,

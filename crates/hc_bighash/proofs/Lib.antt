@@ -1,0 +1,7 @@
+pub mod Distinct
+pub mod Loop
+pub mod Numbers
+pub mod Pages
+pub mod PutEntries
+pub mod Room
+pub mod Zeros

@@ -1,0 +1,3 @@
+-- What a bucket page is, and how its bytes are read.
+pub mod Page
+pub mod Reading

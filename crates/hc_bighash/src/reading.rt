@@ -1,0 +1,184 @@
+// A page read into its entries.
+ghost use Rattle.std.specs.Prelude.{◌≡◌, ◌==◌, ◌≤◌, ℕ, List, length, nat_eq, IfOk, IfSome, IfNone};
+ghost use Rattle.std.specs.List.{list_any, list_all};
+ghost use Rattle.std.specs.Cmp.Lexicographic.{pointwise};
+ghost use Rattle.hc_bighash.specs.Page.{PageEntry, entry_of, entries_of, distinct, IsPage};
+ghost use Rattle.hc_bighash.specs.Reading.{Gives, key_at, entry_at, entries_at, body_at, keys_differ, page_at};
+
+use crate::fields::{take_part, take_u8, take_u16, take_u64};
+use crate::read_error::ReadError;
+use bytes::Bytes;
+use hc_types::{Entry, Key, hash};
+use std::alloc::{AllocError, Allocator};
+
+/// The fewest bytes of an entry.
+const LEAST_ENTRY: usize = 13;
+
+/// The entry at the front.
+#[tactic(auto, unfolding(crate::specs::Reading::entry_at))]
+fn take_entry<A: Allocator>(rest: &mut Bytes<A>) -> Result<Entry<A>, ReadError>
+    ensures { Gives (λ entry. (entry_of entry, rest.new)) result (entry_at rest.old) }
+{
+    let key_len = take_u8(rest)?;
+    let pool = take_u8(rest)?;
+    let value_len = take_u16(rest)?;
+    let expiry = take_u64(rest)?;
+    let key = take_part(rest, key_len as usize)?;
+    let value = take_part(rest, value_len as usize)?;
+    let key = key_of(key)?;
+    Ok(Entry {
+        key,
+        value,
+        pool,
+        expiry,
+    })
+}
+
+fn key_of<A: Allocator>(bytes: Bytes<A>) -> Result<Key<A>, ReadError>
+    requires { length bytes ≤ 255 }
+    ensures { Gives (λ key. key) result (key_at bytes) }
+{
+    match Key::from_bytes(bytes) {
+        Ok(key) => Ok(key),
+        Err(_) => Err(ReadError::NoPage),
+    }
+}
+
+/// As many entries as the page counts.
+fn take_entries<A: Allocator>(
+    alloc: A,
+    count: u16,
+    rest: &mut Bytes<A>,
+) -> Result<Vec<Entry<A>, A>, ReadError>
+    ensures { Gives (λ entries. (entries_of entries.items, rest.new)) result (entries_at count rest.old) }
+{
+    let most = (count as usize).min(rest.len() / LEAST_ENTRY);
+    let mut entries = Vec::with_capacity(alloc, most)?;
+    for _ in 0..count {
+        let entry = take_entry(rest)?;
+        entries.push(entry)?;
+    }
+    Ok(entries)
+}
+
+/// Whether no key stands twice.
+pub(crate) fn is_distinct<A: Allocator>(entries: &[Entry<A>]) -> bool
+    ensures { result ≡ distinct (entries_of entries.now) }
+{
+    keys_differ(entries)
+}
+
+fn keys_differ<A: Allocator>(entries: &[Entry<A>]) -> bool
+    ensures { result ≡ keys_differ entries.now }
+{
+    match entries {
+        [] => true,
+        [first, rest @ ..] => !has_key(rest, &first.key) && keys_differ(rest),
+    }
+}
+
+fn has_key<A: Allocator>(entries: &[Entry<A>], key: &Key<A>) -> bool
+    ensures { result ≡ list_any (λ other. pointwise nat_eq other.key key.now) entries.now }
+{
+    entries.iter().any(|entry| is_same(&entry.key, key))
+}
+
+/// Whether two keys are the same. Their hashes tell most of them apart.
+#[tactic(auto, using(crate::proofs::Distinct::other_hash))]
+fn is_same<A: Allocator>(one: &Key<A>, other: &Key<A>) -> bool
+    ensures { result ≡ pointwise nat_eq one.now other.now }
+{
+    hash(one) == hash(other) && one == other
+}
+
+fn is_zero(bytes: &[u8]) -> bool
+    ensures { result ≡ list_all (λ byte. byte == 0) bytes.now }
+{
+    let mut seen = 0;
+    for byte in bytes {
+        seen |= *byte;
+    }
+    seen == 0
+}
+
+/// The bytes that are used, behind the two numbers.
+#[tactic(auto, unfolding(crate::specs::Reading::body_at))]
+fn take_body<A: Allocator>(rest: &mut Bytes<A>, used: u16) -> Result<Bytes<A>, ReadError>
+    ensures { Gives (λ body. (body, rest.new)) result (body_at used rest.old) }
+{
+    if used < 4 {
+        return Err(ReadError::NoPage);
+    }
+    take_part(rest, (used - 4) as usize)
+}
+
+#[tactic(auto, unfolding(crate::specs::Reading::page_at))]
+fn read_page<A: Allocator>(
+    alloc: A,
+    page: &Bytes<A>,
+    page_size: usize,
+) -> Result<Vec<Entry<A>, A>, ReadError>
+    ensures { Gives (λ entries. entries_of entries.items) result (page_at page_size page.now) }
+{
+    if page.len() != page_size {
+        return Err(ReadError::NoPage);
+    }
+    let mut rest = page.clone()?;
+    let count = take_u16(&mut rest)?;
+    let used = take_u16(&mut rest)?;
+    let mut body = take_body(&mut rest, used)?;
+    let entries = take_entries(alloc, count, &mut body)?;
+    if body.is_empty() && is_zero(rest.as_slice()) && is_distinct(&entries) {
+        Ok(entries)
+    } else {
+        Err(ReadError::NoPage)
+    }
+}
+
+/// The entries of this page, the oldest first, or `None` where these bytes are no page of this size. The entries share
+/// the page: no key and no value is copied, and the page stays in memory as long as one of them does.
+pub fn decode_shared<A: Allocator>(
+    alloc: A,
+    page: &Bytes<A>,
+    page_size: usize,
+) -> Result<Option<Vec<Entry<A>, A>>, AllocError>
+    ensures page { IfOk result (λ read. IfSome read (λ entries. IsPage page_size (entries_of entries.items) page.now)) }
+    ensures only { IfOk result (λ read. IfSome read (λ entries. (es : List PageEntry) → IsPage page_size es page.now → es ≡ entries_of entries.items)) }
+    ensures no_page { IfOk result (λ read. IfNone read ((es : List PageEntry) → ¬ IsPage page_size es page.now)) }
+{
+    decode(alloc, page, page.as_slice(), page_size)
+}
+
+/// The entries of this page, the oldest first, or `None` where these bytes are no page of this size. The page is
+/// copied once, and the entries share the copy.
+pub fn decode_page<A: Allocator + Clone>(
+    alloc: A,
+    page: &[u8],
+    page_size: usize,
+) -> Result<Option<Vec<Entry<A>, A>>, AllocError>
+    ensures page { IfOk result (λ read. IfSome read (λ entries. IsPage page_size (entries_of entries.items) page.now)) }
+    ensures only { IfOk result (λ read. IfSome read (λ entries. (es : List PageEntry) → IsPage page_size es page.now → es ≡ entries_of entries.items)) }
+    ensures no_page { IfOk result (λ read. IfNone read ((es : List PageEntry) → ¬ IsPage page_size es page.now)) }
+{
+    let copy = Bytes::copy_from_slice(alloc.clone()?, page)?;
+    decode(alloc, &copy, page, page_size)
+}
+
+/// The entries of `page`, whose bytes are `bytes`.
+fn decode<A: Allocator>(
+    alloc: A,
+    page: &Bytes<A>,
+    bytes: &[u8],
+    page_size: usize,
+) -> Result<Option<Vec<Entry<A>, A>>, AllocError>
+    requires { page.now ≡ bytes.now }
+    ensures page { IfOk result (λ read. IfSome read (λ entries. IsPage page_size (entries_of entries.items) bytes.now)) }
+    ensures only { IfOk result (λ read. IfSome read (λ entries. (es : List PageEntry) → IsPage page_size es bytes.now → es ≡ entries_of entries.items)) }
+    ensures no_page { IfOk result (λ read. IfNone read ((es : List PageEntry) → ¬ IsPage page_size es bytes.now)) }
+{
+    match read_page(alloc, page, page_size) {
+        Ok(entries) => Ok(Some(entries)),
+        Err(ReadError::NoPage) => Ok(None),
+        Err(ReadError::NoMemory) => Err(AllocError),
+    }
+}

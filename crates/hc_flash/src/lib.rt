@@ -1,0 +1,15 @@
+//! Paged flash devices: what a device may answer, a device in memory, and devices for tests that fail or lie.
+#![tactic(auto)]
+
+mod fail_at;
+mod flash;
+mod liar;
+mod mem_flash;
+
+pub use fail_at::FailAt;
+pub use flash::{Flash, FlashError};
+pub use liar::Liar;
+pub use mem_flash::MemFlash;
+
+#[cfg(test)]
+mod tests;

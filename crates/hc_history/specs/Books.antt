@@ -1,0 +1,115 @@
+-- What the notes so far come to. A history is the list of the notes so far, the newest first, and each book is a plain
+-- fold over it.
+use Rattle.std.specs.Prelude.{ℕ, ◌+◌, ◌==◌, nat_lt, Bool, true, false, not, ◌&&◌, ◌||◌, List, [], ◌∷◌, Option, Some, None, map, filter, find, if◌then◌else◌}
+use Rattle.std.specs.Str.{bytes_eq}
+use Rattle.hc_types.specs.Loss as loss
+use Rattle.hc_types.specs.Loss.{Scope}
+use Rattle.hc_history.specs.Note.{Op, Insert, Find, Remove, Reply, Note, Begin, Did, End, Lose, Charged, Linked, Freed}
+use Rattle.hc_history.specs.Tally.{count}
+
+-- ---- charges
+
+-- a charge that is live: it is open until its item can be found, and then linked
+pub record Charge : Type 0 where
+  pub number : ℕ
+  pub key : List ℕ
+  pub pool : ℕ
+  pub bytes : ℕ
+  pub linked : Bool
+
+abbrev pub has_number : ℕ → Charge → Bool
+has_number number charge = charge.number == number
+
+-- the charge, linked where it has the number
+abbrev pub linked_at : ℕ → Charge → Charge
+linked_at number charge = if has_number number charge then record charge { linked = true } else charge
+
+-- a linked charge of the key
+abbrev pub is_linked : List ℕ → Charge → Bool
+is_linked key charge = charge.linked && bytes_eq charge.key key
+
+-- the charges that are live
+abbrev pub charges : List Note → List Charge
+charges [] = []
+charges (Charged number key pool bytes ∷ older) = record { number = number; key = key; pool = pool; bytes = bytes; linked = false } ∷ charges older
+charges (Linked number ∷ older) = map (linked_at number) (charges older)
+charges (Freed number ∷ older) = filter (λ charge. not (has_number number charge)) (charges older)
+charges (note ∷ older) = charges older
+
+-- ---- calls
+
+-- a call that is begun and not yet answered
+pub record Call : Type 0 where
+  pub number : ℕ
+  pub client : ℕ
+  pub op : Op
+
+-- a call that is answered, and its reply not yet handed out
+pub record Answer : Type 0 where
+  pub number : ℕ
+  pub reply : Reply
+
+-- how many calls were begun
+abbrev pub begun : List Note → ℕ
+begun [] = 0
+begun (Begin call client op ∷ older) = begun older + 1
+begun (note ∷ older) = begun older
+
+-- the calls that are begun and not yet answered, the last one first
+abbrev pub open_calls : List Note → List Call
+open_calls [] = []
+open_calls (Begin call client op ∷ older) = record { number = call; client = client; op = op } ∷ open_calls older
+open_calls (Did call reply ∷ older) = filter (λ (other : Call). not (other.number == call)) (open_calls older)
+open_calls (note ∷ older) = open_calls older
+
+abbrev pub open_call : ℕ → List Call → Option Call
+open_call number calls = find (λ (call : Call). call.number == number) calls
+
+-- the replies that are not yet handed out, the last one first
+abbrev pub owed : List Note → List Answer
+owed [] = []
+owed (Did call reply ∷ older) = record { number = call; reply = reply } ∷ owed older
+owed (End call ∷ older) = filter (λ (answer : Answer). not (answer.number == call)) (owed older)
+owed (note ∷ older) = owed older
+
+-- ---- the map
+
+-- what the map has under a key
+pub record Entry : Type 0 where
+  pub value : List ℕ
+  pub expiry : ℕ
+
+-- what an answered call leaves of a key's entry
+abbrev pub entry_after : Op → List ℕ → Option Entry → Option Entry
+entry_after (Insert k value expiry) key was = if bytes_eq k key then Some (record { value = value; expiry = expiry }) else was
+entry_after (Remove k) key was = if bytes_eq k key then None else was
+entry_after (Find k) key was = was
+
+abbrev pub done_by : Option Call → List ℕ → Option Entry → Option Entry
+done_by None key was = was
+done_by (Some call) key was = entry_after call.op key was
+
+-- which keys a loss covers
+abbrev pub covers : Scope → List ℕ → Bool
+covers (loss.Key k) key = bytes_eq k key
+
+-- The map, at a key: each call does its part where it is answered, and a loss takes out each covered key that has no
+-- linked charge.
+abbrev pub entry_at : List Note → List ℕ → Option Entry
+entry_at [] key = None
+entry_at (Did call reply ∷ older) key = done_by (open_call call (open_calls older)) key (entry_at older key)
+entry_at (Lose scope cause ∷ older) key = if covers scope key && (count (is_linked key) (charges older) == 0) then None else entry_at older key
+entry_at (note ∷ older) key = entry_at older key
+
+-- the clock: it doesn't move yet
+abbrev pub now_at : List Note → ℕ
+now_at older = 0
+
+-- the value of an entry, unless it is expired
+abbrev pub unexpired : ℕ → Option Entry → Option (List ℕ)
+unexpired now None = None
+unexpired now (Some entry) = if (entry.expiry == 0) || nat_lt now entry.expiry then Some entry.value else None
+
+-- what a find of the key answers
+abbrev pub value_at : List Note → List ℕ → Option (List ℕ)
+value_at older key = unexpired (now_at older) (entry_at older key)
