@@ -17,6 +17,9 @@ use std::io::{Read, Write};
 /// The most bytes that are read.
 const MOST: u64 = 4_294_967_296;
 
+/// The most reads: one for each byte, and one that tells the end.
+const READS: u64 = MOST + 1;
+
 /// The most bytes of one read.
 const CHUNK: usize = 65_536;
 
@@ -195,7 +198,7 @@ fn run<R: Read, W: Write>(
     let mut state = State::Bare;
     let mut taken = 0u64;
     let mut total = 0u64;
-    'chunks: for _ in 0..MOST {
+    'chunks: for _ in 0..READS {
         write_out(writer, out)?;
         let n = read_chunk(reader, &mut buffer)?;
         if n == 0 {
