@@ -17,11 +17,12 @@ if is_old; then
     echo "Proving and building hc_replay and the crates below it. The first time takes some eight minutes." >&2
     log="$(mktemp)"
     (cd "$top/crates/hc_replay" && rt run < /dev/null > "$log" 2>&1) || true
-    if is_old; then
+    if ! grep -q '^rt: running ' "$log"; then
         tail -40 "$log" >&2
         echo "It could not be built: the log is $log" >&2
         exit 1
     fi
+    touch "$program"
     rm -f "$log"
 fi
 exec "$program" < "$trace"
