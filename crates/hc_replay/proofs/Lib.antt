@@ -1,0 +1,7 @@
+pub mod Decimals
+pub mod Parts
+pub mod Orders
+pub mod Same
+pub mod Streams
+pub mod Values
+pub mod Logs

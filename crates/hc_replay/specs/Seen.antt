@@ -1,0 +1,32 @@
+-- How the code's values are seen.
+use Rattle.std.specs.Prelude.{ℕ, List, replicate}
+use Rattle.hc_replay.specs.Steps as steps
+use Rattle.hc_replay.specs.Grammar as spec
+use Rattle.hc_replay.specs.declared.value.Value.{Value}
+use Rattle.hc_replay.specs.declared.value.Value.TheVariants.{Plain, Repeated}
+use Rattle.hc_replay.specs.declared.grammar.Step.{Step}
+use Rattle.hc_replay.specs.declared.grammar.Step.TheVariants.{Set, Get, Del}
+use Rattle.hc_replay.specs.declared.grammar.Order.{Order}
+use Rattle.hc_replay.specs.declared.grammar.Order.TheVariants.{Pool, NoFlash, Do}
+use Rattle.hc_replay.specs.declared.grammar.Line.{Line}
+use Rattle.hc_replay.specs.declared.grammar.Line.TheVariants.{Skipped, Says, Fault}
+
+-- the bytes of a value
+abbrev pub bytes_of : Value → List ℕ
+bytes_of (Plain bytes) = bytes.now
+bytes_of (Repeated count c) = replicate count c
+
+abbrev pub step_seen : Step → steps.Step
+step_seen (Set pool key value) = steps.Set pool key.now (bytes_of value)
+step_seen (Get key) = steps.Get key.now
+step_seen (Del key) = steps.Del key.now
+
+abbrev pub order_seen : Order → spec.Order
+order_seen (Pool bytes items) = spec.Pool bytes items
+order_seen NoFlash = spec.NoFlash
+order_seen (Do step) = spec.Do (step_seen step)
+
+abbrev pub line_seen : Line → spec.Line
+line_seen Skipped = spec.Skipped
+line_seen (Says order) = spec.Says (order_seen order)
+line_seen Fault = spec.Fault

@@ -1,0 +1,111 @@
+-- What a trace says, and what is printed for it.
+use Rattle.std.specs.Prelude.{◌≡◌, ℕ, ◌+◌, nat_le, Bool, ◌&&◌, List, [], ◌∷◌, ◌++◌, Option, Some, None, IfSome, if◌then◌else◌}
+use Rattle.std.specs.Io.KnownBytes.{Appends}
+use Rattle.hc_types.specs.declared.config.Config.{Config}
+use Rattle.hc_types.specs.declared.config.PoolSize.{PoolSize}
+use Rattle.hc_types.specs.declared.refusal.Refusal.TheVariants.{BadPool}
+use Rattle.hc_history.specs.Note.{Note}
+use Rattle.hc_history.specs.Stats.{counts_of}
+use Rattle.hc_core.specs.Cache.{Cache}
+use Rattle.hc_replay.specs.Lines.{lines_of}
+use Rattle.hc_replay.specs.Steps.{Step}
+use Rattle.hc_replay.specs.Grammar.{Line, Skipped, Says, Pool, NoFlash, Do, line_of}
+use Rattle.hc_replay.specs.Moves.{Moved, move}
+use Rattle.hc_replay.specs.Texts.{line_text, answer_text, refusal_text, losses_text, stats_text, verdict_text, fault_text}
+
+-- the steps up to the first fault, and its line, where there is a fault
+pub record Steps : Type 0 where
+  pub steps : List Step
+  pub fault : Option ℕ
+
+-- what a line after the configuration says, where n lines stand before it
+abbrev pub steps_line : ℕ → Line → Steps → Steps
+steps_line n Skipped later = later
+steps_line n (Says (Do step)) later = record { steps = step ∷ later.steps; fault = later.fault }
+steps_line n line later = record { steps = []; fault = Some (n + 1) }
+
+abbrev pub steps_from : ℕ → List (List ℕ) → Steps
+steps_from n [] = record { steps = []; fault = None }
+steps_from n (line ∷ lines) = steps_line n (line_of line) (steps_from (n + 1) lines)
+
+pub data Trace : Type 0 where
+  -- the configuration, and what comes after it
+  Runs : (config : Config) (rest : Steps) → Trace
+  -- the configuration is refused
+  Refused : Trace
+  -- the configuration has a fault at this line
+  Faulty : (line : ℕ) → Trace
+
+abbrev pub fits : PoolSize → Bool
+fits size = nat_le 64 size.bytes && nat_le size.bytes 4294967296 && nat_le 1 size.items && nat_le size.items 1048576
+
+-- what a line of the configuration says, where n lines stand before it
+abbrev pub trace_line : ℕ → Option PoolSize → Line → (Option PoolSize → Trace) → Steps → Trace
+trace_line n pool Skipped later rest = later pool
+trace_line n None (Says (Pool bytes items)) later rest = later (Some (record { bytes = bytes; items = items }))
+trace_line n None (Says NoFlash) later rest = Refused
+trace_line n (Some size) (Says NoFlash) later rest = if fits size then Runs (record { pool = size }) rest else Refused
+trace_line n pool line later rest = Faulty (n + 1)
+
+abbrev pub trace_from : ℕ → Option PoolSize → List (List ℕ) → Trace
+trace_from n pool [] = Faulty (n + 1)
+trace_from n pool (line ∷ lines) = trace_line n pool (line_of line) (λ pool. trace_from (n + 1) pool lines) (steps_from (n + 1) lines)
+
+abbrev pub trace_of : List ℕ → Trace
+trace_of input = trace_from 0 None (lines_of input)
+
+-- an empty cache
+abbrev pub empty_cache : Config → Cache
+empty_cache config = record { config = config; items = []; charges = 0; calls = 0; log = Some [] }
+
+-- what is printed for a step: its answer, and then what it forgot
+abbrev pub step_text : Moved → List ℕ
+step_text moved = line_text (answer_text moved.answer) ++ losses_text moved.notes
+
+-- what is printed for steps, one after another
+abbrev pub steps_text : Cache → List Step → List ℕ
+steps_text cache [] = []
+steps_text cache (step ∷ steps) = step_text (move step cache) ++ steps_text (move step cache).cache steps
+
+abbrev pub after_steps : Cache → List Step → Cache
+after_steps cache [] = cache
+after_steps cache (step ∷ steps) = after_steps (move step cache).cache steps
+
+-- the notes of steps, one after another
+abbrev pub notes_of : Cache → List Step → List Note
+notes_of cache [] = []
+notes_of cache (step ∷ steps) = (move step cache).notes ++ notes_of (move step cache).cache steps
+
+-- whatever the steps, their notes are the log of the cache that they leave: those whose losses are printed, and that are
+-- counted at the end
+abbrev pub LogIsThatOfSteps : Type 0
+LogIsThatOfSteps = (config : Config) (steps : List Step) → (after_steps (empty_cache config) steps).log ≡ Some (notes_of (empty_cache config) steps)
+
+abbrev pub log_of : Option (List Note) → List Note
+log_of None = []
+log_of (Some log) = log
+
+-- the last text, and the status
+abbrev pub ending : Cache → Option ℕ → List ℕ × ℕ
+ending cache None = (line_text (stats_text (counts_of (log_of cache.log))) ++ verdict_text, 0)
+ending cache (Some line) = (fault_text line, 1)
+
+-- a text before others
+abbrev pub onto : List ℕ → List ℕ × ℕ → List ℕ × ℕ
+onto text output = (text ++ output.0, output.1)
+
+abbrev pub run_output : Cache → Steps → List ℕ × ℕ
+run_output cache rest = onto (steps_text cache rest.steps) (ending (after_steps cache rest.steps) rest.fault)
+
+-- the text and the status of a trace
+abbrev pub trace_output : Trace → List ℕ × ℕ
+trace_output (Runs config rest) = run_output (empty_cache config) rest
+trace_output Refused = (line_text (refusal_text BadPool), 1)
+trace_output (Faulty line) = (fault_text line, 1)
+
+abbrev pub output_of : List ℕ → List ℕ × ℕ
+output_of input = trace_output (trace_of input)
+
+-- where the bytes that are read are known, the status and what is written are theirs
+abbrev pub Answers : Option (List ℕ) → Option (List ℕ) → Option (List ℕ) → ℕ → Type 0
+Answers read old new status = IfSome read (λ input. (status ≡ (output_of input).1) × Appends old new (output_of input).0)
