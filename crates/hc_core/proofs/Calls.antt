@@ -5,10 +5,10 @@ use mathlib.Core.Bool.{cond}
 use Rattle.std.specs.Str.{bytes_eq}
 use Rattle.std.proofs.lemmas.Bool.Decides.{eqb_tells}
 use Rattle.std.proofs.lemmas.Bool.{eqb-true, lt-ltb}
-use Rattle.hc_types.specs.declared.config.Config.{Config}
+use Rattle.hc_types.specs.Config.{Config}
 use Rattle.hc_history.specs.Note.{Note, Begin, Did, End, Charged, Linked, Freed, Insert, Find, Remove, Reply, Stored, FoundInMemory, NotInMemory}
-use Rattle.hc_history.specs.Tally.{count}
-use Rattle.hc_history.specs.Books.{Charge, Call, Answer, Entry, charges, begun, open_calls, open_call, owed, entry_at, done_by, is_linked, has_number, unexpired}
+use Rattle.hc_types.specs.Tally.{count}
+use Rattle.hc_history.specs.Books.{Charge, Call, Answer, Entry, charges, begun, open_calls, open_call, owed, entry_at, done_by, is_linked, has_number, now_at, unexpired}
 use Rattle.hc_history.specs.Lawful.{is_charge_of, takes, freed_since, IsAnswer, Lawful, past}
 use Rattle.hc_core.specs.Item.{Item}
 use Rattle.hc_core.specs.Pool.{cost, is_at, item_at, without}
@@ -181,8 +181,8 @@ abbrev pub finding : ℕ → ℕ → List ℕ → Call
 finding id client key = record { number = id; client = client; op = Find key }
 
 find_answer : (older : List Note) (id : ℕ) (key : List ℕ) (o : Option Item) → entry_at older key ≡ entry_of o → IsAnswer older id (Find key) (find_reply (value_of o))
-find_answer older id key None e = ap (unexpired 0) e
-find_answer older id key (Some x) e = ap (unexpired 0) e
+find_answer older id key None e = ap (unexpired (now_at older)) e
+find_answer older id key (Some x) e = ap (unexpired (now_at older)) e
 
 -- using an item changes no entry
 used_entry : (items : List Item) (key k : List ℕ) (x : Item) (b : Bool) → count (is_at key) items ≤ 1 → bytes_eq key k ≡ b → item_at key items ≡ Some x → item_at k (without key items ++ x ∷ []) ≡ item_at k items

@@ -3,7 +3,7 @@ use Rattle.std.proofs.Common.{◌≡◌, ℕ, ◌≤◌, Bool, true, false, not,
 use mathlib.Core.Bool.{cond}
 use Rattle.std.specs.Str.{bytes_eq}
 use Rattle.hc_history.specs.Note.{Note}
-use Rattle.hc_history.specs.Tally.{tally, count}
+use Rattle.hc_types.specs.Tally.{tally, count}
 use Rattle.hc_history.specs.Books.{Charge, Entry, entry_at, is_linked}
 use Rattle.hc_history.specs.Lawful.{is_backed, AtEnd}
 use Rattle.hc_core.specs.Item.{Item}

@@ -3,7 +3,7 @@ use Rattle.std.proofs.Common.{◌≡◌, ℕ, ◌+◌, ◌<◌, List, [], ◌∷
 use Rattle.std.proofs.Math.Seq.{take-add}
 use Rattle.std.proofs.lemmas.List.{drop-drop}
 use Rattle.hc_types.specs.Loss as loss
-use Rattle.hc_types.specs.declared.loss.Cause.TheVariants.{Evicted}
+use Rattle.hc_types.specs.Loss.{Evicted}
 use Rattle.hc_types.specs.declared.loss.Why.TheVariants.{NoFlash}
 use Rattle.hc_history.specs.Note.{Note, Lose, Freed}
 use Rattle.hc_history.specs.Told.{told_more}

@@ -1,7 +1,7 @@
 -- A run goes on by one step.
 use Rattle.std.proofs.Common.{◌≡◌, ℕ, ◌+◌, ◌++◌, List, [], ◌∷◌, Option, Some, None, length, refl, ap, sym, ◌∙◌, arith, subst, length-append, append_assoc, append-nil, zero-add, ◌<◌, take, get_or}
 use Rattle.std.proofs.lemmas.List.{take_more}
-use Rattle.hc_types.specs.declared.config.Config.{Config}
+use Rattle.hc_types.specs.Config.{Config}
 use Rattle.hc_types.specs.declared.refusal.Refusal.{Refusal}
 use Rattle.hc_history.specs.Note.{Note, Reply, Stored}
 use Rattle.hc_history.specs.Told.{told_more}

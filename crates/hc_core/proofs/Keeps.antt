@@ -1,6 +1,6 @@
 -- Each call keeps what holds of every core.
-use Rattle.std.proofs.Common.{◌≡◌, ℕ, ◌+◌, ◌++◌, List, [], ◌∷◌, Option, Some, None, refl, sym, subst}
-use Rattle.hc_types.specs.declared.config.Config.{Config}
+use Rattle.std.proofs.Common.{◌≡◌, ℕ, ◌+◌, ◌++◌, List, [], ◌∷◌, length, Option, Some, None, refl, sym, subst}
+use Rattle.hc_types.specs.Config.{Config}
 use Rattle.hc_history.specs.Note.{Note, Charged}
 use Rattle.hc_history.specs.Told.{told_more}
 use Rattle.hc_history.specs.Lawful.{Lawful, past}
@@ -40,25 +40,25 @@ follows-remove config log items key client charged calls f =
     follows_more config log (remove_notes (calls + 1) client key (item_at key items)) items (without key items) charged calls charged (calls + 1) f (λ older m. removes config older items key client charged calls m)
 
 -- the notes of a set
-sets : (config : Config) (older : List Note) (items : List Item) (item : Item) (client charged calls : ℕ) → item.charge ≡ charged + 1 → Mirrors older items charged calls
+sets : (config : Config) (older : List Note) (items : List Item) (item : Item) (client charged calls : ℕ) → length config.pools ≡ 1 → config.flash ≡ None → item.charge ≡ charged + 1 → Mirrors older items charged calls
     → let part = eviction_notes (cost item) (dropped config (cost item) items) ++ (Charged item.charge item.key 0 (cost item) ∷ insert_notes item.charge (calls + 1) client item.key item.value (item_at item.key (kept config (cost item) items))) in
     Lawful config older part × Mirrors (past older part) (without item.key (kept config (cost item) items) ++ item ∷ []) (charged + 1) (calls + 1)
-sets config older items item client charged calls next m =
+sets config older items item client charged calls one none next m =
     let want = cost item in
     let stay = kept config (cost item) items in
     let tail : List Note = Charged item.charge item.key 0 (cost item) ∷ insert_notes item.charge (calls + 1) client item.key item.value (item_at item.key (kept config (cost item) items)) in
     let evicted : Mirrors (past older (eviction_notes (cost item) (dropped config (cost item) items))) (kept config (cost item) items) charged calls = evicted-mirrors config (cost item) items older charged calls m in
     let both = inserts config (past older (eviction_notes (cost item) (dropped config (cost item) items))) (kept config (cost item) items) item client charged calls next evicted in (
-      evicted-lawful config (cost item) items older charged calls tail m refl both.0,
+      evicted-lawful config (cost item) items older charged calls tail one none m refl both.0,
       subst (λ h. Mirrors h (without item.key (kept config (cost item) items) ++ item ∷ []) (charged + 1) (calls + 1)) (sym (past-append older (eviction_notes (cost item) (dropped config (cost item) items)) tail)) both.1,
     )
 
-pub follows-set : (config : Config) (log : Option (List Note)) (items : List Item) (item : Item) (client charged calls : ℕ) → item.charge ≡ charged + 1 → Follows log config items charged calls
+pub follows-set : (config : Config) (log : Option (List Note)) (items : List Item) (item : Item) (client charged calls : ℕ) → length config.pools ≡ 1 → config.flash ≡ None → item.charge ≡ charged + 1 → Follows log config items charged calls
     → Follows (told_more log (eviction_notes (cost item) (dropped config (cost item) items) ++ (Charged item.charge item.key 0 (cost item) ∷ insert_notes item.charge (calls + 1) client item.key item.value (item_at item.key (kept config (cost item) items)))))
     config (without item.key (kept config (cost item) items) ++ item ∷ []) (charged + 1) (calls + 1)
-follows-set config log items item client charged calls next f =
+follows-set config log items item client charged calls one none next f =
     follows_more config log (eviction_notes (cost item) (dropped config (cost item) items) ++ (Charged item.charge item.key 0 (cost item) ∷ insert_notes item.charge (calls + 1) client item.key item.value (item_at item.key (kept config (cost item) items))))
-    items (without item.key (kept config (cost item) items) ++ item ∷ []) charged calls (charged + 1) (calls + 1) f (λ older m. sets config older items item client charged calls next m)
+    items (without item.key (kept config (cost item) items) ++ item ∷ []) charged calls (charged + 1) (calls + 1) f (λ older m. sets config older items item client charged calls one none next m)
 
 -- the same, under other names
 pub follows-as : (config : Config) (log log' : Option (List Note)) (items items' : List Item) (made made' calls calls' : ℕ) → log' ≡ log → items' ≡ items → made' ≡ made → calls' ≡ calls → Follows log config items made calls → Follows log' config items' made' calls'

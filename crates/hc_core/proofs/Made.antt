@@ -2,7 +2,7 @@
 use Rattle.std.proofs.Common.{◌≡◌, ℕ, ◌+◌, ◌++◌, List, [], ◌∷◌, length, take, drop, Option, ap, ◌∙◌}
 use Rattle.std.specs.Prelude.{option_to_list}
 use Rattle.hc_types.specs.Charge.{charge_of}
-use Rattle.hc_types.specs.declared.config.Config.{Config}
+use Rattle.hc_types.specs.Config.{Config}
 use Rattle.hc_history.specs.Note.{Note, Begin, Did, End, Linked, Charged, Insert, Find, Remove, Stored}
 use Rattle.hc_history.specs.Told.{told_more, where_kept}
 use Rattle.hc_core.specs.Item.{Item}

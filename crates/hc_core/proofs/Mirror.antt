@@ -1,14 +1,14 @@
 -- Each call's notes are lawful, and their books are the core's.
-use Rattle.std.proofs.Common.{◌≡◌, ℕ, ◌<◌, ◌≤◌, ◌++◌, ◌==◌, Bool, true, false, ◌&&◌, List, [], ◌∷◌, Option, Some, None, refl, ap, sym, ◌∙◌, arith, subst, inr}
+use Rattle.std.proofs.Common.{◌≡◌, ℕ, ◌<◌, ◌≤◌, ◌++◌, ◌==◌, Bool, true, false, ◌&&◌, List, [], ◌∷◌, length, Option, Some, None, refl, ap, sym, ◌∙◌, arith, subst, inr}
 use Rattle.std.specs.Prelude.{IsSomeAnd}
 use mathlib.Core.Bool.{cond}
-use Rattle.hc_types.specs.declared.config.Config.{Config}
+use Rattle.hc_types.specs.Config.{Config}
 use Rattle.hc_types.specs.Loss as loss
-use Rattle.hc_types.specs.declared.loss.Cause.TheVariants.{Evicted}
+use Rattle.hc_types.specs.Loss.{Evicted}
 use Rattle.hc_types.specs.declared.loss.Why.TheVariants.{NoFlash}
 use Rattle.hc_history.specs.Note.{Note, Lose, Freed}
-use Rattle.hc_history.specs.Tally.{count}
-use Rattle.hc_history.specs.Books.{Charge, Entry, charges, entry_at, is_linked}
+use Rattle.hc_types.specs.Tally.{count}
+use Rattle.hc_history.specs.Books.{Charge, Entry, charges, entry_at, now_at, is_past, expired_at, is_linked}
 use Rattle.hc_history.specs.Lawful.{is_full, next_charged, is_charge_of, Lawful, past}
 use Rattle.hc_core.specs.Item.{Item}
 use Rattle.hc_core.specs.Pool.{is_at, item_at, without, is_over, kept, dropped}
@@ -76,27 +76,28 @@ next_full : (config : Config) (live : List Charge) (want : ℕ) (o : Option (ℕ
 next_full config live want o e full = subst (λ (o : Option (ℕ × ℕ)). IsSomeAnd o (λ next. (next.0 ≡ 0) × (is_full config 0 live next.1 ≡ true))) e (refl, full)
 
 lawful_step : (config : Config) (want : ℕ) (x : Item) (items : List Item) (older : List Note) (charged calls : ℕ) (tail : List Note) (b : Bool)
-    → is_over config want (x ∷ items) ≡ b
+    → length config.pools ≡ 1 → config.flash ≡ None → is_over config want (x ∷ items) ≡ b
     → ((newer : List Note) → Mirrors newer items charged calls → Lawful config (past newer (eviction_notes want (dropped config want items))) tail → Lawful config newer (eviction_notes want (dropped config want items) ++ tail))
     → Mirrors older (x ∷ items) charged calls → next_charged tail ≡ Some (0, want)
     → Lawful config (past older (eviction_notes want (cond b (x ∷ dropped config want items) []))) tail
     → Lawful config older (eviction_notes want (cond b (x ∷ dropped config want items) []) ++ tail)
-lawful_step config want x items older charged calls tail true over more m next h =
+lawful_step config want x items older charged calls tail true one none over more m next h =
     let same = same_charges older (x ∷ items) charged calls m in
-    let full : is_full config 0 (charges older) want ≡ true = full-over config want (charges older) (x ∷ items) same ∙ over in
+    let full : is_full config 0 (charges older) want ≡ true = full-over config want (charges older) (x ∷ items) one same ∙ over in
     let live : 0 < count (is_charge_of x.charge x.key 0) (charges older) = charge_found (charges older) [] (x ∷ items) x.key x (first_found x items) same in
+    let unexpired : expired_at older x.key ≡ false = ap (is_past (now_at older)) (m.entries x.key ∙ ap entry_of (first_found x items)) in
     let after : next_charged (eviction_notes want (dropped config want items) ++ tail) ≡ Some (0, want) = next-evictions want (dropped config want items) tail (0, want) next in (
       inr (x.key, (0, (live, inr (next_full config (charges older) want _ (sym after) full)))),
       (
-        (live, full, after),
+        (none, unexpired, (live, full, after)),
         more (Lose (loss.Key x.key) (Evicted 0 want NoFlash) ∷ Freed x.charge ∷ older) (Mirrors-evicted older x items want charged calls m) h,
       ),
     )
-lawful_step config want x items older charged calls tail false over more m next h = h
+lawful_step config want x items older charged calls tail false one none over more m next h = h
 
 -- the evictions that make room are lawful before the charge for which it is made
-pub evicted-lawful : (config : Config) (want : ℕ) (items : List Item) (older : List Note) (charged calls : ℕ) (tail : List Note) → Mirrors older items charged calls → next_charged tail ≡ Some (0, want)
+pub evicted-lawful : (config : Config) (want : ℕ) (items : List Item) (older : List Note) (charged calls : ℕ) (tail : List Note) → length config.pools ≡ 1 → config.flash ≡ None → Mirrors older items charged calls → next_charged tail ≡ Some (0, want)
     → Lawful config (past older (eviction_notes want (dropped config want items))) tail → Lawful config older (eviction_notes want (dropped config want items) ++ tail)
-evicted-lawful config want [] older charged calls tail m next h = h
-evicted-lawful config want (x ∷ items) older charged calls tail m next h =
-    lawful_step config want x items older charged calls tail (is_over config want (x ∷ items)) refl (λ newer n k. evicted-lawful config want items newer charged calls tail n next k) m next h
+evicted-lawful config want [] older charged calls tail one none m next h = h
+evicted-lawful config want (x ∷ items) older charged calls tail one none m next h =
+    lawful_step config want x items older charged calls tail (is_over config want (x ∷ items)) one none refl (λ newer n k. evicted-lawful config want items newer charged calls tail one none n next k) m next h

@@ -3,7 +3,7 @@ use Rattle.std.proofs.Common.{◌≡◌, ℕ, ◌+◌, ◌<◌, ◌≤◌, ◌++
 use mathlib.Core.Bool.{cond}
 use Rattle.std.proofs.lemmas.List.{drop_more}
 use Rattle.std.proofs.lemmas.Option.{slice_get_read}
-use Rattle.hc_history.specs.Tally.{tally}
+use Rattle.hc_types.specs.Tally.{tally}
 use Rattle.hc_core.specs.Item.{Item}
 use Rattle.hc_core.specs.Pool.{is_at, item_at, without}
 

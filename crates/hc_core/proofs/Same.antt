@@ -1,15 +1,17 @@
 -- The live charges of a history and the items of the pool, in any order.
 use Rattle.std.proofs.Common.{◌≡◌, ℕ, ◌+◌, ◌<◌, ◌≤◌, ◌++◌, ◌==◌, Bool, true, false, not, ◌&&◌, ◌||◌, List, [], ◌∷◌, length, Some, refl, ap, ◌∙◌, arith, map, nat_lt}
 use Rattle.std.specs.Prelude.{filter}
+use Rattle.std.specs.List.{slice_get}
 use mathlib.Core.Bool.{cond}
 use Rattle.std.specs.Str.{bytes_eq}
 use Rattle.std.proofs.lemmas.Bool.{eq-eqb}
-use Rattle.hc_types.specs.declared.config.Config.{Config}
-use Rattle.hc_history.specs.Tally.{tally, count}
+use Rattle.hc_types.specs.Config.{Config}
+use Rattle.hc_types.specs.declared.config.PoolSize.{PoolSize}
+use Rattle.hc_types.specs.Tally.{tally, count}
 use Rattle.hc_history.specs.Books.{Charge, has_number, linked_at}
-use Rattle.hc_history.specs.Lawful.{live_bytes, live_count, is_full, is_charge_of}
+use Rattle.hc_history.specs.Lawful.{live_bytes, live_count, is_full, is_full_of, is_charge_of}
 use Rattle.hc_core.specs.Item.{Item}
-use Rattle.hc_core.specs.Pool.{bytes_of, item_at, without, is_over}
+use Rattle.hc_core.specs.Pool.{first_pool, only_pool, bytes_of, item_at, without, is_over}
 use Rattle.hc_core.specs.Mirrors.{numbered, charge_at}
 use Rattle.hc_core.proofs.Limits.{length-tally}
 use Rattle.hc_core.proofs.Tallies.{tally-filter, tally-map, tally-push, tally-where, tally-without, item_at-is}
@@ -67,13 +69,19 @@ Same-linked charges items item other same f =
     let pushed : tally (λ i. f (charge_at i)) (items ++ item ∷ []) ≡ tally (λ i. f (charge_at i)) items + f (charge_at item) = tally-push (λ i. f (charge_at i)) items item in
     omega arith
 
+-- the one pool has the number 0
+first_there : (pools : List PoolSize) → length pools ≡ 1 → slice_get pools 0 ≡ Some (first_pool pools)
+first_there [] one = absurd (omega (arith, one))
+first_there (pool ∷ pools) one = refl
+
 -- the pool is full exactly where the items are over
-pub full-over : (config : Config) (want : ℕ) (charges : List Charge) (items : List Item) → Same charges [] items → is_full config 0 charges want ≡ is_over config want items
-full-over config want charges items same =
+pub full-over : (config : Config) (want : ℕ) (charges : List Charge) (items : List Item) → length config.pools ≡ 1 → Same charges [] items → is_full config 0 charges want ≡ is_over config want items
+full-over config want charges items one same =
     let bytes : live_bytes 0 charges ≡ bytes_of items = omega (arith, same (λ charge. cond (charge.pool == 0) charge.bytes 0)) in
     let number : live_count 0 charges ≡ length items = omega (arith, same (λ charge. cond (charge.pool == 0) 1 0), length-tally items) in
-    ap (λ n. nat_lt config.pool.bytes (n + want) || (live_count 0 charges == config.pool.items)) bytes
-    ∙ ap (λ n. nat_lt config.pool.bytes (bytes_of items + want) || (n == config.pool.items)) number
+    ap (λ size. is_full_of size 0 charges want) (first_there config.pools one)
+    ∙ ap (λ n. nat_lt (only_pool config).bytes (n + want) || (live_count 0 charges == (only_pool config).items)) bytes
+    ∙ ap (λ n. nat_lt (only_pool config).bytes (bytes_of items + want) || (n == (only_pool config).items)) number
 
 and_true : (a b : Bool) → a ≡ true → b ≡ true → (a && b) ≡ true
 and_true true true h k = refl

@@ -4,42 +4,10 @@ use Rattle.std.specs.Prelude.{filter}
 use mathlib.Core.Bool.{cond}
 use Rattle.std.specs.Str.{bytes_eq}
 use Rattle.std.proofs.lemmas.Slice.Eq.{bytes_eq-Decides}
-use Rattle.hc_history.specs.Tally.{tally, count}
+use Rattle.hc_types.specs.Tally.{tally, count}
+pub use Rattle.hc_types.proofs.Tallies.{tally-ext, tally-mono, tally-filter, tally-map, tally-push, tally-where}
 use Rattle.hc_core.specs.Item.{Item}
 use Rattle.hc_core.specs.Pool.{is_at, item_at, without}
-
-pub tally-ext : {X : Type 0} (f g : X → ℕ) → ((x : X) → f x ≡ g x) → (xs : List X) → tally f xs ≡ tally g xs
-tally-ext f g h [] = refl
-tally-ext f g h (x ∷ xs) = omega (arith, h x, tally-ext f g h xs)
-
-pub tally-mono : {X : Type 0} (f g : X → ℕ) → ((x : X) → f x ≤ g x) → (xs : List X) → tally f xs ≤ tally g xs
-tally-mono f g h [] = omega arith
-tally-mono f g h (x ∷ xs) = omega (arith, h x, tally-mono f g h xs)
-
-filter_step : {X : Type 0} (f : X → ℕ) (p : X → Bool) (x : X) (xs : List X) (b : Bool) → tally f (filter p xs) ≡ tally (λ x. cond (p x) (f x) 0) xs → tally f (cond b (x ∷ filter p xs) (filter p xs)) ≡ cond b (f x) 0 + tally (λ x. cond (p x) (f x) 0) xs
-filter_step f p x xs true h = omega (arith, h)
-filter_step f p x xs false h = omega (arith, h)
-
-pub tally-filter : {X : Type 0} (f : X → ℕ) (p : X → Bool) (xs : List X) → tally f (filter p xs) ≡ tally (λ x. cond (p x) (f x) 0) xs
-tally-filter f p [] = refl
-tally-filter f p (x ∷ xs) = filter_step f p x xs (p x) (tally-filter f p xs)
-
-pub tally-map : {X Y : Type 0} (f : Y → ℕ) (g : X → Y) (xs : List X) → tally f (map g xs) ≡ tally (λ x. f (g x)) xs
-tally-map f g [] = refl
-tally-map f g (x ∷ xs) = omega (arith, tally-map f g xs)
-
-pub tally-push : {X : Type 0} (f : X → ℕ) (xs : List X) (x : X) → tally f (xs ++ x ∷ []) ≡ tally f xs + f x
-tally-push f [] x = omega arith
-tally-push f (y ∷ xs) x = omega (arith, tally-push f xs x)
-
--- two sums agree where none passes the test, and the terms agree at all others
-where_step : {X : Type 0} (f g : X → ℕ) (x : X) (xs : List X) (b : Bool) (n : ℕ) → (b ≡ false → f x ≡ g x) → tally f xs ≡ tally g xs → cond b 1 0 + n ≡ 0 → f x + tally f xs ≡ g x + tally g xs
-where_step f g x xs true n h e none = absurd (omega arith)
-where_step f g x xs false n h e none = omega (arith, h refl, e)
-
-pub tally-where : {X : Type 0} (p : X → Bool) (f g : X → ℕ) → ((x : X) → p x ≡ false → f x ≡ g x) → (xs : List X) → count p xs ≡ 0 → tally f xs ≡ tally g xs
-tally-where p f g h [] none = refl
-tally-where p f g h (x ∷ xs) none = where_step f g x xs (p x) (count p xs) (h x) (tally-where p f g h xs (omega arith)) none
 
 -- the item under a key has the key
 at_step : (key : List ℕ) (x y : Item) (b : Bool) (o : Option Item) → is_at key y ≡ b → (o ≡ Some x → is_at key x ≡ true) → cond b (Some y) o ≡ Some x → is_at key x ≡ true

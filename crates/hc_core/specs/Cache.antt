@@ -1,6 +1,6 @@
 -- What contracts see of a core.
 use Rattle.std.specs.Prelude.{ℕ, List, Option}
-use Rattle.hc_types.specs.declared.config.Config.{Config}
+use Rattle.hc_types.specs.Config.{Config}
 use Rattle.hc_history.specs.Note.{Note}
 use Rattle.hc_core.specs.Item.{Item}
 

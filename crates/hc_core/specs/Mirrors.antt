@@ -1,8 +1,8 @@
 -- The log is legal, and its books are the core's.
 use Rattle.std.specs.Prelude.{◌≡◌, ℕ, ◌<◌, ◌≤◌, ◌==◌, Bool, true, List, [], Option, Some, None}
-use Rattle.hc_types.specs.declared.config.Config.{Config}
+use Rattle.hc_types.specs.Config.{Config}
 use Rattle.hc_history.specs.Note.{Note}
-use Rattle.hc_history.specs.Tally.{tally, count}
+use Rattle.hc_types.specs.Tally.{tally, count}
 use Rattle.hc_history.specs.Books.{Charge, Entry, charges, begun, open_calls, owed, entry_at}
 use Rattle.hc_history.specs.Lawful.{Legal, past}
 use Rattle.hc_core.specs.Item.{Item}

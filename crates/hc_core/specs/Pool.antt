@@ -2,9 +2,19 @@
 use Rattle.std.specs.Prelude.{ℕ, ◌+◌, ◌==◌, nat_lt, Bool, ◌||◌, List, [], ◌∷◌, Option, Some, None, length, if◌then◌else◌}
 use Rattle.std.specs.Str.{bytes_eq}
 use Rattle.hc_types.specs.Charge.{charge_of}
-use Rattle.hc_types.specs.declared.config.Config.{Config}
-use Rattle.hc_history.specs.Tally.{tally}
+use Rattle.hc_types.specs.Config.{Config}
+use Rattle.hc_types.specs.declared.config.PoolSize.{PoolSize}
+use Rattle.hc_types.specs.Tally.{tally}
 use Rattle.hc_core.specs.Item.{Item}
+
+-- the first of some pools; where there is none, one of no bytes and no items
+abbrev pub first_pool : List PoolSize → PoolSize
+first_pool [] = record { bytes = 0; items = 0 }
+first_pool (pool ∷ pools) = pool
+
+-- the size of the one pool
+abbrev pub only_pool : Config → PoolSize
+only_pool config = first_pool config.pools
 
 -- what an item is charged
 abbrev pub cost : Item → ℕ
@@ -28,7 +38,7 @@ without key (item ∷ items) = if is_at key item then items else item ∷ withou
 
 -- there is no room for so many bytes, or for one more item, beside these
 abbrev pub is_over : Config → ℕ → List Item → Bool
-is_over config want items = nat_lt config.pool.bytes (bytes_of items + want) || (length items == config.pool.items)
+is_over config want items = nat_lt (only_pool config).bytes (bytes_of items + want) || (length items == (only_pool config).items)
 
 -- the items that stay when room is made: none goes while there is room
 abbrev pub kept : Config → ℕ → List Item → List Item

@@ -2,8 +2,8 @@
 use Rattle.std.specs.Prelude.{ℕ, ◌+◌, List, [], ◌∷◌, ◌++◌, Option, Some, None, length}
 use Rattle.hc_types.specs.Charge.{charge_of}
 use Rattle.hc_types.specs.Loss as loss
-use Rattle.hc_types.specs.declared.config.Config.{Config}
-use Rattle.hc_types.specs.declared.loss.Cause.TheVariants.{Evicted}
+use Rattle.hc_types.specs.Config.{Config}
+use Rattle.hc_types.specs.Loss.{Evicted}
 use Rattle.hc_types.specs.declared.loss.Why.TheVariants.{NoFlash}
 use Rattle.hc_history.specs.Note.{Reply, Stored, Hit, Miss, FoundInMemory, NotInMemory, Insert, Find, Remove, Note, Begin, Did, End, Lose, Charged, Linked, Freed}
 use Rattle.hc_history.specs.Told.{told_more}

@@ -1,6 +1,6 @@
 -- The runs of a core: one relation by cases, and lists of steps that it relates.
 use Rattle.std.specs.Prelude.{◌≡◌, ℕ, ◌+◌, List, [], ◌∷◌, ◌++◌, Option, Some, None, length}
-use Rattle.hc_types.specs.declared.config.Config.{Config}
+use Rattle.hc_types.specs.Config.{Config}
 use Rattle.hc_types.specs.declared.refusal.Refusal.{Refusal}
 use Rattle.hc_history.specs.Note.{Note, Reply, Stored}
 use Rattle.hc_core.specs.Cache.{Cache}

@@ -1,6 +1,6 @@
 // The core of a cache of one pool, and no flash.
 ghost use Rattle.std.specs.Prelude.{◌≡◌, ◌+◌, ◌*◌, ◌^◌, ◌≤◌, ◌⊎◌, ◌↔◌, [], None, Some, length, IfOk, OnOk, OnErr, IfErr, IfSome, IsSome, IsOk, IsErrOf, vec_len, vec_capacity};
-ghost use Rattle.hc_types.specs.Limits.{FitsPool};
+ghost use Rattle.hc_types.specs.Limits.{first_wrong};
 ghost use Rattle.hc_history.specs.Lawful.{Legal};
 ghost use Rattle.hc_core.specs.Answers.{found_value};
 ghost use Rattle.hc_core.specs.Steps.{after_set, after_find, after_remove, value_of, removed_of};
@@ -24,7 +24,7 @@ use std::marker::Model;
 /// as it was.
 #[derive(Drop)]
 pub struct Core<N: Notes<Note<A>>, A: Allocator = Global> {
-    config: Config,
+    config: Config<A>,
     // the one that was used longest ago first
     items: Vec<Item<A>, A>,
     charges: u64,
@@ -45,25 +45,31 @@ impl<N: Notes<Note<A>>, A: Allocator> Model for Core<N, A> {
     ghost invariant = { λ c. Sound c.config c.items.items × Follows (N.told c.notes) c.config c.items.items c.charges c.calls };
 }
 
-impl<N: Notes<Note<A>>, A: Allocator> Core<N, A> {
-    /// An empty cache, which tells `notes` what it does. Its items are allocated by `alloc`. Refused with `BadPool`
-    /// where a number of the configuration is outside its limits.
-    pub fn new(alloc: A, config: &Config, notes: N) -> Result<Core<N, A>, Refusal>
-        requires { IfSome (N.told notes) (λ log. log ≡ []) }
+impl<N: Notes<Note<A>>, A: Allocator + Clone> Core<N, A> {
+    /// An empty cache, which tells `notes` what it does. Its items are allocated by `alloc`, and it keeps a copy of the
+    /// configuration. That has one pool and no flash: several pools, and flash, come later. Refused for the first number
+    /// of the configuration that is outside its limits, as `Config::check` is, and with `NoMemory`.
+    pub fn new(alloc: A, config: &Config<A>, notes: N) -> Result<Core<N, A>, Refusal>
+        requires log { IfSome (N.told notes) (λ log. log ≡ []) }
+        requires pools { length config.now.pools ≤ 1 }
+        requires flash { config.now.flash ≡ None }
         ensures ok { IfOk result (λ core. core ≡ record { config = config.now; items = []; charges = 0; calls = 0; log = N.told notes }) }
-        ensures fits { IsOk result ↔ FitsPool config.now.pool.bytes config.now.pool.items }
-        ensures err { IsOk result ⊎ IsErrOf result Refusal.BadPool }
+        ensures fits { OnOk result (first_wrong config.now ≡ None) }
+        ensures err { IfErr result (λ refusal. (first_wrong config.now ≡ Some refusal) ⊎ ((first_wrong config.now ≡ None) × (refusal ≡ Refusal.NoMemory))) }
     {
         config.check()?;
+        let config = config.clone()?;
         Ok(Core {
-            config: *config,
+            config,
             items: Vec::new(alloc),
             charges: 0,
             calls: 0,
             notes,
         })
     }
+}
 
+impl<N: Notes<Note<A>>, A: Allocator> Core<N, A> {
     /// How many calls were begun.
     #[must_use]
     pub fn calls(&self) -> u64
@@ -74,7 +80,7 @@ impl<N: Notes<Note<A>>, A: Allocator> Core<N, A> {
 
     /// The configuration that it was made with.
     #[must_use]
-    pub fn config(&self) -> &Config
+    pub fn config(&self) -> &Config<A>
         ensures { result.now ≡ self.now.config }
     {
         &self.config

@@ -3,7 +3,7 @@ ghost use Rattle.std.specs.Prelude.{◌≡◌, ℕ, ◌+◌, ◌*◌, ◌^◌, �
 ghost use Rattle.hc_types.specs.Charge.{charge_of};
 ghost use Rattle.hc_history.specs.Note.{Begin, Did, Charged, Insert, Find, Remove};
 ghost use Rattle.hc_history.specs.Told.{where_kept};
-ghost use Rattle.hc_core.specs.Pool.{item_at, dropped, kept};
+ghost use Rattle.hc_core.specs.Pool.{only_pool as size_of_only, item_at, dropped, kept};
 ghost use Rattle.hc_core.specs.Refused.{set_refusal};
 ghost use Rattle.hc_core.specs.Sound.{Sound};
 ghost use Rattle.hc_core.specs.Answers.{found_value};
@@ -12,7 +12,7 @@ ghost use Rattle.hc_core.specs.Steps.{value_of, find_reply};
 
 use crate::answers::Found;
 use crate::item::Item;
-use crate::pool::{place_of, victims};
+use crate::pool::{only_pool, place_of, victims};
 use bytes::Bytes;
 use hc_history::{Note, Notes, Op, Reply, Said};
 use hc_types::{Config, Key, Refusal, VALUE_MAX, charge};
@@ -138,12 +138,13 @@ pub fn look_up<A: Allocator>(items: &[Item<A>], key: &Key<A>) -> Result<Found<A>
 /// What a set of this key and value to this pool is refused with, memory apart: `NoPool`, `ValueTooLong` or `NoRoom`,
 /// the first that holds. Otherwise what its item is charged, in bytes.
 pub fn wanted<A: Allocator>(
-    config: &Config,
+    config: &Config<A>,
     pool: u8,
     key: &Key<A>,
     value: &Bytes<A>,
 ) -> Result<u64, Refusal>
-    ensures ok { IfOk result (λ want. (want ≡ charge_of key.now (length value.now)) × (want ≤ config.now.pool.bytes)) }
+    requires { length config.now.pools ≡ 1 }
+    ensures ok { IfOk result (λ want. (want ≡ charge_of key.now (length value.now)) × (want ≤ (size_of_only config.now).bytes)) }
     ensures fits { OnOk result (set_refusal config.now pool key.now value.now ≡ None) }
     ensures err { IfErr result (λ refusal. set_refusal config.now pool key.now value.now ≡ Some refusal) }
 {
@@ -154,7 +155,7 @@ pub fn wanted<A: Allocator>(
         return Err(Refusal::ValueTooLong);
     }
     let want = charge(key, value.len() as u64);
-    if want > config.pool.bytes {
+    if want > only_pool(config).bytes {
         return Err(Refusal::NoRoom);
     }
     Ok(want)
@@ -185,7 +186,7 @@ pub struct Ready<A: Allocator> {
 pub fn ready_set<A: Allocator, N: Notes<Note<A>>>(
     notes: &mut N,
     items: &mut Vec<Item<A>, A>,
-    config: &Config,
+    config: &Config<A>,
     charges: u64,
     calls: u64,
     set: Setting<'_, A>,

@@ -1,10 +1,18 @@
 // The plain work on the pool's items, the one that was used longest ago first.
 ghost use Rattle.std.specs.Prelude.{◌≡◌, ℕ, ◌+◌, ◌-◌, ◌*◌, ◌^◌, ◌<◌, ◌≤◌, ◌++◌, vec_len, vec_capacity, List, [], ◌∷◌, length, take, drop, Option, None, Some, MatchOption, slice_get, remove};
-ghost use Rattle.hc_core.specs.Pool.{cost as item_cost, bytes_of, is_at, item_at, without, kept, dropped};
+ghost use Rattle.hc_core.specs.Pool.{only_pool as size_of_only, cost as item_cost, bytes_of, is_at, item_at, without, kept, dropped};
 
 use crate::item::Item;
-use hc_types::{Config, Key};
+use hc_types::{Config, Key, PoolSize};
 use std::alloc::Allocator;
+
+/// The size of the one pool.
+pub fn only_pool<A: Allocator>(config: &Config<A>) -> PoolSize
+    requires { length config.now.pools ≡ 1 }
+    ensures { result ≡ size_of_only config.now }
+{
+    config.pools[0]
+}
 
 /// Whether the item is the one under this key.
 fn has_key<A: Allocator>(item: &Item<A>, key: &Key<A>) -> bool
@@ -47,16 +55,17 @@ fn total<A: Allocator>(items: &[Item<A>]) -> u64
 }
 
 /// How many items go, from the one that was used longest ago on, to make room for `want` bytes.
-pub fn victims<A: Allocator>(config: &Config, items: &[Item<A>], want: u64) -> usize
-    requires bytes { config.now.pool.bytes ≤ 4294967296 }
-    requires items { 0 < config.now.pool.items }
-    requires within { bytes_of items.now ≤ config.now.pool.bytes }
-    requires fits { want ≤ config.now.pool.bytes }
+pub fn victims<A: Allocator>(config: &Config<A>, items: &[Item<A>], want: u64) -> usize
+    requires pools { length config.now.pools ≡ 1 }
+    requires bytes { (size_of_only config.now).bytes ≤ 4294967296 }
+    requires items { 0 < (size_of_only config.now).items }
+    requires within { bytes_of items.now ≤ (size_of_only config.now).bytes }
+    requires fits { want ≤ (size_of_only config.now).bytes }
     ensures bound { result ≤ length items.now }
     ensures go { take result items.now ≡ dropped config.now want items.now }
     ensures stay { drop result items.now ≡ kept config.now want items.now }
 {
-    let limit = config.pool;
+    let limit = only_pool(config);
     let mut gone: usize = 0;
     let mut bytes = total(items);
     for item in items {

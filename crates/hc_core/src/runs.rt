@@ -1,6 +1,6 @@
 // A list of calls, and the log that they leave.
 ghost use Rattle.std.specs.Prelude.{◌≡◌, ◌+◌, ◌≤◌, ◌<◌, ◌↔◌, List, [], Some, None, IfOk, IfErr, IfSome, IsOk, IsErrOf, OnOk, OnErr, length, take, vec_len, ◌⊎◌};
-ghost use Rattle.hc_types.specs.Limits.{FitsPool};
+ghost use Rattle.hc_types.specs.Limits.{first_wrong};
 ghost use Rattle.hc_history.specs.Lawful.{Legal};
 ghost use Rattle.hc_history.specs.Note.{Note as Meaning};
 ghost use Rattle.hc_history.specs.Seen.{reply_of};
@@ -149,19 +149,21 @@ fn go_on<A: Allocator>(
 }
 
 /// The log of any list of calls on a new cache. It is legal, and it is that of a run of the calls, up to the one at which
-/// memory was wanted. Refused with `BadPool` where a number of the configuration is outside its limits, and with
-/// `NoMemory` where the allocator can't be copied.
+/// memory was wanted. Refused for the first number of the configuration that is outside its limits, and with `NoMemory`
+/// where the allocator or the configuration can't be copied.
 pub fn run<A: Allocator + Clone>(
     alloc: A,
-    config: &Config,
+    config: &Config<A>,
     calls: &[Call<A>],
 ) -> Result<Ran<A>, Refusal>
+    requires pools { length config.now.pools ≤ 1 }
+    requires flash { config.now.flash ≡ None }
     ensures legal { IfOk result (λ ran. Legal config.now ran.log.notes.items) }
     ensures follows { IfOk result (λ ran. IsRunOf config.now (take (length ran.answers.items) calls.now) ran.answers.items ran.ends.items ran.log.notes.items) }
     ensures all { IfOk result (λ ran. ran.stopped ≡ None → length ran.answers.items ≡ length calls.now) }
     ensures stopped { IfOk result (λ ran. IfSome ran.stopped (λ place. length ran.answers.items ≡ place)) }
-    ensures fits { OnOk result (FitsPool config.now.pool.bytes config.now.pool.items) }
-    ensures err { IfErr result (λ refusal. (refusal ≡ Refusal.BadPool) ⊎ (refusal ≡ Refusal.NoMemory)) }
+    ensures fits { OnOk result (first_wrong config.now ≡ None) }
+    ensures err { IfErr result (λ refusal. (first_wrong config.now ≡ Some refusal) ⊎ (refusal ≡ Refusal.NoMemory)) }
 {
     let notes = Kept::new(alloc.clone()?);
     let mut answers = Vec::new(alloc.clone()?);

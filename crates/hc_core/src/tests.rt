@@ -1,15 +1,19 @@
 // That calls succeed, and answer and tell what worked runs want.
+ghost use Rattle.std.specs.Prelude.{◌≡◌, None, length, IfOk};
+
 use crate::{Call, Core, Found, Removed, Request, run};
 use bytes::Bytes;
-use hc_history::{Kept, Note, Reply, Said, Silent, Stats};
+use hc_history::{Kept, Note, Notes, Reply, Said, Silent, Stats};
 use hc_types::{Config, Key, PoolSize, Refusal};
 use std::alloc::{AllocError, Global};
 use std::test::Fail;
 
-fn config(bytes: u64) -> Config {
-    Config {
-        pool: PoolSize { bytes, items: 10 },
-    }
+fn config(alloc: Global, bytes: u64) -> Result<Config, AllocError>
+    ensures { IfOk result (λ config. (length config.pools ≡ 1) × (config.flash ≡ None)) }
+{
+    let mut pools = Vec::new(alloc);
+    pools.push(PoolSize { bytes, items: 10 })?;
+    Ok(Config::new(pools, None))
 }
 
 fn filled(alloc: Global, byte: u8, len: usize) -> Result<Bytes, AllocError> {
@@ -30,29 +34,56 @@ fn lost_keys(log: &[Note]) -> usize {
         .count()
 }
 
+// Whether a value of `len` such bytes is stored.
+fn sets(
+    core: &mut Core<Kept>,
+    alloc: Global,
+    key: &Key,
+    byte: u8,
+    len: usize,
+) -> Result<bool, AllocError> {
+    let key = key.clone()?;
+    let value = filled(alloc, byte, len)?;
+    Ok(core.set(0, 0, key, value).is_ok())
+}
+
+// Whether the key is found, with these bytes.
+fn hits(core: &mut Core<Kept>, key: &Key, value: &[u8]) -> Result<bool, Refusal> {
+    let found = core.find(0, key)?;
+    Ok(is_hit(&found, value))
+}
+
+// Whether the key isn't found.
+fn misses(core: &mut Core<Kept>, key: &Key) -> Result<bool, Refusal> {
+    let found = core.find(0, key)?;
+    Ok(matches!(found, Found::Miss))
+}
+
+// A core of one pool of 106 bytes, in which `a` and then `b` were stored, and `a` was found.
+fn exactly_full(alloc: Global, a: &Key, b: &Key) -> Result<Core<Kept>, Fail> {
+    let config = config(alloc, 106)?;
+    let mut core = Core::new(alloc, &config, Kept::new(alloc))?;
+    let _ = sets(&mut core, alloc, a, b'x', 20)?;
+    let _ = sets(&mut core, alloc, b, b'y', 20)?;
+    let _ = hits(&mut core, a, &[b'x'; 20])?;
+    Ok(core)
+}
+
 #[test]
 fn evicts_what_was_used_longest_ago(rt: HostRuntime) -> Result<(), Fail> {
     let alloc = rt.alloc();
-    let notes: Kept = Kept::new(alloc);
-    let mut core = Core::new(alloc, &config(106), notes)?;
     let a = Key::new(alloc, b"a")?;
     let b = Key::new(alloc, b"b")?;
-    assert!(rt; core.set(0, 0, a.clone()?, filled(alloc, b'x', 20)?).is_ok());
-    assert!(rt; core.set(0, 0, b.clone()?, filled(alloc, b'y', 20)?).is_ok());
-    assert!(rt; is_hit(&core.find(0, &a)?, &[b'x'; 20]));
-    assert!(rt; core.set(0, 0, b.clone()?, filled(alloc, b'y', 21)?).is_ok());
-    assert!(rt; matches!(core.find(0, &a)?, Found::Miss));
-    assert!(rt; is_hit(&core.find(0, &b)?, &[b'y'; 21]));
-    assert_eq!(rt; core.remove(0, &b)?, Removed::FoundInMemory);
-    assert_eq!(rt; core.remove(0, &b)?, Removed::NotInMemory);
-    assert_eq!(rt; core.calls(), 8);
-    assert_eq!(rt; core.config().pool.bytes, 106);
+    let mut core = exactly_full(alloc, &a, &b)?;
+    assert!(rt; sets(&mut core, alloc, &b, b'y', 21)?);
+    assert!(rt; misses(&mut core, &a)?);
+    assert!(rt; hits(&mut core, &b, &[b'y'; 21])?);
     assert_eq!(rt; lost_keys(core.notes().notes.as_slice()), 2);
     let want = Stats {
         stored: 3,
         hits: 2,
         misses: 1,
-        removes: 2,
+        removes: 0,
         losses: 2,
         reads: 0,
         writes: 0,
@@ -62,30 +93,59 @@ fn evicts_what_was_used_longest_ago(rt: HostRuntime) -> Result<(), Fail> {
 }
 
 #[test]
-fn refusals_give_key_and_value_back(rt: HostRuntime) -> Result<(), Fail> {
+fn removes_once(rt: HostRuntime) -> Result<(), Fail> {
     let alloc = rt.alloc();
-    let mut core: Core<Silent> = Core::new(alloc, &config(97), Silent)?;
-    let table = [
-        (1, 0, Refusal::NoPool),
-        (0, 1_048_577, Refusal::ValueTooLong),
-        (0, 65, Refusal::NoRoom),
-    ];
-    for (pool, len, want) in table {
-        let key = Key::new(alloc, b"a")?;
-        match core.set(0, pool, key, filled(alloc, b'x', len)?) {
-            Ok(()) => assert!(rt; false),
-            Err(unset) => {
-                assert_eq!(rt; unset.refusal, want);
-                assert_eq!(rt; unset.key.as_slice(), b"a".as_slice());
-                assert_eq!(rt; unset.value.len(), len);
-            }
+    let a = Key::new(alloc, b"a")?;
+    let b = Key::new(alloc, b"b")?;
+    let mut core = exactly_full(alloc, &a, &b)?;
+    assert_eq!(rt; core.remove(0, &b)?, Removed::FoundInMemory);
+    assert_eq!(rt; core.remove(0, &b)?, Removed::NotInMemory);
+    assert_eq!(rt; core.calls(), 5);
+    let pools = [PoolSize {
+        bytes: 106,
+        items: 10,
+    }];
+    assert_eq!(rt; core.config().pools.as_slice(), pools.as_slice());
+    Ok(())
+}
+
+// What a set of `len` bytes is refused with, if it is. Key and value must come back.
+fn refused_with<N: Notes<Note>>(
+    core: &mut Core<N>,
+    alloc: Global,
+    pool: u8,
+    len: usize,
+) -> Result<Option<Refusal>, AllocError> {
+    let key = Key::new(alloc, b"a").map_err(|_| AllocError)?;
+    let value = filled(alloc, b'x', len)?;
+    match core.set(0, pool, key, value) {
+        Ok(()) => Ok(None),
+        Err(unset) => {
+            let back = unset.key.as_slice() == b"a".as_slice() && unset.value.len() == len;
+            Ok(if back { Some(unset.refusal) } else { None })
         }
     }
-    let key = Key::new(alloc, b"a")?;
-    assert!(rt;
-        core.set(0, 0, key.clone()?, filled(alloc, b'x', 64)?)
-            .is_ok()
+}
+
+#[test]
+fn refusals_give_key_and_value_back(rt: HostRuntime) -> Result<(), Fail> {
+    let alloc = rt.alloc();
+    let config = config(alloc, 97)?;
+    let mut core: Core<Silent> = Core::new(alloc, &config, Silent)?;
+    assert_eq!(rt;
+        refused_with(&mut core, alloc, 1, 0)?,
+        Some(Refusal::NoPool)
     );
+    assert_eq!(rt;
+        refused_with(&mut core, alloc, 0, 1_048_577)?,
+        Some(Refusal::ValueTooLong)
+    );
+    assert_eq!(rt;
+        refused_with(&mut core, alloc, 0, 65)?,
+        Some(Refusal::NoRoom)
+    );
+    assert_eq!(rt; refused_with(&mut core, alloc, 0, 64)?, None);
+    let key = Key::new(alloc, b"a")?;
     assert!(rt; is_hit(&core.find(0, &key)?, &[b'x'; 64]));
     Ok(())
 }
@@ -116,7 +176,7 @@ fn a_run_tells_where_each_call_ends(rt: HostRuntime) -> Result<(), Fail> {
         client: 2,
         request: Request::Remove(b.clone()?),
     })?;
-    let ran = run(alloc, &config(100), calls.as_slice())?;
+    let ran = run(alloc, &config(alloc, 100)?, calls.as_slice())?;
     assert_eq!(rt; ran.stopped, None);
     assert_eq!(rt; ran.ends.as_slice(), [5, 12, 12, 15, 19].as_slice());
     assert_eq!(rt; ran.answers.len(), 5);

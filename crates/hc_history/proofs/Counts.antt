@@ -1,7 +1,7 @@
 -- Counts over a list.
 use Rattle.std.proofs.Common.{◌≡◌, ℕ, ◌+◌, ◌≤◌, Bool, false, List, [], ◌∷◌, length, drop, refl, ap, ◌∙◌, sym, arith}
 use Rattle.std.proofs.lemmas.List.{drop_all}
-use Rattle.hc_history.specs.Tally.{count}
+use Rattle.hc_types.specs.Tally.{count}
 use Rattle.hc_history.specs.Note.{Note}
 use Rattle.hc_history.specs.Stats.{counts_of, is_stored, is_hit, is_miss, is_removed, is_loss}
 use Rattle.hc_history.specs.declared.stats.Stats.{Stats}

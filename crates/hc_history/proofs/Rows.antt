@@ -1,18 +1,30 @@
 -- The definitions against logs written out by hand: those of worked runs are legal, and those that break a promise are
 -- refused.
-use Rattle.std.proofs.Common.{◌≡◌, ℕ, ◌+◌, ◌≤◌, ◌++◌, Bool, true, false, if◌then◌else◌, List, [], ◌∷◌, Option, Some, refl, ap, rules, arith, inl, inr}
+use Rattle.std.proofs.Common.{◌≡◌, ℕ, ◌+◌, ◌≤◌, ◌++◌, Bool, true, false, if◌then◌else◌, List, [], ◌∷◌, Option, Some, None, refl, ap, rules, arith, inl, inr}
 use Rattle.std.specs.Str.{bytes_eq}
 use Rattle.hc_types.specs.Loss as loss
-use Rattle.hc_types.specs.declared.config.Config.{Config}
-use Rattle.hc_types.specs.declared.loss.Cause.TheVariants.{Evicted}
+use Rattle.hc_types.specs.Loss.{Evicted, Expired, Fault}
+use Rattle.hc_types.specs.Config.{Config}
+use Rattle.hc_types.specs.declared.config.PoolSize.{PoolSize}
+use Rattle.hc_types.specs.declared.config.FlashConfig.{FlashConfig}
 use Rattle.hc_types.specs.declared.loss.Why.TheVariants.{NoFlash}
-use Rattle.hc_history.specs.Note.{Insert, Find, Remove, Stored, Hit, Miss, FoundInMemory, NotInMemory, Note, Begin, Did, End, Lose, Charged, Linked, Freed}
+use Rattle.hc_history.specs.Note.{Insert, Find, Remove, Stored, Hit, Miss, FoundInMemory, NotInMemory, Note, Begin, Did, End, Lose, Charged, Linked, Freed, Now}
 use Rattle.hc_history.specs.Books.{charges}
 use Rattle.hc_history.specs.Lawful.{Legal, is_full, past}
 
--- pools of 1000, 100 and 106 bytes
+-- a pool of 1000, 100 or 106 bytes, and no flash
+abbrev pool_of : ℕ → PoolSize
+pool_of bytes = record { bytes = bytes; items = 10 }
+
 abbrev of : ℕ → Config
-of bytes = record { pool = record { bytes = bytes; items = 10 } }
+of bytes = record { pools = pool_of bytes ∷ []; flash = None }
+
+-- the same with flash
+abbrev some_flash : FlashConfig
+some_flash = record { page = 512; buckets = 4; regions = 4; region_pages = 2; clean = 1; small_max = 100; queue = 16; bits = 64; admit_min = 0; admit_max = 1000 }
+
+abbrev with_flash : ℕ → Config
+with_flash bytes = record { pools = pool_of bytes ∷ []; flash = Some some_flash }
 
 abbrev a : List ℕ
 a = 97 ∷ []
@@ -127,6 +139,38 @@ exactly_full-legal = record {
   at_end = record { backed = refl; single = λ key. one_at_most (bytes_eq b key) };
 }
 
+-- a value that expires at 15 is found at 14 and no longer at 15, and goes where room is made
+abbrev one_item : Config
+one_item = record { pools = record { bytes = 1000; items = 1 } ∷ []; flash = None }
+
+abbrev stores_until : ℕ → ℕ → List ℕ → ℕ → List ℕ → ℕ → List Note
+stores_until charge call key bytes value expiry = Charged charge key 0 bytes ∷ Begin call 0 (Insert key value expiry) ∷ Linked charge ∷ Did call Stored ∷ End call ∷ []
+
+abbrev expires : ℕ → List ℕ → List Note
+expires charge key = Freed charge ∷ Lose (loss.Key key) Expired ∷ []
+
+abbrev a_clock : List Note
+a_clock =
+    Now 5 ∷ stores_until 1 1 a 34 one 15
+    ++ (Now 14 ∷ hits 2 a one
+    ++ (Now 15 ∷ misses 3 a ++ (expires 1 a ++ (stores 2 4 a 34 two ++ hits 5 a two))))
+
+pub a_clock-legal : Legal one_item a_clock
+a_clock-legal = record {
+  lawful = (search rules, (search rules, (search rules, (search rules, (search rules, (search rules, (search rules, (search rules, (search rules, (search rules, (search rules, (search rules, (search rules, (search rules, (inr (a, (0, (omega arith, inr (refl, refl)))), search rules)))))))))))))));
+  at_end = record { backed = refl; single = λ key. one_at_most (bytes_eq a key) };
+}
+
+-- an item that is given up before it is inserted
+abbrev given_up : List Note
+given_up = Charged 1 a 0 34 ∷ Freed 1 ∷ misses 1 a
+
+pub given_up-legal : Legal (of 1000) given_up
+given_up-legal = record {
+  lawful = (search rules, (inl (omega arith), search rules));
+  at_end = record { backed = refl; single = λ key. omega arith };
+}
+
 -- ---- logs that are refused
 
 abbrev Refused : ℕ → List Note → Type 0
@@ -180,7 +224,7 @@ ended_twice h = omega (arith, h.lawful.1.1.1.0)
 
 -- a forgetting with no eviction before it
 pub lost_for_nothing : Refused 1000 (stores 1 1 a 34 one ++ (Lose (loss.Key a) (Evicted 0 34 NoFlash) ∷ stores 2 2 b 34 two))
-lost_for_nothing h = h.lawful.1.1.1.1.1.0
+lost_for_nothing h = h.lawful.1.1.1.1.1.0.2
 
 -- an eviction from a pool that isn't full
 pub needless : Refused 1000 (stores 1 1 a 34 one ++ (evicts 1 a 34 ++ stores 2 2 b 34 two))
@@ -188,7 +232,7 @@ needless h = let l = h.lawful in cc
 
 -- a loss that names more bytes than the next charge has
 pub inflated : Refused 100 (stores 1 1 a 53 xs ++ (evicts 1 a 54 ++ stores 2 2 b 53 ys))
-inflated h = omega (arith, same_bytes 53 54 h.lawful.1.1.1.1.1.1.0.2)
+inflated h = omega (arith, same_bytes 53 54 h.lawful.1.1.1.1.1.1.0.2.2)
 
 not_full : (pool : ℕ) → 0 ≡ pool → is_full (of 1000) pool (charges (past [] (stores 1 1 a 34 one))) 34 ≡ true → ⊥
 not_full pool is full = let first = rw (← is) at full in cc
@@ -212,3 +256,57 @@ wrong_bytes h = omega (arith, h.at_end.backed)
 -- a hit on a key that was forgotten
 pub returned : Refused 100 (stores 1 1 a 53 xs ++ (evicts 1 a 53 ++ (stores 2 2 b 53 ys ++ hits 3 a xs)))
 returned h = let l = h.lawful in cc
+
+no_flash : (flash : FlashConfig) → ◌≡◌ {A = Option FlashConfig} (Some flash) None → ⊥
+no_flash flash e = cc
+
+-- an eviction with no flash to go to, though there is flash
+pub flash_denied : Legal (with_flash 100) two_keys → ⊥
+flash_denied h = no_flash some_flash h.lawful.1.1.1.1.1.1.0.0
+
+-- a loss by a fault of a device, where none can be yet
+pub faulted : Refused 100 (stores 1 1 a 53 xs ++ (Freed 1 ∷ Lose (loss.Key a) Fault ∷ stores 2 2 b 53 ys))
+faulted h = h.lawful.1.1.1.1.1.1.0
+
+-- ---- the clock
+
+-- a hit on an expired value
+pub expired_hit : Refused 1000 (stores_until 1 1 a 34 one 15 ++ (Now 15 ∷ hits 2 a one))
+expired_hit h = let l = h.lawful in cc
+
+-- a miss on one that isn't yet
+pub early_miss : Refused 1000 (stores_until 1 1 a 34 one 15 ++ (Now 14 ∷ misses 2 a))
+early_miss h = let l = h.lawful in cc
+
+-- an eviction told as an expiry, of an item that isn't expired
+pub early_expiry : Refused 100 (stores_until 1 1 a 53 xs 15 ++ (Now 14 ∷ expires 1 a ++ stores 2 2 b 53 ys))
+early_expiry h = let l = h.lawful in cc
+
+-- an expiry told as an eviction
+pub late_eviction : Refused 100 (stores_until 1 1 a 53 xs 15 ++ (Now 15 ∷ evicts 1 a 53 ++ stores 2 2 b 53 ys))
+late_eviction h = let l = h.lawful in cc
+
+-- an expired key that is forgotten while its item stays
+pub expired_in_place : Refused 1000 (stores_until 1 1 a 34 one 15 ++ (Now 15 ∷ Lose (loss.Key a) Expired ∷ []))
+expired_in_place h = h.lawful.1.1.1.1.1.1.0.1
+
+-- a clock that goes back, and one that stands
+pub falls : Refused 1000 (Now 5 ∷ Now 4 ∷ [])
+falls h = omega (arith, h.lawful.1.0)
+
+pub stands : Refused 1000 (Now 5 ∷ Now 5 ∷ [])
+stands h = omega (arith, h.lawful.1.0)
+
+-- ---- charges that are open
+
+-- one that is freed twice
+pub freed_twice : Refused 1000 (Charged 1 a 0 34 ∷ Freed 1 ∷ Freed 1 ∷ [])
+freed_twice h = elim h.lawful.1.1.0 [ inl opened ↦ absurd (omega (arith, opened)) | inr linked ↦ absurd (omega (arith, linked.1.1.0)) ]
+
+-- an item that is inserted after it was given up
+pub linked_late : Refused 1000 (Charged 1 a 0 34 ∷ Freed 1 ∷ Begin 1 0 (Insert a one 0) ∷ Linked 1 ∷ Did 1 Stored ∷ End 1 ∷ [])
+linked_late h = omega (arith, h.lawful.1.1.1.0)
+
+-- an item that is inserted twice
+pub linked_twice : Refused 1000 (stores 1 1 a 34 one ++ (Begin 2 0 (Insert a one 0) ∷ Linked 1 ∷ Did 2 Stored ∷ End 2 ∷ []))
+linked_twice h = omega (arith, h.lawful.1.1.1.1.1.1.0)

@@ -1,11 +1,11 @@
 -- What the notes so far come to. A history is the list of the notes so far, the newest first, and each book is a plain
 -- fold over it.
-use Rattle.std.specs.Prelude.{ℕ, ◌+◌, ◌==◌, nat_lt, Bool, true, false, not, ◌&&◌, ◌||◌, List, [], ◌∷◌, Option, Some, None, map, filter, find, if◌then◌else◌}
+use Rattle.std.specs.Prelude.{ℕ, ◌+◌, ◌==◌, nat_lt, Bool, true, false, not, ◌&&◌, List, [], ◌∷◌, Option, Some, None, map, filter, find, if◌then◌else◌}
 use Rattle.std.specs.Str.{bytes_eq}
 use Rattle.hc_types.specs.Loss as loss
 use Rattle.hc_types.specs.Loss.{Scope}
-use Rattle.hc_history.specs.Note.{Op, Insert, Find, Remove, Reply, Note, Begin, Did, End, Lose, Charged, Linked, Freed}
-use Rattle.hc_history.specs.Tally.{count}
+use Rattle.hc_history.specs.Note.{Op, Insert, Find, Remove, Reply, Note, Begin, Did, End, Lose, Charged, Linked, Freed, Now}
+use Rattle.hc_types.specs.Tally.{count}
 
 -- ---- charges
 
@@ -89,9 +89,9 @@ abbrev pub done_by : Option Call → List ℕ → Option Entry → Option Entry
 done_by None key was = was
 done_by (Some call) key was = entry_after call.op key was
 
--- which keys a loss covers
+-- which keys a loss covers: while there is no flash, the scopes of flash cover nothing
 abbrev pub covers : Scope → List ℕ → Bool
-covers (loss.Key k) key = bytes_eq k key
+covers scope key = loss.covers None scope key 0
 
 -- The map, at a key: each call does its part where it is answered, and a loss takes out each covered key that has no
 -- linked charge.
@@ -101,14 +101,28 @@ entry_at (Did call reply ∷ older) key = done_by (open_call call (open_calls ol
 entry_at (Lose scope cause ∷ older) key = if covers scope key && (count (is_linked key) (charges older) == 0) then None else entry_at older key
 entry_at (note ∷ older) key = entry_at older key
 
--- the clock: it doesn't move yet
+-- the clock, in seconds: 0 before it moved
 abbrev pub now_at : List Note → ℕ
-now_at older = 0
+now_at [] = 0
+now_at (Now moment ∷ older) = moment
+now_at (note ∷ older) = now_at older
+
+-- an entry that expires does so at the second of its expiry
+abbrev pub is_expired : ℕ → Entry → Bool
+is_expired now entry = not (entry.expiry == 0) && not (nat_lt now entry.expiry)
 
 -- the value of an entry, unless it is expired
 abbrev pub unexpired : ℕ → Option Entry → Option (List ℕ)
 unexpired now None = None
-unexpired now (Some entry) = if (entry.expiry == 0) || nat_lt now entry.expiry then Some entry.value else None
+unexpired now (Some entry) = if is_expired now entry then None else Some entry.value
+
+-- the map has an entry of the key, and it is expired
+abbrev pub is_past : ℕ → Option Entry → Bool
+is_past now None = false
+is_past now (Some entry) = is_expired now entry
+
+abbrev pub expired_at : List Note → List ℕ → Bool
+expired_at older key = is_past (now_at older) (entry_at older key)
 
 -- what a find of the key answers
 abbrev pub value_at : List Note → List ℕ → Option (List ℕ)

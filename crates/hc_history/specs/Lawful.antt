@@ -1,16 +1,16 @@
 -- When a log is lawful, and when it is legal.
 use Rattle.std.specs.Prelude.{◌≡◌, ◌⊎◌, ℕ, ◌+◌, ◌<◌, ◌≤◌, ◌==◌, nat_lt, Bool, true, false, not, ◌&&◌, ◌||◌, List, [], ◌∷◌, Option, Some, None, IsSome, IsSomeAnd, length, ◌++◌, if◌then◌else◌}
+use Rattle.std.specs.List.{slice_get}
 use Rattle.std.specs.Str.{bytes_eq}
 use Rattle.hc_types.specs.Charge.{charge_of}
 use Rattle.hc_types.specs.Loss as loss
-use Rattle.hc_types.specs.Loss.{Scope}
-use Rattle.hc_types.specs.declared.config.Config.{Config}
-use Rattle.hc_types.specs.declared.loss.Cause.{Cause}
-use Rattle.hc_types.specs.declared.loss.Cause.TheVariants.{Evicted}
+use Rattle.hc_types.specs.Loss.{Scope, Cause, Evicted, Expired}
+use Rattle.hc_types.specs.Config.{Config}
+use Rattle.hc_types.specs.declared.config.PoolSize.{PoolSize}
 use Rattle.hc_types.specs.declared.loss.Why.TheVariants.{NoFlash}
-use Rattle.hc_history.specs.Note.{Op, Insert, Find, Remove, Reply, Stored, Hit, Miss, FoundInMemory, NotInMemory, Note, Begin, Did, End, Lose, Charged, Linked, Freed}
-use Rattle.hc_history.specs.Tally.{tally, count}
-use Rattle.hc_history.specs.Books.{Charge, Call, Answer, Entry, charges, begun, open_calls, open_call, owed, entry_at, value_at, has_number, is_linked}
+use Rattle.hc_history.specs.Note.{Op, Insert, Find, Remove, Reply, Stored, Hit, Miss, FoundInMemory, NotInMemory, Note, Begin, Did, End, Lose, Charged, Linked, Freed, Now}
+use Rattle.hc_types.specs.Tally.{tally, count}
+use Rattle.hc_history.specs.Books.{Charge, Call, Answer, Entry, charges, begun, open_calls, open_call, owed, entry_at, now_at, expired_at, value_at, has_number, is_linked}
 
 -- ---- room
 
@@ -21,9 +21,14 @@ live_bytes pool live = tally (λ (charge : Charge). if charge.pool == pool then 
 abbrev pub live_count : ℕ → List Charge → ℕ
 live_count pool live = count (λ (charge : Charge). charge.pool == pool) live
 
--- the pool has no room for so many bytes more, or for one more charge
+-- a pool of this size has no room for so many bytes more, or for one more charge
+abbrev pub is_full_of : Option PoolSize → ℕ → List Charge → ℕ → Bool
+is_full_of None pool live want = false
+is_full_of (Some size) pool live want = nat_lt size.bytes (live_bytes pool live + want) || (live_count pool live == size.items)
+
+-- the pool is full for so many bytes more; one that isn't there never is
 abbrev pub is_full : Config → ℕ → List Charge → ℕ → Bool
-is_full config pool live want = nat_lt config.pool.bytes (live_bytes pool live + want) || (live_count pool live == config.pool.items)
+is_full config pool live want = is_full_of (slice_get config.pools pool) pool live want
 
 -- the pool and the bytes of the next charge, where only evictions stand before it
 abbrev pub next_charged : List Note → Option (ℕ × ℕ)
@@ -71,9 +76,17 @@ IsEvicted config (Freed number ∷ before) key pool want rest =
     × (next_charged rest ≡ Some (pool, want))
 IsEvicted config older key pool want rest = ⊥
 
--- the cause is true
+-- the note before freed a linked charge of the key
+abbrev pub IsFreed : List Note → List ℕ → Type 0
+IsFreed (Freed number ∷ before) key = 0 < count (λ (charge : Charge). has_number number charge && is_linked key charge) (charges before)
+IsFreed older key = ⊥
+
+-- The cause is true: the item was expired when it went; or it wasn't, it was evicted, and there is no flash to keep it. No
+-- other cause can be true yet.
 abbrev pub IsTrueCause : Config → List Note → Scope → Cause → List Note → Type 0
-IsTrueCause config older (loss.Key key) (Evicted pool want NoFlash) rest = IsEvicted config older key pool want rest
+IsTrueCause config older (loss.Key key) Expired rest = (expired_at older key ≡ true) × IsFreed older key
+IsTrueCause config older (loss.Key key) (Evicted pool want NoFlash) rest = (config.flash ≡ None) × (expired_at older key ≡ false) × IsEvicted config older key pool want rest
+IsTrueCause config older scope cause rest = ⊥
 
 -- why a linked charge of the key in the pool may be freed: a call that inserts or removes the key is open, or the pool
 -- is full for the next charge
@@ -102,6 +115,8 @@ Allowed config older (Linked number) rest = 0 < count (λ (charge : Charge). has
 Allowed config older (Freed number) rest =
     (0 < count (λ (charge : Charge). has_number number charge && not charge.linked) (charges older))
     ⊎ ((key : List ℕ) × ((pool : ℕ) × ((0 < count (is_charge_of number key pool) (charges older)) × MayFree config older key pool rest)))
+-- the clock moves on
+Allowed config older (Now moment) rest = now_at older < moment
 
 -- each note is lawful at its place
 abbrev pub Lawful : Config → List Note → List Note → Type 0

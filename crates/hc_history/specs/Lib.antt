@@ -2,7 +2,6 @@
 pub mod Note
 pub mod Seen
 pub mod Told
-pub mod Tally
 pub mod Stats
 pub mod Books
 pub mod Lawful

@@ -1,7 +1,6 @@
 -- The notes of a log, as definitions speak of them: keys and values are lists of bytes.
 use Rattle.std.specs.Prelude.{ℕ, List}
-use Rattle.hc_types.specs.declared.loss.Cause.{Cause}
-use Rattle.hc_types.specs.Loss.{Scope}
+use Rattle.hc_types.specs.Loss.{Scope, Cause}
 
 -- what a call asks for
 pub data Op : Type 0 where
@@ -32,3 +31,5 @@ pub data Note : Type 0 where
   Linked : (charge : ℕ) → Note
   -- the item is gone
   Freed : (charge : ℕ) → Note
+  -- the clock moved on to this second
+  Now : (moment : ℕ) → Note

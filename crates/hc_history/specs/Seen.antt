@@ -1,6 +1,6 @@
 -- How the code's notes are seen.
-use Rattle.hc_types.specs.Loss.{scope_of}
-use Rattle.hc_history.specs.Note.{Op, Insert, Find, Remove, Reply, Stored, Hit, Miss, FoundInMemory, NotInMemory, Note, Begin, Did, End, Lose, Charged, Linked, Freed}
+use Rattle.hc_types.specs.Loss.{scope_of, cause_of}
+use Rattle.hc_history.specs.Note.{Op, Insert, Find, Remove, Reply, Stored, Hit, Miss, FoundInMemory, NotInMemory, Note, Begin, Did, End, Lose, Charged, Linked, Freed, Now}
 use Rattle.hc_history.specs.declared.note.Op.{Op as Ops}
 use Rattle.hc_history.specs.declared.note.Op.TheVariants as ops
 use Rattle.hc_history.specs.declared.note.Reply.{Reply as Replies}
@@ -24,7 +24,8 @@ abbrev pub note_of : {A : Type 0} → Said A → Note
 note_of (said.Begin call client op) = Begin call client (op_of op)
 note_of (said.Did call reply) = Did call (reply_of reply)
 note_of (said.End call) = End call
-note_of (said.Lose scope cause) = Lose (scope_of scope) cause
+note_of (said.Lose scope cause) = Lose (scope_of scope) (cause_of cause)
 note_of (said.Charged charge key pool bytes) = Charged charge key pool bytes
 note_of (said.Linked charge) = Linked charge
 note_of (said.Freed charge) = Freed charge
+note_of (said.Now moment) = Now moment

@@ -1,6 +1,6 @@
 -- The counts over a log.
 use Rattle.std.specs.Prelude.{Bool, true, false, List}
-use Rattle.hc_history.specs.Tally.{count}
+use Rattle.hc_types.specs.Tally.{count}
 use Rattle.hc_history.specs.Note.{Stored, Hit, Miss, FoundInMemory, NotInMemory, Note, Did, Lose}
 use Rattle.hc_history.specs.declared.stats.Stats.{Stats}
 

@@ -6,7 +6,7 @@ mod notes;
 mod stats;
 
 ghost use Rattle.std.specs.Prelude.{List};
-ghost use Rattle.hc_types.specs.declared.config.Config.{Config};
+ghost use Rattle.hc_types.specs.Config.{Config};
 ghost use Rattle.hc_history.specs.Note.{Note as Meaning};
 ghost use Rattle.hc_history.specs.Lawful.{ExtendsLegal};
 

@@ -47,7 +47,7 @@ pub enum Said<A: Allocator = Global> {
     /// The covered keys that have no item are forgotten.
     Lose {
         scope: Scope<A>,
-        cause: Cause,
+        cause: Cause<A>,
     },
     /// The pool is charged so many bytes for an item of this key, which can't be found yet.
     Charged {
@@ -63,6 +63,10 @@ pub enum Said<A: Allocator = Global> {
     /// The item of this charge is gone.
     Freed {
         charge: u64,
+    },
+    /// The clock moved on to this second.
+    Now {
+        moment: u64,
     },
 }
 

@@ -1,5 +1,6 @@
 -- One line after another, a trace comes to the output that it is said to have.
 use Rattle.std.proofs.Common.{◌≡◌, ℕ, ◌+◌, Bool, true, false, List, [], ◌∷◌, ◌++◌, Option, None, Some, if◌then◌else◌, refl, sym, ◌∙◌, ap, append_assoc}
+use Rattle.hc_types.specs.Limits.{pool_fits}
 use Rattle.hc_types.specs.declared.config.PoolSize.{PoolSize}
 use Rattle.hc_types.specs.declared.refusal.Refusal.TheVariants.{BadPool}
 use Rattle.hc_core.specs.Cache.{Cache}
@@ -9,7 +10,7 @@ use Rattle.hc_replay.specs.Lines.{lines_of}
 use Rattle.hc_replay.specs.Grammar.{Line, Skipped, Says, Fault, Pool, NoFlash, Do, line_of}
 use Rattle.hc_replay.specs.Moves.{move}
 use Rattle.hc_replay.specs.Texts.{line_text, refusal_text}
-use Rattle.hc_replay.specs.Trace.{Runs, Refused, steps_line, steps_from, fits, trace_line, trace_from, empty_cache, step_text, steps_text, after_steps, ending, onto, run_output, trace_output, output_of}
+use Rattle.hc_replay.specs.Trace.{Runs, Refused, steps_line, steps_from, config_of, trace_line, trace_from, empty_cache, step_text, steps_text, after_steps, ending, onto, run_output, trace_output, output_of}
 use Rattle.hc_replay.specs.Machine.{turned, after_turn, output_from, output_after, stops, goes}
 
 onto-onto : (a b : List ℕ) (output : List ℕ × ℕ) → onto a (onto b output) ≡ onto (a ++ b) output
@@ -37,9 +38,9 @@ state_at None = Bare
 state_at (Some size) = Sized size
 
 end-line : (n : ℕ) (size : PoolSize) (fit : Bool) (lines : List (List ℕ)) →
-    (let turn = if fit then goes (Running (empty_cache (record { pool = size }))) [] else stops (Sized size) (line_text (refusal_text BadPool)) in
-    after_turn turn (output_from (n + 1) turn.state lines)) ≡ trace_output (if fit then Runs (record { pool = size }) (steps_from (n + 1) lines) else Refused)
-end-line n size true lines = run-same (n + 1) (empty_cache (record { pool = size })) lines
+    (let turn = if fit then goes (Running (empty_cache (config_of size))) [] else stops (Sized size) (line_text (refusal_text BadPool)) in
+    after_turn turn (output_from (n + 1) turn.state lines)) ≡ trace_output (if fit then Runs (config_of size) (steps_from (n + 1) lines) else Refused)
+end-line n size true lines = run-same (n + 1) (empty_cache (config_of size)) lines
 end-line n size false lines = refl
 
 trace-line-same : (n : ℕ) (pool : Option PoolSize) (line : Line) (lines : List (List ℕ)) → ((pool : Option PoolSize) → output_from (n + 1) (state_at pool) lines ≡ trace_output (trace_from (n + 1) pool lines))
@@ -52,7 +53,7 @@ trace-line-same n None (Says (Do step)) lines later = refl
 trace-line-same n None Fault lines later = refl
 trace-line-same n (Some size) Skipped lines later = later (Some size)
 trace-line-same n (Some size) (Says (Pool bytes items)) lines later = refl
-trace-line-same n (Some size) (Says NoFlash) lines later = end-line n size (fits size) lines
+trace-line-same n (Some size) (Says NoFlash) lines later = end-line n size (pool_fits size) lines
 trace-line-same n (Some size) (Says (Do step)) lines later = refl
 trace-line-same n (Some size) Fault lines later = refl
 

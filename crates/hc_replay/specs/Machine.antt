@@ -1,6 +1,7 @@
 -- The same one line after another: where a trace stands, and what comes of its next line.
 use Rattle.std.specs.Prelude.{◌≡◌, ℕ, ◌+◌, Bool, true, false, List, [], ◌∷◌, ◌++◌, Option, None, if◌then◌else◌}
 use Rattle.std.specs.Io.KnownBytes.{Appends}
+use Rattle.hc_types.specs.Limits.{pool_fits}
 use Rattle.hc_types.specs.declared.refusal.Refusal.TheVariants.{BadPool}
 use Rattle.hc_replay.specs.declared.state.State.{State}
 use Rattle.hc_replay.specs.declared.state.State.TheVariants.{Bare, Sized, Running}
@@ -8,7 +9,7 @@ use Rattle.hc_replay.specs.Lines.{lines_of}
 use Rattle.hc_replay.specs.Grammar.{Order, Line, Skipped, Says, Fault, Pool, NoFlash, Do, line_of}
 use Rattle.hc_replay.specs.Moves.{move}
 use Rattle.hc_replay.specs.Texts.{line_text, refusal_text, fault_text}
-use Rattle.hc_replay.specs.Trace.{fits, empty_cache, step_text, ending, onto}
+use Rattle.hc_replay.specs.Trace.{config_of, empty_cache, step_text, ending, onto}
 
 -- whether the trace goes on, where it stands, and what is printed
 pub record Turn : Type 0 where
@@ -27,7 +28,7 @@ abbrev pub obeyed : ℕ → State → Order → Turn
 obeyed n Bare (Pool bytes items) = goes (Sized (record { bytes = bytes; items = items })) []
 obeyed n Bare NoFlash = stops Bare (line_text (refusal_text BadPool))
 obeyed n (Sized size) NoFlash =
-    if fits size then goes (Running (empty_cache (record { pool = size }))) [] else stops (Sized size) (line_text (refusal_text BadPool))
+    if pool_fits size then goes (Running (empty_cache (config_of size))) [] else stops (Sized size) (line_text (refusal_text BadPool))
 obeyed n (Running cache) (Do step) = goes (Running (move step cache).cache) (step_text (move step cache))
 obeyed n state order = stops state (fault_text (n + 1))
 

@@ -1,13 +1,13 @@
 -- The texts of what a trace is answered.
-use Rattle.std.specs.Prelude.{◌≡◌, ℕ, ◌≤◌, ◌==◌, nat_le, Bool, true, false, not, ◌&&◌, List, [], ◌∷◌, ◌++◌, length, Some, codes, if◌then◌else◌}
+use Rattle.std.specs.Prelude.{◌≡◌, ℕ, ◌≤◌, ◌==◌, nat_le, Bool, true, false, not, ◌&&◌, List, [], ◌∷◌, ◌++◌, length, Option, None, Some, codes, if◌then◌else◌}
 use Rattle.std.specs.Char.{is_ascii_digit}
 use Rattle.std.specs.List.{list_all}
 use Rattle.std.specs.Fmt.{decimal}
 use Rattle.hc_types.specs.declared.refusal.Refusal.{Refusal}
-use Rattle.hc_types.specs.declared.loss.Cause.TheVariants.{Evicted}
-use Rattle.hc_types.specs.declared.loss.Why.TheVariants.{NoFlash}
+use Rattle.hc_types.specs.declared.loss.Why.{Why}
+use Rattle.hc_types.specs.declared.loss.Why.TheVariants.{NoFlash, Tombstone, NotAdmitted, TooLarge, QueueFull}
 use Rattle.hc_types.specs.Refusals as refusals
-use Rattle.hc_types.specs.Loss.{Key}
+use Rattle.hc_types.specs.Loss.{Scope, Key, Bucket, Hash, Cause, Evicted, BucketFull, Reclaimed, NoCleanRegion, TokenTaken, Collision, Expired, Fault}
 use Rattle.hc_history.specs.Note.{Note, Lose}
 use Rattle.hc_history.specs.declared.stats.Stats.{Stats}
 use Rattle.hc_replay.specs.Numbers.{is_visible, value_of}
@@ -45,9 +45,42 @@ answer_text Absent = codes "absent"
 abbrev pub line_text : List ℕ → List ℕ
 line_text text = text ++ 10 ∷ []
 
--- what a note forgets
+-- the key that a scope leaves out
+abbrev pub but_text : Option (List ℕ) → List ℕ
+but_text None = []
+but_text (Some key) = codes " but " ++ key
+
+-- what is forgotten
+abbrev pub scope_text : Scope → List ℕ
+scope_text (Key key) = codes "lose key " ++ key
+scope_text (Bucket bucket) = codes "lose bucket " ++ decimal bucket
+scope_text (Hash kept but) = codes "lose hash " ++ decimal kept ++ but_text but
+
+-- why an evicted item isn't kept elsewhere
+abbrev pub why_text : Why → List ℕ
+why_text NoFlash = codes "evicted noflash"
+why_text Tombstone = codes "evicted tombstone"
+why_text NotAdmitted = codes "evicted notadmitted"
+why_text TooLarge = codes "evicted toolarge"
+why_text QueueFull = codes "evicted queuefull"
+
+-- why it is forgotten
+abbrev pub cause_text : Cause → List ℕ
+cause_text (Evicted pool want why) = why_text why
+cause_text BucketFull = codes "bucketfull"
+cause_text (Reclaimed region) = codes "reclaimed " ++ decimal region
+cause_text NoCleanRegion = codes "nocleanregion"
+cause_text TokenTaken = codes "tokentaken"
+cause_text (Collision by) = codes "collision"
+cause_text Expired = codes "expired"
+cause_text Fault = codes "fault"
+
+abbrev pub lose_text : Scope → Cause → List ℕ
+lose_text scope cause = scope_text scope ++ codes " " ++ cause_text cause
+
+-- the line of a note, where it forgets something
 abbrev pub loss_text : Note → List ℕ
-loss_text (Lose (Key key) (Evicted pool want NoFlash)) = codes "lose key " ++ key ++ codes " evicted noflash\n"
+loss_text (Lose scope cause) = line_text (lose_text scope cause)
 loss_text note = []
 
 -- the lines of what these notes forget, in their order

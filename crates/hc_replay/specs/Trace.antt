@@ -1,7 +1,8 @@
 -- What a trace says, and what is printed for it.
-use Rattle.std.specs.Prelude.{◌≡◌, ℕ, ◌+◌, nat_le, Bool, ◌&&◌, List, [], ◌∷◌, ◌++◌, Option, Some, None, IfSome, if◌then◌else◌}
+use Rattle.std.specs.Prelude.{◌≡◌, ℕ, ◌+◌, List, [], ◌∷◌, ◌++◌, Option, Some, None, IfSome, if◌then◌else◌}
 use Rattle.std.specs.Io.KnownBytes.{Appends}
-use Rattle.hc_types.specs.declared.config.Config.{Config}
+use Rattle.hc_types.specs.Config.{Config}
+use Rattle.hc_types.specs.Limits.{pool_fits}
 use Rattle.hc_types.specs.declared.config.PoolSize.{PoolSize}
 use Rattle.hc_types.specs.declared.refusal.Refusal.TheVariants.{BadPool}
 use Rattle.hc_history.specs.Note.{Note}
@@ -36,15 +37,16 @@ pub data Trace : Type 0 where
   -- the configuration has a fault at this line
   Faulty : (line : ℕ) → Trace
 
-abbrev pub fits : PoolSize → Bool
-fits size = nat_le 64 size.bytes && nat_le size.bytes 4294967296 && nat_le 1 size.items && nat_le size.items 1048576
+-- one pool of this size, and no flash
+abbrev pub config_of : PoolSize → Config
+config_of size = record { pools = size ∷ []; flash = None }
 
 -- what a line of the configuration says, where n lines stand before it
 abbrev pub trace_line : ℕ → Option PoolSize → Line → (Option PoolSize → Trace) → Steps → Trace
 trace_line n pool Skipped later rest = later pool
 trace_line n None (Says (Pool bytes items)) later rest = later (Some (record { bytes = bytes; items = items }))
 trace_line n None (Says NoFlash) later rest = Refused
-trace_line n (Some size) (Says NoFlash) later rest = if fits size then Runs (record { pool = size }) rest else Refused
+trace_line n (Some size) (Says NoFlash) later rest = if pool_fits size then Runs (config_of size) rest else Refused
 trace_line n pool line later rest = Faulty (n + 1)
 
 abbrev pub trace_from : ℕ → Option PoolSize → List (List ℕ) → Trace

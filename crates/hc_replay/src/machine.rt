@@ -1,9 +1,11 @@
 // One line of a trace after another.
-ghost use Rattle.std.specs.Prelude.{◌≡◌, ◌+◌, ◌^◌, ◌<◌, ◌++◌, false, IfOk, OnOk};
+ghost use Rattle.std.specs.Prelude.{◌≡◌, ◌+◌, ◌^◌, ◌<◌, ◌++◌, true, false, IfOk, OnOk, MatchResult};
+ghost use Rattle.hc_types.specs.Limits.{pool_fits};
 ghost use Rattle.hc_replay.specs.Seen.{order_seen};
 ghost use Rattle.hc_replay.specs.Grammar as spec;
 ghost use Rattle.hc_replay.specs.Machine.{stops, obeyed, turn_of, ended};
 ghost use Rattle.hc_replay.specs.Texts.{fault_text};
+ghost use Rattle.hc_replay.specs.Trace.{config_of, empty_cache};
 
 use crate::grammar::{Line, Order, line_in};
 use crate::state::State;
@@ -45,6 +47,19 @@ fn take_pool(
     }
 }
 
+// The core of one pool of this size and no flash, or why there is none.
+fn new_core(alloc: Global, size: PoolSize) -> Result<Result<Core<Kept>, Refusal>, AllocError>
+    ensures { IfOk result (λ made. MatchResult made (λ core. (pool_fits size ≡ true) × (core ≡ empty_cache (config_of size))) (λ refusal. (pool_fits size ≡ false) × (refusal ≡ Refusal.BadPool))) }
+{
+    let mut pools = Vec::new(alloc);
+    pools.push(size)?;
+    match Core::new(alloc, &Config::new(pools, None), Kept::new(alloc)) {
+        Ok(core) => Ok(Ok(core)),
+        Err(Refusal::NoMemory) => Err(AllocError),
+        Err(refusal) => Ok(Err(refusal)),
+    }
+}
+
 // The end of the configuration.
 fn end_configuration(
     alloc: Global,
@@ -65,7 +80,7 @@ fn end_configuration(
         State::Sized(size) => *size,
         State::Running(_) => return fault(out, taken),
     };
-    match Core::new(alloc, &Config { pool: size }, Kept::new(alloc)) {
+    match new_core(alloc, size)? {
         Ok(core) => {
             *state = State::Running(core);
             Ok(true)

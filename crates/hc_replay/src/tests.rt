@@ -1,5 +1,8 @@
 // The worked traces byte for byte, each fault and refusal, and readers and writers that fail.
 use crate::replay::replay;
+use crate::texts::add_losses;
+use hc_history::{Note, Said};
+use hc_types::{Cause, Key, Scope, Why};
 use std::alloc::{AllocError, Global};
 use std::io;
 use std::io::{ErrorKind, Read, Write};
@@ -399,5 +402,42 @@ fn examples_of_the_formats_page(rt: HostRuntime) -> Result<(), Fail> {
         let trace = configured(rt.alloc(), line)?;
         assert_answers(&rt, trace.as_slice(), 1, b"fault line 3\n");
     }
+    Ok(())
+}
+
+// What is printed of a loss.
+fn loss(alloc: Global, scope: Scope, cause: Cause) -> Result<Vec<u8>, AllocError> {
+    let notes = [Note::new(Said::Lose { scope, cause })];
+    let mut out = Vec::new(alloc);
+    add_losses(&mut out, notes.as_slice())?;
+    Ok(out)
+}
+
+#[test]
+fn losses_of_every_scope(rt: HostRuntime) -> Result<(), Fail> {
+    let alloc = rt.alloc();
+    let key = Key::new(alloc, b"aa")?;
+    let why = Why::QueueFull;
+    let evicted = Cause::Evicted {
+        pool: 0,
+        want: 34,
+        why,
+    };
+    let text = loss(alloc, Scope::Key(key.clone()?), evicted)?;
+    assert_eq!(rt;
+        text.as_slice(),
+        b"lose key aa evicted queuefull\n".as_slice()
+    );
+    let text = loss(alloc, Scope::Bucket(7), Cause::Reclaimed(30))?;
+    assert_eq!(rt; text.as_slice(), b"lose bucket 7 reclaimed 30\n".as_slice());
+    let (kept, but) = (183, Some(key.clone()?));
+    let text = loss(alloc, Scope::Hash { kept, but }, Cause::Collision(key))?;
+    assert_eq!(rt;
+        text.as_slice(),
+        b"lose hash 183 but aa collision\n".as_slice()
+    );
+    let but = None;
+    let text = loss(alloc, Scope::Hash { kept, but }, Cause::Fault)?;
+    assert_eq!(rt; text.as_slice(), b"lose hash 183 fault\n".as_slice());
     Ok(())
 }

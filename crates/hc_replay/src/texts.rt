@@ -1,9 +1,10 @@
 // The texts of what a trace is answered. Each is added to a buffer.
-ghost use Rattle.std.specs.Prelude.{◌≡◌, ◌^◌, ◌<◌, ◌∷◌, ◌++◌, [], OnOk, codes, ◌==◌, if◌then◌else◌};
+ghost use Rattle.std.specs.Prelude.{◌≡◌, ◌^◌, ◌<◌, ◌∷◌, ◌++◌, [], OnOk, ◌==◌, if◌then◌else◌};
 ghost use Rattle.std.specs.List.{list_all};
 ghost use Rattle.std.specs.Fmt.{decimal};
+ghost use Rattle.hc_types.specs.Loss.{scope_of, cause_of};
 ghost use Rattle.hc_replay.specs.Texts as spec;
-ghost use Rattle.hc_replay.specs.Texts.{value_text, ReadsBack, refusal_text, line_text, losses_text, finds_text, calls_text, others_text, stats_text, verdict_text, fault_text};
+ghost use Rattle.hc_replay.specs.Texts.{value_text, ReadsBack, refusal_text, line_text, but_text, scope_text, why_text, cause_text, lose_text, losses_text, finds_text, calls_text, others_text, stats_text, verdict_text, fault_text};
 ghost use Rattle.hc_replay.specs.Steps.{Hit};
 
 use hc_history::{Note, Said, Stats};
@@ -82,13 +83,74 @@ pub fn add_refusal(out: &mut Vec<u8>, refusal: Refusal) -> Result<(), AllocError
     Ok(())
 }
 
-// The line of an eviction.
-fn add_evicted(out: &mut Vec<u8>, key: &Key) -> Result<(), AllocError>
-    ensures { OnOk result (out.new.items ≡ out.old.items ++ (codes "lose key " ++ key.now ++ codes " evicted noflash\n")) }
+// Words and a key.
+fn add_key(out: &mut Vec<u8>, words: &[u8], key: &Key) -> Result<(), AllocError>
+    ensures { OnOk result (out.new.items ≡ out.old.items ++ (words.now ++ key.now)) }
 {
-    out.extend_from_slice(b"lose key ")?;
-    out.extend_from_slice(key.as_slice())?;
-    out.extend_from_slice(b" evicted noflash\n")
+    out.extend_from_slice(words)?;
+    out.extend_from_slice(key.as_slice())
+}
+
+// The key that a scope leaves out.
+fn add_but(out: &mut Vec<u8>, but: &Option<Key>) -> Result<(), AllocError>
+    ensures { OnOk result (out.new.items ≡ out.old.items ++ but_text but.now) }
+{
+    match but {
+        Some(key) => add_key(out, b" but ", key),
+        None => Ok(()),
+    }
+}
+
+// What is forgotten.
+fn add_scope(out: &mut Vec<u8>, scope: &Scope) -> Result<(), AllocError>
+    ensures { OnOk result (out.new.items ≡ out.old.items ++ scope_text (scope_of scope.now)) }
+{
+    match scope {
+        Scope::Key(key) => add_key(out, b"lose key ", key),
+        Scope::Bucket(bucket) => add_count(out, b"lose bucket ", u64::from(*bucket)),
+        Scope::Hash { kept, but } => {
+            add_count(out, b"lose hash ", *kept)?;
+            add_but(out, but)
+        }
+    }
+}
+
+// Why an evicted item isn't kept elsewhere.
+fn why_words(why: Why) -> &'static str
+    ensures { result.now ≡ why_text why }
+{
+    match why {
+        Why::NoFlash => "evicted noflash",
+        Why::Tombstone => "evicted tombstone",
+        Why::NotAdmitted => "evicted notadmitted",
+        Why::TooLarge => "evicted toolarge",
+        Why::QueueFull => "evicted queuefull",
+    }
+}
+
+// Why something is forgotten.
+fn add_cause(out: &mut Vec<u8>, cause: &Cause) -> Result<(), AllocError>
+    ensures { OnOk result (out.new.items ≡ out.old.items ++ cause_text (cause_of cause.now)) }
+{
+    match cause {
+        Cause::Evicted { why, .. } => out.extend_from_slice(why_words(*why).as_bytes()),
+        Cause::BucketFull => out.extend_from_slice(b"bucketfull"),
+        Cause::Reclaimed(region) => add_count(out, b"reclaimed ", u64::from(*region)),
+        Cause::NoCleanRegion => out.extend_from_slice(b"nocleanregion"),
+        Cause::TokenTaken => out.extend_from_slice(b"tokentaken"),
+        Cause::Collision(_) => out.extend_from_slice(b"collision"),
+        Cause::Expired => out.extend_from_slice(b"expired"),
+        Cause::Fault => out.extend_from_slice(b"fault"),
+    }
+}
+
+// What is forgotten, and why.
+fn add_lose(out: &mut Vec<u8>, scope: &Scope, cause: &Cause) -> Result<(), AllocError>
+    ensures { OnOk result (out.new.items ≡ out.old.items ++ lose_text (scope_of scope.now) (cause_of cause.now)) }
+{
+    add_scope(out, scope)?;
+    out.push(b' ')?;
+    add_cause(out, cause)
 }
 
 // The line of a note, where it forgets something.
@@ -96,13 +158,11 @@ fn add_loss(out: &mut Vec<u8>, note: &Note) -> Result<(), AllocError>
     ensures { OnOk result (out.new.items ≡ out.old.items ++ spec.loss_text note.now) }
 {
     match &note.said {
-        Said::Lose {
-            scope: Scope::Key(key),
-            cause: Cause::Evicted {
-                why: Why::NoFlash,
-                ..
-            },
-        } => add_evicted(out, key),
+        Said::Lose { scope, cause } => {
+            add_lose(out, scope, cause)?;
+            out.push(b'\n')?;
+            Ok(())
+        }
         _ => Ok(()),
     }
 }

@@ -1,7 +1,10 @@
--- Keys and their hash, charges, limits, refusals, and what is forgotten.
+-- Keys and their hash, charges, configurations and their limits, refusals, and what is forgotten.
+pub mod Tally
 pub mod Fnv
 pub mod KeyHash
 pub mod Charge
+pub mod Config
 pub mod Limits
+pub mod Places
 pub mod Refusals
 pub mod Loss

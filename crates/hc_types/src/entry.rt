@@ -1,7 +1,9 @@
 // What is stored under a key, and what it costs.
-ghost use Rattle.std.specs.Prelude.{◌≡◌, ◌≤◌};
+ghost use Rattle.std.specs.Prelude.{◌≡◌, ◌<◌, ◌≤◌, ◌^◌};
 ghost use Rattle.hc_types.specs.Charge.{charge_of};
+ghost use Rattle.hc_types.specs.Places.{is_small_by};
 
+use crate::config::FlashConfig;
 use crate::key::Key;
 use bytes::Bytes;
 use std::alloc::{Allocator, Global};
@@ -25,4 +27,13 @@ pub fn charge<A: Allocator>(key: &Key<A>, len: u64) -> u64
     ensures { result ≡ charge_of key.now len }
 {
     32 + key.len() as u64 + len
+}
+
+/// Whether an item of this key and a value of `len` bytes is small: BigHash holds the small ones, BlockCache the large.
+#[must_use]
+pub fn is_small<A: Allocator>(key: &Key<A>, len: u64, flash: &FlashConfig) -> bool
+    requires { len < 2 ^ 63 }
+    ensures { result ≡ is_small_by flash.now key.now len }
+{
+    key.len() as u64 + len <= flash.small_max
 }

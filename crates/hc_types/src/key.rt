@@ -5,7 +5,9 @@ ghost use Rattle.std.specs.Cmp.Lexicographic.{pointwise, nat_list_eq_equiv};
 ghost use Rattle.std.specs.Cmp.{partial_equiv_from_equiv};
 ghost use Rattle.hc_types.specs.Fnv.{fnv_1a};
 ghost use Rattle.hc_types.specs.KeyHash.{fnv_respects_eq};
+ghost use Rattle.hc_types.specs.Places.{kept_of, bucket_at};
 
+use crate::config::FlashConfig;
 use crate::refusal::Refusal;
 use bytes::Bytes;
 use std::alloc::{AllocError, Allocator, Global};
@@ -104,6 +106,26 @@ pub fn hash<A: Allocator>(key: &Key<A>) -> u64
     ensures { result ≡ fnv_1a key.now }
 {
     key.hash
+}
+
+/// The kept hash of the key: the lowest `bits` bits of its hash.
+#[must_use]
+pub fn kept<A: Allocator>(key: &Key<A>, bits: u64) -> u64
+    requires { bits ≤ 64 }
+    ensures { result ≡ kept_of bits key.now }
+{
+    let hash = hash(key);
+    if bits == 64 { hash } else { hash % (1 << bits) }
+}
+
+/// The bucket of the key: its kept hash modulo the number of buckets.
+#[must_use]
+pub fn bucket_of<A: Allocator>(key: &Key<A>, flash: &FlashConfig) -> u64
+    requires bits { flash.now.bits ≤ 64 }
+    requires buckets { 1 ≤ flash.now.buckets }
+    ensures { result ≡ bucket_at flash.now key.now }
+{
+    kept(key, flash.bits) % flash.buckets
 }
 
 /// FNV-1a in 64 bits (Fowler, Noll and Vo).

@@ -8,9 +8,9 @@ mod key;
 mod loss;
 mod refusal;
 
-pub use config::{Config, PoolSize};
-pub use entry::{Entry, VALUE_MAX, charge};
-pub use key::{KEY_MAX, Key, hash};
+pub use config::{Config, FlashConfig, PoolSize};
+pub use entry::{Entry, VALUE_MAX, charge, is_small};
+pub use key::{KEY_MAX, Key, bucket_of, hash, kept};
 pub use loss::{Cause, Scope, Why};
 pub use refusal::Refusal;
 

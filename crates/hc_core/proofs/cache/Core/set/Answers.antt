@@ -15,7 +15,7 @@ invariant_of-self-in-Ok g c =
     c.in-Ok.ensures.same ready (rw c.in-Ok.ensures.items at c.set.ensures.told) in (
       subst (Sound f.config) (sym items) (Sound-set f.config f.items.items (record { charge = f.charges + 1; key = c.args.key; value = c.args.value }) (rw ready.want at ready.fits) c.self.invariant.0),
       follows-as f.config _ (g.N.Notes.told c.set.new.notes) _ c.set.new.items.items _ c.in-Ok.ready.charge _ c.in-Ok.ready.call log items ready.charge ready.call
-          (follows-set f.config (g.N.Notes.told f.notes) f.items.items (record { charge = f.charges + 1; key = c.args.key; value = c.args.value }) c.args.client f.charges f.calls refl c.self.invariant.1),
+          (follows-set f.config (g.N.Notes.told f.notes) f.items.items (record { charge = f.charges + 1; key = c.args.key; value = c.args.value }) c.args.client f.charges f.calls c.self.invariant.0.one_pool c.self.invariant.0.no_flash refl c.self.invariant.1),
     )
 
 pub returns-in-Ok-clause-ok : goal.returns-in-Ok-clause-ok

@@ -1,5 +1,5 @@
 use Rattle.std.proofs.Common.{◌≡◌, ◌+◌, ◌≤◌, drop}
-use Rattle.hc_history.specs.Tally.{count}
+use Rattle.hc_types.specs.Tally.{count}
 use Rattle.hc_history.specs.Stats as spec
 use Rattle.hc_history.proofs.notes.Kept.stats.Given as goal
 

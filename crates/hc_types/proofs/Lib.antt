@@ -1,0 +1,2 @@
+-- Sums over lists, for whoever counts.
+pub mod Tallies
