@@ -1,0 +1,14 @@
+-- Items in their order, the charges that are open, and what changes of the pools keep.
+pub mod Books
+pub mod Keyed
+pub mod Orders
+pub mod Rooms
+pub mod Marks
+pub mod Homes
+pub mod Looking
+pub mod Keys
+pub mod Sounds
+pub mod Linking
+pub mod Making
+pub mod Handing
+pub mod Unmarking

@@ -1,0 +1,253 @@
+-- New pools, and room that is made in one.
+use Rattle.std.proofs.Common.{◌≡◌, ℕ, zero, suc, ◌+◌, ◌<◌, ◌≤◌, leb, ◌-◌, Bool, true, false, not, ◌&&◌, List, [], ◌∷◌, ◌++◌, length, take, drop, map, Option, Some, None, Result, Ok, Err, IfOk, OnOk, OnErr, refl, ap, sym, ◌∙◌, arith, subst, slice_get, slice_set, get_or}
+use mathlib.Core.Bool.{cond}
+use Rattle.hc_types.specs.Config.{Config}
+use Rattle.hc_types.specs.Limits.{pool_fits, all_fit, pools_fit, page_fits, regions_fit, queue_fits, is_within, wrong_behind, first_wrong}
+use Rattle.hc_types.specs.declared.config.PoolSize.{PoolSize}
+use Rattle.hc_types.specs.declared.config.FlashConfig.{FlashConfig}
+use Rattle.hc_types.specs.declared.refusal.Refusal.{Refusal}
+use Rattle.hc_types.specs.declared.refusal.Refusal.TheVariants.{BadPool, BadPage, BadBuckets, BadRegions, BadSmallMax, BadQueue, BadBits}
+use Rattle.hc_types.specs.Tally.{tally, count}
+use Rattle.hc_memory.specs.declared.usage.Usage.{Usage}
+use Rattle.hc_memory.specs.Item.{Item, Open, open_cost}
+use Rattle.hc_memory.specs.Pool.{Pool, item_at, used, unexpired, is_full, kept, dropped}
+use Rattle.hc_memory.specs.Charges.{usage_of, charge_at, closed}
+use Rattle.std.proofs.lemmas.List.{length-take-le}
+use Rattle.std.proofs.lemmas.Option.{slice_get_within, get_or_from_slice_get}
+use Rattle.hc_memory.proofs.Books.{tally-closed, closed-none}
+use Rattle.hc_memory.proofs.Homes.{home}
+use Rattle.hc_memory.proofs.Looking.{read-there}
+use Rattle.hc_memory.proofs.Sounds.{Shrinks, sound-shrinks, sound-charged}
+use Rattle.hc_memory.proofs.Keys.{get-set}
+use Rattle.hc_memory.proofs.Linking.{shrinks-drop, shrinks-used, same_items, sound-home}
+use Rattle.hc_memory.specs.Memory.{Memory, empty_pool, change_home, home_of, linked_at, is_hopeless, victims_of, after_room}
+use Rattle.hc_memory.specs.Sound.{IsWithin, Sound, FlashFits, items_at}
+
+-- ---- new pools
+
+both : (a b : Bool) → (a && b) ≡ true → (a ≡ true) × (b ≡ true)
+both true b h = (refl, h)
+both false b h = absurd cc
+
+length-map : {X Y : Type 0} (f : X → Y) (xs : List X) → length (map f xs) ≡ length xs
+length-map f [] = refl
+length-map f (x ∷ xs) = omega (arith, length-map f xs)
+
+empty_within : (size : PoolSize) → pool_fits size ≡ true → IsWithin (usage_of 0 []) (empty_pool size)
+empty_within size fits = record { size = fits; bytes = omega arith; number = omega arith }
+
+made_of : (sizes : List PoolSize) (i : ℕ) (pool : Pool) → all_fit sizes ≡ true → slice_get (map empty_pool sizes) i ≡ Some pool → (pool_fits pool.size ≡ true) × (pool.items ≡ [])
+made_of [] i pool fit at = absurd cc
+made_of (size ∷ sizes) zero pool fit at = let same : empty_pool size ≡ pool = cc in subst (λ (p : Pool). (pool_fits p.size ≡ true) × (p.items ≡ [])) same ((both (pool_fits size) (all_fit sizes) fit).0, refl)
+made_of (size ∷ sizes) (suc i) pool fit at = made_of sizes i pool (both (pool_fits size) (all_fit sizes) fit).1 at
+
+none_at_all : (key : List ℕ) (sizes : List PoolSize) → items_at key (map empty_pool sizes) ≡ 0
+none_at_all key [] = refl
+none_at_all key (size ∷ sizes) = omega (arith, none_at_all key sizes)
+
+sound_of : (sizes : List PoolSize) → length sizes ≤ 16 → all_fit sizes ≡ true → Sound (map empty_pool sizes) [] 0
+sound_of sizes few fit = record {
+  few = omega (arith, few, length-map empty_pool sizes);
+  within = λ i pool at. let m = made_of sizes i pool fit at in record {
+    size = m.0;
+    bytes = rw m.1 (omega arith);
+    number = rw m.1 (omega arith);
+  };
+  own = λ i pool at. let m = made_of sizes i pool fit at in rw m.1 refl;
+  single = λ key. omega (arith, none_at_all key sizes);
+  fresh = λ number later. refl;
+  placed = refl;
+}
+
+size_step : (sizes : List PoolSize) (o : Option Refusal) (b : Bool) → pools_fit sizes ≡ b → (if_wrong : cond (not b) (Some BadPool) o ≡ None) → (pools_fit sizes ≡ true) × (o ≡ None)
+size_step sizes o true e h = (e, h)
+size_step sizes o false e h = absurd cc
+
+bits_step : (flash : FlashConfig) (a b c d e f : Bool) → is_within 1 1048576 flash.buckets ≡ b → is_within 1 64 flash.bits ≡ f
+    → cond (not a) (Some BadPage) (cond (not b) (Some BadBuckets) (cond (not c) (Some BadRegions) (cond (not d) (Some BadSmallMax) (cond (not e) (Some BadQueue) (cond (not f) (Some BadBits) None))))) ≡ None
+    → (b ≡ true) × (f ≡ true)
+bits_step flash true true true true true true eb ef h = (refl, refl)
+bits_step flash false b c d e f eb ef h = absurd cc
+bits_step flash true false c d e f eb ef h = absurd cc
+bits_step flash true true false d e f eb ef h = absurd cc
+bits_step flash true true true false e f eb ef h = absurd cc
+bits_step flash true true true true false f eb ef h = absurd cc
+bits_step flash true true true true true false eb ef h = absurd cc
+
+within_of : (least most n : ℕ) → is_within least most n ≡ true → (least ≤ n) × (n ≤ most)
+within_of least most n h = (grind (arith, h), grind (arith, h))
+
+flash_of : (o : Option FlashConfig) → wrong_behind o ≡ None → FlashFits o
+flash_of None h = tt
+flash_of (Some flash) h =
+    let two = bits_step flash (page_fits flash) (is_within 1 1048576 flash.buckets) (regions_fit flash) (leb flash.small_max (flash.page - 16)) (queue_fits flash) (is_within 1 64 flash.bits) refl refl h in
+    ((within_of 1 64 flash.bits two.1).1, (within_of 1 1048576 flash.buckets two.0).0)
+
+-- the pools of a configuration that was checked
+pub sound-new : (config : Config) → first_wrong config ≡ None → Sound (map empty_pool config.pools) [] 0 × FlashFits config.flash
+sound-new config h =
+    let s = size_step config.pools (wrong_behind config.flash) (pools_fit config.pools) refl h in
+    let two = both (is_within 1 16 (length config.pools)) (all_fit config.pools) s.0 in
+    (sound_of config.pools (within_of 1 16 (length config.pools) two.0).1 two.1, flash_of config.flash s.1)
+
+-- ---- room in a pool that is there
+
+pub record Known (memory : Memory) (number want : ℕ) (pool : Pool) : Type 0 where
+  pub victims : victims_of memory number want ≡ dropped pool.size (usage_of number memory.charges) want pool.items
+  pub hopeless : is_hopeless memory number want ≡ is_full pool.size (usage_of number memory.charges) want []
+  pub room : after_room memory number want ≡ record memory { pools = slice_set memory.pools number (record pool { items = kept pool.size (usage_of number memory.charges) want pool.items }) }
+
+pub known : (memory : Memory) (number want : ℕ) (pool : Pool) → slice_get memory.pools number ≡ Some pool → Known memory number want pool
+known memory number want pool at = record { victims = rw at refl; hopeless = rw at refl; room = rw at refl }
+
+-- ---- what results lift
+
+pub count-lifted : (r : Result ℕ Refusal) (items vs : List Item) → IfOk r (λ n. n ≤ length items) → IfOk r (λ n. take n items ≡ vs) → IfOk r (λ n. n ≡ length vs)
+count-lifted (Ok n) items vs some go = sym (length-take-le n items some) ∙ ap length go
+count-lifted (Err e) items vs some go = go
+
+-- ---- a charge that ends
+
+less_step : (f : Open → ℕ) (number : ℕ) (charges : List Open) (o : Option Open) → charge_at number charges ≡ o → tally f (closed number charges) ≤ tally f charges
+less_step f number charges None e = omega (arith, ap (λ cs. tally f cs) (closed-none number charges e))
+less_step f number charges (Some c) e = omega (arith, tally-closed f number charges c e)
+
+pub closed-less : (f : Open → ℕ) (number : ℕ) (charges : List Open) → tally f (closed number charges) ≤ tally f charges
+closed-less f number charges = less_step f number charges (charge_at number charges) refl
+
+-- ---- what is done to the pool that has the key's item
+
+pub same-there : (pools : List Pool) (i : ℕ) (there pool : Pool) → slice_get pools i ≡ Some pool → there ≡ get_or pools i there → there ≡ pool
+same-there pools i there pool at e = e ∙ get_or_from_slice_get pools i pool there at
+
+pub record AtHome (key : List ℕ) (pools : List Pool) (i : ℕ) (there new : Pool) (f : Pool → Pool) : Type 0 where
+  pub set : slice_set pools i new ≡ change_home key f pools
+  pub item : item_at key there.items ≡ linked_at key pools
+  pub lt : i < length pools
+
+pub at-home : (key : List ℕ) (pools : List Pool) (i : ℕ) (there new : Pool) (f : Pool → Pool) → home_of key pools ≡ Some i → there ≡ get_or pools i there → new ≡ f there → AtHome key pools i there new f
+at-home key pools i there new f e read is =
+    let h = home key pools i e in
+    let same : there ≡ h.pool = same-there pools i there h.pool h.found read in
+    record {
+      set = ap (λ p. slice_set pools i p) (is ∙ ap f same) ∙ sym (h.change f);
+      item = ap (λ p. item_at key p.items) same ∙ sym h.linked;
+      lt = slice_get_within pools i h.pool h.found;
+    }
+
+pub home-within : (key : List ℕ) (pools : List Pool) (i : ℕ) → home_of key pools ≡ Some i → i < length pools
+home-within key pools i e = let h = home key pools i e in slice_get_within pools i h.pool h.found
+
+-- ---- the pool of a number
+
+pub there-at : (pools : List Pool) (number i : ℕ) (there : Pool) → number < length pools → i ≡ number → there ≡ get_or pools i there → slice_get pools number ≡ Some there
+there-at pools number i there lt same read = read-there pools number there lt (read ∙ ap (λ n. get_or pools n there) same)
+
+pub within-there : (pools : List Pool) (charges : List Open) (made number : ℕ) (there : Pool) (usage : Usage) → Sound pools charges made → slice_get pools number ≡ Some there → usage ≡ usage_of number charges → IsWithin usage there
+within-there pools charges made number there usage s at is = subst (λ (u : Usage). IsWithin u there) (sym is) (s.within number there at)
+
+-- the pool after evictions
+pub evicted-sound : (pools : List Pool) (charges : List Open) (made number i count : ℕ) (there again new : Pool) → Sound pools charges made → i ≡ number → slice_get pools number ≡ Some there → again ≡ get_or pools i again → new ≡ record { size = again.size; items = drop count again.items } → Sound (slice_set pools i new) charges made
+evicted-sound pools charges made number i count there again new s same at read is =
+    let there' : again ≡ there = same-there pools number again there at (read ∙ ap (λ n. get_or pools n again) same) in
+    let new' : new ≡ record there { items = drop count there.items } = is ∙ ap (λ (p : Pool). record p { items = drop count p.items }) there' in
+    rw (same, new') (sound-shrinks pools charges made number there (record there { items = drop count there.items }) s at (shrinks-drop count there))
+
+-- ---- an item that is used where it could be
+
+pub found-lifted : {T E : Type 0} (r : Result T E) {P Q : Type 0} → (P → Q) → OnOk r P → OnOk r Q
+found-lifted (Ok x) f h = f h
+found-lifted (Err e) f h = h
+
+pub used-or-not : {T E : Type 0} (key : List ℕ) (now : ℕ) (pools : List Pool) (charges : List Open) (made i : ℕ) (there new : Pool) (r : Result T E) → Sound pools charges made → home_of key pools ≡ Some i → there ≡ get_or pools i there
+    → OnOk r (new ≡ record { size = there.size; items = used key (unexpired now (item_at key there.items)) there.items }) → OnErr r (new ≡ there) → Sound (slice_set pools i new) charges made
+used-or-not key now pools charges made i there new (Ok x) s e read items same =
+    let f : Pool → Pool = λ p. record p { items = used key (unexpired now (item_at key p.items)) p.items } in
+    let h = at-home key pools i there new f e read items in
+    rw h.set (sound-home key f pools charges made (λ p. shrinks-used key now p) s)
+used-or-not key now pools charges made i there new (Err x) s e read items same =
+    let f : Pool → Pool = λ p. p in
+    let h = at-home key pools i there new f e read same in
+    rw h.set (sound-home key f pools charges made same_items s)
+
+pub err-lifted : {T E : Type 0} (r : Result T E) {P Q : Type 0} → (P → Q) → OnErr r P → OnErr r Q
+err-lifted (Ok x) f h = h
+err-lifted (Err e) f h = f h
+
+set-same : (pools : List Pool) (i : ℕ) (pool : Pool) → slice_get pools i ≡ Some pool → slice_set pools i pool ≡ pools
+set-same [] i pool at = absurd cc
+set-same (p ∷ pools) zero pool at = let same : p ≡ pool = cc in ap (λ q. q ∷ pools) (sym same)
+set-same (p ∷ pools) (suc i) pool at = ap (λ ps. p ∷ ps) (set-same pools i pool at)
+
+-- a pool in its own place
+pub unchanged : (pools : List Pool) (i : ℕ) (there new : Pool) (key : List ℕ) → home_of key pools ≡ Some i → there ≡ get_or pools i there → new ≡ there → slice_set pools i new ≡ pools
+unchanged pools i there new key e read is =
+    let h = home key pools i e in
+    let same : there ≡ h.pool = same-there pools i there h.pool h.found read in
+    ap (λ p. slice_set pools i p) (is ∙ same) ∙ set-same pools i h.pool h.found
+
+-- ---- what goes, and what stays
+
+drop_step : (size : PoolSize) (usage : Usage) (want : ℕ) (x : Item) (items : List Item) (b : Bool) → take (length (dropped size usage want items)) items ≡ dropped size usage want items → take (length (cond b (x ∷ dropped size usage want items) [])) (x ∷ items) ≡ cond b (x ∷ dropped size usage want items) []
+drop_step size usage want x items true h = ap (λ l. x ∷ l) h
+drop_step size usage want x items false h = refl
+
+pub take-dropped : (size : PoolSize) (usage : Usage) (want : ℕ) (items : List Item) → take (length (dropped size usage want items)) items ≡ dropped size usage want items
+take-dropped size usage want [] = refl
+take-dropped size usage want (x ∷ items) = drop_step size usage want x items (is_full size usage want (x ∷ items)) (take-dropped size usage want items)
+
+keep_step : (size : PoolSize) (usage : Usage) (want : ℕ) (x : Item) (items : List Item) (b : Bool) → drop (length (dropped size usage want items)) items ≡ kept size usage want items → drop (length (cond b (x ∷ dropped size usage want items) [])) (x ∷ items) ≡ cond b (kept size usage want items) (x ∷ items)
+keep_step size usage want x items true h = h
+keep_step size usage want x items false h = refl
+
+pub drop-dropped : (size : PoolSize) (usage : Usage) (want : ℕ) (items : List Item) → drop (length (dropped size usage want items)) items ≡ kept size usage want items
+drop-dropped size usage want [] = refl
+drop-dropped size usage want (x ∷ items) = keep_step size usage want x items (is_full size usage want (x ∷ items)) (drop-dropped size usage want items)
+
+few_step : (size : PoolSize) (usage : Usage) (want : ℕ) (x : Item) (items : List Item) (b : Bool) → length (dropped size usage want items) ≤ length items → length (cond b (x ∷ dropped size usage want items) []) ≤ length (x ∷ items)
+few_step size usage want x items true h = omega (arith, h)
+few_step size usage want x items false h = omega arith
+
+pub dropped-few : (size : PoolSize) (usage : Usage) (want : ℕ) (items : List Item) → length (dropped size usage want items) ≤ length items
+dropped-few size usage want [] = omega arith
+dropped-few size usage want (x ∷ items) = few_step size usage want x items (is_full size usage want (x ∷ items)) (dropped-few size usage want items)
+
+fit_step : (size : PoolSize) (usage : Usage) (want : ℕ) (x : Item) (items : List Item) (b : Bool) → is_full size usage want (x ∷ items) ≡ b → is_full size usage want (kept size usage want items) ≡ false → is_full size usage want (cond b (kept size usage want items) (x ∷ items)) ≡ false
+fit_step size usage want x items true e h = h
+fit_step size usage want x items false e h = e
+
+pub kept-fits : (size : PoolSize) (usage : Usage) (want : ℕ) (items : List Item) → is_full size usage want [] ≡ false → is_full size usage want (kept size usage want items) ≡ false
+kept-fits size usage want [] h = h
+kept-fits size usage want (x ∷ items) h = fit_step size usage want x items (is_full size usage want (x ∷ items)) refl (kept-fits size usage want items h)
+
+-- the pool where room is made
+pub record Roomy (pools : List Pool) (i number want : ℕ) (usage : Usage) (there new : Pool) : Type 0 where
+  pub left : new ≡ record there { items = kept there.size usage want there.items }
+  pub set : slice_set pools i new ≡ slice_set pools number (record there { items = kept there.size usage want there.items })
+
+pub roomy : (pools : List Pool) (i number want count : ℕ) (usage : Usage) (there again new : Pool) → i ≡ number → slice_get pools number ≡ Some there → again ≡ get_or pools i again → new ≡ record { size = again.size; items = drop count again.items } → count ≡ length (dropped there.size usage want there.items) → Roomy pools i number want usage there new
+roomy pools i number want count usage there again new same at read is counted =
+    let there' : again ≡ there = same-there pools number again there at (read ∙ ap (λ n. get_or pools n again) same) in
+    let left : new ≡ record there { items = kept there.size usage want there.items } =
+    is ∙ ap (λ (p : Pool). record { size = p.size; items = drop count p.items }) there' ∙ ap (λ n. record { size = there.size; items = drop n there.items }) counted ∙ ap (λ (l : List Item). record { size = there.size; items = l }) (drop-dropped there.size usage want there.items) in
+    record { left = left; set = λ j. slice_set pools (same j) (left j) }
+
+pub charged-sound : (pools : List Pool) (charges : List Open) (made number want : ℕ) (there : Pool) (c : Open) → Sound pools charges made → slice_get pools number ≡ Some there → is_full there.size (usage_of number charges) want [] ≡ false → c.pool ≡ number → c.number ≡ made + 1 → open_cost c ≡ want
+    → Sound (slice_set pools number (record there { items = kept there.size (usage_of number charges) want there.items })) (charges ++ c ∷ []) (made + 1)
+charged-sound pools charges made number want there c s at room own next costs =
+    let new : Pool = record there { items = kept there.size (usage_of number charges) want there.items } in
+    let n = length (dropped there.size (usage_of number charges) want there.items) in
+    let less : Shrinks there new = subst (λ (l : List Item). Shrinks there (record there { items = l })) (drop-dropped there.size (usage_of number charges) want there.items) (shrinks-drop (length (dropped there.size (usage_of number charges) want there.items)) there) in
+    let s' = sound-shrinks pools charges made number there new s at less in
+    let at' : slice_get (slice_set pools number new) c.pool ≡ Some new = subst (λ (m : ℕ). slice_get (slice_set pools number new) m ≡ Some new) (sym own) (get-set pools number there new at) in
+    let fits : is_full new.size (usage_of c.pool charges) (open_cost c) new.items ≡ false = (λ i. is_full there.size (usage_of (own i) charges) (costs i) (kept there.size (usage_of number charges) want there.items)) ∙ kept-fits there.size (usage_of number charges) want there.items room in
+    sound-charged (slice_set pools number new) charges made c new s' at' next fits
+
+-- a pool whose number is below how many there are
+pub there-of : (pools : List Pool) (i : ℕ) → i < length pools → (there : Pool) × (slice_get pools i ≡ Some there)
+there-of [] i lt = absurd (omega (arith, lt))
+there-of (pool ∷ pools) zero lt = (pool, refl)
+there-of (pool ∷ pools) (suc i) lt = there-of pools i (omega (arith, lt))
+
+pub size-bound : (size : PoolSize) → pool_fits size ≡ true → size.bytes ≤ 4294967296
+size-bound size fits = (within_of 64 4294967296 size.bytes (both (is_within 64 4294967296 size.bytes) (is_within 1 1048576 size.items) fits).0).1

@@ -1,0 +1,42 @@
+-- Who goes where room is made.
+use Rattle.std.proofs.Common.{◌≡◌, ℕ, ◌+◌, ◌≤◌, ◌==◌, nat_lt, ◌||◌, length, ◌++◌, Bool, true, false, List, [], ◌∷◌, Some, take, drop, slice_get, ap, ◌∙◌, arith}
+use mathlib.Core.Bool.{cond}
+use Rattle.std.proofs.Math.Seq.{take-add}
+use Rattle.std.proofs.lemmas.Grind.{common_steps}
+use Rattle.hc_types.specs.declared.config.PoolSize.{PoolSize}
+use Rattle.hc_memory.specs.declared.usage.Usage.{Usage}
+use Rattle.hc_memory.specs.Item.{Item}
+use Rattle.hc_memory.specs.Pool.{bytes_of, is_full, kept, dropped}
+
+-- what the code tests is whether there is room beside these items
+pub full-is : (s size : PoolSize) (usage : Usage) (want b n : ℕ) (items : List Item) → s ≡ size → b ≡ bytes_of items → n ≡ length items → (nat_lt s.bytes (usage.bytes + b + want) || (usage.number + n == s.items)) ≡ is_full size usage want items
+full-is s size usage want b n items limits bytes number = λ i. nat_lt (limits i).bytes (usage.bytes + bytes i + want) || (usage.number + number i == (limits i).items)
+
+within_step : (a b : ℕ) (c : Bool) → (nat_lt a b || c) ≡ false → b ≤ a
+within_step a b c room = grind (arith, common_steps)
+
+pub want-fits : (size : PoolSize) (usage : Usage) (want : ℕ) → is_full size usage want [] ≡ false → usage.bytes + want ≤ size.bytes
+want-fits size usage want room = omega (arith, within_step size.bytes (usage.bytes + 0 + want) (usage.number + 0 == size.items) room)
+
+module _ (size : PoolSize) (usage : Usage) (want : ℕ) (x : Item) (items : List Item) where
+  pub kept-stop : is_full size usage want (x ∷ items) ≡ false → kept size usage want (x ∷ items) ≡ x ∷ items
+  kept-stop room = ap (λ b. cond b (kept size usage want items) (x ∷ items)) room
+
+  pub kept-go : is_full size usage want (x ∷ items) ≡ true → kept size usage want (x ∷ items) ≡ kept size usage want items
+  kept-go full = ap (λ b. cond b (kept size usage want items) (x ∷ items)) full
+
+  pub dropped-stop : is_full size usage want (x ∷ items) ≡ false → dropped size usage want (x ∷ items) ≡ []
+  dropped-stop room = ap (λ b. cond b (x ∷ dropped size usage want items) []) room
+
+  pub dropped-go : is_full size usage want (x ∷ items) ≡ true → dropped size usage want (x ∷ items) ≡ x ∷ dropped size usage want items
+  dropped-go full = ap (λ b. cond b (x ∷ dropped size usage want items) []) full
+
+-- ---- one more
+
+first_one : (x : Item) (items : List Item) → Some x ≡ slice_get items 0 → take 1 items ≡ x ∷ []
+first_one x [] first = cc
+first_one x (y ∷ items) first = let same : y ≡ x = cc in ap (λ z. z ∷ []) same
+
+-- the item after the first n is the next that is taken
+pub take-next : (n : ℕ) (items : List Item) (x : Item) → Some x ≡ slice_get (drop n items) 0 → take (n + 1) items ≡ take n items ++ x ∷ []
+take-next n items x first = take-add n 1 items ∙ ap (λ xs. take n items ++ xs) (first_one x (drop n items) first)

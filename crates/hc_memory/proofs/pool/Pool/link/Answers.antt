@@ -1,0 +1,56 @@
+use Rattle.std.proofs.Common.{sym, ◌∙◌, ap, arith, refl, subst, IsOk}
+use Rattle.std.specs.Option.{option_map}
+use Rattle.hc_memory.specs.declared.item.Held.{Held}
+use Rattle.hc_memory.specs.Item.{cost}
+use Rattle.hc_memory.specs.Pool.{bytes_of, without}
+use Rattle.hc_memory.proofs.Keyed.{tally-push}
+use Rattle.hc_memory.specs.Seen.{item_of, items_of}
+use Rattle.hc_memory.proofs.Orders.{unique, seen-held, bytes-without, items_of-put, is_some-held}
+use Rattle.hc_memory.proofs.pool.Pool.link.Goals as goal
+
+pub returns-in_err-old-clause-succeeds : goal.returns-in_err-old-clause-succeeds
+returns-in_err-old-clause-succeeds g c =
+    let es = c.self.inside.cache.entries in
+    let one = unique es c.len-len.ensures.valid.0 c.args.key in
+    rw (← c.self.view_is) (λ some. let ok = subst IsOk c.in_err-old.was (c.put.ensures.succeeds (sym (is_some-held c.args.key es one) ∙ some)) in absurd (cc))
+
+pub freed-requires : goal.freed-requires
+freed-requires g c =
+    let es = c.self.inside.cache.entries in
+    let one = unique es c.len-len.ensures.valid.0 c.args.key in
+    let sum = bytes-without c.args.key c.len-key_len.result es c.in_ok-old.old one c.len-key_len.ensures.value c.in_ok-old.ensures.old in
+    let inv = c.self.invariant.0 in
+    omega (arith, sum, inv)
+
+pub overflow_sub-self : goal.overflow_sub-self
+overflow_sub-self g c =
+    let es = c.self.inside.cache.entries in
+    let one = unique es c.len-len.ensures.valid.0 c.args.key in
+    let sum = bytes-without c.args.key c.len-key_len.result es c.in_ok-old.old one c.len-key_len.ensures.value c.in_ok-old.ensures.old in
+    let inv = c.self.invariant.0 in
+    omega (arith, sum, inv, c.freed.ensures)
+
+pub invariant_of-self-2 : goal.invariant_of-self-2
+invariant_of-self-2 g c =
+    let es = c.self.inside.cache.entries in
+    let one = unique es c.len-len.ensures.valid.0 c.args.key in
+    let sum = bytes-without c.args.key c.len-key_len.result es c.in_ok-old.old one c.len-key_len.ensures.value c.in_ok-old.ensures.old in
+    let inv = c.self.invariant.0 in
+    let cap = c.self.invariant.1 in
+    let put = items_of-put es c.self.inside.cache.cap c.args.key c.args.held one (omega (arith, cap, c.len-len.ensures.fits, c.len-len.ensures.len)) in
+    let new = ap bytes_of put ∙ tally-push cost (without c.args.key (items_of es)) (item_of (c.args.key, c.args.held)) in
+    rw c.in_ok-old.ensures.entries (omega (arith, sum, inv, new, c.freed.ensures, c.cost-cost.ensures), cap)
+
+pub returns-clause-old : goal.returns-clause-old
+returns-clause-old g c =
+    let es = c.self.inside.cache.entries in
+    let one = unique es c.len-len.ensures.valid.0 c.args.key in
+    rw (← c.self.view_is) (c.number_of.ensures ∙ ap (option_map (λ (h : Held g.row.A.Denot). h.number)) c.in_ok-old.ensures.old ∙ sym (seen-held (λ i. i.number) (λ (h : Held g.row.A.Denot). h.number) (λ e. refl) c.args.key es one))
+
+pub returns-clause-items : goal.returns-clause-items
+returns-clause-items g c =
+    let es = c.self.inside.cache.entries in
+    let one = unique es c.len-len.ensures.valid.0 c.args.key in
+    let cap = c.self.invariant.1 in
+    let put = items_of-put es c.self.inside.cache.cap c.args.key c.args.held one (omega (arith, cap, c.len-len.ensures.fits, c.len-len.ensures.len)) in
+    rw (← c.self.view_is) (rw c.in_ok-old.ensures.entries (λ i. record { size = c.self.inside.size; items = put i }))

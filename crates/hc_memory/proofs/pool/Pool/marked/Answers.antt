@@ -1,0 +1,31 @@
+use Rattle.std.proofs.Common.{◌≡◌, ◌<◌, ◌^◌, ◌∷◌, ◌++◌, [], All, length, sym, ◌∙◌, ap, subst, append_assoc}
+use Rattle.hc_types.specs.Loss.{scope_of}
+use Rattle.hc_memory.specs.Item.{Item}
+use Rattle.hc_memory.specs.Pool.{marked_keys}
+use Rattle.hc_memory.specs.Seen.{item_of, items_of}
+use Rattle.hc_memory.proofs.Marks.{All-head, All-rest, marked-cons, Grows-more}
+use Rattle.hc_memory.proofs.Orders.{items_of-push}
+use Rattle.hc_memory.proofs.pool.Pool.marked.Goals as goal
+
+pub add_marked-requires-clause-len : goal.add_marked-requires-clause-len
+add_marked-requires-clause-len g c =
+    let rest = ap items_of c.in-Some.ensures.steps ∙ items_of-push c.next.new.self.iter (c.in-Some.key.now, c.in-Some.held.now) in
+    All-head (λ (i : Item). length i.value < 2 ^ 63) (item_of (c.in-Some.key.now, c.in-Some.held.now)) (items_of c.next.new.self.iter) (subst (All (λ (i : Item). length i.value < 2 ^ 63)) rest c.loop-key.invariant.short)
+
+pub loop-key-preserved : goal.loop-key-preserved
+loop-key-preserved g c =
+    let inv = c.loop-key.invariant in
+    let x = item_of (c.in-Some.key.now, c.in-Some.held.now) in
+    let more = items_of c.next.new.self.iter in
+    let flash = c.args.flash.now in
+    let scope = scope_of c.args.scope.now in
+    let rest : items_of c.loop-key.key-iterator.iter ≡ x ∷ more = ap items_of c.in-Some.ensures.steps ∙ items_of-push c.next.new.self.iter (c.in-Some.key.now, c.in-Some.held.now) in
+    let next = ap (marked_keys flash scope) rest ∙ marked-cons flash scope x more in
+    let this = marked_keys flash scope (x ∷ []) in
+    record {
+      can = tt;
+      finite = tt;
+      short = All-rest (λ (i : Item). length i.value < 2 ^ 63) x more (subst (All (λ (i : Item). length i.value < 2 ^ 63)) rest inv.short);
+      keys = ap (λ ks. ks ++ marked_keys flash scope more) c.in_ok-add_marked.ensures.ok ∙ append_assoc c.loop-key.keys.items this (marked_keys flash scope more) ∙ ap (λ ks. c.loop-key.keys.items ++ ks) (sym next) ∙ inv.keys;
+      grown = Grows-more c.args.keys.now.items c.loop-key.keys.items this c.add_marked.new.keys.items inv.grown c.in_ok-add_marked.ensures.ok;
+    }

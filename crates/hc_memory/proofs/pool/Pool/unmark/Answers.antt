@@ -1,0 +1,33 @@
+use Rattle.std.proofs.Common.{sym, ◌∙◌, ap}
+use Rattle.std.specs.Option.{option_map}
+use Rattle.hc_memory.specs.declared.item.Held.{Held}
+use Rattle.hc_memory.specs.Pool.{bytes_of, is_at}
+use Rattle.hc_memory.specs.Seen.{item_of, items_of}
+use Rattle.hc_memory.proofs.Keyed.{bytes-unmarked, unmarked-none}
+use Rattle.hc_memory.proofs.Orders.{unique, item_at-held, items_of-unmarked}
+use Rattle.hc_memory.proofs.pool.Pool.unmark.Goals as goal
+use Rattle.hc_memory.proofs.pool.Pool.unmark.Goals.{in-Some, in_default}
+
+pub invariant_of-self : goal.invariant_of-self
+invariant_of-self g c =
+    let es = c.self.inside.cache.entries in
+    elim c.match-peek_mut.branch [
+      | in-Some w ↦
+          let marks = items_of-unmarked c.args.key.now es w.in-Some.held.now (unique es c.len-len.ensures.valid.0 c.args.key.now) (sym w.in-Some.ensures.value) in
+          rw w.self-inside-is (c.self.invariant.0 ∙ sym (ap bytes_of marks ∙ bytes-unmarked (is_at c.args.key.now) (items_of es)), c.self.invariant.1)
+      | in_default w ↦ rw w.self-inside-is c.self.invariant
+    ]
+
+pub returns : goal.returns
+returns g c =
+    let es = c.self.inside.cache.entries in
+    let one = unique es c.len-len.ensures.valid.0 c.args.key.now in
+    rw (← c.self.view_is) (elim c.match-peek_mut.branch [
+      | in-Some w ↦
+          let marks = items_of-unmarked c.args.key.now es w.in-Some.held.now one (sym w.in-Some.ensures.value) in
+          rw w.self-inside-is (λ i. record { size = c.self.inside.size; items = marks i })
+      | in_default w ↦
+          let at = item_at-held c.args.key.now es one ∙ ap (option_map (λ (h : Held g.row.A.Denot). item_of (c.args.key.now, h))) (sym w.in_default.ensures.value) in
+          let stay = sym (unmarked-none c.args.key.now (items_of es) at) in
+          rw w.self-inside-is (λ i. record { size = c.self.inside.size; items = stay i })
+    ])

@@ -1,0 +1,95 @@
+use Rattle.std.proofs.Common.{◌≡◌, ◌∷◌, ◌++◌, [], sym, ◌∙◌, ap, arith, append-nil, append_assoc, length, length-append, length-drop, take, drop, slice_get}
+use Rattle.std.proofs.lemmas.List.{drop-drop}
+use Rattle.hc_memory.specs.Item.{cost}
+use Rattle.hc_memory.specs.Pool.{Pool, bytes_of, is_full, kept, dropped}
+use Rattle.hc_memory.specs.Seen.{item_of, items_of}
+use Rattle.hc_memory.proofs.Keyed.{tally-drop-le}
+use Rattle.hc_memory.proofs.Orders.{items_of-push, length-items_of}
+use Rattle.hc_memory.proofs.Rooms.{full-is, want-fits, kept-stop, kept-go, dropped-stop, dropped-go, take-next}
+use Rattle.hc_memory.proofs.pool.Pool.victims.Goals as goal
+
+pub full-requires-clause-bytes : goal.full-requires-clause-bytes
+full-requires-clause-bytes g c =
+    let inv = c.loop-key.invariant in
+    let most = tally-drop-le cost c.args.self.now.items c.loop-key.gone in
+    let wanted = want-fits c.args.self.now.size c.args.usage c.args.want c.requires.room in
+    omega (arith, inv.bytes, ap bytes_of inv.rest, most, wanted, c.requires.bytes, c.requires.limit)
+
+pub full-requires-clause-items : goal.full-requires-clause-items
+full-requires-clause-items g c =
+    let inv = c.loop-key.invariant in
+    let rest = ap length inv.rest ∙ length-items_of c.loop-key.key-iterator.iter in
+    let limit = ap (λ s. s.items) inv.limits in
+    omega (arith, inv.left, rest, length-drop c.loop-key.gone c.args.self.now.items, c.requires.number, limit)
+
+pub returns-then-not-full-clause-go : goal.returns-then-not-full-clause-go
+returns-then-not-full-clause-go g c =
+    let inv = c.loop-key.invariant in
+    let items = c.args.self.now.items in
+    let x = item_of (c.in-Some.key.now, c.in-Some.held.now) in
+    let more = items_of c.next.new.self.iter in
+    let rest : items_of c.loop-key.key-iterator.iter ≡ item_of (c.in-Some.key.now, c.in-Some.held.now) ∷ items_of c.next.new.self.iter = ap items_of c.in-Some.ensures.steps ∙ items_of-push c.next.new.self.iter (c.in-Some.key.now, c.in-Some.held.now) in
+    let room = sym (full-is c.self.inside.size c.args.self.now.size c.args.usage c.args.want c.loop-key.bytes c.loop-key.left (x ∷ more) inv.limits (inv.bytes ∙ ap bytes_of rest) (inv.left ∙ sym (length-items_of c.loop-key.key-iterator.iter) ∙ ap length rest)) ∙ sym c.full.ensures ∙ c.if-not-full.true in
+    let stop = ap (dropped c.args.self.now.size c.args.usage c.args.want) rest ∙ dropped-stop c.args.self.now.size c.args.usage c.args.want x more room in
+    sym (append-nil (take c.loop-key.gone items)) ∙ ap (λ ys. take c.loop-key.gone items ++ ys) (sym stop) ∙ inv.go
+
+pub returns-then-not-full-clause-stay : goal.returns-then-not-full-clause-stay
+returns-then-not-full-clause-stay g c =
+    let inv = c.loop-key.invariant in
+    let x = item_of (c.in-Some.key.now, c.in-Some.held.now) in
+    let more = items_of c.next.new.self.iter in
+    let rest : items_of c.loop-key.key-iterator.iter ≡ item_of (c.in-Some.key.now, c.in-Some.held.now) ∷ items_of c.next.new.self.iter = ap items_of c.in-Some.ensures.steps ∙ items_of-push c.next.new.self.iter (c.in-Some.key.now, c.in-Some.held.now) in
+    let room = sym (full-is c.self.inside.size c.args.self.now.size c.args.usage c.args.want c.loop-key.bytes c.loop-key.left (x ∷ more) inv.limits (inv.bytes ∙ ap bytes_of rest) (inv.left ∙ sym (length-items_of c.loop-key.key-iterator.iter) ∙ ap length rest)) ∙ sym c.full.ensures ∙ c.if-not-full.true in
+    inv.rest ∙ rest ∙ sym (kept-stop c.args.self.now.size c.args.usage c.args.want x more room) ∙ sym (ap (kept c.args.self.now.size c.args.usage c.args.want) rest) ∙ inv.stay
+
+pub returns-then-not-full-clause-fits : goal.returns-then-not-full-clause-fits
+returns-then-not-full-clause-fits g c =
+    let inv = c.loop-key.invariant in
+    let x = item_of (c.in-Some.key.now, c.in-Some.held.now) in
+    let more = items_of c.next.new.self.iter in
+    let rest : items_of c.loop-key.key-iterator.iter ≡ item_of (c.in-Some.key.now, c.in-Some.held.now) ∷ items_of c.next.new.self.iter = ap items_of c.in-Some.ensures.steps ∙ items_of-push c.next.new.self.iter (c.in-Some.key.now, c.in-Some.held.now) in
+    let room = sym (full-is c.self.inside.size c.args.self.now.size c.args.usage c.args.want c.loop-key.bytes c.loop-key.left (x ∷ more) inv.limits (inv.bytes ∙ ap bytes_of rest) (inv.left ∙ sym (length-items_of c.loop-key.key-iterator.iter) ∙ ap length rest)) ∙ sym c.full.ensures ∙ c.if-not-full.true in
+    ap (is_full c.args.self.now.size c.args.usage c.args.want) (inv.rest ∙ rest) ∙ room
+
+pub cost-bytes-requires : goal.cost-bytes-requires
+cost-bytes-requires g c =
+    let inv = c.loop-key.invariant in
+    let rest : items_of c.loop-key.key-iterator.iter ≡ item_of (c.in-Some.key.now, c.in-Some.held.now) ∷ items_of c.next.new.self.iter = ap items_of c.in-Some.ensures.steps ∙ items_of-push c.next.new.self.iter (c.in-Some.key.now, c.in-Some.held.now) in
+    let most = tally-drop-le cost c.args.self.now.items c.loop-key.gone in
+    omega (arith, ap bytes_of (inv.rest ∙ rest), most, c.requires.bytes, c.requires.limit)
+
+pub overflow_sub-bytes : goal.overflow_sub-bytes
+overflow_sub-bytes g c =
+    let inv = c.loop-key.invariant in
+    let rest : items_of c.loop-key.key-iterator.iter ≡ item_of (c.in-Some.key.now, c.in-Some.held.now) ∷ items_of c.next.new.self.iter = ap items_of c.in-Some.ensures.steps ∙ items_of-push c.next.new.self.iter (c.in-Some.key.now, c.in-Some.held.now) in
+    omega (arith, inv.bytes, ap bytes_of rest, c.cost-bytes.ensures)
+
+pub overflow_add-gone : goal.overflow_add-gone
+overflow_add-gone g c =
+    let all = ap (λ (p : Pool). length p.items) (sym c.self.view_is) ∙ length-items_of c.self.inside.cache.entries in
+    omega (arith, c.loop-key.invariant.within, all, c.len-left.ensures.len, c.len-left.ensures.fits)
+
+pub loop-key-preserved : goal.loop-key-preserved
+loop-key-preserved g c =
+    let inv = c.loop-key.invariant in
+    let items = c.args.self.now.items in
+    let n = c.loop-key.gone in
+    let x = item_of (c.in-Some.key.now, c.in-Some.held.now) in
+    let more = items_of c.next.new.self.iter in
+    let rest : items_of c.loop-key.key-iterator.iter ≡ item_of (c.in-Some.key.now, c.in-Some.held.now) ∷ items_of c.next.new.self.iter = ap items_of c.in-Some.ensures.steps ∙ items_of-push c.next.new.self.iter (c.in-Some.key.now, c.in-Some.held.now) in
+    let full = sym (full-is c.self.inside.size c.args.self.now.size c.args.usage c.args.want c.loop-key.bytes c.loop-key.left (x ∷ more) inv.limits (inv.bytes ∙ ap bytes_of rest) (inv.left ∙ sym (length-items_of c.loop-key.key-iterator.iter) ∙ ap length rest)) ∙ sym c.full.ensures ∙ c.if-not-full.false in
+    let left = inv.rest ∙ rest in
+    let go = ap (dropped c.args.self.now.size c.args.usage c.args.want) rest ∙ dropped-go c.args.self.now.size c.args.usage c.args.want x more full in
+    let stay = ap (kept c.args.self.now.size c.args.usage c.args.want) rest ∙ kept-go c.args.self.now.size c.args.usage c.args.want x more full in
+    let next = take-next n items x (sym (ap (λ xs. slice_get xs 0) left)) in
+    record {
+      can = tt;
+      finite = tt;
+      limits = inv.limits;
+      bytes = omega (arith, inv.bytes, ap bytes_of rest, c.cost-bytes.ensures);
+      left = omega (arith, inv.left, ap length c.in-Some.ensures.steps, length-append c.next.new.self.iter ((c.in-Some.key.now, c.in-Some.held.now) ∷ []));
+      rest = sym (drop-drop 1 n items) ∙ ap (drop 1) left;
+      within = omega (arith, ap length left, length-drop n items, inv.within);
+      stay = sym stay ∙ inv.stay;
+      go = ap (λ ys. ys ++ dropped c.args.self.now.size c.args.usage c.args.want more) next ∙ append_assoc (take n items) (x ∷ []) (dropped c.args.self.now.size c.args.usage c.args.want more) ∙ ap (λ ys. take n items ++ ys) (sym go) ∙ inv.go;
+    }

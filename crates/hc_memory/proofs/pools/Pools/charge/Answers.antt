@@ -1,0 +1,88 @@
+use Rattle.std.proofs.Common.{◌≡◌, ◌+◌, ◌++◌, ◌∷◌, List, ℕ, [], take, length, refl, sym, ◌∙◌, ap, arith}
+use Rattle.hc_types.specs.Charge.{charge_of}
+use Rattle.hc_types.proofs.Tallies.{find-none}
+use Rattle.hc_memory.specs.Item.{Item, Open}
+use Rattle.hc_memory.specs.Pool.{dropped}
+use Rattle.hc_memory.specs.Charges.{usage_of, has_number}
+use Rattle.hc_memory.specs.Memory.{Memory}
+use Rattle.hc_memory.proofs.Rooms.{want-fits}
+use Rattle.hc_memory.proofs.Sounds.{length-set}
+use Rattle.hc_memory.proofs.Making.{there-of, there-at, known, roomy, charged-sound, take-dropped, dropped-few, size-bound}
+use Rattle.hc_memory.proofs.pools.Pools.charge.Goals as goal
+
+pub begin-requires-clause-free : goal.begin-requires-clause-free
+begin-requires-clause-free g c =
+    let p = rw (← c.self.view_is) at c.in-Ok.ensures.plan in
+    let next = p.number in
+    find-none (has_number c.in-Ok.plan.number) c.self.inside.charges.charges (c.self.invariant.0.fresh c.in-Ok.plan.number (omega (arith, next)))
+
+pub begin-requires-clause-bytes : goal.begin-requires-clause-bytes
+begin-requires-clause-bytes g c =
+    let p = rw (← c.self.view_is) at c.in-Ok.ensures.plan in
+    let lt = rw (← c.self.view_is) at c.requires.pool in
+    let room = rw (← c.self.view_is) at c.in-Ok.ensures.room in
+    let view : Memory = record { flash = c.self.inside.flash; pools = c.self.inside.pools.items; charges = c.self.inside.charges.charges; made = c.self.inside.made } in
+    let t = there-of c.self.inside.pools.items c.args.pool lt in
+    let k = known view c.args.pool (charge_of c.args.key c.args.size) t.0 t.1 in
+    let fits = want-fits t.0.size (usage_of c.args.pool c.self.inside.charges.charges) (charge_of c.args.key c.args.size) (sym k.hopeless ∙ room) in
+    let bound = size-bound t.0.size (c.self.invariant.0.within c.args.pool t.0 t.1).size in
+    let copy = ap (λ (key : List ℕ). charge_of key c.args.size) p.copy in
+    omega (arith, fits, bound, copy)
+
+pub evict-requires-clause-some : goal.evict-requires-clause-some
+evict-requires-clause-some g c =
+    let p = rw (← c.self.view_is) at c.in-Ok.ensures.plan in
+    let lt = rw (← c.self.view_is) at c.requires.pool in
+    let view : Memory = record { flash = c.self.inside.flash; pools = c.self.inside.pools.items; charges = c.self.inside.charges.charges; made = c.self.inside.made } in
+    let at = there-at c.self.inside.pools.items c.args.pool c.from.result c.index_mut.result.now lt c.from.ensures c.index_mut.ensures.value in
+    let k = known view c.args.pool (charge_of c.args.key c.args.size) c.index_mut.result.now at in
+    let few = dropped-few c.index_mut.result.now.size (usage_of c.args.pool c.self.inside.charges.charges) (charge_of c.args.key c.args.size) c.index_mut.result.now.items in
+    let counted = p.count in
+    let same = ap (λ (l : List Item). length l) k.victims in
+    omega (arith, few, counted, same)
+
+pub invariant_of-self-2 : goal.invariant_of-self-2
+invariant_of-self-2 g c =
+    let i = c.self.invariant in
+    let p = rw (← c.self.view_is) at c.in-Ok.ensures.plan in
+    let lt = rw (← c.self.view_is) at c.requires.pool in
+    let room = rw (← c.self.view_is) at c.in-Ok.ensures.room in
+    let view : Memory = record { flash = c.self.inside.flash; pools = c.self.inside.pools.items; charges = c.self.inside.charges.charges; made = c.self.inside.made } in
+    let usage = usage_of c.args.pool c.self.inside.charges.charges in
+    let want = charge_of c.args.key c.args.size in
+    let there = c.index_mut.result.now in
+    let at = there-at c.self.inside.pools.items c.args.pool c.from.result c.index_mut.result.now lt c.from.ensures c.index_mut.ensures.value in
+    let k = known view c.args.pool (charge_of c.args.key c.args.size) c.index_mut.result.now at in
+    let counted : c.in-Ok.plan.count ≡ length (dropped c.index_mut.result.now.size (usage_of c.args.pool c.self.inside.charges.charges) (charge_of c.args.key c.args.size) c.index_mut.result.now.items) = p.count ∙ ap (λ (l : List Item). length l) k.victims in
+    let r = roomy c.self.inside.pools.items c.from.result c.args.pool (charge_of c.args.key c.args.size) c.in-Ok.plan.count (usage_of c.args.pool c.self.inside.charges.charges) c.index_mut.result.now c.index_mut.result.now c.evict.new.self c.from.ensures at c.index_mut.ensures.value c.evict.ensures.items counted in
+    let opened : Open = record { number = c.self.inside.made + 1; pool = c.args.pool; key = c.in-Ok.plan.copy; size = c.args.size } in
+    let s = charged-sound c.self.inside.pools.items c.self.inside.charges.charges c.self.inside.made c.args.pool (charge_of c.args.key c.args.size) c.index_mut.result.now opened i.0 at (sym k.hopeless ∙ room) refl refl (ap (λ (key : List ℕ). charge_of key c.args.size) p.copy) in (
+      rw (r.set, c.in-Ok-begin.ensures.ok, p.number) s,
+      ap (λ book. book.pools) c.in-Ok-begin.ensures.ok ∙ i.1 ∙ sym (length-set c.self.inside.pools.items c.from.result c.evict.new.self),
+      i.2,
+    )
+
+pub returns-clause-victims : goal.returns-clause-victims
+returns-clause-victims g c =
+    let p = rw (← c.self.view_is) at c.in-Ok.ensures.plan in
+    let lt = rw (← c.self.view_is) at c.requires.pool in
+    let view : Memory = record { flash = c.self.inside.flash; pools = c.self.inside.pools.items; charges = c.self.inside.charges.charges; made = c.self.inside.made } in
+    let at = there-at c.self.inside.pools.items c.args.pool c.from.result c.index_mut.result.now lt c.from.ensures c.index_mut.ensures.value in
+    let k = known view c.args.pool (charge_of c.args.key c.args.size) c.index_mut.result.now at in
+    let counted : c.in-Ok.plan.count ≡ length (dropped c.index_mut.result.now.size (usage_of c.args.pool c.self.inside.charges.charges) (charge_of c.args.key c.args.size) c.index_mut.result.now.items) = p.count ∙ ap (λ (l : List Item). length l) k.victims in
+    let go = take-dropped c.index_mut.result.now.size (usage_of c.args.pool c.self.inside.charges.charges) (charge_of c.args.key c.args.size) c.index_mut.result.now.items in
+    rw (← c.self.view_is) (c.evict.ensures.victims ∙ ap (λ (vs : List Item). vs ++ take c.in-Ok.plan.count c.index_mut.result.now.items) p.empty ∙ ap (λ n. take n c.index_mut.result.now.items) counted ∙ go ∙ sym k.victims)
+
+pub returns-clause-pools : goal.returns-clause-pools
+returns-clause-pools g c =
+    let p = rw (← c.self.view_is) at c.in-Ok.ensures.plan in
+    let lt = rw (← c.self.view_is) at c.requires.pool in
+    let view : Memory = record { flash = c.self.inside.flash; pools = c.self.inside.pools.items; charges = c.self.inside.charges.charges; made = c.self.inside.made } in
+    let at = there-at c.self.inside.pools.items c.args.pool c.from.result c.index_mut.result.now lt c.from.ensures c.index_mut.ensures.value in
+    let k = known view c.args.pool (charge_of c.args.key c.args.size) c.index_mut.result.now at in
+    let counted : c.in-Ok.plan.count ≡ length (dropped c.index_mut.result.now.size (usage_of c.args.pool c.self.inside.charges.charges) (charge_of c.args.key c.args.size) c.index_mut.result.now.items) = p.count ∙ ap (λ (l : List Item). length l) k.victims in
+    let r = roomy c.self.inside.pools.items c.from.result c.args.pool (charge_of c.args.key c.args.size) c.in-Ok.plan.count (usage_of c.args.pool c.self.inside.charges.charges) c.index_mut.result.now c.index_mut.result.now c.evict.new.self c.from.ensures at c.index_mut.ensures.value c.evict.ensures.items counted in
+    let rooms = r.set ∙ sym (ap (λ (m : Memory). m.pools) k.room) in
+    let book : c.begin.new.self.charges ≡ c.self.inside.charges.charges ++ record { number = c.self.inside.made + 1; pool = c.args.pool; key = c.args.key; size = c.args.size } ∷ [] =
+    ap (λ book. book.charges) c.in-Ok-begin.ensures.ok ∙ (λ i. c.self.inside.charges.charges ++ record { number = p.number i; pool = c.args.pool; key = p.copy i; size = c.args.size } ∷ []) in
+    rw (← c.self.view_is) (λ i. record { flash = c.self.inside.flash; pools = rooms i; charges = book i; made = p.number i })

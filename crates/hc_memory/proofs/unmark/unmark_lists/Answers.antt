@@ -1,0 +1,16 @@
+use Rattle.std.proofs.Common.{◌<◌, ◌∙◌, List, ℕ, ap, arith, length}
+use Rattle.hc_memory.specs.Unmarks.{unmarked_at}
+use Rattle.hc_memory.proofs.Sounds.{length-set}
+use Rattle.hc_memory.proofs.Unmarking.{next-list}
+use Rattle.hc_memory.proofs.unmark.unmark_lists.Goals as goal
+
+pub loop-i-preserved : goal.loop-i-preserved
+loop-i-preserved g c =
+    let inv = c.loop-i.invariant in
+    let lt = c.loop-i-test.true in
+    let within : c.loop-i.i < length c.loop-i.pools.items = omega (arith, lt, c.requires, inv.count) in
+    let is = c.unmark_keys.ensures ∙ ap (λ (keys : List (List ℕ)). record { size = c.index_mut.result.now.size; items = unmarked_at keys c.index_mut.result.now.items }) c.as_slice.ensures.value in
+    record {
+      count = length-set c.loop-i.pools.items c.loop-i.i c.unmark_keys.new.pool ∙ inv.count;
+      pools = next-list (λ keys. keys.items) c.loop-i.i c.args.lists.now c.index-lists-i.result c.loop-i.pools.items c.index_mut.result.now c.unmark_keys.new.pool lt c.index-lists-i.is within c.index_mut.ensures.value is ∙ inv.pools;
+    }

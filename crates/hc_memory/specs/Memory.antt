@@ -1,0 +1,110 @@
+-- All pools, with what is open in them, and what each call does to them.
+use Rattle.std.specs.Prelude.{ℕ, ◌+◌, Bool, true, List, [], ◌∷◌, ◌++◌, length, replicate, Option, Some, None, is_some, slice_get, slice_set, if◌then◌else◌, option_map, map, suc}
+use Rattle.std.specs.Option.{option_map_or}
+use Rattle.hc_types.specs.Charge.{charge_of}
+use Rattle.hc_types.specs.Loss as loss
+use Rattle.hc_types.specs.Loss.{covers}
+use Rattle.hc_types.specs.declared.config.FlashConfig.{FlashConfig}
+use Rattle.hc_types.specs.declared.config.PoolSize.{PoolSize}
+use Rattle.hc_memory.specs.Item.{Item, Open, Handle, item_by}
+use Rattle.hc_memory.specs.Pool.{Pool, item_at, without, used, is_full, kept, dropped, unexpired, unmarked_where}
+use Rattle.hc_memory.specs.Charges.{usage_of, closed}
+
+-- The pools, the one with the number 0 first; the charges that are open; how many charges were made; and the flash
+-- behind the pools, where there is any.
+pub record Memory : Type 0 where
+  pub flash : Option FlashConfig
+  pub pools : List Pool
+  pub charges : List Open
+  pub made : ℕ
+
+-- a pool of this size without items
+abbrev pub empty_pool : PoolSize → Pool
+empty_pool size = record { size = size; items = [] }
+
+-- ---- one pool of all
+
+-- the pool of this number changes
+abbrev pub change_at : ℕ → (Pool → Pool) → List Pool → List Pool
+change_at number f pools = option_map_or (λ pool. slice_set pools number (f pool)) (slice_get pools number) pools
+
+abbrev pub has : List ℕ → Pool → Bool
+has key pool = is_some (item_at key pool.items)
+
+-- the item under a key, in whichever pool
+abbrev pub linked_at : List ℕ → List Pool → Option Item
+linked_at key [] = None
+linked_at key (pool ∷ pools) = if has key pool then item_at key pool.items else linked_at key pools
+
+-- the number of the pool with an item under this key
+abbrev pub home_of : List ℕ → List Pool → Option ℕ
+home_of key [] = None
+home_of key (pool ∷ pools) = if has key pool then Some 0 else option_map suc (home_of key pools)
+
+-- the pool with an item under this key changes
+abbrev pub change_home : List ℕ → (Pool → Pool) → List Pool → List Pool
+change_home key f [] = []
+change_home key f (pool ∷ pools) = if has key pool then f pool ∷ pools else pool ∷ change_home key f pools
+
+-- ---- room
+
+-- however much were evicted, there would be no room in the pool for so many bytes, or for one more charge
+abbrev pub is_hopeless : Memory → ℕ → ℕ → Bool
+is_hopeless memory number want = option_map_or (λ pool. is_full pool.size (usage_of number memory.charges) want []) (slice_get memory.pools number) true
+
+-- the items that go where room is made, the one that was used longest ago first
+abbrev pub victims_of : Memory → ℕ → ℕ → List Item
+victims_of memory number want = option_map_or (λ pool. dropped pool.size (usage_of number memory.charges) want pool.items) (slice_get memory.pools number) []
+
+abbrev pub after_room : Memory → ℕ → ℕ → Memory
+after_room memory number want = record memory {
+  pools = change_at number (λ pool. record pool { items = kept pool.size (usage_of number memory.charges) want pool.items }) memory.pools;
+}
+
+-- ---- charges and links
+
+-- the handle of a charge that is made
+abbrev pub blank_of : Memory → ℕ → List ℕ → ℕ → ℕ → Handle
+blank_of memory number key size expiry = record { number = memory.made + 1; pool = number; key = key; expiry = expiry; value = replicate size 0 }
+
+-- room is made, and a charge is open
+abbrev pub after_charge : Memory → ℕ → List ℕ → ℕ → Memory
+after_charge memory number key size = record (after_room memory number (charge_of key size)) {
+  charges = memory.charges ++ record { number = memory.made + 1; pool = number; key = key; size = size } ∷ [];
+  made = memory.made + 1;
+}
+
+-- the pools without the item under a key
+abbrev pub unlinked : List ℕ → List Pool → List Pool
+unlinked key pools = change_home key (λ pool. record pool { items = without key pool.items }) pools
+
+abbrev pub after_unlink : Memory → List ℕ → Memory
+after_unlink memory key = record memory { pools = unlinked key memory.pools }
+
+abbrev pub after_free : Memory → ℕ → Memory
+after_free memory number = record memory { charges = closed number memory.charges }
+
+-- the handle's item is the one that was used last in its pool, and the only one under its key
+abbrev pub after_link : Memory → Bool → Handle → Memory
+after_link memory clean handle = record (after_free memory handle.number) {
+  pools = change_at handle.pool (λ pool. record pool { items = pool.items ++ item_by clean handle ∷ [] }) (unlinked handle.key memory.pools);
+}
+
+-- ---- finds and marks
+
+-- the value that a find answers
+abbrev pub value_at : ℕ → List ℕ → List Pool → Option (List ℕ)
+value_at now key pools = option_map (λ (item : Item). item.value) (unexpired now (linked_at key pools))
+
+-- an unexpired item that is found is the one that was used last
+abbrev pub after_find : Memory → ℕ → List ℕ → Memory
+after_find memory now key = record memory {
+  pools = change_home key (λ pool. record pool { items = used key (unexpired now (item_at key pool.items)) pool.items }) memory.pools;
+}
+
+-- the items that a scope covers lose their clean mark
+abbrev pub all_unmarked : Option FlashConfig → loss.Scope → List Pool → List Pool
+all_unmarked flash scope pools = map (λ (pool : Pool). record pool { items = unmarked_where (λ item. covers flash scope item.key (length item.value)) pool.items }) pools
+
+abbrev pub after_unmark : Memory → loss.Scope → Memory
+after_unmark memory scope = record memory { pools = all_unmarked memory.flash scope memory.pools }

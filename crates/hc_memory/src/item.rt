@@ -1,0 +1,35 @@
+// The items of a pool.
+use bytes::Bytes;
+use hc_types::Key;
+use std::alloc::{Allocator, Global};
+use std::marker::Model;
+
+/// An item that could be found: the number of its charge, its pool, its key, its value, the second at which it expires
+/// (0: never), and whether a copy of it stands on flash.
+#[derive(Drop)]
+pub struct Item<A: Allocator = Global> {
+    pub number: u64,
+    pub pool: u8,
+    pub key: Key<A>,
+    pub value: Bytes<A>,
+    pub expiry: u64,
+    pub clean: bool,
+}
+
+impl<A: Allocator> Model for Item<A> {
+    ghost use Rattle.hc_memory.specs.Item.{Item as Meaning};
+
+    ghost Value = { Meaning };
+
+    ghost view = { λ i. record { number = i.number; pool = i.pool; key = i.key; value = i.value; expiry = i.expiry; clean = i.clean } };
+}
+
+/// What is held under a key: an item without the key.
+#[derive(Drop)]
+pub struct Held<A: Allocator = Global> {
+    pub number: u64,
+    pub pool: u8,
+    pub value: Bytes<A>,
+    pub expiry: u64,
+    pub clean: bool,
+}

@@ -1,0 +1,23 @@
+//! The memory of the cache: pools of items, each with the order of their use, what each pool is charged, and the
+//! handles through which items are written and read.
+#![tactic(auto)]
+
+mod answers;
+mod handles;
+mod item;
+mod links;
+mod open;
+mod pool;
+mod pools;
+mod unmark;
+mod usage;
+
+pub use answers::{Charged, Uncharged, Unlinked};
+pub use handles::{Blank, ReadHandle, Sealed, each_byte};
+pub use item::Item;
+pub use pool::Glance;
+pub use pools::Pools;
+pub use usage::Usage;
+
+#[cfg(test)]
+mod tests;

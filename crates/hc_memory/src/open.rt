@@ -1,0 +1,159 @@
+// The charges that are open, and what each pool is charged for them.
+ghost use Rattle.std.specs.Prelude.{◌≡◌, ◌==◌, ◌+◌, ◌-◌, ◌<◌, ◌≤◌, ◌^◌, ◌&&◌, ◌↔◌, ◌++◌, [], ◌∷◌, length, IsTrue, IfOk, OnOk, OnErr, is_some, Some, None};
+ghost use Rattle.std.specs.Str.{bytes_eq};
+ghost use Rattle.hc_types.specs.Charge.{charge_of};
+ghost use Rattle.hc_memory.specs.Charges.{charge_at, closed, usage_of, is_open};
+
+use crate::usage::Usage;
+use hc_types::{Key, VALUE_MAX, charge};
+use indexmap::IndexMap;
+use std::alloc::{AllocError, Allocator, Global};
+use std::hash::{BuildHasherDefault, FoldHasher};
+use std::marker::Model;
+
+/// A charge that is open: an item of this key, with a value of `size` bytes, is being written for this pool.
+#[derive(Drop)]
+pub struct OpenCharge<A: Allocator = Global> {
+    pub pool: u8,
+    pub key: Key<A>,
+    pub size: u64,
+}
+
+/// The charges that are open, under their numbers, and what each pool is charged for them. Contracts see the charges,
+/// and how many pools there are.
+#[derive(Drop)]
+pub struct OpenCharges<A: Allocator = Global> {
+    charges: IndexMap<u64, OpenCharge<A>, BuildHasherDefault<FoldHasher>, A>,
+    // of each pool, in order
+    usage: Vec<Usage, A>,
+}
+
+impl<A: Allocator> Model for OpenCharges<A> {
+    ghost use Rattle.std.specs.Prelude.{◌≡◌, length, map};
+    ghost use Rattle.hc_types.specs.Tally.{count};
+    ghost use Rattle.hc_memory.specs.Charges.{Book, open_of, AreSums, is_stray};
+
+    ghost Value = { Book };
+
+    ghost view = { λ o. record { charges = map open_of o.charges.entries; pools = length o.usage.items } };
+
+    ghost invariant = { λ o. AreSums o.usage.items (map open_of o.charges.entries) × (count (is_stray (length o.usage.items)) (map open_of o.charges.entries) ≡ 0) };
+}
+
+impl<A: Allocator + Copy> OpenCharges<A> {
+    /// No charge is open.
+    pub fn new(alloc: A, pools: usize) -> Result<OpenCharges<A>, AllocError>
+        ensures { IfOk result (λ book. book ≡ record { charges = []; pools = pools }) }
+    {
+        let mut usage = Vec::with_capacity(alloc, pools)?;
+        usage.resize(pools, NONE)?;
+        Ok(OpenCharges {
+            charges: IndexMap::new(alloc),
+            usage,
+        })
+    }
+}
+
+impl<A: Allocator> OpenCharges<A> {
+    /// What the open charges of a pool come to.
+    pub fn usage(&self, pool: u8) -> Usage
+        requires { pool < self.now.pools }
+        ensures { result ≡ usage_of pool self.now.charges }
+    {
+        self.usage[usize::from(pool)]
+    }
+
+    /// Whether this charge is open.
+    pub fn is_open(&self, number: u64, pool: u8, key: &Key<A>, size: u64) -> bool
+        ensures value { result ≡ is_open (record { number = number; pool = pool; key = key.now; size = size }) self.now.charges }
+        ensures exact { IsTrue result ↔ (charge_at number self.now.charges ≡ Some (record { number = number; pool = pool; key = key.now; size = size })) }
+    {
+        match self.charges.get(&number) {
+            Some(open) => open.is_of(pool, key, size),
+            None => false,
+        }
+    }
+
+    /// Opens a charge under a number of its own. Where memory lacks, nothing changes.
+    pub fn begin(&mut self, number: u64, pool: u8, key: Key<A>, size: u64) -> Result<(), AllocError>
+        requires pool { pool < self.old.pools }
+        requires free { charge_at number self.old.charges ≡ None }
+        requires size { size ≤ VALUE_MAX }
+        requires bytes { (usage_of pool self.old.charges).bytes + charge_of key size < 2 ^ 64 }
+        ensures ok { OnOk result (self.new ≡ record self.old { charges = self.old.charges ++ record { number = number; pool = pool; key = key; size = size } ∷ [] }) }
+        ensures err { OnErr result (self.new ≡ self.old) }
+    {
+        let cost = charge(&key, size);
+        let at = usize::from(pool);
+        self.charges.insert(number, OpenCharge { pool, key, size })?;
+        let _count = self.charges.len();
+        self.usage[at] = with_charge(self.usage[at], cost);
+        Ok(())
+    }
+
+    /// Closes the charge with this number, and answers whether it was open.
+    pub fn end(&mut self, number: u64) -> bool
+        ensures found { result ≡ is_some (charge_at number self.old.charges) }
+        ensures closed { self.new ≡ record self.old { charges = closed number self.old.charges } }
+    {
+        match self.charges.swap_remove(&number) {
+            Some(open) => {
+                let (pool, cost) = open.into_cost();
+                let at = usize::from(pool);
+                self.usage[at] = without_charge(self.usage[at], cost);
+                true
+            }
+            None => false,
+        }
+    }
+}
+
+impl<A: Allocator> OpenCharge<A> {
+    // It is of this pool, key and size.
+    fn is_of(&self, pool: u8, key: &Key<A>, size: u64) -> bool
+        ensures { result ≡ ((pool == self.now.pool) && bytes_eq key.now self.now.key && (size == self.now.size)) }
+    {
+        pool == self.pool && *key == self.key && size == self.size
+    }
+
+    // Its pool, and what it comes to, in bytes.
+    fn into_cost(self) -> (u8, u64)
+        requires { self.size ≤ VALUE_MAX }
+        ensures pool { result.0 ≡ self.pool }
+        ensures cost { result.1 ≡ charge_of self.key self.size }
+    {
+        (self.pool, charge(&self.key, self.size))
+    }
+}
+
+const NONE: Usage = Usage {
+    bytes: 0,
+    number: 0,
+};
+
+// With one charge more, of so many bytes.
+fn with_charge(usage: Usage, cost: u64) -> Usage
+    requires bytes { usage.bytes + cost < 2 ^ 64 }
+    requires number { usage.number + 1 < 2 ^ 64 }
+    ensures { result ≡ record { bytes = usage.bytes + cost; number = usage.number + 1 } }
+{
+    Usage {
+        bytes: usage.bytes + cost,
+        number: usage.number + 1,
+    }
+}
+
+// With one charge less, of so many bytes.
+fn without_charge(usage: Usage, cost: u64) -> Usage
+    requires bytes { cost ≤ usage.bytes }
+    requires number { 1 ≤ usage.number }
+    ensures { result ≡ record { bytes = usage.bytes - cost; number = usage.number - 1 } }
+{
+    Usage {
+        bytes: usage.bytes - cost,
+        number: usage.number - 1,
+    }
+}
+
+#[cfg(test)]
+mod tests;

@@ -1,0 +1,350 @@
+// One pool: the items that can be found, in the order of their use.
+ghost use Rattle.std.specs.Prelude.{◌≡◌, ℕ, ◌+◌, ◌-◌, ◌<◌, ◌≤◌, ◌^◌, ◌++◌, ◌∷◌, [], false, not, ◌&&◌, ◌||◌, ◌==◌, nat_lt, List, length, take, drop, slice_get, vec_len, vec_capacity, IfOk, IfErr, IfSome, OnOk, OnErr, IsOk, IsSome, is_some, option_map, All};
+ghost use Rattle.std.specs.Option.{option_map_or};
+ghost use Rattle.lru.specs.LruCache.{lru_cache, last_entry};
+ghost use Rattle.hc_types.specs.Loss.{scope_of};
+ghost use Rattle.hc_types.specs.Tally.{count};
+ghost use Rattle.hc_memory.specs.Item.{cost as item_cost};
+ghost use Rattle.hc_memory.specs.Pool.{bytes_of, is_at, item_at, without, used, unexpired, unmarked_where, marked_keys, Grows, is_full, kept, dropped};
+ghost use Rattle.hc_memory.specs.Seen.{item_of, glance_of};
+
+use crate::item::{Held, Item};
+use crate::usage::Usage;
+use bytes::Bytes;
+use hc_types::{FlashConfig, Key, PoolSize, Scope};
+use lru::{DefaultHasher, LruCache};
+use std::alloc::{AllocError, AllocFailed, Allocator, Global};
+use std::marker::Model;
+
+/// The number of an item's charge, and the second at which it expires (0: never).
+#[derive(Clone, Copy, Debug, PartialEq, Eq)]
+pub struct Glance {
+    pub number: u64,
+    pub expiry: u64,
+}
+
+/// One pool. Contracts see its size, and its items, the one that was used longest ago first. No key has two.
+///
+/// Each call takes expected constant time, but for `victims` and `evict`, which cost what goes, and `marked`, which
+/// walks over all items.
+#[derive(Drop)]
+pub struct Pool<A: Allocator = Global> {
+    cache: LruCache<Key<A>, Held<A>, DefaultHasher, A>,
+    // what its items are charged
+    bytes: u64,
+    size: PoolSize,
+}
+
+impl<A: Allocator> Model for Pool<A> {
+    ghost use Rattle.std.specs.Prelude.{◌≡◌, ◌-◌, ◌≤◌, ◌^◌};
+    ghost use Rattle.hc_memory.specs.Pool.{Pool as Order, bytes_of};
+    ghost use Rattle.hc_memory.specs.Seen.{items_of};
+
+    ghost Value = { Order };
+
+    ghost view = { λ p. record { size = p.size; items = items_of p.cache.entries } };
+
+    ghost invariant = { λ p. (p.bytes ≡ bytes_of (items_of p.cache.entries)) × (p.cache.cap ≡ 2 ^ 64 - 1) };
+}
+
+impl<A: Allocator + Clone> Pool<A> {
+    /// A pool of no item.
+    pub fn new(alloc: A, size: PoolSize) -> Result<Pool<A>, AllocError>
+        ensures { IfOk result (λ pool. pool ≡ record { size = size; items = [] }) }
+    {
+        Ok(Pool {
+            cache: LruCache::unbounded(alloc)?,
+            bytes: 0,
+            size,
+        })
+    }
+}
+
+impl<A: Allocator> Pool<A> {
+    /// Its limits.
+    #[must_use]
+    pub fn size(&self) -> PoolSize
+        ensures { result ≡ self.now.size }
+    {
+        self.size
+    }
+
+    /// How many items it has. No key has two.
+    #[must_use]
+    #[allow(clippy::len_without_is_empty)]
+    pub fn len(&self) -> usize
+        ensures value { result ≡ length self.now.items }
+        ensures fits { result < 2 ^ 63 }
+        ensures unique { (key : List ℕ) → count (is_at key) self.now.items ≤ 1 }
+    {
+        self.cache.len()
+    }
+
+    /// What its items are charged, in bytes.
+    #[must_use]
+    pub fn bytes(&self) -> u64
+        ensures { result ≡ bytes_of self.now.items }
+    {
+        self.bytes
+    }
+
+    /// Whether an item can be found under the key, expired or not. It isn't used.
+    #[must_use]
+    pub fn has(&self, key: &Key<A>) -> bool
+        ensures { result ≡ is_some (item_at key.now self.now.items) }
+    {
+        let _len = self.cache.len();
+        self.cache.contains(key)
+    }
+
+    /// The number and the expiry of the item under the key, expired or not. It isn't used.
+    #[must_use]
+    pub fn peek(&self, key: &Key<A>) -> Option<Glance>
+        ensures { result ≡ option_map glance_of (item_at key.now self.now.items) }
+    {
+        let _len = self.cache.len();
+        match self.cache.peek(key) {
+            Some(held) => Some(Glance {
+                number: held.number,
+                expiry: held.expiry,
+            }),
+            None => None,
+        }
+    }
+
+    /// Takes out the item under the key, and answers its number.
+    pub fn unlink(&mut self, key: &Key<A>) -> Option<u64>
+        ensures value { result ≡ option_map (λ i. i.number) (item_at key.now self.old.items) }
+        ensures items { self.new ≡ record { size = self.old.size; items = without key.now self.old.items } }
+    {
+        let _len = self.cache.len();
+        let held = self.cache.pop(key);
+        self.bytes -= freed(key.len() as u64, &held);
+        number_of(&held)
+    }
+
+    /// Takes out the item that was used longest ago.
+    fn evict_first(&mut self) -> Option<Item<A>>
+        ensures value { result ≡ slice_get self.old.items 0 }
+        ensures items { self.new ≡ record { size = self.old.size; items = drop 1 self.old.items } }
+    {
+        let (key, held) = pop_oldest(&mut self.cache)?;
+        self.bytes -= cost(&key, &held);
+        Some(Item {
+            number: held.number,
+            pool: held.pool,
+            key,
+            value: held.value,
+            expiry: held.expiry,
+            clean: held.clean,
+        })
+    }
+
+    /// Takes out the items that were used longest ago, so many, and puts them after those of the list, for which it
+    /// has room, the one that was used longest ago first.
+    pub fn evict(&mut self, count: usize, victims: &mut Vec<Item<A>, A>)
+        requires some { count ≤ length self.old.items }
+        requires room { vec_len victims.old + count ≤ vec_capacity victims.old }
+        ensures victims { victims.new.items ≡ victims.old.items ++ take count self.old.items }
+        ensures room { vec_capacity victims.new ≡ vec_capacity victims.old }
+        ensures len { vec_len victims.new ≡ vec_len victims.old + count }
+        ensures items { self.new ≡ record { size = self.old.size; items = drop count self.old.items } }
+    {
+        for _ in 0..count {
+            match self.evict_first() {
+                Some(item) => victims.push_reserved(item),
+                None => unreachable!(),
+            }
+        }
+    }
+
+    /// The item under the key, if there is one, loses its clean mark. It isn't used.
+    pub fn unmark(&mut self, key: &Key<A>)
+        ensures { self.new ≡ record { size = self.old.size; items = unmarked_where (is_at key.now) self.old.items } }
+    {
+        let _len = self.cache.len();
+        if let Some(held) = self.cache.peek_mut(key) {
+            held.clean = false;
+        }
+    }
+
+    /// Another owner of the value under the key, where its item isn't expired at `now`, in seconds. The item is now
+    /// the one that was used last. An expired one stays where it is. On an error, for want of memory, nothing changed.
+    pub fn find(&mut self, key: &Key<A>, now: u64) -> Result<Option<Bytes<A>>, AllocError>
+        ensures value { IfOk result (λ found. found ≡ option_map (λ i. i.value) (unexpired now (item_at key.now self.old.items))) }
+        ensures items { OnOk result (self.new ≡ record { size = self.old.size; items = used key.now (unexpired now (item_at key.now self.old.items)) self.old.items }) }
+        ensures err { OnErr result (self.new ≡ self.old) }
+    {
+        let _len = self.cache.len();
+        let found = self.fresh(key, now)?;
+        if found.is_some() {
+            self.cache.promote(key);
+        }
+        Ok(found)
+    }
+
+    /// Another owner of the value under the key, where its item isn't expired at `now`, in seconds.
+    fn fresh(&self, key: &Key<A>, now: u64) -> Result<Option<Bytes<A>>, AllocError>
+        ensures value { IfOk result (λ found. found ≡ option_map (λ i. i.value) (unexpired now (item_at key.now self.now.items))) }
+    {
+        let _len = self.cache.len();
+        let Some(held) = self.cache.peek(key) else {
+            return Ok(None);
+        };
+        if expired(now, held.expiry) {
+            return Ok(None);
+        }
+        Ok(Some(held.value.clone()?))
+    }
+
+    /// Puts copies of the keys of the clean items that the scope covers after those of the list. On an error the list
+    /// may have grown, and nothing else changed.
+    pub fn marked(
+        &self,
+        flash: &Option<FlashConfig>,
+        scope: &Scope<A>,
+        keys: &mut Vec<Key<A>, A>,
+    ) -> Result<(), AllocError>
+        requires lengths { All (λ i. length i.value < 2 ^ 63) self.now.items }
+        requires bits { IfSome flash.now (λ f. f.bits ≤ 64) }
+        requires buckets { IfSome flash.now (λ f. 1 ≤ f.buckets) }
+        ensures ok { OnOk result (keys.new.items ≡ keys.old.items ++ marked_keys flash.now (scope_of scope.now) self.now.items) }
+        ensures err { OnErr result (Grows keys.old.items keys.new.items) }
+    {
+        for (key, held) in self.cache.iter().rev() {
+            add_marked(flash, scope, key, held, keys)?;
+        }
+        Ok(())
+    }
+
+    /// How many items go, from the one that was used longest ago on, to make room for `want` bytes and one more
+    /// charge beside the open charges: none goes while there is room.
+    #[must_use]
+    pub fn victims(&self, usage: Usage, want: u64) -> usize
+        requires bytes { usage.bytes + bytes_of self.now.items ≤ self.now.size.bytes }
+        requires number { usage.number + length self.now.items ≤ self.now.size.items }
+        requires limit { self.now.size.bytes < 2 ^ 63 }
+        requires room { is_full self.now.size usage want [] ≡ false }
+        ensures bound { result ≤ length self.now.items }
+        ensures go { take result self.now.items ≡ dropped self.now.size usage want self.now.items }
+        ensures stay { drop result self.now.items ≡ kept self.now.size usage want self.now.items }
+        ensures fits { is_full self.now.size usage want (drop result self.now.items) ≡ false }
+    {
+        let size = self.size;
+        let mut bytes = self.bytes;
+        let mut left = self.cache.len();
+        let mut gone: usize = 0;
+        for (key, held) in self.cache.iter().rev() {
+            if !full(size, usage, want, bytes, left) {
+                return gone;
+            }
+            bytes -= cost(key, held);
+            left -= 1;
+            gone += 1;
+        }
+        gone
+    }
+}
+
+impl<A: Allocator + Clone> Pool<A> {
+    /// Links an item under its key, as the one that was used last, and answers the number of the item that it
+    /// replaces. On an error, for want of memory, nothing changed, and the item comes back. Where it replaces one there
+    /// is none.
+    pub fn link(
+        &mut self,
+        key: Key<A>,
+        held: Held<A>,
+    ) -> Result<Option<u64>, AllocFailed<(Key<A>, Held<A>)>>
+        requires { bytes_of self.old.items + item_cost (item_of (key, held)) < 2 ^ 64 }
+        ensures old { IfOk result (λ old. old ≡ option_map (λ i. i.number) (item_at key self.old.items)) }
+        ensures items { OnOk result (self.new ≡ record { size = self.old.size; items = without key self.old.items ++ item_of (key, held) ∷ [] }) }
+        ensures err { OnErr result (self.new ≡ self.old) }
+        ensures value_returned { IfErr result (λ failed. failed.value ≡ (key, held)) }
+        ensures succeeds { IsSome (item_at key self.old.items) → IsOk result }
+    {
+        let _len = self.cache.len();
+        let key_len = key.len() as u64;
+        let cost = cost(&key, &held);
+        let old = self.cache.put(key, held)?;
+        self.bytes = self.bytes - freed(key_len, &old) + cost;
+        Ok(number_of(&old))
+    }
+}
+
+/// Takes out the entry that was used longest ago.
+fn pop_oldest<A: Allocator>(
+    cache: &mut LruCache<Key<A>, Held<A>, DefaultHasher, A>,
+) -> Option<(Key<A>, Held<A>)>
+    ensures value { result ≡ last_entry cache.old.entries }
+    ensures entries { cache.new ≡ lru_cache (take (length cache.old.entries - 1) cache.old.entries) cache.old.cap }
+{
+    cache.pop_lru()
+}
+
+/// The number of the item that was there, if one was.
+fn number_of<A: Allocator>(held: &Option<Held<A>>) -> Option<u64>
+    ensures { result ≡ option_map (λ h. h.number) held.now }
+{
+    match held {
+        Some(held) => Some(held.number),
+        None => None,
+    }
+}
+
+/// What the item that was there under a key of `key_len` bytes was charged, if one was, in bytes.
+fn freed<A: Allocator>(key_len: u64, held: &Option<Held<A>>) -> u64
+    requires { option_map_or (λ h. 32 + key_len + length h.value) held.now 0 < 2 ^ 64 }
+    ensures { result ≡ option_map_or (λ h. 32 + key_len + length h.value) held.now 0 }
+{
+    match held {
+        Some(held) => 32 + key_len + held.value.len() as u64,
+        None => 0,
+    }
+}
+
+/// Puts a copy of the key after those of the list, if its item is clean and the scope covers it.
+fn add_marked<A: Allocator>(
+    flash: &Option<FlashConfig>,
+    scope: &Scope<A>,
+    key: &Key<A>,
+    held: &Held<A>,
+    keys: &mut Vec<Key<A>, A>,
+) -> Result<(), AllocError>
+    requires len { length held.now.value < 2 ^ 63 }
+    requires bits { IfSome flash.now (λ f. f.bits ≤ 64) }
+    requires buckets { IfSome flash.now (λ f. 1 ≤ f.buckets) }
+    ensures ok { OnOk result (keys.new.items ≡ keys.old.items ++ marked_keys flash.now (scope_of scope.now) (item_of (key.now, held.now) ∷ [])) }
+    ensures err { OnErr result (keys.new.items ≡ keys.old.items) }
+{
+    if held.clean && scope.covers(flash, key, held.value.len() as u64) {
+        keys.push(key.clone()?)?;
+    }
+    Ok(())
+}
+
+/// What an item is charged, in bytes.
+fn cost<A: Allocator>(key: &Key<A>, held: &Held<A>) -> u64
+    requires { item_cost (item_of (key.now, held.now)) < 2 ^ 64 }
+    ensures { result ≡ item_cost (item_of (key.now, held.now)) }
+{
+    32 + key.len() as u64 + held.value.len() as u64
+}
+
+/// Whether there is no room for `want` bytes, or for one more charge, beside so many bytes, items and open charges.
+fn full(size: PoolSize, usage: Usage, want: u64, bytes: u64, items: usize) -> bool
+    requires bytes { usage.bytes + bytes + want < 2 ^ 64 }
+    requires items { usage.number + items ≤ size.items }
+    ensures { result ≡ (nat_lt size.bytes (usage.bytes + bytes + want) || (usage.number + items == size.items)) }
+{
+    usage.bytes + bytes + want > size.bytes || usage.number + items as u64 == size.items
+}
+
+/// Whether an item of this expiry is expired, both in seconds.
+fn expired(now: u64, expiry: u64) -> bool
+    ensures { result ≡ (not (expiry == 0) && not (nat_lt now expiry)) }
+{
+    expiry != 0 && expiry <= now
+}
+
+#[cfg(test)]
+mod tests;

@@ -1,0 +1,343 @@
+// All pools, with the charges that are open in them.
+ghost use Rattle.std.specs.Prelude.{◌≡◌, ◌+◌, ◌<◌, ◌≤◌, ◌⊎◌, [], true, false, length, take, drop, map, replicate, IfOk, IfErr, OnOk, OnErr, is_some, option_map, Some, None, vec_len, vec_capacity};
+ghost use Rattle.hc_types.specs.Limits.{first_wrong};
+ghost use Rattle.hc_types.specs.Charge.{charge_of};
+ghost use Rattle.hc_memory.specs.Planned.{IsPlanned};
+ghost use Rattle.hc_memory.specs.Pool.{is_full, kept, dropped};
+ghost use Rattle.hc_memory.specs.Sound.{Sound, IsWithin};
+ghost use Rattle.hc_memory.specs.Seen.{glance_of};
+ghost use Rattle.hc_memory.specs.Charges.{charge_at, usage_of};
+ghost use Rattle.hc_memory.specs.Memory.{empty_pool, home_of, linked_at, value_at, is_hopeless, victims_of, blank_of, after_room, after_charge, after_unlink, after_free, after_find};
+
+use crate::answers::{Charged, Uncharged};
+use crate::handles::{Blank, ReadHandle, zeros};
+use crate::item::Item;
+use crate::open::OpenCharges;
+use crate::pool::{Glance, Pool};
+use crate::usage::Usage;
+use bytes::Bytes;
+use hc_types::{Config, FlashConfig, Key, PoolSize, Refusal, VALUE_MAX, charge};
+use std::alloc::{AllocError, Allocator, Global};
+use std::marker::Model;
+
+/// The pools of a cache, and the charges that are open in them. Contracts see the flash behind the pools, each pool's
+/// size and its items in the order of their use, the open charges, and how many charges there were.
+///
+/// Each call first takes all the memory that it needs, and then changes what is there: a refusal leaves everything as
+/// it was, and gives back what was handed in.
+#[derive(Drop)]
+pub struct Pools<A: Allocator = Global> {
+    pub(crate) flash: Option<FlashConfig>,
+    pub(crate) pools: Vec<Pool<A>, A>,
+    pub(crate) charges: OpenCharges<A>,
+    pub(crate) made: u64,
+}
+
+impl<A: Allocator> Model for Pools<A> {
+    ghost use Rattle.std.specs.Prelude.{◌≡◌, length};
+    ghost use Rattle.hc_memory.specs.Memory.{Memory};
+    ghost use Rattle.hc_memory.specs.Sound.{Sound, FlashFits};
+
+    ghost Value = { Memory };
+
+    ghost view = { λ p. record { flash = p.flash; pools = p.pools.items; charges = p.charges.charges; made = p.made } };
+
+    ghost invariant = { λ p. Sound p.pools.items p.charges.charges p.made × (p.charges.pools ≡ length p.pools.items) × FlashFits p.flash };
+}
+
+impl<A: Allocator> Pools<A> {
+    /// How many pools there are: 1 to 16. Each is within its limits, and no key has two items.
+    #[must_use]
+    #[allow(clippy::len_without_is_empty)]
+    pub fn len(&self) -> usize
+        ensures value { result ≡ length self.now.pools }
+        ensures most { result ≤ 16 }
+        ensures sound { Sound self.now.pools self.now.charges self.now.made }
+    {
+        self.pools.len()
+    }
+
+    /// What the open charges of the pool with this number come to: their bytes, and how many they are.
+    #[must_use]
+    pub fn open_usage(&self, number: u8) -> Usage
+        requires { number < length self.now.pools }
+        ensures { result ≡ usage_of number self.now.charges }
+    {
+        self.charges.usage(number)
+    }
+
+    /// The number and the expiry of the item under this key, expired or not. It isn't used.
+    #[must_use]
+    pub fn peek(&self, key: &Key<A>) -> Option<Glance>
+        ensures { result ≡ option_map glance_of (linked_at key.now self.now.pools) }
+    {
+        match home(self.pools.as_slice(), key) {
+            Some(at) => self.pools[at].peek(key),
+            None => None,
+        }
+    }
+
+    /// Takes the item under this key out, in whichever pool, expired or not. Answers the number of its charge.
+    pub fn unlink(&mut self, key: &Key<A>) -> Option<u64>
+        ensures value { result ≡ option_map (λ item. item.number) (linked_at key.now self.old.pools) }
+        ensures pools { self.new ≡ after_unlink self.old key.now }
+    {
+        match home(self.pools.as_slice(), key) {
+            Some(at) => self.pools[at].unlink(key),
+            None => None,
+        }
+    }
+
+    /// Frees the open charge with this number, and answers whether there was one.
+    pub fn free(&mut self, number: u64) -> bool
+        ensures value { result ≡ is_some (charge_at number self.old.charges) }
+        ensures charges { self.new ≡ after_free self.old number }
+    {
+        self.charges.end(number)
+    }
+
+    /// Finds the value under this key, where its item isn't expired at `now` (seconds). That item is now the one that
+    /// was used last in its pool; an expired one stays where it is. Refused only where memory lacks.
+    pub fn find(&mut self, key: &Key<A>, now: u64) -> Result<Option<ReadHandle<A>>, AllocError>
+        ensures value { IfOk result (λ found. found ≡ value_at now key.now self.old.pools) }
+        ensures pools { OnOk result (self.new ≡ after_find self.old now key.now) }
+        ensures err { OnErr result (self.new ≡ self.old) }
+    {
+        match home(self.pools.as_slice(), key) {
+            Some(at) => handed_out(self.pools[at].find(key, now)),
+            None => Ok(None),
+        }
+    }
+}
+
+impl<A: Allocator + Copy> Pools<A> {
+    /// The pools of a configuration that was checked, without items.
+    pub fn new(alloc: A, config: &Config<A>) -> Result<Pools<A>, AllocError>
+        requires { first_wrong config.now ≡ None }
+        ensures { IfOk result (λ pools. pools ≡ record { flash = config.now.flash; pools = map empty_pool config.now.pools; charges = []; made = 0 }) }
+    {
+        let pools = empty_pools(alloc, config.pools.as_slice())?;
+        let made = pools.as_slice();
+        let charges = OpenCharges::new(alloc, made.len())?;
+        Ok(Pools {
+            flash: config.flash,
+            pools,
+            charges,
+            made: 0,
+        })
+    }
+}
+
+/// A handle to the value that was found, if one was.
+fn handed_out<A: Allocator>(
+    found: Result<Option<Bytes<A>>, AllocError>,
+) -> Result<Option<ReadHandle<A>>, AllocError>
+    ensures { result ≡ found }
+{
+    match found {
+        Ok(Some(bytes)) => Ok(Some(ReadHandle::new(bytes))),
+        Ok(None) => Ok(None),
+        Err(refused) => Err(refused),
+    }
+}
+
+/// The number of the pool with an item under this key. It looks into each pool, of which there are few, once.
+pub(crate) fn home<A: Allocator>(pools: &[Pool<A>], key: &Key<A>) -> Option<usize>
+    ensures { result ≡ home_of key.now pools.now }
+{
+    for (i, pool) in pools.iter().enumerate() {
+        if pool.has(key) {
+            return Some(i);
+        }
+    }
+    None
+}
+
+/// Pools of these sizes, without items.
+fn empty_pools<A: Allocator + Copy>(
+    alloc: A,
+    sizes: &[PoolSize],
+) -> Result<Vec<Pool<A>, A>, AllocError>
+    ensures { IfOk result (λ pools. pools.items ≡ map empty_pool sizes.now) }
+{
+    let mut pools = Vec::with_capacity(alloc, sizes.len())?;
+    for size in sizes {
+        pools.push(Pool::new(alloc, *size)?)?;
+    }
+    Ok(pools)
+}
+
+/// A list with room for so many items.
+fn room_for<A: Allocator + Clone>(alloc: &A, count: usize) -> Result<Vec<Item<A>, A>, AllocError>
+    ensures empty { IfOk result (λ items. items.items ≡ []) }
+    ensures len { IfOk result (λ items. vec_len items ≡ 0) }
+    ensures room { IfOk result (λ items. count ≤ vec_capacity items) }
+{
+    Vec::with_capacity(alloc.clone()?, count)
+}
+
+/// How many items of a pool go to make room for `want` bytes and one more charge beside its open charges. Refused with
+/// `NoRoom` where those alone leave none.
+fn victims_of_pool<A: Allocator>(pool: &Pool<A>, usage: Usage, want: u64) -> Result<usize, Refusal>
+    requires { IsWithin usage pool.now }
+    ensures some { IfOk result (λ count. count ≤ length pool.now.items) }
+    ensures go { IfOk result (λ count. take count pool.now.items ≡ dropped pool.now.size usage want pool.now.items) }
+    ensures stay { IfOk result (λ count. drop count pool.now.items ≡ kept pool.now.size usage want pool.now.items) }
+    ensures room { OnOk result (is_full pool.now.size usage want [] ≡ false) }
+    ensures fits { IfOk result (λ count. is_full pool.now.size usage want (drop count pool.now.items) ≡ false) }
+    ensures err { IfErr result (λ refusal. (refusal ≡ Refusal.NoRoom) × (is_full pool.now.size usage want [] ≡ true)) }
+{
+    let size = pool.size();
+    if want > size.bytes - usage.bytes || usage.number == size.items {
+        return Err(Refusal::NoRoom);
+    }
+    Ok(pool.victims(usage, want))
+}
+
+impl<A: Allocator> Pools<A> {
+    /// How many items of the pool go to make room for `want` bytes and one more charge: none while there is room.
+    /// Refused with `NoRoom` where the open charges alone leave none. It costs what goes.
+    pub fn victims(&self, pool: u8, want: u64) -> Result<usize, Refusal>
+        requires { pool < length self.now.pools }
+        ensures count { IfOk result (λ count. count ≡ length (victims_of self.now pool want)) }
+        ensures room { OnOk result (is_hopeless self.now pool want ≡ false) }
+        ensures err { IfErr result (λ refusal. (refusal ≡ Refusal.NoRoom) × (is_hopeless self.now pool want ≡ true)) }
+    {
+        let usage = self.charges.usage(pool);
+        victims_of_pool(&self.pools[usize::from(pool)], usage, want)
+    }
+}
+
+impl<A: Allocator + Clone> Pools<A> {
+    /// Makes room in the pool for `want` bytes and one more charge: the items that were used longest ago go, none
+    /// while there is room, and are answered in that order. Refused with `NoRoom` where the open charges alone leave
+    /// none. It costs what goes.
+    pub fn make_room(&mut self, pool: u8, want: u64) -> Result<Vec<Item<A>, A>, Refusal>
+        requires { pool < length self.old.pools }
+        ensures victims { IfOk result (λ victims. victims.items ≡ victims_of self.old pool want) }
+        ensures pools { OnOk result (self.new ≡ after_room self.old pool want) }
+        ensures room { OnOk result (is_hopeless self.old pool want ≡ false) }
+        ensures why { IfErr result (λ refusal. ((refusal ≡ Refusal.NoRoom) × (is_hopeless self.old pool want ≡ true)) ⊎ ((refusal ≡ Refusal.NoMemory) × (is_hopeless self.old pool want ≡ false))) }
+        ensures err { OnErr result (self.new ≡ self.old) }
+    {
+        let usage = self.charges.usage(pool);
+        let at = usize::from(pool);
+        let count = match victims_of_pool(&self.pools[at], usage, want) {
+            Ok(count) => count,
+            Err(refusal) => return Err(refusal),
+        };
+        let mut victims = match room_for(self.pools.allocator(), count) {
+            Ok(victims) => victims,
+            Err(_) => return Err(Refusal::NoMemory),
+        };
+        self.pools[at].evict(count, &mut victims);
+        Ok(victims)
+    }
+}
+
+/// What a charge needs before it changes anything: its number, how many items go and a list with room for them, the
+/// bytes of its item, and a copy of its key.
+#[derive(Drop)]
+pub struct Plan<A: Allocator> {
+    pub number: u64,
+    pub count: usize,
+    pub victims: Vec<Item<A>, A>,
+    pub bytes: Vec<u8, A>,
+    pub copy: Key<A>,
+}
+
+impl<A: Allocator + Clone> Pools<A> {
+    /// Makes room in the pool for an item of this key and of `size` bytes, which expires at `expiry` (seconds; 0:
+    /// never), and charges it: the items that were used longest ago go, none while there is room. The item can't be
+    /// found until its handle is sealed and linked. Refused with `NoRoom` where the open charges alone leave none, and
+    /// with `NoMemory`; then the key comes back.
+    pub fn charge(
+        &mut self,
+        pool: u8,
+        key: Key<A>,
+        size: u64,
+        expiry: u64,
+    ) -> Result<Charged<A>, Uncharged<A>>
+        requires pool { pool < length self.old.pools }
+        requires size { size ≤ VALUE_MAX }
+        ensures blank { IfOk result (λ charged. charged.blank ≡ blank_of self.old pool key size expiry) }
+        ensures victims { IfOk result (λ charged. charged.victims.items ≡ victims_of self.old pool (charge_of key size)) }
+        ensures pools { OnOk result (self.new ≡ after_charge self.old pool key size) }
+        ensures room { OnOk result (is_hopeless self.old pool (charge_of key size) ≡ false) }
+        ensures why { IfErr result (λ e. ((e.refusal ≡ Refusal.NoRoom) × (is_hopeless self.old pool (charge_of key size) ≡ true)) ⊎ ((e.refusal ≡ Refusal.NoMemory) × (is_hopeless self.old pool (charge_of key size) ≡ false))) }
+        ensures err { OnErr result (self.new ≡ self.old) }
+        ensures key_returned { IfErr result (λ e. e.key ≡ key) }
+    {
+        let plan = match self.plan(pool, &key, size) {
+            Ok(plan) => plan,
+            Err(refusal) => return Err(Uncharged { refusal, key }),
+        };
+        let Plan {
+            number,
+            count,
+            mut victims,
+            bytes,
+            copy,
+        } = plan;
+        match self.charges.begin(number, pool, copy, size) {
+            Ok(()) => {}
+            Err(_) => {
+                return Err(Uncharged {
+                    refusal: Refusal::NoMemory,
+                    key,
+                });
+            }
+        }
+        self.pools[usize::from(pool)].evict(count, &mut victims);
+        self.made = number;
+        Ok(Charged {
+            blank: Blank::new(number, pool, key, bytes, expiry),
+            victims,
+        })
+    }
+
+    /// What a charge needs.
+    fn plan(&self, pool: u8, key: &Key<A>, size: u64) -> Result<Plan<A>, Refusal>
+        requires pool { pool < length self.now.pools }
+        requires size { size ≤ VALUE_MAX }
+        ensures plan { IfOk result (IsPlanned self.now pool key.now size) }
+        ensures room { OnOk result (is_hopeless self.now pool (charge_of key.now size) ≡ false) }
+        ensures why { IfErr result (λ refusal. ((refusal ≡ Refusal.NoRoom) × (is_hopeless self.now pool (charge_of key.now size) ≡ true)) ⊎ ((refusal ≡ Refusal.NoMemory) × (is_hopeless self.now pool (charge_of key.now size) ≡ false))) }
+    {
+        let count = match self.victims(pool, charge(key, size)) {
+            Ok(count) => count,
+            Err(refusal) => return Err(refusal),
+        };
+        match self.memory_for(count, key, size) {
+            Ok(plan) => Ok(plan),
+            Err(_) => Err(Refusal::NoMemory),
+        }
+    }
+
+    /// The memory that a charge takes, where so many items go.
+    fn memory_for(&self, count: usize, key: &Key<A>, size: u64) -> Result<Plan<A>, AllocError>
+        ensures number { IfOk result (λ plan. plan.number ≡ self.now.made + 1) }
+        ensures count { IfOk result (λ plan. plan.count ≡ count) }
+        ensures bytes { IfOk result (λ plan. plan.bytes.items ≡ replicate size 0) }
+        ensures copy { IfOk result (λ plan. plan.copy ≡ key.now) }
+        ensures empty { IfOk result (λ plan. plan.victims.items ≡ []) }
+        ensures len { IfOk result (λ plan. vec_len plan.victims ≡ 0) }
+        ensures room { IfOk result (λ plan. count ≤ vec_capacity plan.victims) }
+    {
+        let alloc = self.pools.allocator();
+        let number = match self.made.checked_add(1) {
+            Some(number) => number,
+            None => return Err(AllocError),
+        };
+        let victims = room_for(alloc, count)?;
+        let bytes = zeros(alloc.clone()?, size as usize)?;
+        let copy = key.clone()?;
+        Ok(Plan {
+            number,
+            count,
+            victims,
+            bytes,
+            copy,
+        })
+    }
+}
