@@ -20,6 +20,7 @@ use Rattle.hc_memory.specs.declared.open.OpenCharge.{OpenCharge}
 use Rattle.hc_memory.specs.declared.usage.Usage.{Usage}
 use Rattle.hc_memory.specs.Item.{Open, open_cost}
 use Rattle.hc_memory.specs.Charges.{has_number, charge_at, closed, usage_of, is_same, is_same_as, is_open, open_of, AreSums, is_stray}
+use Rattle.hc_memory.proofs.Keyed.{mapped-none}
 
 -- ---- sums
 
@@ -60,10 +61,6 @@ swap_removed-none p (y ∷ xs) none =
 
 -- ---- open charges
 
--- as one opens
-pub tally-begun : (f : Open → ℕ) (charges : List Open) (charge : Open) → tally f (charges ++ charge ∷ []) ≡ tally f charges + f charge
-tally-begun f charges charge = tally-push f charges charge
-
 -- as one closes
 pub tally-closed : (f : Open → ℕ) (number : ℕ) (charges : List Open) (charge : Open) → charge_at number charges ≡ Some charge → tally f (closed number charges) + f charge ≡ tally f charges
 tally-closed f number charges charge found = tally-swap_removed f (has_number number) charges charge found
@@ -92,20 +89,6 @@ usage-own pool less more charge own grown = λ i. record {
   bytes = (grown (λ (c : Open). cond (c.pool == pool) (open_cost c) 0) ∙ ap (λ b. (usage_of pool less).bytes + cond b (open_cost charge) 0) own) i;
   number = (grown (λ (c : Open). cond (c.pool == pool) 1 0) ∙ ap (λ b. (usage_of pool less).number + cond b 1 0) own) i;
 }
-
--- as one opens, by its pool and by each other
-pub usage-begun : (charges : List Open) (charge : Open) → usage_of charge.pool (charges ++ charge ∷ []) ≡ record { bytes = (usage_of charge.pool charges).bytes + open_cost charge; number = (usage_of charge.pool charges).number + 1 }
-usage-begun charges charge = usage-own charge.pool charges (charges ++ charge ∷ []) charge (eq-eqb charge.pool charge.pool refl) (λ f. tally-push f charges charge)
-
-pub usage-begun-other : (pool : ℕ) (charges : List Open) (charge : Open) → (charge.pool == pool) ≡ false → usage_of pool (charges ++ charge ∷ []) ≡ usage_of pool charges
-usage-begun-other pool charges charge other = usage-other pool charges (charges ++ charge ∷ []) charge other (λ f. tally-push f charges charge)
-
--- as one closes
-pub usage-closed : (number : ℕ) (charges : List Open) (charge : Open) → charge_at number charges ≡ Some charge → usage_of charge.pool charges ≡ record { bytes = (usage_of charge.pool (closed number charges)).bytes + open_cost charge; number = (usage_of charge.pool (closed number charges)).number + 1 }
-usage-closed number charges charge found = usage-own charge.pool (closed number charges) charges charge (eq-eqb charge.pool charge.pool refl) (λ f. sym (tally-closed f number charges charge found))
-
-pub usage-closed-other : (pool number : ℕ) (charges : List Open) (charge : Open) → charge_at number charges ≡ Some charge → (charge.pool == pool) ≡ false → usage_of pool (closed number charges) ≡ usage_of pool charges
-usage-closed-other pool number charges charge found other = sym (usage-other pool (closed number charges) charges charge other (λ f. sym (tally-closed f number charges charge found)))
 
 -- counters of which one is set are the sums still, where no other pool's sum changes
 pub sums-set : (usage : List Usage) (old new : List Open) (pool : ℕ) (u : Usage) → AreSums usage old → pool < length usage → ((p : ℕ) → (pool == p) ≡ false → usage_of p new ≡ usage_of p old) → u ≡ usage_of pool new → AreSums (slice_set usage pool u) new
@@ -239,12 +222,8 @@ open-exact charge charges r e = (λ h. is_open-found charge charges (sym e ∙ h
 
 -- ---- what begins
 
-absent_step : {X Y : Type 0} (f : X → Y) (o : Option X) → option_map f o ≡ None → o ≡ None
-absent_step f None h = refl
-absent_step f (Some x) h = cc
-
 pub begun-entries : {A S : Type 0} (m : IndexMap ℕ (OpenCharge A) S) (new : List (ℕ × OpenCharge A)) (number : ℕ) (c : OpenCharge A) → charge_at number (map open_of m.entries) ≡ None → new ≡ insert_entry nat_eq m.entries number c → map open_of new ≡ map open_of m.entries ++ open_of (number, c) ∷ []
-begun-entries m new number c free is = ap (map open_of) (is ∙ insert_entry-new nat_eq m number c (absent_step (λ c. open_of (number, c)) (lookup (nat_eq number) m.entries) (sym (charge_at-entries number m.entries) ∙ free))) ∙ map-append open_of m.entries ((number, c) ∷ [])
+begun-entries m new number c free is = ap (map open_of) (is ∙ insert_entry-new nat_eq m number c (mapped-none (λ c. open_of (number, c)) (lookup (nat_eq number) m.entries) (sym (charge_at-entries number m.entries) ∙ free))) ∙ map-append open_of m.entries ((number, c) ∷ [])
 
 pub stray-begun : (pools : ℕ) (charges new : List Open) (charge : Open) → new ≡ charges ++ charge ∷ [] → charge.pool < pools → charge.size ≤ 1048576 → count (is_stray pools) charges ≡ 0 → count (is_stray pools) new ≡ 0
 stray-begun pools charges new charge is pool size none =

@@ -1,20 +1,18 @@
 -- Handles that are spent: an item is linked in its own pool.
-use Rattle.std.proofs.Common.{◌≡◌, ◌≢◌, ℕ, ◌+◌, ◌<◌, ◌≤◌, ◌^◌, ◌++◌, Bool, true, false, List, [], ◌∷◌, Option, Some, None, refl, ap, sym, ◌∙◌, arith, length, slice_get, slice_set, get_or, not, ◌==◌, nat_lt, cond, ltb-true, eq-eqb}
+use Rattle.std.proofs.Common.{◌≡◌, ◌≢◌, ℕ, ◌+◌, ◌<◌, ◌≤◌, ◌^◌, ◌++◌, Bool, true, false, List, [], ◌∷◌, Option, Some, None, refl, ap, sym, ◌∙◌, arith, length, slice_get, slice_set, get_or, not, ◌==◌, nat_lt, cond, length-set, ltb-true, eq-eqb}
 use Rattle.hc_memory.specs.Item.{Item, Open, Handle, cost, open_cost, charge_by, item_by}
 use Rattle.hc_memory.specs.Pool.{Pool, is_at, item_at, without, bytes_of}
 use Rattle.hc_memory.specs.Memory.{has, home_of, linked_at, change_at, change_home, unlinked}
 use Rattle.hc_memory.specs.Sound.{Sound, items_at}
 use Rattle.std.proofs.lemmas.Slice.Eq.{bytes_eq-Decides}
-use Rattle.hc_types.specs.Limits.{pool_fits}
-use Rattle.hc_types.specs.declared.config.PoolSize.{PoolSize}
 use Rattle.hc_memory.specs.Charges.{closed, is_open}
 use Rattle.hc_memory.proofs.Books.{tally-closed, count-closed, is_open-found}
 use Rattle.hc_memory.proofs.Homes.{home, away}
 use Rattle.hc_memory.proofs.Keys.{get-set-other, nowhere}
 use Rattle.hc_memory.proofs.Looking.{read-there}
 use Rattle.hc_memory.proofs.Linking.{link-away, link-home, link-other, sound-home, shrinks-without, sound-linked, gone}
-use Rattle.hc_memory.proofs.Sounds.{length-set, sound-fewer}
-use Rattle.hc_memory.proofs.Making.{same-there, closed-less}
+use Rattle.hc_memory.proofs.Sounds.{sound-fewer}
+use Rattle.hc_memory.proofs.Making.{same-there, closed-less, size-bound}
 
 -- what linking in the pool with this number leaves
 pub record Links (key : List ℕ) (pools : List Pool) (own : ℕ) (item : Item) (after : List Pool) (gone : Option Item) : Type 0 where
@@ -74,14 +72,11 @@ known-bytes pools charges made handle pool s mine at =
     let own = rw (eq-eqb handle.pool handle.pool refl) at sum in
     omega (arith, own, (s.within handle.pool pool at).bytes)
 
-pub size-small : (size : PoolSize) → pool_fits size ≡ true → size.bytes ≤ 4294967296
-size-small size h = grind (arith, h)
-
 pub link-small : (pools : List Pool) (charges : List Open) (made own : ℕ) (handle : Handle) (clean : Bool) (item : Item) → Sound pools charges made → is_open (charge_by handle) charges ≡ true → own ≡ handle.pool → item ≡ item_by clean handle → (pool : Pool) → slice_get pools own ≡ Some pool → bytes_of pool.items + cost item < 2 ^ 64
 link-small pools charges made own handle clean item s mine same is pool at =
     let at' : slice_get pools handle.pool ≡ Some pool = ap (λ n. slice_get pools n) (sym same) ∙ at in
     let costs : cost item ≡ open_cost (charge_by handle) = ap cost is in
-    omega (arith, known-bytes pools charges made handle pool s mine at', size-small pool.size (s.within handle.pool pool at').size, costs)
+    omega (arith, known-bytes pools charges made handle pool s mine at', size-bound pool.size (s.within handle.pool pool at').size, costs)
 
 -- ---- what linking keeps
 

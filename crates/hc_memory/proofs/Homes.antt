@@ -4,6 +4,7 @@ use Rattle.std.specs.Prelude.{option_map}
 use mathlib.Core.Bool.{cond}
 use Rattle.hc_memory.specs.Pool.{Pool, item_at}
 use Rattle.hc_memory.specs.Memory.{has, linked_at, home_of, change_home}
+use Rattle.hc_memory.proofs.Keyed.{mapped-none}
 
 -- there is none
 pub record IsAway (key : List ℕ) (pools : List Pool) : Type 0 where
@@ -20,7 +21,7 @@ pub record IsHome (key : List ℕ) (pools : List Pool) (i : ℕ) : Type 0 where
 
 away_step : (key : List ℕ) (pool : Pool) (pools : List Pool) (b : Bool) → has key pool ≡ b → cond b (Some 0) (option_map suc (home_of key pools)) ≡ None → (home_of key pools ≡ None → IsAway key pools) → IsAway key (pool ∷ pools)
 away_step key pool pools true e h rest = absurd cc
-away_step key pool pools false e h rest = let none : home_of key pools ≡ None = elim (home_of key pools) as (λ o. option_map suc o ≡ None → o ≡ None) [ None ↦ λ _. refl | Some n ↦ λ x. absurd cc ] h in
+away_step key pool pools false e h rest = let none = mapped-none suc (home_of key pools) h in
     let r = rest none in record { linked = rw e r.linked; change = λ f. rw e (ap (λ ps. pool ∷ ps) (r.change f)) }
 
 pub away : (key : List ℕ) (pools : List Pool) → home_of key pools ≡ None → IsAway key pools

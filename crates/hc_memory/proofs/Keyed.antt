@@ -1,22 +1,18 @@
--- Sums over lists, and the item under a key.
-use Rattle.std.proofs.Common.{◌≡◌, ℕ, ◌+◌, ◌≤◌, ◌++◌, Bool, true, false, List, [], ◌∷◌, Option, Some, None, is_some, refl, ap, arith, subst, drop, zero, suc}
+-- The item under a key, and sums over items.
+use Rattle.std.proofs.Common.{◌≡◌, ℕ, ◌+◌, ◌++◌, Bool, true, false, List, [], ◌∷◌, Option, Some, None, is_some, refl, ap, arith, subst}
 use mathlib.Core.Bool.{cond}
 use Rattle.std.specs.Option.{option_map}
 use Rattle.std.specs.Str.{bytes_eq}
 use Rattle.std.proofs.lemmas.Slice.Eq.{bytes_eq-Decides}
 use Rattle.hc_types.specs.Tally.{tally, count}
-use Rattle.hc_memory.specs.Item.{Item, cost}
+use Rattle.hc_types.proofs.Tallies.{tally-push}
+use Rattle.hc_memory.specs.Item.{Item}
 use Rattle.hc_memory.specs.Pool.{is_at, item_at, without, used, is_expired, unexpired, unmarked_where}
 
-pub tally-push : {X : Type 0} (f : X → ℕ) (xs : List X) (x : X) → tally f (xs ++ x ∷ []) ≡ tally f xs + f x
-tally-push f [] x = omega arith
-tally-push f (y ∷ xs) x = omega (arith, tally-push f xs x)
-
-pub tally-drop-le : {X : Type 0} (f : X → ℕ) (xs : List X) (n : ℕ) → tally f (drop n xs) ≤ tally f xs
-tally-drop-le f [] zero = omega arith
-tally-drop-le f [] (suc n) = omega arith
-tally-drop-le f (x ∷ xs) zero = omega arith
-tally-drop-le f (x ∷ xs) (suc n) = omega (arith, tally-drop-le f xs n)
+-- what is nothing under a function is nothing
+pub mapped-none : {X Y : Type 0} (f : X → Y) (o : Option X) → option_map f o ≡ None → o ≡ None
+mapped-none f None h = refl
+mapped-none f (Some x) h = cc
 
 -- keys that are alike are one
 pub same_bytes : (a b : List ℕ) → bytes_eq a b ≡ true → a ≡ b
@@ -137,11 +133,11 @@ pub unmarked-none : (key : List ℕ) (items : List Item) → item_at key items �
 unmarked-none key [] none = refl
 unmarked-none key (y ∷ items) none = unmarked_step key y items (is_at key y) (unmarked-none key items) none
 
-cost_step : (y : Item) (b : Bool) → cost (cond b (record y { clean = false }) y) ≡ cost y
-cost_step y true = refl
-cost_step y false = refl
+same_step : (f : Item → ℕ) (y : Item) (b : Bool) → f (record y { clean = false }) ≡ f y → f (cond b (record y { clean = false }) y) ≡ f y
+same_step f y true e = e
+same_step f y false e = refl
 
--- a mark costs nothing
-pub bytes-unmarked : (test : Item → Bool) (items : List Item) → tally cost (unmarked_where test items) ≡ tally cost items
-bytes-unmarked test [] = refl
-bytes-unmarked test (y ∷ items) = omega (arith, cost_step y (test y), bytes-unmarked test items)
+-- an item without its mark counts as before
+pub tally-unmarked : (f : Item → ℕ) (test : Item → Bool) → ((y : Item) → f (record y { clean = false }) ≡ f y) → (items : List Item) → tally f (unmarked_where test items) ≡ tally f items
+tally-unmarked f test same [] = refl
+tally-unmarked f test same (y ∷ items) = omega (arith, same_step f y (test y) (same y), tally-unmarked f test same items)

@@ -2,12 +2,13 @@
 use Rattle.std.proofs.Common.{◌≡◌, ◌≢◌, ℕ, zero, suc, ◌+◌, ◌≤◌, Bool, true, false, List, [], ◌∷◌, Option, Some, None, refl, ap, sym, ◌∙◌, arith, subst, slice_get, slice_set}
 use Rattle.std.specs.Prelude.{is_some, option_map}
 use mathlib.Core.Bool.{cond}
-use Rattle.hc_types.specs.Tally.{tally, count}
+use Rattle.hc_types.specs.Tally.{count}
 use Rattle.hc_types.proofs.Tallies.{tally-set, tally-get}
 use Rattle.hc_memory.specs.Item.{Item}
-use Rattle.hc_memory.specs.Pool.{Pool, is_at, item_at, without}
+use Rattle.hc_memory.specs.Pool.{Pool, is_at, item_at}
 use Rattle.hc_memory.specs.Memory.{has, home_of}
 use Rattle.hc_memory.specs.Sound.{items_at}
+use Rattle.hc_memory.proofs.Keyed.{mapped-none, item_at-is, tally-without, count-none}
 
 -- ---- lists
 
@@ -23,62 +24,11 @@ get-set-other (z ∷ xs) zero (suc j) y h = refl
 get-set-other (z ∷ xs) (suc i) zero y h = refl
 get-set-other (z ∷ xs) (suc i) (suc j) y h = get-set-other xs i j y (λ e. h (ap suc e))
 
-pub set-set : {X : Type 0} (xs : List X) (i : ℕ) (y z : X) → slice_set (slice_set xs i y) i z ≡ slice_set xs i z
-set-set [] i y z = refl
-set-set (x ∷ xs) zero y z = refl
-set-set (x ∷ xs) (suc i) y z = ap (λ ys. x ∷ ys) (set-set xs i y z)
-
-pub set-swap : {X : Type 0} (xs : List X) (i j : ℕ) (y z : X) → j ≢ i → slice_set (slice_set xs i y) j z ≡ slice_set (slice_set xs j z) i y
-set-swap [] i j y z h = refl
-set-swap (x ∷ xs) zero zero y z h = absurd (h refl)
-set-swap (x ∷ xs) zero (suc j) y z h = refl
-set-swap (x ∷ xs) (suc i) zero y z h = refl
-set-swap (x ∷ xs) (suc i) (suc j) y z h = ap (λ ys. x ∷ ys) (set-swap xs i j y z (λ e. h (ap suc e)))
-
 -- ---- one pool
-
-absent_step : (key : List ℕ) (x : Item) (items : List Item) (b : Bool) → is_at key x ≡ b → (item_at key items ≡ None → without key items ≡ items) → cond b (Some x) (item_at key items) ≡ None → cond b items (x ∷ without key items) ≡ x ∷ items
-absent_step key x items true e h none = absurd cc
-absent_step key x items false e h none = ap (λ xs. x ∷ xs) (h none)
-
-pub without-absent : (key : List ℕ) (items : List Item) → item_at key items ≡ None → without key items ≡ items
-without-absent key [] none = refl
-without-absent key (x ∷ items) none = absent_step key x items (is_at key x) refl (without-absent key items) none
-
-counted_step : (key : List ℕ) (x y : Item) (items : List Item) (n : ℕ) (b : Bool) → (item_at key items ≡ Some y → 1 ≤ n) → cond b (Some x) (item_at key items) ≡ Some y → 1 ≤ cond b 1 0 + n
-counted_step key x y items n true h e = omega arith
-counted_step key x y items n false h e = omega (arith, h e)
 
 -- an item that is there is counted
 pub counted : (key : List ℕ) (items : List Item) (y : Item) → item_at key items ≡ Some y → 1 ≤ count (is_at key) items
-counted key [] y e = absurd cc
-counted key (x ∷ items) y e = counted_step key x y items (count (is_at key) items) (is_at key x) (counted key items y) e
-
-uncounted_step : (key : List ℕ) (x : Item) (items : List Item) (n : ℕ) (b : Bool) → (n ≡ 0 → item_at key items ≡ None) → cond b 1 0 + n ≡ 0 → cond b (Some x) (item_at key items) ≡ None
-uncounted_step key x items n true h z = absurd (omega arith)
-uncounted_step key x items n false h z = h (omega arith)
-
-pub uncounted : (key : List ℕ) (items : List Item) → count (is_at key) items ≡ 0 → item_at key items ≡ None
-uncounted key [] z = refl
-uncounted key (x ∷ items) z = uncounted_step key x items (count (is_at key) items) (is_at key x) (uncounted key items) z
-
--- an item that is taken out takes its term out
-without_step : (f : Item → ℕ) (key : List ℕ) (x y : Item) (items : List Item) (b : Bool) → is_at key x ≡ b → (item_at key items ≡ Some y → tally f (without key items) + f y ≡ tally f items) → cond b (Some x) (item_at key items) ≡ Some y → tally f (cond b items (x ∷ without key items)) + f y ≡ f x + tally f items
-without_step f key x y items true e h found = let same : x ≡ y = cc in omega (arith, ap f same)
-without_step f key x y items false e h found = omega (arith, h found)
-
-pub tally-without : (f : Item → ℕ) (key : List ℕ) (items : List Item) (y : Item) → item_at key items ≡ Some y → tally f (without key items) + f y ≡ tally f items
-tally-without f key [] y found = absurd cc
-tally-without f key (x ∷ items) y found = without_step f key x y items (is_at key x) refl (tally-without f key items y) found
-
-at_step : (key : List ℕ) (x y : Item) (o : Option Item) (b : Bool) → is_at key x ≡ b → (o ≡ Some y → is_at key y ≡ true) → cond b (Some x) o ≡ Some y → is_at key y ≡ true
-at_step key x y o true e h found = let same : x ≡ y = cc in subst (λ z. is_at key z ≡ true) same e
-at_step key x y o false e h found = h found
-
--- the item under a key has the key
-pub item_at-is : (key : List ℕ) (items : List Item) (y : Item) → item_at key items ≡ Some y → is_at key y ≡ true
-item_at-is key [] y found = absurd cc
-item_at-is key (x ∷ items) y found = at_step key x y (item_at key items) (is_at key x) refl (item_at-is key items y) found
+counted key items y e = omega (arith, tally-without (λ x. cond (is_at key x) 1 0) key items y e, ap {B = ℕ} (λ b. cond b 1 0) (item_at-is key items y e))
 
 pub some_of : (o : Option Item) → is_some o ≡ true → (x : Item) × (o ≡ Some x)
 some_of None h = absurd cc
@@ -96,7 +46,7 @@ elsewhere key pools h i there pool single at holds found other =
     let sum = tally-set f pools i pool bare found in
     let kept : slice_get (slice_set pools i bare) h ≡ Some there = get-set-other pools i h bare (λ e. other (sym e)) ∙ at in
     let less = tally-get f (slice_set pools i bare) h there kept in
-    uncounted key pool.items (omega (arith, single, one, sum, less))
+    count-none key pool.items (omega (arith, single, one, sum, less))
 
 -- where no pool has the key's item, no pool has one
 pub nowhere : (key : List ℕ) (pools : List Pool) (i : ℕ) (pool : Pool) → home_of key pools ≡ None → slice_get pools i ≡ Some pool → item_at key pool.items ≡ None
@@ -105,7 +55,7 @@ nowhere key (p ∷ pools) i pool h at = nowhere_step key p pools i pool (item_at
   nowhere_step : (key : List ℕ) (p : Pool) (pools : List Pool) (i : ℕ) (pool : Pool) (o : Option Item) → item_at key p.items ≡ o → cond (is_some o) (Some 0) (option_map suc (home_of key pools)) ≡ None → slice_get (p ∷ pools) i ≡ Some pool → ((j : ℕ) (q : Pool) → home_of key pools ≡ None → slice_get pools j ≡ Some q → item_at key q.items ≡ None) → item_at key pool.items ≡ None
   nowhere_step key p pools i pool (Some x) e h at rest = absurd cc
   nowhere_step key p pools zero pool None e h at rest = let same : p ≡ pool = cc in subst (λ (q : Pool). item_at key q.items ≡ None) same e
-  nowhere_step key p pools (suc i) pool None e h at rest = let none : home_of key pools ≡ None = elim (home_of key pools) as (λ o. option_map suc o ≡ None → o ≡ None) [ None ↦ λ _. refl | Some n ↦ λ x. absurd cc ] h in rest i pool none at
+  nowhere_step key p pools (suc i) pool None e h at rest = let none = mapped-none suc (home_of key pools) h in rest i pool none at
 
 none_step : (key : List ℕ) (x : Item) (items : List Item) (b : Bool) → (item_at key items ≡ None → count (is_at key) items ≡ 0) → cond b (Some x) (item_at key items) ≡ None → cond b 1 0 + count (is_at key) items ≡ 0
 none_step key x items true h e = absurd cc
@@ -118,7 +68,7 @@ none-counted key (x ∷ items) e = none_step key x items (is_at key x) (none-cou
 nowhere_at_step : (key : List ℕ) (p : Pool) (pools : List Pool) (o : Option Item) → item_at key p.items ≡ o → cond (is_some o) (Some 0) (option_map suc (home_of key pools)) ≡ None → (home_of key pools ≡ None → items_at key pools ≡ 0) → count (is_at key) p.items + items_at key pools ≡ 0
 nowhere_at_step key p pools (Some x) e h rest = absurd cc
 nowhere_at_step key p pools None e h rest =
-    let none : home_of key pools ≡ None = elim (home_of key pools) as (λ o. option_map suc o ≡ None → o ≡ None) [ None ↦ λ _. refl | Some n ↦ λ x. absurd cc ] h in
+    let none = mapped-none suc (home_of key pools) h in
     omega (arith, rest none, none-counted key p.items e)
 
 pub none_at : (key : List ℕ) (pools : List Pool) → home_of key pools ≡ None → items_at key pools ≡ 0

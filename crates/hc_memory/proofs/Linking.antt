@@ -1,6 +1,6 @@
 -- What unlinking, using and linking an item do to the pools.
 use Rattle.std.proofs.Common.{◌≡◌, ◌≢◌, ⊎_elim, ℕ, ◌+◌, ◌≤◌, ◌==◌, ◌++◌, Bool, true, false, List, [], ◌∷◌, Option, Some, None, refl, ap, sym, ◌∙◌, arith, subst, not, nat_lt, eq-eqb, length, drop, slice_get, slice_set}
-use Rattle.std.proofs.lemmas.List.{length_push}
+use Rattle.std.proofs.lemmas.List.{length_push, length-set, set-set, set_comm}
 use mathlib.Core.Bool.{cond}
 use Rattle.hc_types.specs.Tally.{tally, count}
 use Rattle.hc_types.proofs.Tallies.{tally-push, tally-set, tally-drop}
@@ -10,8 +10,9 @@ use Rattle.hc_memory.specs.Charges.{has_number, usage_of}
 use Rattle.hc_memory.specs.Memory.{has, home_of, change_at, change_home, unlinked}
 use Rattle.hc_memory.specs.Sound.{IsWithin, Sound, items_at}
 use Rattle.hc_memory.proofs.Homes.{home, away}
-use Rattle.hc_memory.proofs.Keys.{get-set, get-set-other, set-set, set-swap, without-absent, tally-without, item_at-is, elsewhere, nowhere, some_of, none_at}
-use Rattle.hc_memory.proofs.Sounds.{length-set, set-cases, Shrinks, sound-shrinks}
+use Rattle.hc_memory.proofs.Keyed.{without-none, tally-without, item_at-is}
+use Rattle.hc_memory.proofs.Keys.{get-set, get-set-other, elsewhere, nowhere, some_of, none_at}
+use Rattle.hc_memory.proofs.Sounds.{set-cases, Shrinks, sound-shrinks}
 
 -- ---- items that go, and items that move
 
@@ -23,7 +24,7 @@ pub same_items : (pool : Pool) → Shrinks pool pool
 same_items pool = record { size = refl; bytes = omega arith; number = omega arith; keys = λ key. omega arith; strays = λ i. omega arith }
 
 less_step : (key : List ℕ) (pool : Pool) (o : Option Item) → item_at key pool.items ≡ o → Shrinks pool (record pool { items = without key pool.items })
-less_step key pool None e = rw (without-absent key pool.items e) (same_items pool)
+less_step key pool None e = rw (without-none key pool.items e) (same_items pool)
 less_step key pool (Some y) e = record {
   size = refl;
   bytes = omega (arith, tally-without cost key pool.items y e);
@@ -161,7 +162,7 @@ sound-linked pools charges rest made c pool item s at is costs sum none =
 
 pub link-away : (key : List ℕ) (pools : List Pool) (i : ℕ) (pool : Pool) (item : Item) → home_of key pools ≡ None → slice_get pools i ≡ Some pool
     → slice_set pools i (record pool { items = without key pool.items ++ item ∷ [] }) ≡ change_at i (λ p. record p { items = p.items ++ item ∷ [] }) (unlinked key pools)
-link-away key pools i pool item e at = rw ((away key pools e).change (λ p. record p { items = without key p.items })) (rw at (rw (without-absent key pool.items (nowhere key pools i pool e at)) refl))
+link-away key pools i pool item e at = rw ((away key pools e).change (λ p. record p { items = without key p.items })) (rw at (rw (without-none key pool.items (nowhere key pools i pool e at)) refl))
 
 pub link-home : (key : List ℕ) (pools : List Pool) (i : ℕ) (pool : Pool) (item : Item) → home_of key pools ≡ Some i → slice_get pools i ≡ Some pool
     → slice_set pools i (record pool { items = without key pool.items ++ item ∷ [] }) ≡ change_at i (λ p. record p { items = p.items ++ item ∷ [] }) (unlinked key pools)
@@ -180,4 +181,4 @@ link-other key pools h i there pool item single e at found other =
     let next : Pool = record pool { items = pool.items ++ item ∷ [] } in
     let holds : has key there ≡ true = subst (λ (p : Pool). has key p ≡ true) same home.holds in
     let kept : slice_get (slice_set pools h bare) i ≡ Some pool = get-set-other pools h i bare other ∙ found in
-    rw (home.change (λ p. record p { items = without key p.items })) (rw same (rw kept (rw (without-absent key pool.items (elsewhere key pools h i there pool single at holds found other)) (set-swap pools i h next bare (λ e. other (sym e))))))
+    rw (home.change (λ p. record p { items = without key p.items })) (rw same (rw kept (rw (without-none key pool.items (elsewhere key pools h i there pool single at holds found other)) (set_comm pools i h next bare other))))

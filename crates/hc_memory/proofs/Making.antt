@@ -1,5 +1,5 @@
 -- New pools, and room that is made in one.
-use Rattle.std.proofs.Common.{◌≡◌, ℕ, zero, suc, ◌+◌, ◌<◌, ◌≤◌, leb, ◌-◌, Bool, true, false, not, ◌&&◌, List, [], ◌∷◌, ◌++◌, length, take, drop, map, Option, Some, None, Result, Ok, Err, IfOk, OnOk, OnErr, refl, ap, sym, ◌∙◌, arith, subst, slice_get, slice_set, get_or}
+use Rattle.std.proofs.Common.{◌≡◌, ℕ, zero, suc, ◌+◌, ◌<◌, ◌≤◌, leb, ◌-◌, Bool, true, false, not, List, [], ◌∷◌, ◌++◌, length, take, drop, map, Option, Some, None, Result, Ok, Err, IfOk, OnOk, OnErr, refl, ap, sym, ◌∙◌, arith, subst, slice_get, slice_set, get_or}
 use mathlib.Core.Bool.{cond}
 use Rattle.hc_types.specs.Config.{Config}
 use Rattle.hc_types.specs.Limits.{pool_fits, all_fit, pools_fit, page_fits, regions_fit, queue_fits, is_within, wrong_behind, first_wrong}
@@ -12,7 +12,8 @@ use Rattle.hc_memory.specs.declared.usage.Usage.{Usage}
 use Rattle.hc_memory.specs.Item.{Item, Open, open_cost}
 use Rattle.hc_memory.specs.Pool.{Pool, item_at, used, unexpired, is_full, kept, dropped}
 use Rattle.hc_memory.specs.Charges.{usage_of, charge_at, closed}
-use Rattle.std.proofs.lemmas.List.{length-take-le}
+use Rattle.std.proofs.lemmas.Bool.{and_parts}
+use Rattle.std.proofs.lemmas.List.{length-map, length-take-le, set-get_or}
 use Rattle.std.proofs.lemmas.Option.{slice_get_within, get_or_from_slice_get}
 use Rattle.hc_memory.proofs.Books.{tally-closed, closed-none}
 use Rattle.hc_memory.proofs.Homes.{home}
@@ -25,21 +26,10 @@ use Rattle.hc_memory.specs.Sound.{IsWithin, Sound, FlashFits, items_at}
 
 -- ---- new pools
 
-both : (a b : Bool) → (a && b) ≡ true → (a ≡ true) × (b ≡ true)
-both true b h = (refl, h)
-both false b h = absurd cc
-
-length-map : {X Y : Type 0} (f : X → Y) (xs : List X) → length (map f xs) ≡ length xs
-length-map f [] = refl
-length-map f (x ∷ xs) = omega (arith, length-map f xs)
-
-empty_within : (size : PoolSize) → pool_fits size ≡ true → IsWithin (usage_of 0 []) (empty_pool size)
-empty_within size fits = record { size = fits; bytes = omega arith; number = omega arith }
-
 made_of : (sizes : List PoolSize) (i : ℕ) (pool : Pool) → all_fit sizes ≡ true → slice_get (map empty_pool sizes) i ≡ Some pool → (pool_fits pool.size ≡ true) × (pool.items ≡ [])
 made_of [] i pool fit at = absurd cc
-made_of (size ∷ sizes) zero pool fit at = let same : empty_pool size ≡ pool = cc in subst (λ (p : Pool). (pool_fits p.size ≡ true) × (p.items ≡ [])) same ((both (pool_fits size) (all_fit sizes) fit).0, refl)
-made_of (size ∷ sizes) (suc i) pool fit at = made_of sizes i pool (both (pool_fits size) (all_fit sizes) fit).1 at
+made_of (size ∷ sizes) zero pool fit at = let same : empty_pool size ≡ pool = cc in subst (λ (p : Pool). (pool_fits p.size ≡ true) × (p.items ≡ [])) same ((and_parts (pool_fits size) (all_fit sizes) fit).0, refl)
+made_of (size ∷ sizes) (suc i) pool fit at = made_of sizes i pool (and_parts (pool_fits size) (all_fit sizes) fit).1 at
 
 none_at_all : (key : List ℕ) (sizes : List PoolSize) → items_at key (map empty_pool sizes) ≡ 0
 none_at_all key [] = refl
@@ -47,7 +37,7 @@ none_at_all key (size ∷ sizes) = omega (arith, none_at_all key sizes)
 
 sound_of : (sizes : List PoolSize) → length sizes ≤ 16 → all_fit sizes ≡ true → Sound (map empty_pool sizes) [] 0
 sound_of sizes few fit = record {
-  few = omega (arith, few, length-map empty_pool sizes);
+  few = omega (arith, few, length-map sizes empty_pool);
   within = λ i pool at. let m = made_of sizes i pool fit at in record {
     size = m.0;
     bytes = rw m.1 (omega arith);
@@ -87,7 +77,7 @@ flash_of (Some flash) h =
 pub sound-new : (config : Config) → first_wrong config ≡ None → Sound (map empty_pool config.pools) [] 0 × FlashFits config.flash
 sound-new config h =
     let s = size_step config.pools (wrong_behind config.flash) (pools_fit config.pools) refl h in
-    let two = both (is_within 1 16 (length config.pools)) (all_fit config.pools) s.0 in
+    let two = and_parts (is_within 1 16 (length config.pools)) (all_fit config.pools) s.0 in
     (sound_of config.pools (within_of 1 16 (length config.pools) two.0).1 two.1, flash_of config.flash s.1)
 
 -- ---- room in a pool that is there
@@ -155,10 +145,6 @@ evicted-sound pools charges made number i count there again new s same at read i
 
 -- ---- an item that is used where it could be
 
-pub found-lifted : {T E : Type 0} (r : Result T E) {P Q : Type 0} → (P → Q) → OnOk r P → OnOk r Q
-found-lifted (Ok x) f h = f h
-found-lifted (Err e) f h = h
-
 pub used-or-not : {T E : Type 0} (key : List ℕ) (now : ℕ) (pools : List Pool) (charges : List Open) (made i : ℕ) (there new : Pool) (r : Result T E) → Sound pools charges made → home_of key pools ≡ Some i → there ≡ get_or pools i there
     → OnOk r (new ≡ record { size = there.size; items = used key (unexpired now (item_at key there.items)) there.items }) → OnErr r (new ≡ there) → Sound (slice_set pools i new) charges made
 used-or-not key now pools charges made i there new (Ok x) s e read items same =
@@ -170,21 +156,12 @@ used-or-not key now pools charges made i there new (Err x) s e read items same =
     let h = at-home key pools i there new f e read same in
     rw h.set (sound-home key f pools charges made same_items s)
 
-pub err-lifted : {T E : Type 0} (r : Result T E) {P Q : Type 0} → (P → Q) → OnErr r P → OnErr r Q
-err-lifted (Ok x) f h = h
-err-lifted (Err e) f h = f h
-
-set-same : (pools : List Pool) (i : ℕ) (pool : Pool) → slice_get pools i ≡ Some pool → slice_set pools i pool ≡ pools
-set-same [] i pool at = absurd cc
-set-same (p ∷ pools) zero pool at = let same : p ≡ pool = cc in ap (λ q. q ∷ pools) (sym same)
-set-same (p ∷ pools) (suc i) pool at = ap (λ ps. p ∷ ps) (set-same pools i pool at)
-
 -- a pool in its own place
 pub unchanged : (pools : List Pool) (i : ℕ) (there new : Pool) (key : List ℕ) → home_of key pools ≡ Some i → there ≡ get_or pools i there → new ≡ there → slice_set pools i new ≡ pools
 unchanged pools i there new key e read is =
     let h = home key pools i e in
     let same : there ≡ h.pool = same-there pools i there h.pool h.found read in
-    ap (λ p. slice_set pools i p) (is ∙ same) ∙ set-same pools i h.pool h.found
+    ap (λ p. slice_set pools i p) (is ∙ same) ∙ ap (slice_set pools i) (sym (get_or_from_slice_get pools i h.pool h.pool h.found)) ∙ set-get_or pools i h.pool
 
 -- ---- what goes, and what stays
 
@@ -250,4 +227,4 @@ there-of (pool ∷ pools) zero lt = (pool, refl)
 there-of (pool ∷ pools) (suc i) lt = there-of pools i (omega (arith, lt))
 
 pub size-bound : (size : PoolSize) → pool_fits size ≡ true → size.bytes ≤ 4294967296
-size-bound size fits = (within_of 64 4294967296 size.bytes (both (is_within 64 4294967296 size.bytes) (is_within 1 1048576 size.items) fits).0).1
+size-bound size fits = (within_of 64 4294967296 size.bytes (and_parts (is_within 64 4294967296 size.bytes) (is_within 1 1048576 size.items) fits).0).1

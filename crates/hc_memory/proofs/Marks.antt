@@ -1,17 +1,11 @@
 -- The keys of the items that are marked.
-use Rattle.std.proofs.Common.{◌≡◌, ◌++◌, Bool, true, false, List, [], ◌∷◌, Option, All, map, refl, ◌∙◌, ap, arith, suc, append_assoc}
+use Rattle.std.proofs.Common.{◌≡◌, ◌++◌, Bool, true, false, List, [], ◌∷◌, Option, map, refl, ◌∙◌, ap, append_assoc}
 use Rattle.std.specs.Prelude.{filter}
 use mathlib.Core.Bool.{cond}
 use Rattle.hc_types.specs.Loss.{Scope}
 use Rattle.hc_types.specs.declared.config.FlashConfig.{FlashConfig}
 use Rattle.hc_memory.specs.Item.{Item}
 use Rattle.hc_memory.specs.Pool.{is_marked, marked_keys, Grows}
-
-pub All-head : {X : Type 0} (P : X → Type 0) (x : X) (xs : List X) → All P (x ∷ xs) → P x
-All-head P x xs all = all 0 x (omega arith)
-
-pub All-rest : {X : Type 0} (P : X → Type 0) (x : X) (xs : List X) → All P (x ∷ xs) → All P xs
-All-rest P x xs all = λ k d within. all (suc k) d (omega arith)
 
 cons_step : (items : List Item) (x : Item) (b : Bool) → map (λ (i : Item). i.key) (cond b (x ∷ items) items) ≡ map (λ (i : Item). i.key) (cond b (x ∷ []) []) ++ map (λ (i : Item). i.key) items
 cons_step items x true = refl

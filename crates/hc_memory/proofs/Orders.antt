@@ -15,8 +15,9 @@ use Rattle.hc_types.specs.Tally.{count}
 use Rattle.hc_memory.specs.Item.{Item, cost}
 use Rattle.hc_memory.specs.Pool.{bytes_of, is_at, item_at, without, used, unmarked_where}
 use Rattle.hc_memory.specs.Seen.{item_of, items_of}
+use Rattle.hc_types.proofs.Tallies.{tally-push}
 use Rattle.hc_memory.specs.declared.item.Held.{Held}
-use Rattle.hc_memory.proofs.Keyed.{tally-push, same_bytes, count-none, item_at-push, item_at-pushed, without-push, without-pushed, without-none, tally-without, unmarked-push, unmarked-none}
+use Rattle.hc_memory.proofs.Keyed.{same_bytes, count-none, item_at-push, item_at-pushed, without-push, without-pushed, without-none, tally-without, unmarked-push, unmarked-none}
 
 -- no key has two items
 abbrev pub AreUnique : List Item → Type 0
@@ -175,8 +176,3 @@ module _ {A : Type 0} where
   last-first es e last =
       let first : reverse es ≡ e ∷ reverse (take (length es - 1) es) = subst (λ o. TakesFirst (λ (x : List ℕ × Held A). x) (reverse es) o (reverse (take (length es - 1) es))) last (pops_last es) in
       ap items_of (last_step es e first) ∙ items_of-push (take (length es - 1) es) e
-
-  pub last-none : (es : List (List ℕ × Held A)) → last_entry es ≡ None → items_of es ≡ []
-  last-none [] last = refl
-  last-none (e ∷ es) last = let first = subst (λ o. TakesFirst (λ (x : List ℕ × Held A). x) (reverse (e ∷ es)) o (reverse (take (length (e ∷ es) - 1) (e ∷ es)))) last (pops_last (e ∷ es)) in
-      absurd (grind (arith, common_steps, ap length first.0))

@@ -1,5 +1,5 @@
 -- What each change of the pools keeps.
-use Rattle.std.proofs.Common.{◌≡◌, ◌⊎◌, inl, inr, ⊎_elim, ℕ, zero, suc, ◌+◌, ◌<◌, ◌≤◌, ◌==◌, ◌++◌, nat_lt, not, ◌||◌, Bool, true, false, List, [], ◌∷◌, Some, refl, ap, sym, arith, subst, length, slice_get, slice_set}
+use Rattle.std.proofs.Common.{◌≡◌, ◌⊎◌, inl, inr, ⊎_elim, ℕ, zero, suc, ◌+◌, ◌<◌, ◌≤◌, ◌==◌, ◌++◌, nat_lt, not, ◌||◌, Bool, true, false, List, [], ◌∷◌, Some, refl, ap, sym, arith, subst, length, length-set, slice_get, slice_set}
 use Rattle.std.proofs.lemmas.Bool.{eqb-true}
 use Rattle.std.proofs.lemmas.Option.{slice_get_within}
 use mathlib.Core.Bool.{cond}
@@ -12,11 +12,6 @@ use Rattle.hc_memory.specs.Charges.{has_number, usage_of}
 use Rattle.hc_memory.specs.Sound.{IsWithin, Sound}
 
 -- ---- one pool in the place of another
-
-pub length-set : {X : Type 0} (xs : List X) (i : ℕ) (y : X) → length (slice_set xs i y) ≡ length xs
-length-set [] i y = refl
-length-set (x ∷ xs) zero y = refl
-length-set (x ∷ xs) (suc i) y = omega (arith, length-set xs i y)
 
 pub set-cases : {X : Type 0} (xs : List X) (i j : ℕ) (y z : X) → slice_get (slice_set xs i y) j ≡ Some z → ((j ≡ i) × (z ≡ y)) ⊎ (slice_get xs j ≡ Some z)
 set-cases [] i j y z h = inr h

@@ -7,20 +7,19 @@ use Rattle.std.proofs.lemmas.Slice.Eq.{bytes_eq-Decides}
 use Rattle.std.proofs.lemmas.List.{length-map, map_push}
 use Rattle.std.proofs.lemmas.Option.{slice_get-map, slice_get-get_or}
 use mathlib.Core.Bool.{cond}
-use Rattle.hc_types.specs.Limits.{pool_fits, is_within}
 use Rattle.hc_types.specs.Loss.{Scope, covers}
-use Rattle.hc_types.specs.Tally.{tally, count}
+use Rattle.hc_types.specs.Tally.{count}
 use Rattle.hc_types.proofs.Tallies.{tally-get}
 use Rattle.hc_types.specs.declared.config.FlashConfig.{FlashConfig}
-use Rattle.hc_types.specs.declared.config.PoolSize.{PoolSize}
 use Rattle.hc_memory.specs.Item.{Item, Open, cost}
 use Rattle.hc_memory.specs.Pool.{Pool, is_at, bytes_of, unmarked_where, is_marked, marked_keys}
 use Rattle.hc_memory.specs.Charges.{usage_of}
 use Rattle.hc_memory.specs.Memory.{change_at, all_unmarked}
 use Rattle.hc_memory.specs.Unmarks.{unmarked_at, lists_unmarked}
 use Rattle.hc_memory.specs.Sound.{IsWithin, Sound, FlashFits, items_at}
-use Rattle.hc_memory.proofs.Keyed.{same_bytes}
+use Rattle.hc_memory.proofs.Keyed.{same_bytes, count-none, unmarked-none, tally-unmarked}
 use Rattle.hc_memory.proofs.Looking.{drop_here, read-there}
+use Rattle.hc_memory.proofs.Making.{size-bound}
 use Rattle.hc_memory.proofs.Sounds.{Shrinks, within-less}
 
 -- ---- one item
@@ -37,10 +36,6 @@ taken (key ∷ keys) item = taken keys (cond (is_at key item) (bare item) item)
 taken-cons : (keys : List (List ℕ)) (x : Item) (items : List Item) → unmarked_at keys (x ∷ items) ≡ taken keys x ∷ unmarked_at keys items
 taken-cons [] x items = refl
 taken-cons (key ∷ keys) x items = taken-cons keys (cond (is_at key x) (bare x) x) (unmarked_where (is_at key) items)
-
-unmarked_nil : (keys : List (List ℕ)) → unmarked_at keys [] ≡ []
-unmarked_nil [] = refl
-unmarked_nil (key ∷ keys) = unmarked_nil keys
 
 bare_same : (x : Item) (b : Bool) → x.clean ≡ false → cond b (bare x) x ≡ x
 bare_same x true e = λ i. record { number = x.number; pool = x.pool; key = x.key; value = x.value; expiry = x.expiry; clean = sym e i }
@@ -78,23 +73,13 @@ apart flash scope x (y ∷ items) none =
     let two = other_step x.key y (count (is_at x.key) items) (is_at x.key y) refl none in
     apart_step flash scope x y items (is_marked flash scope y) two.0 (apart flash scope x items two.1)
 
--- items that no key is of
-away_step : (y : Item) (items : List Item) (key : List ℕ) (b : Bool) → b ≡ false → unmarked_where (is_at key) items ≡ items → cond b (bare y) y ∷ unmarked_where (is_at key) items ≡ y ∷ items
-away_step y items key b e rest = (λ i. cond (e i) (bare y) y ∷ rest i)
-
-unmarked-away : (key : List ℕ) (items : List Item) → count (is_at key) items ≡ 0 → unmarked_where (is_at key) items ≡ items
-unmarked-away key [] none = refl
-unmarked-away key (y ∷ items) none =
-    let two = other_step key y (count (is_at key) items) (is_at key y) refl none in
-    away_step y items key (is_at key y) two.0 (unmarked-away key items two.1)
-
 -- the first item
 first_step : (flash : Option FlashConfig) (scope : Scope) (x : Item) (items : List Item) (a b : Bool) → x.clean ≡ a → covers flash scope x.key (length x.value) ≡ b → count (is_at x.key) items ≡ 0
     → unmarked_at (map (λ (i : Item). i.key) (cond (a && b) (x ∷ filter (is_marked flash scope) items) (filter (is_marked flash scope) items))) (x ∷ items) ≡ cond b (bare x) x ∷ unmarked_at (marked_keys flash scope items) items
 first_step flash scope x items true true e f none =
     let keys = marked_keys flash scope items in
     ap (λ b. unmarked_at keys (cond b (bare x) x ∷ unmarked_where (is_at x.key) items)) (eq-same x.key)
-    ∙ ap (λ xs. unmarked_at keys (bare x ∷ xs)) (unmarked-away x.key items none)
+    ∙ ap (λ xs. unmarked_at keys (bare x ∷ xs)) (unmarked-none x.key items (count-none x.key items none))
     ∙ taken-cons keys (bare x) items
     ∙ ap (λ y. y ∷ unmarked_at keys items) (taken-bare keys (bare x) refl)
 first_step flash scope x items true false e f none =
@@ -140,15 +125,6 @@ all-gathered flash scope (p ∷ pools) single =
 
 -- ---- what stays
 
--- an item without its mark counts as before
-same_step : (f : Item → ℕ) (y : Item) (b : Bool) → f (bare y) ≡ f y → f (cond b (bare y) y) ≡ f y
-same_step f y true e = e
-same_step f y false e = refl
-
-tally-unmarked : (f : Item → ℕ) (test : Item → Bool) → ((y : Item) → f (bare y) ≡ f y) → (items : List Item) → tally f (unmarked_where test items) ≡ tally f items
-tally-unmarked f test same [] = refl
-tally-unmarked f test same (y ∷ items) = omega (arith, same_step f y (test y) (same y), tally-unmarked f test same items)
-
 pub shrinks-unmarked : (test : Item → Bool) (pool : Pool) → Shrinks pool (record pool { items = unmarked_where test pool.items })
 shrinks-unmarked test pool = record {
   size = refl;
@@ -187,22 +163,12 @@ sound-all f pools charges made s less = record {
 pub short : (items : List Item) → bytes_of items < 2 ^ 63 → All (λ i. length i.value < 2 ^ 63) items
 short items less k d within = let found = tally-get cost items k (get_or items k d) (slice_get-get_or items k d within) in omega (arith, less, found)
 
-fits_step : (a b : Bool) → (a && b) ≡ true → a ≡ true
-fits_step true b h = refl
-fits_step false b h = absurd cc
-
-most_step : (least most n : ℕ) → is_within least most n ≡ true → n ≤ most
-most_step least most n h = grind (arith, h)
-
-limit : (size : PoolSize) → pool_fits size ≡ true → size.bytes ≤ 4294967296
-limit size fits = most_step 64 4294967296 size.bytes (fits_step (is_within 64 4294967296 size.bytes) (is_within 1 1048576 size.items) fits)
-
 -- what a pool's items are charged is below this
 pub bounded : (pools : List Pool) (charges : List Open) (made : ℕ) → Sound pools charges made → All (λ (pool : Pool). bytes_of pool.items < 2 ^ 63) pools
 bounded pools charges made s k d within =
     let w = s.within k (get_or pools k d) (slice_get-get_or pools k d within) in
     let bytes = w.bytes in
-    let most = limit (get_or pools k d).size w.size in
+    let most = size-bound (get_or pools k d).size w.size in
     omega (arith, bytes, most)
 
 -- ---- the walks over the pools

@@ -4,7 +4,7 @@ ghost use Rattle.hc_memory.specs.Item.{item_by};
 ghost use Rattle.hc_memory.specs.Seen.{item_of};
 ghost use Rattle.hc_memory.specs.Writes.{written, EachByte};
 
-use crate::item::{Held, Item};
+use crate::item::Held;
 use bytes::Bytes;
 use hc_types::{Key, Refusal};
 use std::alloc::{AllocError, Allocator, Global};
@@ -141,13 +141,6 @@ impl<A: Allocator> Blank<A> {
         &self.key
     }
 
-    /// The second at which it expires (0: never).
-    pub(crate) fn expiry(&self) -> u64
-        ensures { result ≡ self.now.expiry }
-    {
-        self.expiry
-    }
-
     /// Gives the handle up, with what was written. Answers the number of its charge.
     pub(crate) fn discard(self) -> u64
         ensures { result ≡ self.number }
@@ -224,34 +217,6 @@ impl<A: Allocator> Sealed<A> {
         ensures { result.now ≡ self.now.key }
     {
         &self.key
-    }
-
-    /// The second at which it expires (0: never).
-    pub(crate) fn expiry(&self) -> u64
-        ensures { result ≡ self.now.expiry }
-    {
-        self.expiry
-    }
-
-    /// The item that was written. `clean` says whether a copy of it stands on flash.
-    pub(crate) fn into_item(self, clean: bool) -> Item<A>
-        ensures { result ≡ item_by clean self }
-    {
-        let Sealed {
-            value,
-            number,
-            pool,
-            key,
-            expiry,
-        } = self;
-        Item {
-            number,
-            pool,
-            key,
-            value,
-            expiry,
-            clean,
-        }
     }
 
     /// The key, and the rest of the item that was written. `clean` says whether a copy of it stands on flash.

@@ -85,7 +85,7 @@ fn sealed(blank: Blank, value: &[u8], gone: usize) -> Result<(Sealed, usize), Al
         }
         Ok(sealed) => {
             if fits.is_err() {
-                let _item = sealed.into_item(false);
+                let _number = sealed.discard();
                 return Err(AllocError);
             }
             Ok((sealed, gone))
@@ -114,7 +114,7 @@ fn link(pools: &mut Pools, sealed: Sealed) -> Option<Refusal> {
     match pools.link(sealed, true) {
         Ok(_) => None,
         Err(Unlinked { refusal, sealed }) => {
-            let _item = sealed.into_item(false);
+            let _number = sealed.discard();
             Some(refusal)
         }
     }
@@ -243,7 +243,7 @@ fn blanks_of_another_cache_are_told(rt: HostRuntime) -> Result<(), Fail> {
         let mut pools = pools_of(alloc, 2, 1000, 10)?;
         let (own, _) = written(&mut pools, alloc, 0, b"a", b"one", 0)?;
         let foreign = blank_is_foreign(&mut pools, alloc, pool, text, size);
-        let taken = pools.discard(own).map_err(|own| own.into_item(false));
+        let taken = pools.discard(own).map_err(|own| own.discard());
         assert!(rt; taken.is_ok());
         assert!(rt; foreign?);
     }

@@ -1,10 +1,10 @@
 use Rattle.std.proofs.Common.{◌≡◌, ◌++◌, ◌∷◌, [], Option, IfOk, sym, ◌∙◌, ap, subst, slice_set}
 use Rattle.std.specs.Prelude.{option_map}
+use Rattle.std.proofs.lemmas.Result.{on_ok_weaker}
 use Rattle.hc_memory.specs.Item.{Item}
 use Rattle.hc_memory.specs.Pool.{Pool, without}
 use Rattle.hc_memory.specs.Seen.{item_of}
 use Rattle.hc_memory.specs.Memory.{home_of, change_at, unlinked}
-use Rattle.hc_memory.proofs.Making.{found-lifted}
 use Rattle.hc_memory.proofs.Handing.{replaced, replaced-old, added, added-old}
 use Rattle.hc_memory.proofs.links.link_over.Goals as goal
 
@@ -20,7 +20,7 @@ returns-then-at-own-clause-pools g c =
     let e = sym (c.in-Some.ensures ∙ ap (home_of c.args.key) c.as_slice.ensures.value) in
     let after : c.link.new.self ≡ record { size = c.index_mut.result.now.size; items = without c.args.key c.index_mut.result.now.items ++ item ∷ [] } → slice_set c.args.pools.now.items c.args.own c.link.new.self ≡ change_at c.args.own (λ (p : Pool). record p { items = p.items ++ item ∷ [] }) (unlinked c.args.key c.args.pools.now.items) =
     λ is. replaced c.args.key c.args.pools.now.items c.args.own c.in-Some.at c.index_mut.result.now c.link.new.self item e c.if-at-own.true c.requires.place c.index_mut.ensures.value is in
-    found-lifted c.link.result after c.link.ensures.items
+    on_ok_weaker c.link.result after c.link.ensures.items
 
 pub returns-in-None-clause-old : goal.returns-in-None-clause-old
 returns-in-None-clause-old g c =
@@ -34,4 +34,4 @@ returns-in-None-clause-pools g c =
     let e = sym (c.in-None.ensures ∙ ap (home_of c.args.key) c.as_slice.ensures.value) in
     let after : c.link-in-None.new.self ≡ record { size = c.index_mut-in-None.result.now.size; items = without c.args.key c.index_mut-in-None.result.now.items ++ item ∷ [] } → slice_set c.args.pools.now.items c.args.own c.link-in-None.new.self ≡ change_at c.args.own (λ (p : Pool). record p { items = p.items ++ item ∷ [] }) (unlinked c.args.key c.args.pools.now.items) =
     λ is. added c.args.key c.args.pools.now.items c.args.own c.index_mut-in-None.result.now c.link-in-None.new.self item e c.requires.place c.index_mut-in-None.ensures.value is in
-    found-lifted c.link-in-None.result after c.link-in-None.ensures.items
+    on_ok_weaker c.link-in-None.result after c.link-in-None.ensures.items

@@ -1,6 +1,5 @@
-use Rattle.std.proofs.Common.{◌<◌, ◌∙◌, List, ℕ, ap, arith, length}
+use Rattle.std.proofs.Common.{◌<◌, ◌∙◌, List, ℕ, ap, arith, length, length-set}
 use Rattle.hc_memory.specs.Unmarks.{unmarked_at}
-use Rattle.hc_memory.proofs.Sounds.{length-set}
 use Rattle.hc_memory.proofs.Unmarking.{next-list}
 use Rattle.hc_memory.proofs.unmark.unmark_lists.Goals as goal
 

@@ -1,9 +1,9 @@
 use Rattle.std.proofs.Common.{sym, ◌∙◌, ap, arith, refl, subst, IsOk}
 use Rattle.std.specs.Option.{option_map}
+use Rattle.hc_types.proofs.Tallies.{tally-push}
 use Rattle.hc_memory.specs.declared.item.Held.{Held}
 use Rattle.hc_memory.specs.Item.{cost}
 use Rattle.hc_memory.specs.Pool.{bytes_of, without}
-use Rattle.hc_memory.proofs.Keyed.{tally-push}
 use Rattle.hc_memory.specs.Seen.{item_of, items_of}
 use Rattle.hc_memory.proofs.Orders.{unique, seen-held, bytes-without, items_of-put, is_some-held}
 use Rattle.hc_memory.proofs.pool.Pool.link.Goals as goal

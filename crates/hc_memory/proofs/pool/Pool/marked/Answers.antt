@@ -1,9 +1,10 @@
 use Rattle.std.proofs.Common.{◌≡◌, ◌<◌, ◌^◌, ◌∷◌, ◌++◌, [], All, length, sym, ◌∙◌, ap, subst, append_assoc}
+use Rattle.std.proofs.lemmas.List.Elements.{All-head, All-tail}
 use Rattle.hc_types.specs.Loss.{scope_of}
 use Rattle.hc_memory.specs.Item.{Item}
 use Rattle.hc_memory.specs.Pool.{marked_keys}
 use Rattle.hc_memory.specs.Seen.{item_of, items_of}
-use Rattle.hc_memory.proofs.Marks.{All-head, All-rest, marked-cons, Grows-more}
+use Rattle.hc_memory.proofs.Marks.{marked-cons, Grows-more}
 use Rattle.hc_memory.proofs.Orders.{items_of-push}
 use Rattle.hc_memory.proofs.pool.Pool.marked.Goals as goal
 
@@ -25,7 +26,7 @@ loop-key-preserved g c =
     record {
       can = tt;
       finite = tt;
-      short = All-rest (λ (i : Item). length i.value < 2 ^ 63) x more (subst (All (λ (i : Item). length i.value < 2 ^ 63)) rest inv.short);
+      short = All-tail (λ (i : Item). length i.value < 2 ^ 63) x more (subst (All (λ (i : Item). length i.value < 2 ^ 63)) rest inv.short);
       keys = ap (λ ks. ks ++ marked_keys flash scope more) c.in_ok-add_marked.ensures.ok ∙ append_assoc c.loop-key.keys.items this (marked_keys flash scope more) ∙ ap (λ ks. c.loop-key.keys.items ++ ks) (sym next) ∙ inv.keys;
       grown = Grows-more c.args.keys.now.items c.loop-key.keys.items this c.add_marked.new.keys.items inv.grown c.in_ok-add_marked.ensures.ok;
     }

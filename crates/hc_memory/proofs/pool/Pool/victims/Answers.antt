@@ -1,9 +1,9 @@
 use Rattle.std.proofs.Common.{◌≡◌, ◌∷◌, ◌++◌, [], sym, ◌∙◌, ap, arith, append-nil, append_assoc, length, length-append, length-drop, take, drop, slice_get}
 use Rattle.std.proofs.lemmas.List.{drop-drop}
+use Rattle.hc_types.proofs.Tallies.{tally-drop}
 use Rattle.hc_memory.specs.Item.{cost}
 use Rattle.hc_memory.specs.Pool.{Pool, bytes_of, is_full, kept, dropped}
 use Rattle.hc_memory.specs.Seen.{item_of, items_of}
-use Rattle.hc_memory.proofs.Keyed.{tally-drop-le}
 use Rattle.hc_memory.proofs.Orders.{items_of-push, length-items_of}
 use Rattle.hc_memory.proofs.Rooms.{full-is, want-fits, kept-stop, kept-go, dropped-stop, dropped-go, take-next}
 use Rattle.hc_memory.proofs.pool.Pool.victims.Goals as goal
@@ -11,7 +11,7 @@ use Rattle.hc_memory.proofs.pool.Pool.victims.Goals as goal
 pub full-requires-clause-bytes : goal.full-requires-clause-bytes
 full-requires-clause-bytes g c =
     let inv = c.loop-key.invariant in
-    let most = tally-drop-le cost c.args.self.now.items c.loop-key.gone in
+    let most = tally-drop cost c.loop-key.gone c.args.self.now.items in
     let wanted = want-fits c.args.self.now.size c.args.usage c.args.want c.requires.room in
     omega (arith, inv.bytes, ap bytes_of inv.rest, most, wanted, c.requires.bytes, c.requires.limit)
 
@@ -55,7 +55,7 @@ pub cost-bytes-requires : goal.cost-bytes-requires
 cost-bytes-requires g c =
     let inv = c.loop-key.invariant in
     let rest : items_of c.loop-key.key-iterator.iter ≡ item_of (c.in-Some.key.now, c.in-Some.held.now) ∷ items_of c.next.new.self.iter = ap items_of c.in-Some.ensures.steps ∙ items_of-push c.next.new.self.iter (c.in-Some.key.now, c.in-Some.held.now) in
-    let most = tally-drop-le cost c.args.self.now.items c.loop-key.gone in
+    let most = tally-drop cost c.loop-key.gone c.args.self.now.items in
     omega (arith, ap bytes_of (inv.rest ∙ rest), most, c.requires.bytes, c.requires.limit)
 
 pub overflow_sub-bytes : goal.overflow_sub-bytes

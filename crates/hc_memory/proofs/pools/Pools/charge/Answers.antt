@@ -1,4 +1,4 @@
-use Rattle.std.proofs.Common.{◌≡◌, ◌+◌, ◌++◌, ◌∷◌, List, ℕ, [], take, length, refl, sym, ◌∙◌, ap, arith}
+use Rattle.std.proofs.Common.{◌≡◌, ◌+◌, ◌++◌, ◌∷◌, List, ℕ, [], take, length, refl, sym, ◌∙◌, ap, arith, length-set}
 use Rattle.hc_types.specs.Charge.{charge_of}
 use Rattle.hc_types.proofs.Tallies.{find-none}
 use Rattle.hc_memory.specs.Item.{Item, Open}
@@ -6,7 +6,6 @@ use Rattle.hc_memory.specs.Pool.{dropped}
 use Rattle.hc_memory.specs.Charges.{usage_of, has_number}
 use Rattle.hc_memory.specs.Memory.{Memory}
 use Rattle.hc_memory.proofs.Rooms.{want-fits}
-use Rattle.hc_memory.proofs.Sounds.{length-set}
 use Rattle.hc_memory.proofs.Making.{there-of, there-at, known, roomy, charged-sound, take-dropped, dropped-few, size-bound}
 use Rattle.hc_memory.proofs.pools.Pools.charge.Goals as goal
 

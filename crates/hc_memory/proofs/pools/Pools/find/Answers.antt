@@ -1,11 +1,12 @@
 use Rattle.std.proofs.Common.{◌≡◌, Option, length, IfOk, refl, sym, ◌∙◌, ap, arith, subst, slice_set}
 use Rattle.std.specs.Prelude.{option_map}
+use Rattle.std.proofs.lemmas.List.{length-set}
+use Rattle.std.proofs.lemmas.Result.{on_ok_weaker, on_err_weaker}
 use Rattle.hc_memory.specs.Item.{Item}
 use Rattle.hc_memory.specs.Pool.{Pool, item_at, used, unexpired}
 use Rattle.hc_memory.specs.Memory.{home_of, after_find}
 use Rattle.hc_memory.proofs.Homes.{away}
-use Rattle.hc_memory.proofs.Sounds.{length-set}
-use Rattle.hc_memory.proofs.Making.{at-home, home-within, used-or-not, found-lifted, err-lifted, unchanged}
+use Rattle.hc_memory.proofs.Making.{at-home, home-within, used-or-not, unchanged}
 use Rattle.hc_memory.proofs.pools.Pools.find.Goals as goal
 
 pub index_mut-requires : goal.index_mut-requires
@@ -37,7 +38,7 @@ returns-in-Some-clause-pools g c =
     let after : c.find.new.self ≡ record { size = c.index_mut.result.now.size; items = used c.args.key.now (unexpired c.args.now (item_at c.args.key.now c.index_mut.result.now.items)) c.index_mut.result.now.items } → record { flash = c.self.inside.flash; pools = slice_set c.self.inside.pools.items c.in-Some.at c.find.new.self; charges = c.self.inside.charges.charges; made = c.self.inside.made } ≡ after_find (record { flash = c.self.inside.flash; pools = c.self.inside.pools.items; charges = c.self.inside.charges.charges; made = c.self.inside.made }) c.args.now c.args.key.now =
     λ is. let h = at-home c.args.key.now c.self.inside.pools.items c.in-Some.at c.index_mut.result.now c.find.new.self use' e c.index_mut.ensures.value is in
     λ i. record { flash = c.self.inside.flash; pools = h.set i; charges = c.self.inside.charges.charges; made = c.self.inside.made } in
-    rw (← c.self.view_is) (rw c.handed_out.ensures (found-lifted c.find.result after c.find.ensures.items))
+    rw (← c.self.view_is) (rw c.handed_out.ensures (on_ok_weaker c.find.result after c.find.ensures.items))
 
 pub returns-in-Some-clause-err : goal.returns-in-Some-clause-err
 returns-in-Some-clause-err g c =
@@ -45,7 +46,7 @@ returns-in-Some-clause-err g c =
     let after : c.find.new.self ≡ c.index_mut.result.now → record { flash = c.self.inside.flash; pools = slice_set c.self.inside.pools.items c.in-Some.at c.find.new.self; charges = c.self.inside.charges.charges; made = c.self.inside.made } ≡ record { flash = c.self.inside.flash; pools = c.self.inside.pools.items; charges = c.self.inside.charges.charges; made = c.self.inside.made } =
     λ is. let same = unchanged c.self.inside.pools.items c.in-Some.at c.index_mut.result.now c.find.new.self c.args.key.now e c.index_mut.ensures.value is in
     λ i. record { flash = c.self.inside.flash; pools = same i; charges = c.self.inside.charges.charges; made = c.self.inside.made } in
-    rw (← c.self.view_is) (rw c.handed_out.ensures (err-lifted c.find.result after c.find.ensures.err))
+    rw (← c.self.view_is) (rw c.handed_out.ensures (on_err_weaker c.find.result after c.find.ensures.err))
 
 pub returns-in-None-clause-value : goal.returns-in-None-clause-value
 returns-in-None-clause-value g c =

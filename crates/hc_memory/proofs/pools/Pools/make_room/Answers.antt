@@ -1,10 +1,9 @@
-use Rattle.std.proofs.Common.{◌≡◌, ◌++◌, List, [], drop, take, inl, inr, refl, sym, ◌∙◌, ap, get_or, slice_set}
+use Rattle.std.proofs.Common.{◌≡◌, ◌++◌, List, [], drop, take, inl, inr, refl, sym, ◌∙◌, ap, get_or, slice_set, length-set}
 use Rattle.hc_memory.specs.declared.usage.Usage.{Usage}
 use Rattle.hc_memory.specs.Item.{Item}
 use Rattle.hc_memory.specs.Pool.{Pool, is_full, dropped, kept}
 use Rattle.hc_memory.specs.Charges.{usage_of}
 use Rattle.hc_memory.specs.Memory.{Memory, victims_of, is_hopeless}
-use Rattle.hc_memory.proofs.Sounds.{length-set}
 use Rattle.hc_memory.proofs.Making.{there-at, within-there, known, evicted-sound, same-there}
 use Rattle.hc_memory.proofs.pools.Pools.make_room.Goals as goal
 

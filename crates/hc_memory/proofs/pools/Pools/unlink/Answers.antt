@@ -1,10 +1,9 @@
-use Rattle.std.proofs.Common.{length, sym, ◌∙◌, ap, arith}
+use Rattle.std.proofs.Common.{length, sym, ◌∙◌, ap, arith, length-set}
 use Rattle.std.specs.Prelude.{option_map}
 use Rattle.hc_memory.specs.Item.{Item}
 use Rattle.hc_memory.specs.Pool.{Pool, without}
 use Rattle.hc_memory.specs.Memory.{home_of}
 use Rattle.hc_memory.proofs.Homes.{away}
-use Rattle.hc_memory.proofs.Sounds.{length-set}
 use Rattle.hc_memory.proofs.Linking.{sound-home, shrinks-without}
 use Rattle.hc_memory.proofs.Making.{at-home, home-within}
 use Rattle.hc_memory.proofs.pools.Pools.unlink.Goals as goal
