@@ -6,7 +6,7 @@ abbrev pub told_more : {T : Type 0} → Option (List T) → List T → Option (L
 told_more None part = None
 told_more (Some log) part = Some (log ++ part)
 
--- a note that is made only where the log is kept
-abbrev pub where_kept : {T : Type 0} → Option (List T) → T → Option T
-where_kept None note = None
-where_kept (Some log) note = Some note
+-- a thing that is made only where the log is kept, as a note
+abbrev pub where_kept : {T X : Type 0} → Option (List T) → X → Option X
+where_kept None thing = None
+where_kept (Some log) thing = Some thing

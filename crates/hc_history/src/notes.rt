@@ -17,10 +17,11 @@ pub trait Notes<T>: Drop {
     fn keeps(&self) -> bool
         ensures { result ≡ is_some (told self.now) };
 
-    /// Makes room for `n` notes. It fails only where notes are kept.
+    /// Makes room for `n` notes, and takes none away. It fails only where notes are kept.
     fn reserve(&mut self, n: usize) -> Result<(), AllocError>
         ensures same { told self.new ≡ told self.old }
         ensures room { OnOk result (n ≤ room self.new) }
+        ensures more { room self.old ≤ room self.new }
         ensures fails { OnErr result (IsSome (told self.old)) };
 
     /// Tells a note, for which there is room.

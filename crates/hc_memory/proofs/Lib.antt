@@ -12,3 +12,4 @@ pub mod Linking
 pub mod Making
 pub mod Handing
 pub mod Unmarking
+pub mod Few

@@ -155,6 +155,7 @@ sound-linked pools charges rest made c pool item s at is costs sum none =
           (set-cases pools c.pool j next there found);
       single = λ key. single_step pools c.pool pool item key (is_at key item) refl at (s.single key) (λ e. none key e);
       fresh = λ number later. omega (arith, s.fresh number later, less (λ (charge : Open). cond (has_number number charge) 1 0));
+      unique = λ number. omega (arith, s.unique number, less (λ (charge : Open). cond (has_number number charge) 1 0));
       placed = rw (length-set pools c.pool next) (omega (arith, s.placed, less (λ (charge : Open). cond (not (nat_lt charge.pool (length pools))) 1 0)));
     }
 

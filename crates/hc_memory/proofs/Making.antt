@@ -46,6 +46,7 @@ sound_of sizes few fit = record {
   own = λ i pool at. let m = made_of sizes i pool fit at in rw m.1 refl;
   single = λ key. omega (arith, none_at_all key sizes);
   fresh = λ number later. refl;
+  unique = λ number. omega arith;
   placed = refl;
 }
 

@@ -49,6 +49,7 @@ sound-shrinks pools charges made i old new s at less = record {
       (set-cases pools i j new pool found);
   single = λ key. omega (arith, s.single key, less.keys key, tally-set (λ (pool : Pool). count (is_at key) pool.items) pools i old new at);
   fresh = s.fresh;
+  unique = s.unique;
   placed = rw (length-set pools i new) s.placed;
 }
 
@@ -65,6 +66,7 @@ sound-fewer pools charges rest made s less = record {
   own = s.own;
   single = s.single;
   fresh = λ number later. omega (arith, s.fresh number later, less (λ (charge : Open). cond (has_number number charge) 1 0));
+  unique = λ number. omega (arith, s.unique number, less (λ (charge : Open). cond (has_number number charge) 1 0));
   placed = omega (arith, s.placed, less (λ (charge : Open). cond (not (nat_lt charge.pool (length pools))) 1 0));
 }
 
@@ -105,6 +107,10 @@ fresh_step : (charges : List Open) (c : Open) (number : ℕ) (b : Bool) → has_
 fresh_step charges c number true e never z = absurd (never refl)
 fresh_step charges c number false e never z = let sum = tally-push (λ (charge : Open). cond (has_number number charge) 1 0) charges c in omega (arith, rw e at sum, z)
 
+unique_step : (charges : List Open) (c : Open) (n : ℕ) (b : Bool) → has_number n c ≡ b → (b ≡ true → count (has_number n) charges ≡ 0) → count (has_number n) charges ≤ 1 → count (has_number n) (charges ++ c ∷ []) ≤ 1
+unique_step charges c n true e none one = omega (arith, tally-push (λ (charge : Open). cond (has_number n charge) 1 0) charges c, ap {B = ℕ} (λ b. cond b 1 0) e, none refl)
+unique_step charges c n false e none one = omega (arith, tally-push (λ (charge : Open). cond (has_number n charge) 1 0) charges c, ap {B = ℕ} (λ b. cond b 1 0) e)
+
 placed_step : (charges : List Open) (c : Open) (n : ℕ) (b : Bool) → nat_lt c.pool n ≡ b → c.pool < n → count (λ (charge : Open). not (nat_lt charge.pool n)) charges ≡ 0 → count (λ (charge : Open). not (nat_lt charge.pool n)) (charges ++ c ∷ []) ≡ 0
 placed_step charges c n true e lt z = let sum = tally-push (λ (charge : Open). cond (not (nat_lt charge.pool n)) 1 0) charges c in omega (arith, rw e at sum, z)
 placed_step charges c n false e lt z = absurd (grind (arith, e, lt))
@@ -120,5 +126,6 @@ sound-charged pools charges made c pool s at number room = record {
   own = s.own;
   single = s.single;
   fresh = λ n later. fresh_step charges c n (has_number n c) refl (λ e. let same = eqb-true n c.number e in omega (arith, same, number, later)) (s.fresh n (omega (arith, later)));
+  unique = λ n. unique_step charges c n (has_number n c) refl (λ e. let same = eqb-true n c.number e in omega (arith, s.fresh n (omega (arith, same, number)))) (s.unique n);
   placed = placed_step charges c (length pools) (nat_lt c.pool (length pools)) refl (slice_get_within pools c.pool pool at) s.placed;
 }

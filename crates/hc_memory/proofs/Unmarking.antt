@@ -154,6 +154,7 @@ sound-all f pools charges made s less = record {
   own = λ i pool found. let b = before f pools i pool found in subst (λ (p : Pool). count (λ (item : Item). not (item.pool == i)) p.items ≡ 0) (sym b.2) (omega (arith, (less b.0).strays i, s.own i b.0 b.1));
   single = λ key. omega (arith, s.single key, fewer_at key f less pools);
   fresh = s.fresh;
+  unique = s.unique;
   placed = rw (length-map pools f) s.placed;
 }
 

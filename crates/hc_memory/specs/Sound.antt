@@ -26,7 +26,8 @@ pub record Sound (pools : List Pool) (charges : List Open) (made : ℕ) : Type 0
   pub own : (i : ℕ) (pool : Pool) → slice_get pools i ≡ Some pool → count (λ (item : Item). not (item.pool == i)) pool.items ≡ 0
   -- no key has two items
   pub single : (key : List ℕ) → items_at key pools ≤ 1
-  -- no open charge has a number that is still to come
+  -- no two open charges have one number, and none has one that is still to come
+  pub unique : (number : ℕ) → count (has_number number) charges ≤ 1
   pub fresh : (number : ℕ) → made < number → count (has_number number) charges ≡ 0
   -- each open charge is one of a pool that is there
   pub placed : count (λ (charge : Open). not (nat_lt charge.pool (length pools))) charges ≡ 0

@@ -121,7 +121,7 @@ impl<A: Allocator> Blank<A> {
     }
 
     /// The number of its charge.
-    pub(crate) fn number(&self) -> u64
+    pub fn number(&self) -> u64
         ensures { result ≡ self.now.number }
     {
         self.number
@@ -198,8 +198,15 @@ impl<A: Allocator> Sealed<A> {
         self.value.len()
     }
 
+    /// Another owner of the bytes, of which none is copied.
+    pub fn to_bytes(&self) -> Result<Bytes<A>, AllocError>
+        ensures { IfOk result (λ bytes. bytes ≡ self.now.value) }
+    {
+        self.value.clone()
+    }
+
     /// The number of its charge.
-    pub(crate) fn number(&self) -> u64
+    pub fn number(&self) -> u64
         ensures { result ≡ self.now.number }
     {
         self.number
@@ -213,10 +220,17 @@ impl<A: Allocator> Sealed<A> {
     }
 
     /// Its key.
-    pub(crate) fn key(&self) -> &Key<A>
+    pub fn key(&self) -> &Key<A>
         ensures { result.now ≡ self.now.key }
     {
         &self.key
+    }
+
+    /// The second at which it expires (0: never).
+    pub fn expiry(&self) -> u64
+        ensures { result ≡ self.now.expiry }
+    {
+        self.expiry
     }
 
     /// The key, and the rest of the item that was written. `clean` says whether a copy of it stands on flash.
@@ -303,6 +317,15 @@ impl<A: Allocator> ReadHandle<A> {
         ensures { IfOk result (λ bytes. bytes ≡ self.now) }
     {
         self.bytes.clone()
+    }
+
+    /// The bytes of the value, of which none is copied.
+    #[must_use]
+    pub fn into_bytes(self) -> Bytes<A>
+        ensures { result ≡ self }
+    {
+        let ReadHandle { bytes: shared } = self;
+        shared
     }
 }
 

@@ -1,4 +1,7 @@
 // The items of a pool.
+ghost use Rattle.std.specs.Prelude.{◌≡◌, ◌==◌, ◌&&◌, not, nat_lt};
+ghost use Rattle.hc_memory.specs.Pool.{is_expired};
+
 use bytes::Bytes;
 use hc_types::Key;
 use std::alloc::{Allocator, Global};
@@ -24,6 +27,16 @@ impl<A: Allocator> Model for Item<A> {
     ghost view = { λ i. record { number = i.number; pool = i.pool; key = i.key; value = i.value; expiry = i.expiry; clean = i.clean } };
 }
 
+impl<A: Allocator> Item<A> {
+    /// Whether the item is expired at `now` (seconds).
+    #[must_use]
+    pub fn is_expired(&self, now: u64) -> bool
+        ensures { result ≡ is_expired now self.now }
+    {
+        expired(now, self.expiry)
+    }
+}
+
 /// What is held under a key: an item without the key.
 #[derive(Drop)]
 pub struct Held<A: Allocator = Global> {
@@ -32,4 +45,11 @@ pub struct Held<A: Allocator = Global> {
     pub value: Bytes<A>,
     pub expiry: u64,
     pub clean: bool,
+}
+
+/// Whether an item of this expiry is expired, both in seconds.
+pub(crate) fn expired(now: u64, expiry: u64) -> bool
+    ensures { result ≡ (not (expiry == 0) && not (nat_lt now expiry)) }
+{
+    expiry != 0 && expiry <= now
 }

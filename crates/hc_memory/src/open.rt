@@ -55,6 +55,13 @@ impl<A: Allocator + Copy> OpenCharges<A> {
 }
 
 impl<A: Allocator> OpenCharges<A> {
+    /// How many charges are open.
+    pub fn len(&self) -> usize
+        ensures { result ≡ length self.now.charges }
+    {
+        self.charges.len()
+    }
+
     /// What the open charges of a pool come to.
     pub fn usage(&self, pool: u8) -> Usage
         requires { pool < self.now.pools }

@@ -8,7 +8,7 @@ ghost use Rattle.hc_memory.specs.Item.{cost as item_cost};
 ghost use Rattle.hc_memory.specs.Pool.{bytes_of, is_at, item_at, without, used, unexpired, unmarked_where, marked_keys, Grows, is_full, kept, dropped};
 ghost use Rattle.hc_memory.specs.Seen.{item_of, glance_of};
 
-use crate::item::{Held, Item};
+use crate::item::{Held, Item, expired};
 use crate::usage::Usage;
 use bytes::Bytes;
 use hc_types::{FlashConfig, Key, PoolSize, Scope};
@@ -21,6 +21,16 @@ use std::marker::Model;
 pub struct Glance {
     pub number: u64,
     pub expiry: u64,
+}
+
+impl Glance {
+    /// Whether the item is expired at `now` (seconds).
+    #[must_use]
+    pub fn is_expired(self, now: u64) -> bool
+        ensures { result ≡ (not (self.expiry == 0) && not (nat_lt now self.expiry)) }
+    {
+        expired(now, self.expiry)
+    }
 }
 
 /// One pool. Contracts see its size, and its items, the one that was used longest ago first. No key has two.
@@ -184,7 +194,7 @@ impl<A: Allocator> Pool<A> {
     }
 
     /// Another owner of the value under the key, where its item isn't expired at `now`, in seconds.
-    fn fresh(&self, key: &Key<A>, now: u64) -> Result<Option<Bytes<A>>, AllocError>
+    pub fn fresh(&self, key: &Key<A>, now: u64) -> Result<Option<Bytes<A>>, AllocError>
         ensures value { IfOk result (λ found. found ≡ option_map (λ i. i.value) (unexpired now (item_at key.now self.now.items))) }
     {
         let _len = self.cache.len();
@@ -337,13 +347,6 @@ fn full(size: PoolSize, usage: Usage, want: u64, bytes: u64, items: usize) -> bo
     ensures { result ≡ (nat_lt size.bytes (usage.bytes + bytes + want) || (usage.number + items == size.items)) }
 {
     usage.bytes + bytes + want > size.bytes || usage.number + items as u64 == size.items
-}
-
-/// Whether an item of this expiry is expired, both in seconds.
-fn expired(now: u64, expiry: u64) -> bool
-    ensures { result ≡ (not (expiry == 0) && not (nat_lt now expiry)) }
-{
-    expiry != 0 && expiry <= now
 }
 
 #[cfg(test)]

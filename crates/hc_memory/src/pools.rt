@@ -46,7 +46,8 @@ impl<A: Allocator> Model for Pools<A> {
 }
 
 impl<A: Allocator> Pools<A> {
-    /// How many pools there are: 1 to 16. Each is within its limits, and no key has two items.
+    /// How many pools there are: 1 to 16. Each is within its limits, no key has two items, and no two open charges have
+    /// one number.
     #[must_use]
     #[allow(clippy::len_without_is_empty)]
     pub fn len(&self) -> usize
@@ -66,6 +67,16 @@ impl<A: Allocator> Pools<A> {
         self.charges.usage(number)
     }
 
+    /// How many charges are open: as many items are being written, or wait to be linked. At most as many as items fit
+    /// into 16 pools.
+    #[must_use]
+    pub fn open_charges(&self) -> usize
+        ensures value { result ≡ length self.now.charges }
+        ensures most { result ≤ 16777216 }
+    {
+        self.charges.len()
+    }
+
     /// The number and the expiry of the item under this key, expired or not. It isn't used.
     #[must_use]
     pub fn peek(&self, key: &Key<A>) -> Option<Glance>
@@ -74,6 +85,17 @@ impl<A: Allocator> Pools<A> {
         match home(self.pools.as_slice(), key) {
             Some(at) => self.pools[at].peek(key),
             None => None,
+        }
+    }
+
+    /// Another owner of the value under this key, where its item isn't expired at `now` (seconds). The item isn't used.
+    /// Refused only where memory lacks.
+    pub fn value(&self, key: &Key<A>, now: u64) -> Result<Option<Bytes<A>>, AllocError>
+        ensures { IfOk result (λ found. found ≡ value_at now key.now self.now.pools) }
+    {
+        match home(self.pools.as_slice(), key) {
+            Some(at) => self.pools[at].fresh(key, now),
+            None => Ok(None),
         }
     }
 
@@ -200,6 +222,7 @@ impl<A: Allocator> Pools<A> {
     pub fn victims(&self, pool: u8, want: u64) -> Result<usize, Refusal>
         requires { pool < length self.now.pools }
         ensures count { IfOk result (λ count. count ≡ length (victims_of self.now pool want)) }
+        ensures most { IfOk result (λ count. count ≤ 1048576) }
         ensures room { OnOk result (is_hopeless self.now pool want ≡ false) }
         ensures err { IfErr result (λ refusal. (refusal ≡ Refusal.NoRoom) × (is_hopeless self.now pool want ≡ true)) }
     {

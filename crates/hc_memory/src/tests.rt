@@ -1,5 +1,6 @@
 // What worked runs of the pools want: who goes, what stays readable, and which handles are taken.
-use crate::{Blank, Charged, Item, Pools, Sealed, Unlinked};
+use crate::{Blank, Charged, Glance, Item, Pools, Sealed, Unlinked};
+use bytes::Bytes;
 use hc_types::{Config, FlashConfig, Key, PoolSize, Refusal, Scope};
 use std::alloc::{AllocError, Global};
 use std::test::Fail;
@@ -196,6 +197,43 @@ fn expired_items_stay_and_are_not_found(rt: HostRuntime) -> Result<(), Fail> {
     assert!(rt; is_there(&mut pools, alloc, b"a", b"one", 14)?);
     assert!(rt; !is_there(&mut pools, alloc, b"a", b"one", 15)?);
     assert!(rt; matches!(pools.peek(&key(alloc, b"a")?), Some(glance) if glance.expiry == 15));
+    let fresh = pools.value(&key(alloc, b"a")?, 14)?;
+    assert!(rt; matches!(&fresh, Some(bytes) if bytes.as_slice() == b"one".as_slice()));
+    assert!(rt; pools.value(&key(alloc, b"a")?, 15)?.is_none());
+    Ok(())
+}
+
+#[test]
+fn items_expire_at_their_second(rt: HostRuntime) -> Result<(), Fail> {
+    let alloc = rt.alloc();
+    for (expiry, now, expired) in [(10, 9, false), (10, 10, true), (0, u64::MAX, false)] {
+        let item: Item = Item {
+            number: 1,
+            pool: 0,
+            key: key(alloc, b"a")?,
+            value: Bytes::new(),
+            expiry,
+            clean: false,
+        };
+        let glance = Glance { number: 1, expiry };
+        assert_eq!(rt; item.is_expired(now), expired);
+        assert_eq!(rt; glance.is_expired(now), expired);
+    }
+    Ok(())
+}
+
+#[test]
+fn a_sealed_handle_tells_its_item(rt: HostRuntime) -> Result<(), Fail> {
+    let alloc = rt.alloc();
+    let mut pools = pools_of(alloc, 1, 1000, 10)?;
+    store(&mut pools, alloc, 0, b"a", b"one", 0)?;
+    let (sealed, _) = written(&mut pools, alloc, 0, b"b", b"two", 15)?;
+    let is_as_charged = sealed.number() == 2 && sealed.expiry() == 15;
+    let has_key = sealed.key().as_slice() == b"b".as_slice();
+    let bytes = sealed.to_bytes();
+    assert_eq!(rt; link(&mut pools, sealed), None);
+    assert!(rt; is_as_charged && has_key);
+    assert_eq!(rt; bytes?.as_slice(), b"two".as_slice());
     Ok(())
 }
 
@@ -302,8 +340,10 @@ fn open_charges_are_told(rt: HostRuntime) -> Result<(), Fail> {
     let (own, _) = written(&mut pools, alloc, 0, b"b", b"two", 0)?;
     let known = pools.knows(&own);
     let open = told(&pools, 18);
+    let count = pools.open_charges();
     assert_eq!(rt; link(&mut pools, own), None);
     assert!(rt; known);
+    assert!(rt; count == 1 && pools.open_charges() == 0);
     assert_eq!(rt; open?, (1, 36, 1));
     assert_eq!(rt; told(&pools, 17)?, (0, 0, 0));
     Ok(())

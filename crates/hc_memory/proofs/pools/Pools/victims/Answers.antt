@@ -4,6 +4,7 @@ use Rattle.hc_memory.specs.declared.usage.Usage.{Usage}
 use Rattle.hc_memory.specs.Item.{Item}
 use Rattle.hc_memory.specs.Pool.{is_full, dropped}
 use Rattle.hc_memory.specs.Memory.{Memory, victims_of, is_hopeless}
+use Rattle.hc_memory.proofs.Few.{few-victims}
 use Rattle.hc_memory.proofs.Making.{there-at, within-there, known, count-lifted}
 use Rattle.hc_memory.proofs.pools.Pools.victims.Goals as goal
 
@@ -22,6 +23,13 @@ returns-clause-count g c =
     let there = c.index.result.now in
     let same : dropped c.index.result.now.size c.usage-usage.result c.args.want c.index.result.now.items ≡ victims_of view c.args.pool c.args.want = ap (λ (u : Usage). dropped c.index.result.now.size u c.args.want c.index.result.now.items) c.usage-usage.ensures ∙ sym k.victims in
     rw (← c.self.view_is) (subst (λ (vs : List Item). IfOk c.victims_of_pool.result (λ n. n ≡ length vs)) same (count-lifted c.victims_of_pool.result c.index.result.now.items (dropped c.index.result.now.size c.usage-usage.result c.args.want c.index.result.now.items) c.victims_of_pool.ensures.some c.victims_of_pool.ensures.go))
+
+pub returns-clause-most : goal.returns-clause-most
+returns-clause-most g c =
+    let lt = rw (← c.self.view_is) at c.requires in
+    let at = there-at c.self.inside.pools.items c.args.pool c.from.result c.index.result.now lt c.from.ensures c.index.ensures in
+    let within = within-there c.self.inside.pools.items c.self.inside.charges.charges c.self.inside.made c.args.pool c.index.result.now c.usage-usage.result c.self.invariant.0 at c.usage-usage.ensures in
+    few-victims c.victims_of_pool.result c.usage-usage.result c.index.result.now within c.victims_of_pool.ensures.some
 
 pub returns-clause-room : goal.returns-clause-room
 returns-clause-room g c =
