@@ -1,313 +1,202 @@
 -- The notes of each call are lawful, and leave the core's books.
-use Rattle.std.proofs.Common.{◌≡◌, ℕ, ◌+◌, ◌<◌, ◌≤◌, ◌++◌, ◌==◌, Bool, true, false, not, ◌&&◌, ◌||◌, List, [], ◌∷◌, Option, Some, None, refl, ap, sym, ◌∙◌, arith, subst, nat_lt, inl, inr}
-use Rattle.std.specs.Prelude.{filter, IsSomeAnd, IsSome}
+use Rattle.std.proofs.lemmas.Bool.{and_from, or_left}
+use Rattle.std.proofs.Common.{◌≡◌, ℕ, ◌+◌, ◌<◌, ◌≤◌, ◌++◌, ◌==◌, Bool, true, false, ◌&&◌, List, [], ◌∷◌, Option, Some, None, refl, ap, sym, ◌∙◌, arith, subst, lt-ltb}
+use Rattle.std.specs.Prelude.{IsSome, option_map}
 use mathlib.Core.Bool.{cond}
 use Rattle.std.specs.Str.{bytes_eq}
-use Rattle.std.proofs.lemmas.Bool.Decides.{eqb_tells}
-use Rattle.std.proofs.lemmas.Bool.{eqb-true, lt-ltb}
 use Rattle.hc_types.specs.Config.{Config}
-use Rattle.hc_history.specs.Note.{Note, Begin, Did, End, Charged, Linked, Freed, Insert, Find, Remove, Reply, Stored, FoundInMemory, NotInMemory}
-use Rattle.hc_types.specs.Tally.{count}
-use Rattle.hc_history.specs.Books.{Charge, Call, Answer, Entry, charges, begun, open_calls, open_call, owed, entry_at, done_by, is_linked, has_number, now_at, unexpired}
-use Rattle.hc_history.specs.Lawful.{is_charge_of, takes, freed_since, IsAnswer, Lawful, past}
-use Rattle.hc_core.specs.Item.{Item}
-use Rattle.hc_core.specs.Pool.{cost, is_at, item_at, without}
-use Rattle.hc_core.specs.Steps.{freed_note, insert_notes, find_reply, find_notes, value_of, remove_reply, remove_notes, used}
-use Rattle.hc_core.specs.Mirrors.{numbered, charge_at, entry_of, Mirrors}
-use Rattle.hc_core.proofs.Tallies.{tally-push, bytes_eq-refl, item_at-is, item_at-gone, item_at-other, item_at-none, item_at-push, item_at-pushed, same_bytes}
-use Rattle.hc_core.proofs.Limits.{without_le, used_tally}
-use Rattle.hc_core.proofs.Same.{Same, Same-freed, Same-linked, charge_found, counted, eqb-same, one_if}
+use Rattle.hc_types.specs.Tally.{tally, count}
+use Rattle.hc_types.proofs.Tallies.{tally-push}
+use Rattle.hc_memory.specs.Item.{Item, Open, Handle, charge_by, item_by}
+use Rattle.hc_memory.specs.Pool as pools
+use Rattle.hc_memory.specs.Pool.{Pool, is_at, item_at, without}
+use Rattle.hc_memory.specs.Charges.{closed, is_open}
+use Rattle.hc_memory.specs.Memory.{Memory, linked_at, value_at, change_at, unlinked, after_find, after_link, after_unlink}
+use Rattle.hc_memory.specs.Sound.{Sound}
+use Rattle.hc_memory.proofs.Books.{tally-closed, is_open-found}
+use Rattle.hc_memory.proofs.Keyed.{same_bytes, item_at-is, item_at-push, item_at-pushed, value_then}
+use Rattle.hc_memory.proofs.Keys.{none-counted}
+use Rattle.hc_memory.proofs.Linking.{sound-home, shrinks-without}
+use Rattle.hc_memory.proofs.Making.{there-of}
+use Rattle.hc_memory.proofs.Handing.{known-place}
+use Rattle.hc_history.specs.Note.{Insert, Find, Remove, Stored, Note, Begin, Did, End, Linked, Freed}
+use Rattle.hc_history.specs.Books.{Charge, Call, Entry, has_number, is_linked, charges, entry_at, now_at, unexpired}
+use Rattle.hc_history.specs.Lawful.{freed_since, IsAnswer, Lawful, past}
+use Rattle.hc_history.proofs.Appended.{Lawful-append, past-append}
+use Rattle.hc_core.specs.Mirrors.{items_of, charge_at, item_has, open_has, entry_of, Mirrors}
+use Rattle.hc_core.specs.Steps.{freed_note, insert_notes, find_reply, find_notes, remove_reply, remove_notes}
+use Rattle.hc_core.proofs.Items.{bytes_eq-sym, item_at-gone, item_at-other}
+use Rattle.hc_core.proofs.Flat.{linked-flat, unlinked-flat, pushed-flat, used-flat}
+use Rattle.hc_core.proofs.Reordered.{Mirrors-reordered}
+use Rattle.hc_core.proofs.Same.{Same, Same-linked, eqb-same, one_if}
+use Rattle.hc_core.proofs.Between.{live-open}
+use Rattle.hc_core.proofs.Answering.{called, Once, Within, once-of, begin-within, answer-lawful, answer-mirrors, first-order, once-without, frees-lawful, frees-within}
 
--- a number that is above another isn't it
-above : (a b : ℕ) → b < a → ◌≡◌ {A = Bool} (a == b) false
-above a b lt = elim (eqb_tells a b) [ inl h ↦ absurd (omega (arith, h.1)) | inr h ↦ h.0 ]
+-- ---- finds
 
-below : (a b : ℕ) → a < b → ◌≡◌ {A = Bool} (a == b) false
-below a b lt = elim (eqb_tells a b) [ inl h ↦ absurd (omega (arith, h.1)) | inr h ↦ h.0 ]
+value_step : (x : Item) (b : Bool) → cond b None (Some x.value) ≡ option_map (λ (i : Item). i.value) (cond b None (Some x))
+value_step x true = refl
+value_step x false = refl
 
--- no item has the next number
-next_fresh : (items : List Item) (charged : ℕ) (key : List ℕ) (x : Item) → ((n : ℕ) → charged < n → count (numbered n) items ≡ 0) → item_at key items ≡ Some x → x.charge ≤ charged
-next_fresh items charged key x fresh found = grind (arith, fresh x.charge, counted (numbered x.charge) key items x found (eqb-same x.charge))
+-- the map gives the value that the item has
+pub value-is : (now : ℕ) (o : Option Item) → unexpired now (entry_of o) ≡ value_then now o
+value-is now None = refl
+value-is now (Some x) = value_step x (pools.is_expired now x)
 
--- the books where a call is the only open one, and its charge the only open charge
-pub record Within (older : List Note) (opened : List Charge) (call : Call) (before after : List Item) : Type 0 where
-  pub same : Same (charges older) opened after
-  pub entries : (key : List ℕ) → entry_at older key ≡ entry_of (item_at key before)
-  pub one_call : open_calls older ≡ call ∷ []
-  pub no_reply : owed older ≡ []
-  pub calls_begun : begun older ≡ call.number
+find_step : (older : List Note) (id : ℕ) (key : List ℕ) (v : Option (List ℕ)) → unexpired (now_at older) (entry_at older key) ≡ v → IsAnswer older id (Find key) (find_reply v)
+find_step older id key None e = e
+find_step older id key (Some value) e = e
 
--- a call that is the only open one is found
-only_call : (P : Call → Type 0) (calls : List Call) (call : Call) → calls ≡ call ∷ [] → P call → IsSomeAnd (open_call call.number calls) P
-only_call P calls call e h =
-    subst (λ cs. IsSomeAnd (open_call call.number cs) P) (sym e) (subst (λ b. IsSomeAnd (cond b (Some call) None) P) (sym (eqb-same call.number)) h)
-
--- what the only open call does to the map
-only_done : (calls : List Call) (call : Call) (key : List ℕ) (was : Option Entry) → calls ≡ call ∷ [] → done_by (open_call call.number calls) key was ≡ done_by (Some call) key was
-only_done calls call key was e = ap (λ cs. done_by (open_call call.number cs) key was) e ∙ ap (λ b. done_by (cond b (Some call) None) key was) (eqb-same call.number)
-
--- once it is answered none is open
-none_open : (calls : List Call) (call : Call) → calls ≡ call ∷ [] → filter (λ (other : Call). not (other.number == call.number)) calls ≡ []
-none_open calls call e = ap (λ cs. filter (λ (other : Call). not (other.number == call.number)) cs) e ∙ ap (λ b. cond (not b) (call ∷ []) []) (eqb-same call.number)
-
--- once the reply is handed out none is owed
-none_owed : (answers : List Answer) (id : ℕ) (reply : Reply) → answers ≡ [] → filter (λ (answer : Answer). not (answer.number == id)) (record { number = id; reply = reply } ∷ answers) ≡ []
-none_owed answers id reply e =
-    ap (λ rest. filter (λ (answer : Answer). not (answer.number == id)) (record { number = id; reply = reply } ∷ rest)) e
-    ∙ ap (λ b. cond (not b) (record { number = id; reply = reply } ∷ []) []) (eqb-same id)
-
-one_more : (b : Bool) (n : ℕ) → (b ≡ true → n ≡ 0) → n ≤ 1 → n + cond b 1 0 ≤ 1
-one_more true n h one = omega (arith, h refl)
-one_more false n h one = omega arith
-
-no_more : (b : Bool) (n : ℕ) → b ≡ false → n ≡ 0 → ◌≡◌ {A = ℕ} (n + cond b 1 0) 0
-no_more true n h none = cc
-no_more false n h none = omega arith
-
--- the items after a set still have one key and one number each
-set_one_key : (items : List Item) (item : Item) → ((key : List ℕ) → count (is_at key) items ≤ 1) → (key : List ℕ) → count (is_at key) (without item.key items ++ item ∷ []) ≤ 1
-set_one_key items item one key =
-    let rest = without item.key items in
-    let bound : count (is_at key) rest ≤ 1 = omega (arith, one key, without_le (λ i. cond (is_at key i) 1 0) item.key items (item_at item.key items) refl) in
-    let gone : is_at key item ≡ true → count (is_at key) rest ≡ 0 = λ (here : is_at key item ≡ true). subst (λ k. count (is_at k) rest ≡ 0) (same_bytes item.key key here) (item_at-none item.key rest (item_at-gone item.key items (one item.key))).0 in
-    omega (arith, tally-push (λ i. cond (is_at key i) 1 0) rest item, one_more (is_at key item) (count (is_at key) rest) gone bound)
-
-set_one_number : (items : List Item) (item : Item) → ((n : ℕ) → count (numbered n) items ≤ 1) → count (numbered item.charge) items ≡ 0 → (n : ℕ) → count (numbered n) (without item.key items ++ item ∷ []) ≤ 1
-set_one_number items item one none n =
-    let rest = without item.key items in
-    let le : (k : ℕ) → count (numbered k) rest ≤ count (numbered k) items = λ k. without_le (λ i. cond (numbered k i) 1 0) item.key items (item_at item.key items) refl in
-    let gone : numbered n item ≡ true → count (numbered n) rest ≡ 0 = λ (here : numbered n item ≡ true). subst (λ k. count (numbered k) rest ≡ 0) (eqb-true item.charge n here) (omega (arith, le item.charge)) in
-    omega (arith, tally-push (λ i. cond (numbered n i) 1 0) rest item, one_more (numbered n item) (count (numbered n) rest) gone (omega (arith, one n, le n)))
-
-set_fresh : (items : List Item) (item : Item) (n : ℕ) → item.charge < n → count (numbered n) items ≡ 0 → count (numbered n) (without item.key items ++ item ∷ []) ≡ 0
-set_fresh items item n lt none =
-    let rest = without item.key items in
-    let le : count (numbered n) rest ≤ count (numbered n) items = without_le (λ i. cond (numbered n i) 1 0) item.key items (item_at item.key items) refl in
-    let other : ◌≡◌ {A = Bool} (item.charge == n) false = below item.charge n lt in
-    omega (arith, tally-push (λ i. cond (numbered n i) 1 0) rest item, no_more (numbered n item) (count (numbered n) rest) other (omega arith))
-
--- what the map has after a set
-set_entry : (items : List Item) (item : Item) (k : List ℕ) (b : Bool) (was : Option Entry) → ((key : List ℕ) → count (is_at key) items ≤ 1) → bytes_eq item.key k ≡ b → was ≡ entry_of (item_at k items)
-    → cond b (entry_of (Some item)) was ≡ entry_of (item_at k (without item.key items ++ item ∷ []))
-set_entry items item k true was one here is =
-    let gone : item_at k (without item.key items) ≡ None = subst (λ j. item_at j (without item.key items) ≡ None) (same_bytes item.key k here) (item_at-gone item.key items (one item.key)) in
-    ap entry_of (sym (item_at-pushed k (without item.key items) item here gone))
-set_entry items item k false was one other is =
-    is ∙ ap entry_of (sym (item_at-push k (without item.key items) item other ∙ item_at-other item.key k items other))
-
--- a call that inserts the item
-abbrev pub inserting : ℕ → ℕ → Item → Call
-inserting id client item = record { number = id; client = client; op = Insert item.key item.value 0 }
-
-abbrev pub open_charge : Item → Charge
-open_charge item = record (charge_at item) { linked = false }
-
-inserted_lawful : (config : Config) (older : List Note) (items after : List Item) (item : Item) (id client : ℕ) → Within older (open_charge item ∷ []) (inserting id client item) items after → Lawful config older (Linked item.charge ∷ Did id Stored ∷ End id ∷ [])
-inserted_lawful config older items after item id client w =
-    let test : Charge → Bool = λ charge. has_number item.charge charge && not charge.linked in
-    let here : test (open_charge item) ≡ true = ap (λ b. b && true) (eqb-same item.charge) in
-    let live : 0 < count test (charges older) = omega (arith, w.same (λ charge. cond (test charge) 1 0), one_if (test (open_charge item)) here) in
-    let answered : IsSomeAnd (open_call id (open_calls older)) (λ call. IsAnswer (Linked item.charge ∷ older) id call.op Stored) = only_call (λ call. IsAnswer (Linked item.charge ∷ older) id call.op Stored) (open_calls older) (inserting id client item) w.one_call tt in
-    let told : 0 < count (λ (answer : Answer). answer.number == id) (owed (Did id Stored ∷ Linked item.charge ∷ older)) = omega (arith, one_if (id == id) (eqb-same id)) in
-    (live, (answered, (told, tt)))
-
-inserted_mirrors : (older : List Note) (items : List Item) (item : Item) (id client charged : ℕ) → ((key : List ℕ) → count (is_at key) items ≤ 1) → ((n : ℕ) → count (numbered n) items ≤ 1) → ((n : ℕ) → charged < n → count (numbered n) items ≡ 0)
-    → item.charge ≡ charged + 1 → Within older (open_charge item ∷ []) (inserting id client item) items (without item.key items)
-    → Mirrors (End id ∷ Did id Stored ∷ Linked item.charge ∷ older) (without item.key items ++ item ∷ []) (charged + 1) id
-inserted_mirrors older items item id client charged one_key one_number fresh next w =
-    let new : count (numbered item.charge) items ≡ 0 = fresh item.charge (omega arith) in
-    let none : count (numbered item.charge) (without item.key items) ≡ 0 = omega (arith, without_le (λ i. cond (numbered item.charge i) 1 0) item.key items (item_at item.key items) refl) in
-    record {
-      one_key = set_one_key items item one_key;
-      one_number = set_one_number items item one_number new;
-      fresh = λ n lt. set_fresh items item n (omega arith) (fresh n (omega arith));
-      same = λ f. omega (arith, Same-linked (charges older) (without item.key items) item none w.same f);
-      entries = λ key. only_done (open_calls older) (inserting id client item) key (entry_at older key) w.one_call ∙ set_entry items item key (bytes_eq item.key key) (entry_at older key) one_key refl (w.entries key);
-      no_call = none_open (open_calls older) (inserting id client item) w.one_call;
-      no_reply = none_owed (owed older) id Stored w.no_reply;
-      calls_begun = w.calls_begun;
-    }
-
--- where the insert begins
-begun_within : (older : List Note) (items : List Item) (item : Item) (client charged calls : ℕ) → Mirrors older items charged calls
-    → Within (Begin (calls + 1) client (Insert item.key item.value 0) ∷ Charged item.charge item.key 0 (cost item) ∷ older) (open_charge item ∷ []) (inserting (calls + 1) client item) items items
-begun_within older items item client charged calls m = record {
-  same = λ f. omega (arith, m.same f);
-  entries = m.entries;
-  one_call = ap (λ rest. inserting (calls + 1) client item ∷ rest) m.no_call;
-  no_reply = m.no_reply;
-  calls_begun = ap (λ n. n + 1) m.calls_begun;
-}
-
--- the old item goes
-freed_within : (older : List Note) (items : List Item) (item x : Item) (id client charged : ℕ) → ((n : ℕ) → count (numbered n) items ≤ 1) → ((n : ℕ) → charged < n → count (numbered n) items ≡ 0) → item.charge ≡ charged + 1
-    → item_at item.key items ≡ Some x → Within older (open_charge item ∷ []) (inserting id client item) items items
-    → Within (Freed x.charge ∷ older) (open_charge item ∷ []) (inserting id client item) items (without item.key items)
-freed_within older items item x id client charged one_number fresh next found w =
-    let other : ◌≡◌ {A = Bool} (item.charge == x.charge) false = above item.charge x.charge (omega (arith, next_fresh items charged item.key x fresh found)) in
-    record {
-      same = Same-freed (charges older) (open_charge item ∷ []) items item.key x found (one_number x.charge) (ap (λ b. cond b 1 0 + 0) other) w.same;
-      entries = w.entries;
-      one_call = w.one_call;
-      no_reply = w.no_reply;
-      calls_begun = w.calls_begun;
-    }
-
-insert_step : (config : Config) (older : List Note) (items : List Item) (item : Item) (id client charged : ℕ) (o : Option Item) → ((key : List ℕ) → count (is_at key) items ≤ 1) → ((n : ℕ) → count (numbered n) items ≤ 1) → ((n : ℕ) → charged < n → count (numbered n) items ≡ 0)
-    → item.charge ≡ charged + 1 → item_at item.key items ≡ o → Within older (open_charge item ∷ []) (inserting id client item) items items
-    → Lawful config older (freed_note o ++ Linked item.charge ∷ Did id Stored ∷ End id ∷ []) × Mirrors (past older (freed_note o ++ Linked item.charge ∷ Did id Stored ∷ End id ∷ [])) (without item.key items ++ item ∷ []) (charged + 1) id
-insert_step config older items item id client charged None one_key one_number fresh next found w =
-    let left : Within older (open_charge item ∷ []) (inserting id client item) items (without item.key items) = subst (λ ys. Within older (open_charge item ∷ []) (inserting id client item) items ys) (sym (item_at-none item.key items found).1) w in
-    (inserted_lawful config older items (without item.key items) item id client left, inserted_mirrors older items item id client charged one_key one_number fresh next left)
-insert_step config older items item id client charged (Some x) one_key one_number fresh next found w =
-    let left : Within (Freed x.charge ∷ older) (open_charge item ∷ []) (inserting id client item) items (without item.key items) = freed_within older items item x id client charged one_number fresh next found w in
-    let live : 0 < count (is_charge_of x.charge item.key 0) (charges older) = charge_found (charges older) (open_charge item ∷ []) items item.key x found w.same in
-    let open_for : 0 < count (λ (call : Call). takes call.op item.key) (open_calls older) = subst (λ calls. 0 < count (λ (call : Call). takes call.op item.key) calls) (sym w.one_call) (omega (arith, one_if (bytes_eq item.key item.key) (bytes_eq-refl item.key))) in (
-      (inr (item.key, (0, (live, inl open_for))), inserted_lawful config (Freed x.charge ∷ older) items (without item.key items) item id client left),
-      inserted_mirrors (Freed x.charge ∷ older) items item id client charged one_key one_number fresh next left,
+finds_flat : (config : Config) (older : List Note) (items : List Item) (opens : List Open) (key : List ℕ) (client made calls now : ℕ) (o : Option Item) → item_at key items ≡ o → Mirrors older items opens made calls now
+    → Lawful config older (find_notes (calls + 1) client key (value_then now o)) × Mirrors (past older (find_notes (calls + 1) client key (value_then now o))) items opens made (calls + 1) now
+finds_flat config older items opens key client made calls now o found m =
+    let call = called (calls + 1) client (Find key) in
+    let begin : List Note = Begin (calls + 1) client (Find key) ∷ older in
+    let w = begin-within older items opens made calls now client (Find key) m in
+    let value : unexpired (now_at older) (entry_at older key) ≡ value_then now o = (λ i. unexpired (m.clock i) (m.entries key i)) ∙ ap (λ p. unexpired now (entry_of p)) found ∙ value-is now o in
+    let answer : IsAnswer (Begin (calls + 1) client (Find key) ∷ older) (calls + 1) (Find key) (find_reply (value_then now o)) = find_step (Begin (calls + 1) client (Find key) ∷ older) (calls + 1) key (value_then now o) value in (
+      (ap (λ n. n + 1) (sym m.calls_begun), answer-lawful config begin call (find_reply (value_then now o)) w.one_call answer),
+      answer-mirrors begin call items items opens made now (find_reply (value_then now o)) (once-of older items opens made calls now m) (λ k. refl) w,
     )
-
--- the notes of an insert, from its charge on
-pub inserts : (config : Config) (older : List Note) (items : List Item) (item : Item) (client charged calls : ℕ) → item.charge ≡ charged + 1 → Mirrors older items charged calls
-    → Lawful config older (Charged item.charge item.key 0 (cost item) ∷ insert_notes item.charge (calls + 1) client item.key item.value (item_at item.key items))
-    × Mirrors (past older (Charged item.charge item.key 0 (cost item) ∷ insert_notes item.charge (calls + 1) client item.key item.value (item_at item.key items))) (without item.key items ++ item ∷ []) (charged + 1) (calls + 1)
-inserts config older items item client charged calls next m =
-    let both = insert_step config (Begin (calls + 1) client (Insert item.key item.value 0) ∷ Charged item.charge item.key 0 (cost item) ∷ older) items item (calls + 1) client charged (item_at item.key items) m.one_key m.one_number m.fresh next refl (begun_within older items item client charged calls m) in
-    let new : count (has_number item.charge) (charges older) ≡ 0 = omega (arith, m.same (λ charge. cond (has_number item.charge charge) 1 0), m.fresh item.charge (omega arith)) in
-    ((new, (ap (λ n. n + 1) (sym m.calls_begun), both.0)), both.1)
-
--- a call that finds the key
-abbrev pub finding : ℕ → ℕ → List ℕ → Call
-finding id client key = record { number = id; client = client; op = Find key }
-
-find_answer : (older : List Note) (id : ℕ) (key : List ℕ) (o : Option Item) → entry_at older key ≡ entry_of o → IsAnswer older id (Find key) (find_reply (value_of o))
-find_answer older id key None e = ap (unexpired (now_at older)) e
-find_answer older id key (Some x) e = ap (unexpired (now_at older)) e
-
--- using an item changes no entry
-used_entry : (items : List Item) (key k : List ℕ) (x : Item) (b : Bool) → count (is_at key) items ≤ 1 → bytes_eq key k ≡ b → item_at key items ≡ Some x → item_at k (without key items ++ x ∷ []) ≡ item_at k items
-used_entry items key k x true one here found =
-    let same : key ≡ k = same_bytes key k here in
-    let gone : item_at k (without key items) ≡ None = subst (λ j. item_at j (without key items) ≡ None) same (item_at-gone key items one) in
-    item_at-pushed k (without key items) x (subst (λ j. bytes_eq x.key j ≡ true) same (item_at-is key items x found)) gone
-    ∙ sym (subst (λ j. item_at j items ≡ Some x) same found)
-used_entry items key k x false one other found =
-    let same : key ≡ x.key = sym (same_bytes x.key key (item_at-is key items x found)) in
-    item_at-push k (without key items) x (subst (λ j. bytes_eq j k ≡ false) same other) ∙ item_at-other key k items other
-
-used_at : (items : List Item) (key k : List ℕ) (o : Option Item) → count (is_at key) items ≤ 1 → item_at key items ≡ o → item_at k (used key items o) ≡ item_at k items
-used_at items key k None one found = refl
-used_at items key k (Some x) one found = used_entry items key k x (bytes_eq key k) one refl found
 
 -- the notes of a find
-pub finds : (config : Config) (older : List Note) (items : List Item) (key : List ℕ) (client charged calls : ℕ) → Mirrors older items charged calls
-    → Lawful config older (find_notes (calls + 1) client key (value_of (item_at key items)))
-    × Mirrors (past older (find_notes (calls + 1) client key (value_of (item_at key items)))) (used key items (item_at key items)) charged (calls + 1)
-finds config older items key client charged calls m =
-    let id = calls + 1 in
-    let begin : List Note = Begin (calls + 1) client (Find key) ∷ older in
-    let one_call : open_calls (Begin (calls + 1) client (Find key) ∷ older) ≡ finding (calls + 1) client key ∷ [] = ap (λ rest. finding (calls + 1) client key ∷ rest) m.no_call in
-    let reply = find_reply (value_of (item_at key items)) in
-    let answered : IsSomeAnd (open_call (calls + 1) (open_calls (Begin (calls + 1) client (Find key) ∷ older))) (λ call. IsAnswer (Begin (calls + 1) client (Find key) ∷ older) (calls + 1) call.op (find_reply (value_of (item_at key items)))) =
-    only_call (λ call. IsAnswer (Begin (calls + 1) client (Find key) ∷ older) (calls + 1) call.op (find_reply (value_of (item_at key items)))) (open_calls (Begin (calls + 1) client (Find key) ∷ older)) (finding (calls + 1) client key) one_call (find_answer (Begin (calls + 1) client (Find key) ∷ older) (calls + 1) key (item_at key items) (m.entries key)) in
-    let told : 0 < count (λ (answer : Answer). answer.number == calls + 1) (owed (Did (calls + 1) (find_reply (value_of (item_at key items))) ∷ Begin (calls + 1) client (Find key) ∷ older)) = omega (arith, one_if ((calls + 1) == (calls + 1)) (eqb-same (calls + 1))) in (
-      (ap (λ n. n + 1) (sym m.calls_begun), (answered, (told, tt))),
-      record {
-        one_key = λ k. omega (arith, used_tally (λ i. cond (is_at k i) 1 0) key items (item_at key items) refl, m.one_key k);
-        one_number = λ n. omega (arith, used_tally (λ i. cond (numbered n i) 1 0) key items (item_at key items) refl, m.one_number n);
-        fresh = λ n lt. omega (arith, used_tally (λ i. cond (numbered n i) 1 0) key items (item_at key items) refl, m.fresh n lt);
-        same = λ f. omega (arith, used_tally (λ i. f (charge_at i)) key items (item_at key items) refl, m.same f);
-        entries = λ k. only_done (open_calls (Begin (calls + 1) client (Find key) ∷ older)) (finding (calls + 1) client key) k (entry_at older k) one_call ∙ m.entries k ∙ ap entry_of (sym (used_at items key k (item_at key items) (m.one_key key) refl));
-        no_call = none_open (open_calls (Begin (calls + 1) client (Find key) ∷ older)) (finding (calls + 1) client key) one_call;
-        no_reply = none_owed (owed older) (calls + 1) (find_reply (value_of (item_at key items))) m.no_reply;
-        calls_begun = ap (λ n. n + 1) m.calls_begun;
-      },
-    )
+pub finds : (config : Config) (older : List Note) (memory : Memory) (key : List ℕ) (client calls now : ℕ) → Mirrors older (items_of memory.pools) memory.charges memory.made calls now
+    → Lawful config older (find_notes (calls + 1) client key (value_at now key memory.pools))
+    × Mirrors (past older (find_notes (calls + 1) client key (value_at now key memory.pools))) (items_of (after_find memory now key).pools) memory.charges memory.made (calls + 1) now
+finds config older memory key client calls now m =
+    let notes = find_notes (calls + 1) client key (value_at now key memory.pools) in
+    let both = finds_flat config older (items_of memory.pools) memory.charges key client memory.made calls now _ (sym (linked-flat key memory.pools)) m in
+    (both.0, Mirrors-reordered (past older notes) (items_of memory.pools) (items_of (after_find memory now key).pools) memory.charges memory.made (calls + 1) now (λ f. sym (used-flat f key now memory.pools)) both.1)
 
--- a call that removes the key
-abbrev pub removing : ℕ → ℕ → List ℕ → Call
-removing id client key = record { number = id; client = client; op = Remove key }
+-- ---- removes
 
-removed_entry : (items : List Item) (key k : List ℕ) (b : Bool) (was : Option Entry) → count (is_at key) items ≤ 1 → bytes_eq key k ≡ b → was ≡ entry_of (item_at k items) → cond b None was ≡ entry_of (item_at k (without key items))
-removed_entry items key k true was one here is =
+removed_step : (items : List Item) (key k : List ℕ) (b : Bool) → count (is_at key) items ≤ 1 → bytes_eq key k ≡ b → cond b None (entry_of (item_at k items)) ≡ entry_of (item_at k (without key items))
+removed_step items key k true one here =
     let gone : item_at k (without key items) ≡ None = subst (λ j. item_at j (without key items) ≡ None) (same_bytes key k here) (item_at-gone key items one) in
     ap entry_of (sym gone)
-removed_entry items key k false was one other is = is ∙ ap entry_of (sym (item_at-other key k items other))
+removed_step items key k false one other = ap entry_of (sym (item_at-other key k items other))
 
-removed_lawful : (config : Config) (older : List Note) (id client : ℕ) (key : List ℕ) (reply : Reply) → open_calls older ≡ removing id client key ∷ [] → IsAnswer older id (Remove key) reply → Lawful config older (Did id reply ∷ End id ∷ [])
-removed_lawful config older id client key reply one_call answer =
-    let answered : IsSomeAnd (open_call id (open_calls older)) (λ call. IsAnswer older id call.op reply) = only_call (λ call. IsAnswer older id call.op reply) (open_calls older) (removing id client key) one_call answer in
-    let told : 0 < count (λ (answer : Answer). answer.number == id) (owed (Did id reply ∷ older)) = omega (arith, one_if (id == id) (eqb-same id)) in
-    (answered, (told, tt))
+-- the item's charge is a linked one of the key
+freed-linked : (live : List Charge) (items : List Item) (opens : List Open) (key : List ℕ) (x : Item) → item_at key items ≡ Some x → Same live items opens → 0 < count (λ (c : Charge). has_number x.number c && is_linked key c) live
+freed-linked live items opens key x found same =
+    let test : Charge → Bool = λ c. has_number x.number c && is_linked key c in
+    let here : test (charge_at x) ≡ true = and_from (x.number == x.number) (bytes_eq x.key key) (eqb-same x.number) (bytes_eq-sym x.key key ∙ item_at-is key items x found) in
+    omega (arith, same (λ charge. cond (test charge) 1 0), first-order key items x found (λ i. cond (test (charge_at i)) 1 0), one_if (test (charge_at x)) here)
 
-removed_mirrors : (older : List Note) (items : List Item) (key : List ℕ) (id client charged : ℕ) (reply : Reply) → ((key : List ℕ) → count (is_at key) items ≤ 1) → ((n : ℕ) → count (numbered n) items ≤ 1) → ((n : ℕ) → charged < n → count (numbered n) items ≡ 0)
-    → Within older [] (removing id client key) items (without key items)
-    → Mirrors (End id ∷ Did id reply ∷ older) (without key items) charged id
-removed_mirrors older items key id client charged reply one_key one_number fresh w = record {
-  one_key = λ k. omega (arith, without_le (λ i. cond (is_at k i) 1 0) key items (item_at key items) refl, one_key k);
-  one_number = λ n. omega (arith, without_le (λ i. cond (numbered n i) 1 0) key items (item_at key items) refl, one_number n);
-  fresh = λ n lt. omega (arith, without_le (λ i. cond (numbered n i) 1 0) key items (item_at key items) refl, fresh n lt);
-  same = λ f. omega (arith, w.same f);
-  entries = λ k. only_done (open_calls older) (removing id client key) k (entry_at older k) w.one_call ∙ removed_entry items key k (bytes_eq key k) (entry_at older k) (one_key key) refl (w.entries k);
-  no_call = none_open (open_calls older) (removing id client key) w.one_call;
-  no_reply = none_owed (owed older) id reply w.no_reply;
-  calls_begun = w.calls_begun;
-}
-
-or_left : (a b : Bool) → a ≡ true → (a || b) ≡ true
-or_left true b h = refl
-or_left false b h = cc
-
-and_true : (a b : Bool) → a ≡ true → b ≡ true → (a && b) ≡ true
-and_true true b h k = k
-and_true false b h k = h
-
-positive : (n : ℕ) → 0 < n → nat_lt 0 n ≡ true
-positive n lt = lt-ltb 0 n lt
-
--- a linked charge of the key was freed
-freed_key : (charges : List Charge) (items : List Item) (key : List ℕ) (x : Item) → item_at key items ≡ Some x → Same charges [] items → 0 < count (λ (c : Charge). has_number x.charge c && is_linked key c) charges
-freed_key charges items key x found same =
-    let test : Charge → Bool = λ c. has_number x.charge c && is_linked key c in
-    let here : test (charge_at x) ≡ true = and_true (x.charge == x.charge) (bytes_eq x.key key) (eqb-same x.charge) (item_at-is key items x found) in
-    omega (arith, same (λ charge. cond (test charge) 1 0), counted (λ item. test (charge_at item)) key items x found here)
-
-remove_step : (config : Config) (older : List Note) (items : List Item) (key : List ℕ) (id client charged : ℕ) (o : Option Item) → ((key : List ℕ) → count (is_at key) items ≤ 1) → ((n : ℕ) → count (numbered n) items ≤ 1) → ((n : ℕ) → charged < n → count (numbered n) items ≡ 0)
-    → item_at key items ≡ o → Within (Begin id client (Remove key) ∷ older) [] (removing id client key) items items
-    → Lawful config (Begin id client (Remove key) ∷ older) (freed_note o ++ Did id (remove_reply o) ∷ End id ∷ []) × Mirrors (past (Begin id client (Remove key) ∷ older) (freed_note o ++ Did id (remove_reply o) ∷ End id ∷ [])) (without key items) charged id
-remove_step config older items key id client charged None one_key one_number fresh found w =
+-- a remove answers whether it freed an item
+remove-answer : (older : List Note) (id client : ℕ) (key : List ℕ) (items : List Item) (opens : List Open) (now : ℕ) (o : Option Item) → item_at key items ≡ o → Within (Begin id client (Remove key) ∷ older) (called id client (Remove key)) items items opens now
+    → IsAnswer (past (Begin id client (Remove key) ∷ older) (freed_note o)) id (Remove key) (remove_reply o)
+remove-answer older id client key items opens now None found w = ap (λ b. cond b false (freed_since older id key)) (eqb-same id)
+remove-answer older id client key items opens now (Some x) found w =
     let begin : List Note = Begin id client (Remove key) ∷ older in
-    let left : Within begin [] (removing id client key) items (without key items) = subst (λ ys. Within begin [] (removing id client key) items ys) (sym (item_at-none key items found).1) w in
-    let unfreed : freed_since begin id key ≡ false = ap (λ b. cond b false (freed_since older id key)) (eqb-same id) in
-    (removed_lawful config begin id client key NotInMemory w.one_call unfreed, removed_mirrors begin items key id client charged NotInMemory one_key one_number fresh left)
-remove_step config older items key id client charged (Some x) one_key one_number fresh found w =
-    let begin : List Note = Begin id client (Remove key) ∷ older in
-    let live : 0 < count (is_charge_of x.charge key 0) (charges begin) = charge_found (charges begin) [] items key x found w.same in
-    let open_for : 0 < count (λ (call : Call). takes call.op key) (open_calls begin) = subst (λ calls. 0 < count (λ (call : Call). takes call.op key) calls) (sym w.one_call) (omega (arith, one_if (bytes_eq key key) (bytes_eq-refl key))) in
-    let freed : freed_since (Freed x.charge ∷ begin) id key ≡ true = or_left _ (freed_since begin id key) (positive _ (freed_key (charges begin) items key x found w.same)) in
     let there : IsSome (entry_at begin key) = subst (λ (e : Option Entry). IsSome e) (sym (w.entries key ∙ ap entry_of found)) refl in
-    let left : Within (Freed x.charge ∷ begin) [] (removing id client key) items (without key items) = record {
-      same = Same-freed (charges begin) [] items key x found (one_number x.charge) refl w.same;
-      entries = w.entries;
-      one_call = w.one_call;
-      no_reply = w.no_reply;
-      calls_begun = w.calls_begun;
-    } in (
-      (inr (key, (0, (live, inl open_for))), removed_lawful config (Freed x.charge ∷ begin) id client key FoundInMemory w.one_call (there, freed)),
-      removed_mirrors (Freed x.charge ∷ begin) items key id client charged FoundInMemory one_key one_number fresh left,
+    let freed : freed_since (Freed x.number ∷ begin) id key ≡ true = or_left _ (freed_since begin id key) (lt-ltb 0 _ (freed-linked (charges begin) items opens key x found w.same)) in
+    (there, freed)
+
+removes_flat : (config : Config) (older : List Note) (items : List Item) (opens : List Open) (key : List ℕ) (client made calls now : ℕ) (o : Option Item) → item_at key items ≡ o → Mirrors older items opens made calls now
+    → Lawful config older (remove_notes (calls + 1) client key o) × Mirrors (past older (remove_notes (calls + 1) client key o)) (without key items) opens made (calls + 1) now
+removes_flat config older items opens key client made calls now o found m =
+    let call = called (calls + 1) client (Remove key) in
+    let begin : List Note = Begin (calls + 1) client (Remove key) ∷ older in
+    let rest : List Note = Did (calls + 1) (remove_reply o) ∷ End (calls + 1) ∷ [] in
+    let once = once-of older items opens made calls now m in
+    let w = begin-within older items opens made calls now client (Remove key) m in
+    let gone = frees-within begin call items opens made now key o found once w in
+    let free = frees-lawful config begin call items opens now key o found (λ k same. same) w in
+    let answer = answer-lawful config (past begin (freed_note o)) call (remove_reply o) gone.one_call (remove-answer older (calls + 1) client key items opens now o found w) in
+    let left = answer-mirrors (past begin (freed_note o)) call items (without key items) opens made now (remove_reply o) (once-without key items opens made once) (λ k. removed_step items key k (bytes_eq key k) (m.one_key key) refl) gone in (
+      (ap (λ n. n + 1) (sym m.calls_begun), Lawful-append config begin (freed_note o) rest free answer),
+      subst (λ h. Mirrors h (without key items) opens made (calls + 1) now) (sym (past-append begin (freed_note o) rest)) left,
     )
 
 -- the notes of a remove
-pub removes : (config : Config) (older : List Note) (items : List Item) (key : List ℕ) (client charged calls : ℕ) → Mirrors older items charged calls
-    → Lawful config older (remove_notes (calls + 1) client key (item_at key items))
-    × Mirrors (past older (remove_notes (calls + 1) client key (item_at key items))) (without key items) charged (calls + 1)
-removes config older items key client charged calls m =
-    let begin : Within (Begin (calls + 1) client (Remove key) ∷ older) [] (removing (calls + 1) client key) items items = record {
-      same = λ f. omega (arith, m.same f);
-      entries = m.entries;
-      one_call = ap (λ rest. removing (calls + 1) client key ∷ rest) m.no_call;
-      no_reply = m.no_reply;
-      calls_begun = ap (λ n. n + 1) m.calls_begun;
-    } in
-    let both = remove_step config older items key (calls + 1) client charged (item_at key items) m.one_key m.one_number m.fresh refl begin in
-    ((ap (λ n. n + 1) (sym m.calls_begun), both.0), both.1)
+pub removes : (config : Config) (older : List Note) (memory : Memory) (key : List ℕ) (client calls now : ℕ) → Mirrors older (items_of memory.pools) memory.charges memory.made calls now
+    → Lawful config older (remove_notes (calls + 1) client key (linked_at key memory.pools))
+    × Mirrors (past older (remove_notes (calls + 1) client key (linked_at key memory.pools))) (items_of (after_unlink memory key).pools) memory.charges memory.made (calls + 1) now
+removes config older memory key client calls now m =
+    let notes = remove_notes (calls + 1) client key (linked_at key memory.pools) in
+    let both = removes_flat config older (items_of memory.pools) memory.charges key client memory.made calls now (linked_at key memory.pools) (sym (linked-flat key memory.pools)) m in
+    (both.0, subst (λ left. Mirrors (past older notes) left memory.charges memory.made (calls + 1) now) (sym (unlinked-flat key memory.pools)) both.1)
+
+-- ---- inserts
+
+one_more : (b : Bool) (n : ℕ) → (b ≡ true → n ≡ 0) → n ≤ 1 → n + cond b 1 0 ≤ 1
+one_more true n none one = omega (arith, none refl)
+one_more false n none one = omega arith
+
+-- an open charge becomes an item of a key that has none
+once-linked : (items : List Item) (opens rest : List Open) (handle : Handle) (made : ℕ) → item_at handle.key items ≡ None → ((f : Open → ℕ) → tally f rest + f (charge_by handle) ≡ tally f opens) → Once items opens made → Once (items ++ item_by false handle ∷ []) rest made
+once-linked items opens rest handle made gone sum once =
+    let item = item_by false handle in
+    let none : (key : List ℕ) → is_at key item ≡ true → count (is_at key) items ≡ 0 = λ key same. ap (λ k. count (is_at k) items) (same_bytes key handle.key same) ∙ none-counted handle.key items gone in
+    record {
+      one_key = λ key. omega (arith, tally-push (λ i. cond (is_at key i) 1 0) items item, one_more (is_at key item) (count (is_at key) items) (none key) (once.one_key key));
+      one_number = λ n. omega (arith, tally-push (λ i. cond (item_has n i) 1 0) items item, sum (λ o. cond (open_has n o) 1 0), once.one_number n);
+      fresh = λ n later. omega (arith, tally-push (λ i. cond (item_has n i) 1 0) items item, sum (λ o. cond (open_has n o) 1 0), once.fresh n later);
+    }
+
+links-within : (older : List Note) (call : Call) (before items : List Item) (opens rest : List Open) (handle : Handle) (made now : ℕ) → ((f : Open → ℕ) → tally f rest + f (charge_by handle) ≡ tally f opens) → Once items opens made → Within older call before items opens now
+    → Within (Linked handle.number ∷ older) call before (items ++ item_by false handle ∷ []) rest now
+links-within older call before items opens rest handle made now sum once w = record {
+  same = Same-linked (charges older) items opens rest (charge_by handle) (item_by false handle) refl sum (once.one_number handle.number) w.same;
+  entries = w.entries;
+  clock = w.clock;
+  one_call = w.one_call;
+  no_reply = w.no_reply;
+  calls_begun = w.calls_begun;
+}
+
+-- what the map has after an insert
+inserted_step : (items : List Item) (handle : Handle) (k : List ℕ) (b : Bool) → count (is_at handle.key) items ≤ 1 → bytes_eq handle.key k ≡ b
+    → cond b (entry_of (Some (item_by false handle))) (entry_of (item_at k items)) ≡ entry_of (item_at k (without handle.key items ++ item_by false handle ∷ []))
+inserted_step items handle k true one here =
+    let gone : item_at k (without handle.key items) ≡ None = subst (λ j. item_at j (without handle.key items) ≡ None) (same_bytes handle.key k here) (item_at-gone handle.key items one) in
+    ap entry_of (sym (item_at-pushed k (without handle.key items) (item_by false handle) (bytes_eq-sym k handle.key ∙ here) gone))
+inserted_step items handle k false one other =
+    ap entry_of (sym (item_at-push k (without handle.key items) (item_by false handle) (bytes_eq-sym k handle.key ∙ other) ∙ item_at-other handle.key k items other))
+
+inserts_flat : (config : Config) (older : List Note) (items : List Item) (opens rest : List Open) (handle : Handle) (client made calls now : ℕ) (o : Option Item) → item_at handle.key items ≡ o → ((f : Open → ℕ) → tally f rest + f (charge_by handle) ≡ tally f opens) → Mirrors older items opens made calls now
+    → Lawful config older (insert_notes (calls + 1) client handle o) × Mirrors (past older (insert_notes (calls + 1) client handle o)) (without handle.key items ++ item_by false handle ∷ []) rest made (calls + 1) now
+inserts_flat config older items opens rest handle client made calls now o found sum m =
+    let op = Insert handle.key handle.value handle.expiry in
+    let call = called (calls + 1) client op in
+    let begin : List Note = Begin (calls + 1) client op ∷ older in
+    let mid : List Note = past begin (freed_note o) in
+    let tail : List Note = Linked handle.number ∷ Did (calls + 1) Stored ∷ End (calls + 1) ∷ [] in
+    let after : List Item = without handle.key items ++ item_by false handle ∷ [] in
+    let once = once-of older items opens made calls now m in
+    let less = once-without handle.key items opens made once in
+    let w = begin-within older items opens made calls now client op m in
+    let gone = frees-within begin call items opens made now handle.key o found once w in
+    let linked = links-within mid call items (without handle.key items) opens rest handle made now sum less gone in
+    let free = frees-lawful config begin call items opens now handle.key o found (λ k same. same) w in
+    let live = live-open (charges mid) (without handle.key items) opens rest (charge_by handle) sum gone.same in
+    let answer = answer-lawful config (Linked handle.number ∷ mid) call Stored linked.one_call tt in
+    let once' = once-linked (without handle.key items) opens rest handle made (item_at-gone handle.key items (m.one_key handle.key)) sum less in
+    let left = answer-mirrors (Linked handle.number ∷ mid) call items after rest made now Stored once' (λ k. inserted_step items handle k (bytes_eq handle.key k) (m.one_key handle.key) refl) linked in (
+      (ap (λ n. n + 1) (sym m.calls_begun), Lawful-append config begin (freed_note o) tail free (live, answer)),
+      subst (λ h. Mirrors h after rest made (calls + 1) now) (sym (past-append begin (freed_note o) tail)) left,
+    )
+
+-- the items of all pools once the handle's item is linked, in another order
+linked-order : (pools : List Pool) (opens : List Open) (made : ℕ) (handle : Handle) → Sound pools opens made → is_open (charge_by handle) opens ≡ true → (f : Item → ℕ)
+    → tally f (without handle.key (items_of pools) ++ item_by false handle ∷ []) ≡ tally f (items_of (change_at handle.pool (λ p. record p { items = p.items ++ item_by false handle ∷ [] }) (unlinked handle.key pools)))
+linked-order pools opens made handle s mine f =
+    let bare = unlinked handle.key pools in
+    let sound = sound-home handle.key (λ p. record p { items = without handle.key p.items }) pools opens made (shrinks-without handle.key) s in
+    let there = there-of bare handle.pool (known-place bare opens made handle sound mine) in
+    ap (λ items. tally f (items ++ item_by false handle ∷ [])) (sym (unlinked-flat handle.key pools)) ∙ sym (pushed-flat f handle.pool (item_by false handle) there.0 bare there.1)
+
+-- the notes of an insert
+pub inserts : (config : Config) (older : List Note) (memory : Memory) (handle : Handle) (client calls now : ℕ) → Sound memory.pools memory.charges memory.made → is_open (charge_by handle) memory.charges ≡ true → Mirrors older (items_of memory.pools) memory.charges memory.made calls now
+    → Lawful config older (insert_notes (calls + 1) client handle (linked_at handle.key memory.pools))
+    × Mirrors (past older (insert_notes (calls + 1) client handle (linked_at handle.key memory.pools))) (items_of (after_link memory false handle).pools) (closed handle.number memory.charges) memory.made (calls + 1) now
+inserts config older memory handle client calls now s mine m =
+    let notes = insert_notes (calls + 1) client handle (linked_at handle.key memory.pools) in
+    let rest = closed handle.number memory.charges in
+    let sum = λ (f : Open → ℕ). tally-closed f handle.number memory.charges (charge_by handle) (is_open-found (charge_by handle) memory.charges mine) in
+    let both = inserts_flat config older (items_of memory.pools) memory.charges rest handle client memory.made calls now (linked_at handle.key memory.pools) (sym (linked-flat handle.key memory.pools)) sum m in (
+      both.0,
+      Mirrors-reordered (past older notes) (without handle.key (items_of memory.pools) ++ item_by false handle ∷ []) (items_of (after_link memory false handle).pools) rest memory.made (calls + 1) now
+          (linked-order memory.pools memory.charges memory.made handle s mine) both.1,
+    )

@@ -1,5 +1,5 @@
 -- One note after another.
-use Rattle.std.proofs.Common.{◌≡◌, List, [], ◌∷◌, ◌++◌, Option, Some, None, refl, ap, ◌∙◌, append_assoc}
+use Rattle.std.proofs.Common.{◌≡◌, List, [], ◌∷◌, ◌++◌, Option, Some, None, refl, ap, ◌∙◌, append_assoc, append-nil}
 use Rattle.std.specs.Prelude.{option_to_list}
 use Rattle.hc_history.specs.Told.{told_more, where_kept}
 
@@ -25,3 +25,8 @@ pub told-after : {T : Type 0} (log : Option (List T)) (part : List T) (a b : T) 
 told-after None part a b rest = refl
 told-after (Some notes) part a b rest =
     ap (λ ns. Some ns) (append_assoc ((notes ++ part) ++ a ∷ []) (b ∷ []) rest ∙ append_assoc (notes ++ part) (a ∷ []) (b ∷ rest) ∙ append_assoc notes part (a ∷ b ∷ rest))
+
+-- nothing is told
+pub told-nothing : {T : Type 0} (log : Option (List T)) → told_more log [] ≡ log
+told-nothing None = refl
+told-nothing (Some notes) = ap (λ ns. Some ns) (append-nil notes)

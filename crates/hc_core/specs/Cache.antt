@@ -1,14 +1,22 @@
 -- What contracts see of a core.
-use Rattle.std.specs.Prelude.{ℕ, List, Option}
+use Rattle.std.specs.Prelude.{ℕ, List, Option, [], map}
 use Rattle.hc_types.specs.Config.{Config}
+use Rattle.hc_memory.specs.Memory.{Memory, empty_pool}
 use Rattle.hc_history.specs.Note.{Note}
-use Rattle.hc_core.specs.Item.{Item}
 
--- its configuration, its items (the one that was used longest ago first), how many charges and calls there were, and
--- its log, where it is kept
+-- its configuration, its pools with what is open in them, the clock (seconds), how many calls there were, and its log,
+-- where it is kept
 pub record Cache : Type 0 where
   pub config : Config
-  pub items : List Item
-  pub charges : ℕ
+  pub memory : Memory
+  pub now : ℕ
   pub calls : ℕ
   pub log : Option (List Note)
+
+-- the pools of a configuration, without items
+abbrev pub empty_memory : Config → Memory
+empty_memory config = record { flash = config.flash; pools = map empty_pool config.pools; charges = []; made = 0 }
+
+-- a new cache, with this log
+abbrev pub new_cache : Config → Option (List Note) → Cache
+new_cache config log = record { config = config; memory = empty_memory config; now = 0; calls = 0; log = log }

@@ -1,43 +1,63 @@
 -- The log is legal, and its books are the core's.
-use Rattle.std.specs.Prelude.{◌≡◌, ℕ, ◌<◌, ◌≤◌, ◌==◌, Bool, true, List, [], Option, Some, None}
+use Rattle.std.specs.Prelude.{◌≡◌, ℕ, ◌+◌, ◌<◌, ◌≤◌, Bool, true, false, List, [], ◌∷◌, ◌++◌, Option, Some, None, map}
 use Rattle.hc_types.specs.Config.{Config}
-use Rattle.hc_history.specs.Note.{Note}
 use Rattle.hc_types.specs.Tally.{tally, count}
-use Rattle.hc_history.specs.Books.{Charge, Entry, charges, begun, open_calls, owed, entry_at}
+use Rattle.hc_memory.specs.Item.{Item, Open, cost, open_cost}
+use Rattle.hc_memory.specs.Pool.{Pool, is_at, item_at}
+use Rattle.hc_memory.specs.Memory.{Memory}
+use Rattle.hc_history.specs.Note.{Note}
+use Rattle.hc_history.specs.Books.{Charge, Entry, charges, has_number, begun, open_calls, owed, entry_at, now_at}
 use Rattle.hc_history.specs.Lawful.{Legal, past}
-use Rattle.hc_core.specs.Item.{Item}
-use Rattle.hc_core.specs.Pool.{cost, is_at, item_at}
 
-abbrev pub numbered : ℕ → Item → Bool
-numbered number item = item.charge == number
+-- all items that can be found, of one pool after the other
+abbrev pub items_of : List Pool → List Item
+items_of [] = []
+items_of (pool ∷ pools) = pool.items ++ items_of pools
 
 -- the charge of an item, which is linked
 abbrev pub charge_at : Item → Charge
-charge_at item = record { number = item.charge; key = item.key; pool = 0; bytes = cost item; linked = true }
+charge_at item = record { number = item.number; key = item.key; pool = item.pool; bytes = cost item; linked = true }
+
+-- an open charge
+abbrev pub open_at : Open → Charge
+open_at charge = record { number = charge.number; key = charge.key; pool = charge.pool; bytes = open_cost charge; linked = false }
+
+abbrev pub item_has : ℕ → Item → Bool
+item_has number item = has_number number (charge_at item)
+
+abbrev pub open_has : ℕ → Open → Bool
+open_has number charge = has_number number (open_at charge)
 
 -- what the map has for an item
 abbrev pub entry_of : Option Item → Option Entry
 entry_of None = None
-entry_of (Some item) = Some (record { value = item.value; expiry = 0 })
+entry_of (Some item) = Some (record { value = item.value; expiry = item.expiry })
 
--- the books of a history are those of these items, after so many charges and calls
-pub record Mirrors (older : List Note) (items : List Item) (made calls : ℕ) : Type 0 where
+-- the books of a history are those of these items and open charges, after so many charges and calls, at this moment
+pub record Mirrors (older : List Note) (items : List Item) (opens : List Open) (made calls now : ℕ) : Type 0 where
   pub one_key : (key : List ℕ) → count (is_at key) items ≤ 1
-  pub one_number : (n : ℕ) → count (numbered n) items ≤ 1
-  pub fresh : (n : ℕ) → made < n → count (numbered n) items ≡ 0
-  -- the live charges are the items', in any order: every sum over them agrees
-  pub same : (f : Charge → ℕ) → tally f (charges older) ≡ tally (λ item. f (charge_at item)) items
+  pub one_number : (n : ℕ) → count (item_has n) items + count (open_has n) opens ≤ 1
+  pub fresh : (n : ℕ) → made < n → count (item_has n) items + count (open_has n) opens ≡ 0
+  -- the live charges are those of the items and the open ones, in any order: every sum over them agrees
+  pub same : (f : Charge → ℕ) → tally f (charges older) ≡ tally (λ item. f (charge_at item)) items + tally (λ charge. f (open_at charge)) opens
   -- the map has what the items have, and nothing else
   pub entries : (key : List ℕ) → entry_at older key ≡ entry_of (item_at key items)
+  pub clock : now_at older ≡ now
   pub no_call : open_calls older ≡ []
   pub no_reply : owed older ≡ []
   pub calls_begun : begun older ≡ calls
 
-pub record FollowsLog (log : List Note) (config : Config) (items : List Item) (made calls : ℕ) : Type 0 where
+-- the pools are those of the configuration, which has no flash
+pub record FitsConfig (config : Config) (memory : Memory) : Type 0 where
+  pub sizes : map (λ (pool : Pool). pool.size) memory.pools ≡ config.pools
+  pub no_flash : config.flash ≡ None
+
+-- the log is legal, and its books are those of the pools
+pub record FollowsLog (log : List Note) (config : Config) (memory : Memory) (calls now : ℕ) : Type 0 where
   pub legal : Legal config log
-  pub mirrors : Mirrors (past [] log) items made calls
+  pub mirrors : Mirrors (past [] log) (items_of memory.pools) memory.charges memory.made calls now
 
 -- the same, where the log is kept
-abbrev pub Follows : Option (List Note) → Config → List Item → ℕ → ℕ → Type 0
-Follows None config items made calls = Unit {0}
-Follows (Some log) config items made calls = FollowsLog log config items made calls
+abbrev pub Follows : Option (List Note) → Config → Memory → ℕ → ℕ → Type 0
+Follows None config memory calls now = Unit {0}
+Follows (Some log) config memory calls now = FollowsLog log config memory calls now

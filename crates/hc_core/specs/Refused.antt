@@ -1,15 +1,35 @@
--- Why a set is refused.
-use Rattle.std.specs.Prelude.{ℕ, ◌==◌, nat_lt, List, length, Option, Some, None, if◌then◌else◌}
+-- Why calls are refused, memory apart.
+use Rattle.std.specs.Prelude.{ℕ, nat_lt, not, is_some, Bool, List, [], length, Option, Some, None, if◌then◌else◌}
 use Rattle.hc_types.specs.Charge.{charge_of}
-use Rattle.hc_types.specs.Config.{Config}
 use Rattle.hc_types.specs.declared.refusal.Refusal.{Refusal}
-use Rattle.hc_types.specs.declared.refusal.Refusal.TheVariants.{NoPool, ValueTooLong, NoRoom}
-use Rattle.hc_core.specs.Pool.{only_pool}
+use Rattle.hc_types.specs.declared.refusal.Refusal.TheVariants.{NoPool, ValueTooLong, NoRoom, ForeignHandle, Exists}
+use Rattle.hc_memory.specs.Item.{Handle, charge_by}
+use Rattle.hc_memory.specs.Pool.{unexpired}
+use Rattle.hc_memory.specs.Charges.{is_open}
+use Rattle.hc_memory.specs.Memory.{Memory, linked_at, is_hopeless}
+use Rattle.hc_history.specs.Note.{Note}
+use Rattle.hc_history.specs.Books.{value_at as map_value}
+use Rattle.hc_history.specs.Lawful.{past}
+use Rattle.hc_core.specs.Cache.{Cache}
 
--- the first reason that holds, memory apart
-abbrev pub set_refusal : Config → ℕ → List ℕ → List ℕ → Option Refusal
-set_refusal config pool key value =
-    if pool == 0 then
-    (if nat_lt 1048576 (length value) then Some ValueTooLong
-    else (if nat_lt (only_pool config).bytes (charge_of key (length value)) then Some NoRoom else None))
-    else Some NoPool
+-- why an item of this key and a value of this length isn't allocated in these pools: the first reason that holds
+abbrev pub refusal_of : Memory → ℕ → List ℕ → ℕ → Option Refusal
+refusal_of memory pool key size =
+    if not (nat_lt pool (length memory.pools)) then Some NoPool
+    else (if nat_lt 1048576 size then Some ValueTooLong
+    else (if is_hopeless memory pool (charge_of key size) then Some NoRoom else None))
+
+abbrev pub allocate_refusal : Cache → ℕ → List ℕ → ℕ → Option Refusal
+allocate_refusal cache pool key size = refusal_of cache.memory pool key size
+
+-- why a handle is refused: no charge that is open is its own
+abbrev pub handle_refusal : Cache → Handle → Option Refusal
+handle_refusal cache handle = if is_open (charge_by handle) cache.memory.charges then None else Some ForeignHandle
+
+-- why an item isn't inserted where none may be replaced: the key has an unexpired item, or its handle is refused
+abbrev pub insert_refusal : Cache → Handle → Option Refusal
+insert_refusal cache handle = if is_some (unexpired cache.now (linked_at handle.key cache.memory.pools)) then Some Exists else handle_refusal cache handle
+
+-- after this log, the map has an unexpired value for the key
+abbrev pub map_has : List Note → List ℕ → Bool
+map_has log key = is_some (map_value (past [] log) key)

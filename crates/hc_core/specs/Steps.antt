@@ -1,53 +1,81 @@
 -- What each call leaves, and the part of the log that it tells.
-use Rattle.std.specs.Prelude.{ℕ, ◌+◌, List, [], ◌∷◌, ◌++◌, Option, Some, None, length}
+use Rattle.std.specs.Prelude.{ℕ, ◌+◌, ◌-◌, ◌^◌, ◌==◌, nat_lt, min, max, false, List, [], ◌∷◌, ◌++◌, length, Option, Some, None, if◌then◌else◌}
 use Rattle.hc_types.specs.Charge.{charge_of}
 use Rattle.hc_types.specs.Loss as loss
-use Rattle.hc_types.specs.Config.{Config}
-use Rattle.hc_types.specs.Loss.{Evicted}
+use Rattle.hc_types.specs.Loss.{Cause, Evicted, Expired}
 use Rattle.hc_types.specs.declared.loss.Why.TheVariants.{NoFlash}
-use Rattle.hc_history.specs.Note.{Reply, Stored, Hit, Miss, FoundInMemory, NotInMemory, Insert, Find, Remove, Note, Begin, Did, End, Lose, Charged, Linked, Freed}
+use Rattle.hc_memory.specs.Item.{Item, Handle}
+use Rattle.hc_memory.specs.Pool.{is_expired}
+use Rattle.hc_memory.specs.Memory as pools
+use Rattle.hc_memory.specs.Memory.{Memory, linked_at, value_at, victims_of}
+use Rattle.hc_history.specs.Note.{Reply, Stored, Hit, Miss, FoundInMemory, NotInMemory, Insert, Find, Remove, Note, Begin, Did, End, Lose, Charged, Linked, Freed, Now}
 use Rattle.hc_history.specs.Told.{told_more}
-use Rattle.hc_core.specs.Item.{Item}
 use Rattle.hc_core.specs.Cache.{Cache}
-use Rattle.hc_core.specs.Pool.{item_at, without, kept, dropped}
 use Rattle.hc_core.specs.declared.answers.Removed.{Removed}
 use Rattle.hc_core.specs.declared.answers.Removed.TheVariants as removed
 
--- the notes of these evictions, for so many bytes: each item's charge is freed, and its key is forgotten
-abbrev pub eviction_notes : ℕ → List Item → List Note
-eviction_notes want [] = []
-eviction_notes want (item ∷ items) = Freed item.charge ∷ Lose (loss.Key item.key) (Evicted 0 want NoFlash) ∷ eviction_notes want items
+-- ---- evictions and charges
+
+-- when an item expires that is to live for so many seconds: never where they are 0, and at the last second at the latest
+abbrev pub expiry_of : ℕ → ℕ → ℕ
+expiry_of now ttl = if ttl == 0 then 0 else min (now + ttl) (2 ^ 64 - 1)
+
+-- why the key of an evicted item is forgotten
+abbrev pub cause_for : ℕ → ℕ → ℕ → Item → Cause
+cause_for now pool want item = if is_expired now item then Expired else Evicted pool want NoFlash
+
+-- the notes of these evictions from a pool, for so many bytes: each item's charge is freed, and its key is forgotten
+abbrev pub eviction_notes : ℕ → ℕ → ℕ → List Item → List Note
+eviction_notes now pool want [] = []
+eviction_notes now pool want (item ∷ items) = Freed item.number ∷ Lose (loss.Key item.key) (cause_for now pool want item) ∷ eviction_notes now pool want items
+
+-- room is made, and an item is charged
+abbrev pub part_of_allocate : Memory → ℕ → ℕ → List ℕ → ℕ → List Note
+part_of_allocate memory now pool key size =
+    eviction_notes now pool (charge_of key size) (victims_of memory pool (charge_of key size)) ++ Charged (memory.made + 1) key pool (charge_of key size) ∷ []
+
+abbrev pub after_allocate : Cache → ℕ → List ℕ → ℕ → Cache
+after_allocate cache pool key size = record cache {
+  memory = pools.after_charge cache.memory pool key size;
+  log = told_more cache.log (part_of_allocate cache.memory cache.now pool key size);
+}
+
+-- the handle of an item that is allocated and written
+abbrev pub opened : Cache → ℕ → List ℕ → List ℕ → ℕ → Handle
+opened cache pool key value ttl = record (pools.blank_of cache.memory pool key (length value) (expiry_of cache.now ttl)) { value = value }
+
+-- an item that was charged is given up
+abbrev pub after_discard : Cache → ℕ → Cache
+after_discard cache number = record cache {
+  memory = pools.after_free cache.memory number;
+  log = told_more cache.log (Freed number ∷ []);
+}
+
+-- ---- inserts
+
+-- the note that frees a charge, where there is one
+abbrev pub freed_notes : Option ℕ → List Note
+freed_notes None = []
+freed_notes (Some number) = Freed number ∷ []
 
 -- the note that frees an item's charge, where there is an item
 abbrev pub freed_note : Option Item → List Note
 freed_note None = []
-freed_note (Some item) = Freed item.charge ∷ []
+freed_note (Some item) = Freed item.number ∷ []
 
--- the notes of an insert that has its charge
-abbrev pub insert_notes : ℕ → ℕ → ℕ → List ℕ → List ℕ → Option Item → List Note
-insert_notes charge call client key value old =
-    Begin call client (Insert key value 0) ∷ (freed_note old ++ (Linked charge ∷ Did call Stored ∷ End call ∷ []))
+-- the notes of an insert over an item, or over none
+abbrev pub insert_notes : ℕ → ℕ → Handle → Option Item → List Note
+insert_notes call client handle old =
+    Begin call client (Insert handle.key handle.value handle.expiry) ∷ (freed_note old ++ (Linked handle.number ∷ Did call Stored ∷ End call ∷ []))
 
--- the notes of a set in a pool with these items, after so many charges and calls: room is made and charged, and then
--- the item is inserted
-abbrev pub part_of_set : Config → List Item → ℕ → ℕ → ℕ → List ℕ → List ℕ → List Note
-part_of_set config items charges calls client key value =
-    let want = charge_of key (length value) in
-    eviction_notes want (dropped config want items)
-    ++ (Charged (charges + 1) key 0 want ∷ insert_notes (charges + 1) (calls + 1) client key value (item_at key (kept config want items)))
-
-abbrev pub after_set : Cache → ℕ → List ℕ → List ℕ → Cache
-after_set cache client key value = record cache {
-  items = without key (kept cache.config (charge_of key (length value)) cache.items) ++ record { charge = cache.charges + 1; key = key; value = value } ∷ [];
-  charges = cache.charges + 1;
+abbrev pub after_insert : Cache → ℕ → Handle → Cache
+after_insert cache client handle = record cache {
+  memory = pools.after_link cache.memory false handle;
   calls = cache.calls + 1;
-  log = told_more cache.log (part_of_set cache.config cache.items cache.charges cache.calls client key value);
+  log = told_more cache.log (insert_notes (cache.calls + 1) client handle (linked_at handle.key cache.memory.pools));
 }
 
--- the value of an item, where there is an item
-abbrev pub value_of : Option Item → Option (List ℕ)
-value_of None = None
-value_of (Some item) = Some item.value
+-- ---- finds
 
 abbrev pub find_reply : Option (List ℕ) → Reply
 find_reply None = Miss
@@ -56,24 +84,20 @@ find_reply (Some value) = Hit value
 abbrev pub find_notes : ℕ → ℕ → List ℕ → Option (List ℕ) → List Note
 find_notes call client key found = Begin call client (Find key) ∷ Did call (find_reply found) ∷ End call ∷ []
 
--- an item that is used is the last
-abbrev pub used : List ℕ → List Item → Option Item → List Item
-used key items None = items
-used key items (Some item) = without key items ++ item ∷ []
-
 abbrev pub after_find : Cache → ℕ → List ℕ → Cache
-after_find cache client key =
-    let found = item_at key cache.items in record cache {
-      items = used key cache.items found;
-      calls = cache.calls + 1;
-      log = told_more cache.log (find_notes (cache.calls + 1) client key (value_of found));
-    }
+after_find cache client key = record cache {
+  memory = pools.after_find cache.memory cache.now key;
+  calls = cache.calls + 1;
+  log = told_more cache.log (find_notes (cache.calls + 1) client key (value_at cache.now key cache.memory.pools));
+}
 
-abbrev pub removed_of : Option Item → Removed
+-- ---- removes
+
+abbrev pub removed_of : {X : Type 0} → Option X → Removed
 removed_of None = removed.NotInMemory
 removed_of (Some item) = removed.FoundInMemory
 
-abbrev pub remove_reply : Option Item → Reply
+abbrev pub remove_reply : {X : Type 0} → Option X → Reply
 remove_reply None = NotInMemory
 remove_reply (Some item) = FoundInMemory
 
@@ -82,7 +106,19 @@ remove_notes call client key found = Begin call client (Remove key) ∷ (freed_n
 
 abbrev pub after_remove : Cache → ℕ → List ℕ → Cache
 after_remove cache client key = record cache {
-  items = without key cache.items;
+  memory = pools.after_unlink cache.memory key;
   calls = cache.calls + 1;
-  log = told_more cache.log (remove_notes (cache.calls + 1) client key (item_at key cache.items));
+  log = told_more cache.log (remove_notes (cache.calls + 1) client key (linked_at key cache.memory.pools));
+}
+
+-- ---- the clock
+
+-- the notes of a tick: an earlier moment, or the same, is ignored
+abbrev pub tick_notes : ℕ → ℕ → List Note
+tick_notes now moment = if nat_lt now moment then Now moment ∷ [] else []
+
+abbrev pub after_tick : Cache → ℕ → Cache
+after_tick cache moment = record cache {
+  now = max cache.now moment;
+  log = told_more cache.log (tick_notes cache.now moment);
 }

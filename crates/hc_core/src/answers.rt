@@ -1,5 +1,5 @@
 // What the calls of the core answer.
-use bytes::Bytes;
+use hc_memory::{ReadHandle, Sealed};
 use hc_types::{Key, Refusal};
 use std::alloc::{Allocator, Global};
 
@@ -7,23 +7,15 @@ use std::alloc::{Allocator, Global};
 #[derive(Drop)]
 pub enum Found<A: Allocator = Global> {
     /// The value under the key, which stays readable for good.
-    Hit(Bytes<A>),
+    Hit(ReadHandle<A>),
     Miss,
 }
 
 /// What a remove answers.
 #[derive(Clone, Copy, Debug, PartialEq, Eq)]
 pub enum Removed {
-    /// An item was in memory.
+    /// An item was in memory, expired or not.
     FoundInMemory,
     /// None was.
     NotInMemory,
-}
-
-/// A set that was refused, with the key and the value that were handed in.
-#[derive(Drop)]
-pub struct Unset<A: Allocator = Global> {
-    pub refusal: Refusal,
-    pub key: Key<A>,
-    pub value: Bytes<A>,
 }

@@ -1,68 +1,73 @@
-// The core of a cache of one pool, and no flash.
-ghost use Rattle.std.specs.Prelude.{◌≡◌, ◌+◌, ◌*◌, ◌^◌, ◌≤◌, ◌⊎◌, ◌↔◌, [], None, Some, length, IfOk, OnOk, OnErr, IfErr, IfSome, IsSome, IsOk, IsErrOf, vec_len, vec_capacity};
+// The core of a cache of pools, and no flash.
+ghost use Rattle.std.specs.Prelude.{◌≡◌, ◌+◌, ◌^◌, ◌≤◌, ◌⊎◌, ◌↔◌, true, false, [], None, Some, length, max, IfOk, OnOk, OnErr, IfErr, IfSome, IsSome};
 ghost use Rattle.hc_types.specs.Limits.{first_wrong};
 ghost use Rattle.hc_history.specs.Lawful.{Legal};
+ghost use Rattle.hc_memory.specs.Item.{charge_by};
+ghost use Rattle.hc_memory.specs.Charges.{is_open};
+ghost use Rattle.hc_memory.specs.Memory.{linked_at, value_at, blank_of};
 ghost use Rattle.hc_core.specs.Answers.{found_value};
-ghost use Rattle.hc_core.specs.Steps.{after_set, after_find, after_remove, value_of, removed_of};
-ghost use Rattle.hc_core.specs.Pool.{item_at};
-ghost use Rattle.hc_core.specs.Refused.{set_refusal};
+ghost use Rattle.hc_core.specs.Cache.{new_cache};
+ghost use Rattle.hc_core.specs.Refused.{allocate_refusal, handle_refusal, insert_refusal, map_has};
+ghost use Rattle.hc_core.specs.Steps.{expiry_of, after_allocate, after_discard, after_insert, after_find, after_remove, removed_of, after_tick};
 
-use crate::answers::{Found, Removed, Unset};
-use crate::item::Item;
-use crate::plans::{Setting, number_after, ready_set};
+use crate::answers::{Found, Removed};
+use crate::plans::{Finding, expiry_after, has_unexpired};
 use crate::{plans, tells};
-use bytes::Bytes;
-use hc_history::{Kept, Note, Notes};
-use hc_types::{Config, Key, Refusal};
+use hc_history::{Kept, Note, Notes, Said};
+use hc_memory::{Blank, Charged, Pools, Sealed, Uncharged, Unlinked};
+use hc_types::{Config, Key, Refusal, VALUE_MAX, charge};
 use std::alloc::{Allocator, Global};
 use std::marker::Model;
 
-/// A cache of one pool, and no flash. Contracts see its configuration, its items, how many charges and calls there
-/// were, and its log, where it is kept.
+/// A cache of up to 16 pools, and no flash (CacheLib's `CacheAllocator`). Contracts see its configuration, its pools
+/// with what is open in them, its clock, how many calls there were, and its log, where it is kept.
 ///
 /// Each call first takes all the memory that it needs, and then changes what is there. So a refusal leaves everything
-/// as it was.
+/// as it was, and gives back the key or the handle that was handed in.
+///
+/// An item is written in two steps, as in CacheLib: `allocate` makes room and charges it, and gives a handle through
+/// which it is written; it can be found once its sealed handle is spent by `insert_or_replace` or `insert`.
 #[derive(Drop)]
 pub struct Core<N: Notes<Note<A>>, A: Allocator = Global> {
     config: Config<A>,
-    // the one that was used longest ago first
-    items: Vec<Item<A>, A>,
-    charges: u64,
+    pools: Pools<A>,
+    // seconds
+    clock: u64,
     calls: u64,
     notes: N,
 }
 
 impl<N: Notes<Note<A>>, A: Allocator> Model for Core<N, A> {
+    ghost use Rattle.std.specs.Prelude.{◌≤◌, length};
     ghost use Rattle.hc_core.specs.Cache.{Cache};
+    ghost use Rattle.hc_core.specs.Mirrors.{FitsConfig, Follows};
 
     ghost Value = { Cache };
 
-    ghost use Rattle.hc_core.specs.Sound.{Sound};
-    ghost use Rattle.hc_core.specs.Mirrors.{Follows};
+    ghost view = { λ c. record { config = c.config; memory = c.pools; now = c.clock; calls = c.calls; log = N.told c.notes } };
 
-    ghost view = { λ c. record { config = c.config; items = c.items.items; charges = c.charges; calls = c.calls; log = N.told c.notes } };
-
-    ghost invariant = { λ c. Sound c.config c.items.items × Follows (N.told c.notes) c.config c.items.items c.charges c.calls };
+    // there is room for the note that gives up each open charge
+    ghost invariant = { λ c. FitsConfig c.config c.pools × Follows (N.told c.notes) c.config c.pools c.calls c.clock × (length c.pools.charges ≤ N.room c.notes) };
 }
 
-impl<N: Notes<Note<A>>, A: Allocator + Clone> Core<N, A> {
+impl<N: Notes<Note<A>>, A: Allocator + Copy> Core<N, A> {
     /// An empty cache, which tells `notes` what it does. Its items are allocated by `alloc`, and it keeps a copy of the
-    /// configuration. That has one pool and no flash: several pools, and flash, come later. Refused for the first number
-    /// of the configuration that is outside its limits, as `Config::check` is, and with `NoMemory`.
+    /// configuration, which has no flash: that comes later. Refused for the first number of the configuration that is
+    /// outside its limits, as `Config::check` is, and with `NoMemory`.
     pub fn new(alloc: A, config: &Config<A>, notes: N) -> Result<Core<N, A>, Refusal>
         requires log { IfSome (N.told notes) (λ log. log ≡ []) }
-        requires pools { length config.now.pools ≤ 1 }
         requires flash { config.now.flash ≡ None }
-        ensures ok { IfOk result (λ core. core ≡ record { config = config.now; items = []; charges = 0; calls = 0; log = N.told notes }) }
+        ensures ok { IfOk result (λ core. core ≡ new_cache config.now (N.told notes)) }
         ensures fits { OnOk result (first_wrong config.now ≡ None) }
         ensures err { IfErr result (λ refusal. (first_wrong config.now ≡ Some refusal) ⊎ ((first_wrong config.now ≡ None) × (refusal ≡ Refusal.NoMemory))) }
     {
         config.check()?;
+        let pools = Pools::new(alloc, config)?;
         let config = config.clone()?;
         Ok(Core {
             config,
-            items: Vec::new(alloc),
-            charges: 0,
+            pools,
+            clock: 0,
             calls: 0,
             notes,
         })
@@ -70,12 +75,20 @@ impl<N: Notes<Note<A>>, A: Allocator + Clone> Core<N, A> {
 }
 
 impl<N: Notes<Note<A>>, A: Allocator> Core<N, A> {
-    /// How many calls were begun.
+    /// How many calls were begun: inserts, finds and removes that weren't refused.
     #[must_use]
     pub fn calls(&self) -> u64
         ensures { result ≡ self.now.calls }
     {
         self.calls
+    }
+
+    /// The moment that holds, in seconds.
+    #[must_use]
+    pub fn now(&self) -> u64
+        ensures { result ≡ self.now.now }
+    {
+        self.clock
     }
 
     /// The configuration that it was made with.
@@ -84,6 +97,14 @@ impl<N: Notes<Note<A>>, A: Allocator> Core<N, A> {
         ensures { result.now ≡ self.now.config }
     {
         &self.config
+    }
+
+    /// Its pools: what is charged to each, and what can be found.
+    #[must_use]
+    pub fn pools(&self) -> &Pools<A>
+        ensures { result.now ≡ self.now.memory }
+    {
+        &self.pools
     }
 
     /// Who was told the notes. A log that is kept is legal.
@@ -95,85 +116,170 @@ impl<N: Notes<Note<A>>, A: Allocator> Core<N, A> {
         &self.notes
     }
 
-    /// Takes the key and its value out of the cache. Refused with `NoMemory`: where notes are silent, only where the
-    /// call numbers have run out.
+    /// Moves the clock on to `moment` (seconds) and answers the moment that holds then: an earlier one is ignored.
+    /// Refused with `NoMemory`, only where notes are kept.
+    pub fn tick(&mut self, moment: u64) -> Result<u64, Refusal>
+        ensures ok { OnOk result (self.new ≡ after_tick self.old moment) }
+        ensures now { IfOk result (λ now. now ≡ max self.old.now moment) }
+        ensures err { OnErr result (self.new ≡ self.old) }
+        ensures memory { IfErr result (λ refusal. refusal ≡ Refusal.NoMemory) }
+        ensures silent { OnErr result (IsSome self.old.log) }
+    {
+        if moment <= self.clock {
+            return Ok(self.clock);
+        }
+        plans::make_room(&mut self.notes, &self.pools, 1)?;
+
+        self.clock = moment;
+        self.notes.note(Note::new(Said::Now { moment }));
+        Ok(moment)
+    }
+
+    /// Takes the key's item out of the cache, expired or not. Refused with `NoMemory`: where notes are silent, only
+    /// where the call numbers have run out.
     pub fn remove(&mut self, client: u8, key: &Key<A>) -> Result<Removed, Refusal>
         ensures ok { OnOk result (self.new ≡ after_remove self.old client key.now) }
-        ensures removed { IfOk result (λ removed. removed ≡ removed_of (item_at key.now self.old.items)) }
+        ensures removed { IfOk result (λ removed. removed ≡ removed_of (linked_at key.now self.old.memory.pools)) }
         ensures err { OnErr result (self.new ≡ self.old) }
         ensures memory { IfErr result (λ refusal. refusal ≡ Refusal.NoMemory) }
         ensures silent { OnErr result (IsSome self.old.log ⊎ (self.old.calls + 1 ≡ 2 ^ 64)) }
     {
-        let call = number_after(self.calls)?;
-        let begin = plans::begin_remove(&self.notes, call, client, key)?;
-        self.notes.reserve(4)?;
+        let (call, begin) = plans::remove(&mut self.notes, &self.pools, self.calls, client, key)?;
 
+        let freed = self.pools.unlink(key);
         self.calls = call;
-        let removed = tells::remove(&mut self.notes, &mut self.items, call, begin, key);
+        let removed = tells::remove(&mut self.notes, call, begin, freed);
         Ok(removed)
     }
 
-    /// Finds the value under the key, whose item becomes the one that was used last. Refused with `NoMemory`.
+    /// Finds the value under the key. Its item becomes the one of its pool that was used last; an expired one is a miss,
+    /// and stays where it is. Refused with `NoMemory`.
     pub fn find(&mut self, client: u8, key: &Key<A>) -> Result<Found<A>, Refusal>
         ensures ok { OnOk result (self.new ≡ after_find self.old client key.now) }
-        ensures found { IfOk result (λ found. found_value found ≡ value_of (item_at key.now self.old.items)) }
+        ensures found { IfOk result (λ found. found_value found ≡ value_at self.old.now key.now self.old.memory.pools) }
         ensures err { OnErr result (self.new ≡ self.old) }
         ensures memory { IfErr result (λ refusal. refusal ≡ Refusal.NoMemory) }
     {
-        let call = number_after(self.calls)?;
-        let found = plans::look_up(self.items.as_slice(), key)?;
-        let begin = plans::begin_find(&self.notes, call, client, key)?;
-        let did = plans::did_find(&self.notes, call, &found)?;
-        self.notes.reserve(3)?;
+        let Finding { call, begin, did } = plans::find(
+            &mut self.notes,
+            &self.pools,
+            self.calls,
+            client,
+            key,
+            self.clock,
+        )?;
+        let found = self.pools.find(key, self.clock)?;
 
         self.calls = call;
         tells::find(&mut self.notes, call, begin, did);
-        tells::use_item(&mut self.items, key);
-        Ok(found)
+        Ok(plans::found_by(found))
     }
 
-    /// Stores the value under the key, as the item that was used last. Room is made for it first: the items that were
-    /// used longest ago are evicted. Refused with `NoPool`, `ValueTooLong` and `NoRoom`, the first that holds, and with
-    /// `NoMemory`.
-    pub fn set(
+    /// Gives up an item that wasn't inserted; its charge is free. Refused with `ForeignHandle` alone, where the handle
+    /// isn't one of this cache's, and then it comes back.
+    pub fn discard(&mut self, sealed: Sealed<A>) -> Result<(), Sealed<A>>
+        ensures ok { OnOk result (self.new ≡ after_discard self.old sealed.number) }
+        ensures fits { OnOk result (handle_refusal self.old sealed ≡ None) }
+        ensures foreign { OnErr result (handle_refusal self.old sealed ≡ Some Refusal.ForeignHandle) }
+        ensures err { OnErr result (self.new ≡ self.old) }
+        ensures sealed_returned { IfErr result (λ back. back ≡ sealed) }
+    {
+        let charge = self.pools.discard(sealed)?;
+        self.notes.note(Note::new(Said::Freed { charge }));
+        Ok(())
+    }
+
+    /// Gives up an item that wasn't sealed; its charge is free. Refused with `ForeignHandle` alone, where the handle
+    /// isn't one of this cache's, and then it comes back.
+    pub fn discard_blank(&mut self, blank: Blank<A>) -> Result<(), Blank<A>>
+        ensures ok { OnOk result (self.new ≡ after_discard self.old blank.number) }
+        ensures fits { OnOk result (handle_refusal self.old blank ≡ None) }
+        ensures foreign { OnErr result (handle_refusal self.old blank ≡ Some Refusal.ForeignHandle) }
+        ensures err { OnErr result (self.new ≡ self.old) }
+        ensures blank_returned { IfErr result (λ back. back ≡ blank) }
+    {
+        let charge = self.pools.discard_blank(blank)?;
+        self.notes.note(Note::new(Said::Freed { charge }));
+        Ok(())
+    }
+}
+
+impl<N: Notes<Note<A>>, A: Allocator + Clone> Core<N, A> {
+    /// Makes room in the pool for an item of this key and of `size` bytes that expires `ttl` seconds from now (0: never),
+    /// and charges it: the items that were used longest ago are evicted, none while there is room. The item can't be
+    /// found until its handle is sealed and inserted. Refused with `NoPool`, `ValueTooLong` and `NoRoom`, the first that
+    /// holds, and with `NoMemory`; then the key comes back.
+    pub fn allocate(
         &mut self,
-        client: u8,
         pool: u8,
         key: Key<A>,
-        value: Bytes<A>,
-    ) -> Result<(), Unset<A>>
-        ensures ok { OnOk result (self.new ≡ after_set self.old client key value) }
-        ensures fits { OnOk result (set_refusal self.old.config pool key value ≡ None) }
+        size: u64,
+        ttl: u32,
+    ) -> Result<Blank<A>, Uncharged<A>>
+        ensures ok { OnOk result (self.new ≡ after_allocate self.old pool key size) }
+        ensures blank { IfOk result (λ blank. blank ≡ blank_of self.old.memory pool key size (expiry_of self.old.now ttl)) }
+        ensures fits { OnOk result (allocate_refusal self.old pool key size ≡ None) }
         ensures err { OnErr result (self.new ≡ self.old) }
-        ensures why { IfErr result (λ e. (set_refusal self.old.config pool key value ≡ Some e.refusal) ⊎ ((set_refusal self.old.config pool key value ≡ None) × (e.refusal ≡ Refusal.NoMemory))) }
-        ensures back { IfErr result (λ e. (e.key ≡ key) × (e.value ≡ value)) }
+        ensures why { IfErr result (λ e. (allocate_refusal self.old pool key size ≡ Some e.refusal) ⊎ ((allocate_refusal self.old pool key size ≡ None) × (e.refusal ≡ Refusal.NoMemory))) }
+        ensures key_returned { IfErr result (λ e. e.key ≡ key) }
     {
-        let set = Setting {
-            client,
-            pool,
-            key: &key,
-            value: &value,
+        let copy = match plans::allocate(&mut self.notes, &self.pools, pool, &key, size) {
+            Ok(copy) => copy,
+            Err(refusal) => return Err(Uncharged { refusal, key }),
         };
-        match ready_set(
-            &mut self.notes,
-            &mut self.items,
-            &self.config,
-            self.charges,
-            self.calls,
-            set,
-        ) {
-            Err(refusal) => Err(Unset {
-                refusal,
-                key,
-                value,
-            }),
-            Ok(ready) => {
-                self.charges = ready.charge;
-                self.calls = ready.call;
-                tells::set(&mut self.notes, &mut self.items, ready, key, value);
-                Ok(())
-            }
+        let want = charge(&key, size);
+        let _len = self.pools.len();
+        let Charged { blank, victims } = self
+            .pools
+            .charge(pool, key, size, expiry_after(self.clock, ttl))?;
+
+        tells::evictions(&mut self.notes, self.clock, pool, want, victims);
+        tells::charged(&mut self.notes, copy, blank.number(), pool, want);
+        Ok(blank)
+    }
+
+    /// Inserts the item of the handle, as the one of its pool that was used last, in place of the key's item in whichever
+    /// pool. Refused with `ForeignHandle` where the handle isn't one of this cache's, and with `NoMemory`; then the
+    /// handle comes back.
+    pub fn insert_or_replace(&mut self, client: u8, sealed: Sealed<A>) -> Result<(), Unlinked<A>>
+        ensures ok { OnOk result (self.new ≡ after_insert self.old client sealed) }
+        ensures fits { OnOk result (handle_refusal self.old sealed ≡ None) }
+        ensures err { OnErr result (self.new ≡ self.old) }
+        ensures why { IfErr result (λ e. (handle_refusal self.old sealed ≡ Some e.refusal) ⊎ ((handle_refusal self.old sealed ≡ None) × (e.refusal ≡ Refusal.NoMemory))) }
+        ensures sealed_returned { IfErr result (λ e. e.sealed ≡ sealed) }
+    {
+        let plan = plans::insert(&mut self.notes, &self.pools, self.calls, client, &sealed);
+        let (call, begin) = match plan {
+            Ok(plan) => plan,
+            Err(refusal) => return Err(Unlinked { refusal, sealed }),
+        };
+        let charge = sealed.number();
+        let _len = self.pools.len();
+        let old = self.pools.link(sealed, false)?;
+
+        self.calls = call;
+        tells::insert(&mut self.notes, call, begin, old, charge);
+        Ok(())
+    }
+
+    /// Inserts the item of the handle where the key has no unexpired item, which isn't replaced. Refused with `Exists`
+    /// where it has one, and else as `insert_or_replace` is; then the handle comes back.
+    pub fn insert(&mut self, client: u8, sealed: Sealed<A>) -> Result<(), Unlinked<A>>
+        ensures ok { OnOk result (self.new ≡ after_insert self.old client sealed) }
+        ensures fits { OnOk result (insert_refusal self.old sealed ≡ None) }
+        ensures free { IfSome self.old.log (λ log. OnOk result (map_has log sealed.key ≡ false)) }
+        ensures exists { IfSome self.old.log (λ log. IfErr result (λ e. (e.refusal ≡ Refusal.Exists) ↔ (map_has log sealed.key ≡ true))) }
+        ensures err { OnErr result (self.new ≡ self.old) }
+        ensures why { IfErr result (λ e. (insert_refusal self.old sealed ≡ Some e.refusal) ⊎ ((insert_refusal self.old sealed ≡ None) × (e.refusal ≡ Refusal.NoMemory))) }
+        ensures sealed_returned { IfErr result (λ e. e.sealed ≡ sealed) }
+    {
+        if has_unexpired(&self.pools, sealed.key(), self.clock) {
+            return Err(Unlinked {
+                refusal: Refusal::Exists,
+                sealed,
+            });
         }
+        self.insert_or_replace(client, sealed)
     }
 }
 
@@ -186,8 +292,8 @@ impl<A: Allocator> Core<Kept<A>, A> {
     {
         let Core {
             config: _,
-            items: _,
-            charges: _,
+            pools: _,
+            clock: _,
             calls: _,
             notes,
         } = self;

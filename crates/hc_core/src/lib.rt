@@ -3,15 +3,20 @@
 
 mod answers;
 mod cache;
-mod item;
+mod opens;
 mod plans;
-mod pool;
 mod runs;
+mod slots;
+mod stage;
+mod steps;
 mod tells;
 
-pub use answers::{Found, Removed, Unset};
+pub use answers::{Found, Removed};
 pub use cache::Core;
-pub use runs::{Answer, Call, Ran, Request, run, step};
+pub use opens::{give_up, give_up_blank, open};
+pub use runs::{Ran, run};
+pub use stage::Stage;
+pub use steps::{Answer, Outcome, Request, Step};
 
 #[cfg(test)]
 mod tests;

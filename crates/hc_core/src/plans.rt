@@ -1,25 +1,25 @@
-// What a call needs before it changes anything: its number, the notes that copy keys and values, and room.
-ghost use Rattle.std.specs.Prelude.{◌≡◌, ℕ, ◌+◌, ◌*◌, ◌^◌, ◌<◌, ◌≤◌, ◌++◌, ◌⊎◌, List, [], ◌∷◌, length, drop, take, Option, None, Some, IfOk, OnOk, OnErr, IfErr, IsSome, vec_len, vec_capacity};
+// What a call needs before it changes anything: its number, and the notes that copy keys and values.
+ghost use Rattle.std.specs.Prelude.{◌≡◌, ◌+◌, ◌*◌, ◌^◌, ◌≤◌, ◌⊎◌, true, false, length, is_some, None, Some, IfOk, OnOk, OnErr, IfErr, IsSome};
 ghost use Rattle.hc_types.specs.Charge.{charge_of};
-ghost use Rattle.hc_history.specs.Note.{Begin, Did, Charged, Insert, Find, Remove};
+ghost use Rattle.hc_history.specs.Note.{Begin, Did, Insert, Find, Remove};
 ghost use Rattle.hc_history.specs.Told.{where_kept};
-ghost use Rattle.hc_core.specs.Pool.{only_pool as size_of_only, item_at, dropped, kept};
-ghost use Rattle.hc_core.specs.Refused.{set_refusal};
-ghost use Rattle.hc_core.specs.Sound.{Sound};
+ghost use Rattle.hc_history.specs.Seen.{reply_of};
+ghost use Rattle.hc_memory.specs.Item.{charge_by};
+ghost use Rattle.hc_memory.specs.Pool.{unexpired};
+ghost use Rattle.hc_memory.specs.Charges.{is_open};
+ghost use Rattle.hc_memory.specs.Memory.{linked_at, value_at, victims_of};
 ghost use Rattle.hc_core.specs.Answers.{found_value};
-ghost use Rattle.hc_core.specs.Ready.{IsReady};
-ghost use Rattle.hc_core.specs.Steps.{value_of, find_reply};
+ghost use Rattle.hc_core.specs.Refused.{refusal_of};
+ghost use Rattle.hc_core.specs.Steps.{find_reply, expiry_of};
 
 use crate::answers::Found;
-use crate::item::Item;
-use crate::pool::{only_pool, place_of, victims};
-use bytes::Bytes;
 use hc_history::{Note, Notes, Op, Reply, Said};
-use hc_types::{Config, Key, Refusal, VALUE_MAX, charge};
+use hc_memory::{Pools, ReadHandle, Sealed};
+use hc_types::{Key, Refusal, VALUE_MAX, charge};
 use std::alloc::{AllocError, Allocator};
 
 /// The number after `last`. Refused with `NoMemory` where the numbers have run out.
-pub fn number_after(last: u64) -> Result<u64, Refusal>
+fn number_after(last: u64) -> Result<u64, Refusal>
     ensures ok { IfOk result (λ n. n ≡ last + 1) }
     ensures err { IfErr result (λ refusal. (refusal ≡ Refusal.NoMemory) × (last + 1 ≡ 2 ^ 64)) }
 {
@@ -29,8 +29,33 @@ pub fn number_after(last: u64) -> Result<u64, Refusal>
     Ok(last + 1)
 }
 
+/// The second at which an item expires that is to live for `ttl` seconds from `now` on: never where `ttl` is 0, and at
+/// the last second at the latest.
+pub fn expiry_after(now: u64, ttl: u32) -> u64
+    ensures { result ≡ expiry_of now ttl }
+{
+    if ttl == 0 {
+        return 0;
+    }
+    now.saturating_add(u64::from(ttl))
+}
+
+/// A copy of the key, where notes are kept.
+fn copy_of<A: Allocator, N: Notes<Note<A>>>(
+    notes: &N,
+    key: &Key<A>,
+) -> Result<Option<Key<A>>, AllocError>
+    ensures copy { IfOk result (λ copy. copy ≡ where_kept (N.told notes.now) key.now) }
+    ensures silent { OnErr result (IsSome (N.told notes.now)) }
+{
+    if !notes.keeps() {
+        return Ok(None);
+    }
+    Ok(Some(key.clone()?))
+}
+
 /// The note with which a find of the key begins, where notes are kept.
-pub fn begin_find<A: Allocator, N: Notes<Note<A>>>(
+fn begin_find<A: Allocator, N: Notes<Note<A>>>(
     notes: &N,
     call: u64,
     client: u8,
@@ -47,7 +72,7 @@ pub fn begin_find<A: Allocator, N: Notes<Note<A>>>(
 }
 
 /// The note with which a remove of the key begins, where notes are kept.
-pub fn begin_remove<A: Allocator, N: Notes<Note<A>>>(
+fn begin_remove<A: Allocator, N: Notes<Note<A>>>(
     notes: &N,
     call: u64,
     client: u8,
@@ -63,158 +88,212 @@ pub fn begin_remove<A: Allocator, N: Notes<Note<A>>>(
     Ok(Some(Note::new(Said::Begin { call, client, op })))
 }
 
-/// The note with which an insert begins, where notes are kept.
-pub fn begin_insert<A: Allocator, N: Notes<Note<A>>>(
+/// The note with which the insert of a handle's item begins, where notes are kept.
+fn begin_insert<A: Allocator, N: Notes<Note<A>>>(
     notes: &N,
     call: u64,
     client: u8,
-    key: &Key<A>,
-    value: &Bytes<A>,
+    sealed: &Sealed<A>,
 ) -> Result<Option<Note<A>>, AllocError>
-    ensures told { IfOk result (λ note. note ≡ where_kept (N.told notes.now) (Begin call client (Insert key.now value.now 0))) }
+    ensures told { IfOk result (λ note. note ≡ where_kept (N.told notes.now) (Begin call client (Insert sealed.now.key sealed.now.value sealed.now.expiry))) }
     ensures silent { OnErr result (IsSome (N.told notes.now)) }
 {
     if !notes.keeps() {
         return Ok(None);
     }
-    let op = Op::Insert(key.clone()?, value.clone()?, 0);
+    let key = sealed.key().clone()?;
+    let value = sealed.to_bytes()?;
+    let op = Op::Insert(key, value, sealed.expiry());
     Ok(Some(Note::new(Said::Begin { call, client, op })))
 }
 
-/// The note of a charge, where notes are kept.
-pub fn charged<A: Allocator, N: Notes<Note<A>>>(
-    notes: &N,
-    charge: u64,
+/// What a find of the key at `now` (seconds) answers.
+fn reply_to_find<A: Allocator>(
+    pools: &Pools<A>,
     key: &Key<A>,
-    bytes: u64,
-) -> Result<Option<Note<A>>, AllocError>
-    ensures told { IfOk result (λ note. note ≡ where_kept (N.told notes.now) (Charged charge key.now 0 bytes)) }
-    ensures silent { OnErr result (IsSome (N.told notes.now)) }
+    now: u64,
+) -> Result<Reply<A>, AllocError>
+    ensures { IfOk result (λ reply. reply_of reply ≡ find_reply (value_at now key.now pools.now.pools)) }
 {
-    if !notes.keeps() {
-        return Ok(None);
+    match pools.value(key, now)? {
+        Some(value) => Ok(Reply::Hit(value)),
+        None => Ok(Reply::Miss),
     }
-    let key = key.clone()?;
-    Ok(Some(Note::new(Said::Charged {
-        charge,
-        key,
-        pool: 0,
-        bytes,
-    })))
 }
 
-/// The note that answers a find, where notes are kept.
-pub fn did_find<A: Allocator, N: Notes<Note<A>>>(
+/// The note that answers a find of the key at `now` (seconds), where notes are kept.
+fn did_find<A: Allocator, N: Notes<Note<A>>>(
     notes: &N,
     call: u64,
-    found: &Found<A>,
+    pools: &Pools<A>,
+    key: &Key<A>,
+    now: u64,
 ) -> Result<Option<Note<A>>, AllocError>
-    ensures told { IfOk result (λ note. note ≡ where_kept (N.told notes.now) (Did call (find_reply (found_value found.now)))) }
+    ensures told { IfOk result (λ note. note ≡ where_kept (N.told notes.now) (Did call (find_reply (value_at now key.now pools.now.pools)))) }
     ensures silent { OnErr result (IsSome (N.told notes.now)) }
 {
     if !notes.keeps() {
         return Ok(None);
     }
-    let reply = match found {
-        Found::Hit(value) => Reply::Hit(value.clone()?),
-        Found::Miss => Reply::Miss,
-    };
+    let reply = reply_to_find(pools, key, now)?;
     Ok(Some(Note::new(Said::Did { call, reply })))
 }
 
-/// What a find of the key answers.
-pub fn look_up<A: Allocator>(items: &[Item<A>], key: &Key<A>) -> Result<Found<A>, AllocError>
-    ensures { IfOk result (λ found. found_value found ≡ value_of (item_at key.now items.now)) }
+/// Whether an item stands under the key that isn't expired at `now` (seconds).
+pub fn has_unexpired<A: Allocator>(pools: &Pools<A>, key: &Key<A>, now: u64) -> bool
+    ensures { result ≡ is_some (unexpired now (linked_at key.now pools.now.pools)) }
 {
-    match place_of(items, key) {
-        Some(place) => {
-            let item = &items[place];
-            Ok(Found::Hit(item.value.clone()?))
-        }
-        None => Ok(Found::Miss),
+    match pools.peek(key) {
+        Some(glance) => !glance.is_expired(now),
+        None => false,
     }
 }
 
-/// What a set of this key and value to this pool is refused with, memory apart: `NoPool`, `ValueTooLong` or `NoRoom`,
-/// the first that holds. Otherwise what its item is charged, in bytes.
-pub fn wanted<A: Allocator>(
-    config: &Config<A>,
+/// What a find answers, by what the pools found.
+pub fn found_by<A: Allocator>(found: Option<ReadHandle<A>>) -> Found<A>
+    ensures { found_value result ≡ found }
+{
+    match found {
+        Some(handle) => Found::Hit(handle),
+        None => Found::Miss,
+    }
+}
+
+/// Makes room for so many notes, beside one for each open charge.
+pub fn make_room<A: Allocator, N: Notes<Note<A>>>(
+    notes: &mut N,
+    pools: &Pools<A>,
+    count: usize,
+) -> Result<(), AllocError>
+    requires { count ≤ 2 ^ 32 }
+    ensures same { N.told notes.new ≡ N.told notes.old }
+    ensures room { OnOk result (count + length pools.now.charges ≤ N.room notes.new) }
+    ensures more { N.room notes.old ≤ N.room notes.new }
+    ensures silent { OnErr result (IsSome (N.told notes.old)) }
+{
+    notes.reserve(count + pools.open_charges())
+}
+
+/// Why an item of this key and of `size` bytes isn't allocated: `NoPool`, `ValueTooLong` or `NoRoom`, the first that
+/// holds. Otherwise how many items go to make room for it.
+fn victims_for<A: Allocator>(
+    pools: &Pools<A>,
     pool: u8,
     key: &Key<A>,
-    value: &Bytes<A>,
-) -> Result<u64, Refusal>
-    requires { length config.now.pools ≡ 1 }
-    ensures ok { IfOk result (λ want. (want ≡ charge_of key.now (length value.now)) × (want ≤ (size_of_only config.now).bytes)) }
-    ensures fits { OnOk result (set_refusal config.now pool key.now value.now ≡ None) }
-    ensures err { IfErr result (λ refusal. set_refusal config.now pool key.now value.now ≡ Some refusal) }
+    size: u64,
+) -> Result<usize, Refusal>
+    ensures count { IfOk result (λ count. count ≡ length (victims_of pools.now pool (charge_of key.now size))) }
+    ensures most { IfOk result (λ count. count ≤ 1048576) }
+    ensures fits { OnOk result (refusal_of pools.now pool key.now size ≡ None) }
+    ensures err { IfErr result (λ refusal. refusal_of pools.now pool key.now size ≡ Some refusal) }
 {
-    if pool != 0 {
+    if usize::from(pool) >= pools.len() {
         return Err(Refusal::NoPool);
     }
-    if value.len() as u64 > VALUE_MAX {
+    if size > VALUE_MAX {
         return Err(Refusal::ValueTooLong);
     }
-    let want = charge(key, value.len() as u64);
-    if want > only_pool(config).bytes {
-        return Err(Refusal::NoRoom);
-    }
-    Ok(want)
+    pools.victims(pool, charge(key, size))
 }
 
-/// What is to be set.
-#[derive(Clone, Copy)]
-pub struct Setting<'a, A: Allocator> {
-    pub client: u8,
-    pub pool: u8,
-    pub key: &'a Key<A>,
-    pub value: &'a Bytes<A>,
-}
-
-/// A set that can't fail any more: how many items go, the numbers of the charge and the call, the bytes that are
-/// charged, and the notes that copy the key and the value.
-#[derive(Drop)]
-pub struct Ready<A: Allocator> {
-    pub gone: usize,
-    pub charge: u64,
-    pub call: u64,
-    pub want: u64,
-    pub charged: Option<Note<A>>,
-    pub begin: Option<Note<A>>,
-}
-
-/// Makes a set ready, after so many charges and calls.
-pub fn ready_set<A: Allocator, N: Notes<Note<A>>>(
+/// What an allocation needs before it changes anything: a copy of the key, where notes are kept, and room for its notes.
+pub fn allocate<A: Allocator, N: Notes<Note<A>>>(
     notes: &mut N,
-    items: &mut Vec<Item<A>, A>,
-    config: &Config<A>,
-    charges: u64,
-    calls: u64,
-    set: Setting<'_, A>,
-) -> Result<Ready<A>, Refusal>
-    requires { Sound config.now items.old.items }
+    pools: &Pools<A>,
+    pool: u8,
+    key: &Key<A>,
+    size: u64,
+) -> Result<Option<Key<A>>, Refusal>
     ensures same { N.told notes.new ≡ N.told notes.old }
-    ensures items { items.new.items ≡ items.old.items }
-    ensures len { vec_len items.new ≡ vec_len items.old }
-    ensures room { IfOk result (λ ready. 2 * ready.gone + 6 ≤ N.room notes.new) }
-    ensures place { OnOk result (vec_len items.new < vec_capacity items.new) }
-    ensures ready { IfOk result (IsReady (N.told notes.old) config.now items.old.items charges calls set.entry.client set.entry.key.now set.entry.value.now) }
-    ensures fits { OnOk result (set_refusal config.now set.entry.pool set.entry.key.now set.entry.value.now ≡ None) }
-    ensures err { IfErr result (λ refusal. (set_refusal config.now set.entry.pool set.entry.key.now set.entry.value.now ≡ Some refusal) ⊎ ((set_refusal config.now set.entry.pool set.entry.key.now set.entry.value.now ≡ None) × (refusal ≡ Refusal.NoMemory))) }
+    ensures copy { IfOk result (λ copy. copy ≡ where_kept (N.told notes.old) key.now) }
+    ensures room { OnOk result (2 * length (victims_of pools.now pool (charge_of key.now size)) + 2 + length pools.now.charges ≤ N.room notes.new) }
+    ensures more { N.room notes.old ≤ N.room notes.new }
+    ensures fits { OnOk result (refusal_of pools.now pool key.now size ≡ None) }
+    ensures err { IfErr result (λ refusal. (refusal_of pools.now pool key.now size ≡ Some refusal) ⊎ ((refusal_of pools.now pool key.now size ≡ None) × (refusal ≡ Refusal.NoMemory))) }
 {
-    let want = wanted(config, set.pool, set.key, set.value)?;
-    let charge = number_after(charges)?;
+    let count = victims_for(pools, pool, key, size)?;
+    let copy = copy_of(notes, key)?;
+    make_room(notes, pools, 2 * count + 2)?;
+    Ok(copy)
+}
+
+/// What an insert needs before it changes anything: its number, and the note with which it begins, where notes are
+/// kept. Room is made for its notes.
+pub fn insert<A: Allocator, N: Notes<Note<A>>>(
+    notes: &mut N,
+    pools: &Pools<A>,
+    calls: u64,
+    client: u8,
+    sealed: &Sealed<A>,
+) -> Result<(u64, Option<Note<A>>), Refusal>
+    ensures same { N.told notes.new ≡ N.told notes.old }
+    ensures call { IfOk result (λ plan. plan.0 ≡ calls + 1) }
+    ensures begin { IfOk result (λ plan. plan.1 ≡ where_kept (N.told notes.old) (Begin plan.0 client (Insert sealed.now.key sealed.now.value sealed.now.expiry))) }
+    ensures room { OnOk result (5 + length pools.now.charges ≤ N.room notes.new) }
+    ensures more { N.room notes.old ≤ N.room notes.new }
+    ensures mine { OnOk result (is_open (charge_by sealed.now) pools.now.charges ≡ true) }
+    ensures err { IfErr result (λ refusal. ((is_open (charge_by sealed.now) pools.now.charges ≡ false) × (refusal ≡ Refusal.ForeignHandle)) ⊎ ((is_open (charge_by sealed.now) pools.now.charges ≡ true) × (refusal ≡ Refusal.NoMemory))) }
+{
+    if !pools.knows(sealed) {
+        return Err(Refusal::ForeignHandle);
+    }
     let call = number_after(calls)?;
-    items.reserve(1)?;
-    let gone = victims(config, items.as_slice(), want);
-    let charged = charged(notes, charge, set.key, want)?;
-    let begin = begin_insert(notes, call, set.client, set.key, set.value)?;
-    notes.reserve(2 * gone + 6)?;
-    Ok(Ready {
-        gone,
-        charge,
-        call,
-        want,
-        charged,
-        begin,
-    })
+    let begin = begin_insert(notes, call, client, sealed)?;
+    make_room(notes, pools, 5)?;
+    Ok((call, begin))
+}
+
+/// What a remove needs before it changes anything: its number, and the note with which it begins, where notes are kept.
+/// Room is made for its notes.
+pub fn remove<A: Allocator, N: Notes<Note<A>>>(
+    notes: &mut N,
+    pools: &Pools<A>,
+    calls: u64,
+    client: u8,
+    key: &Key<A>,
+) -> Result<(u64, Option<Note<A>>), Refusal>
+    ensures same { N.told notes.new ≡ N.told notes.old }
+    ensures call { IfOk result (λ plan. plan.0 ≡ calls + 1) }
+    ensures begin { IfOk result (λ plan. plan.1 ≡ where_kept (N.told notes.old) (Begin plan.0 client (Remove key.now))) }
+    ensures room { OnOk result (4 + length pools.now.charges ≤ N.room notes.new) }
+    ensures more { N.room notes.old ≤ N.room notes.new }
+    ensures err { IfErr result (λ refusal. refusal ≡ Refusal.NoMemory) }
+    ensures silent { OnErr result (IsSome (N.told notes.old) ⊎ (calls + 1 ≡ 2 ^ 64)) }
+{
+    let call = number_after(calls)?;
+    let begin = begin_remove(notes, call, client, key)?;
+    make_room(notes, pools, 4)?;
+    Ok((call, begin))
+}
+
+/// A find that only has to look the item up: its number, and its notes, where they are kept.
+#[derive(Drop)]
+pub struct Finding<A: Allocator> {
+    pub call: u64,
+    pub begin: Option<Note<A>>,
+    pub did: Option<Note<A>>,
+}
+
+/// What a find at `now` (seconds) needs before it changes anything. Room is made for its notes.
+pub fn find<A: Allocator, N: Notes<Note<A>>>(
+    notes: &mut N,
+    pools: &Pools<A>,
+    calls: u64,
+    client: u8,
+    key: &Key<A>,
+    now: u64,
+) -> Result<Finding<A>, Refusal>
+    ensures same { N.told notes.new ≡ N.told notes.old }
+    ensures call { IfOk result (λ plan. plan.call ≡ calls + 1) }
+    ensures begin { IfOk result (λ plan. plan.begin ≡ where_kept (N.told notes.old) (Begin plan.call client (Find key.now))) }
+    ensures did { IfOk result (λ plan. plan.did ≡ where_kept (N.told notes.old) (Did plan.call (find_reply (value_at now key.now pools.now.pools)))) }
+    ensures room { OnOk result (3 + length pools.now.charges ≤ N.room notes.new) }
+    ensures more { N.room notes.old ≤ N.room notes.new }
+    ensures err { IfErr result (λ refusal. refusal ≡ Refusal.NoMemory) }
+{
+    let call = number_after(calls)?;
+    let begin = begin_find(notes, call, client, key)?;
+    let did = did_find(notes, call, pools, key, now)?;
+    make_room(notes, pools, 3)?;
+    Ok(Finding { call, begin, did })
 }

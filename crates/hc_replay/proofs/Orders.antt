@@ -3,7 +3,7 @@ use Rattle.std.proofs.Common.{◌≡◌, ℕ, List, ◌∷◌, Bool, true, false
 use Rattle.std.specs.Str.{bytes_eq}
 use Rattle.std.specs.Prelude.{codes}
 use Rattle.hc_replay.specs.Lines.{fields_of, Several}
-use Rattle.hc_replay.specs.Grammar.{Order, pool_order, set_order, get_order, del_order, noflash_order, order_of}
+use Rattle.hc_replay.specs.Grammar.{Order, get_order, del_order, noflash_order, order_of}
 use Rattle.hc_replay.proofs.Parts.{Some-fields, fields-some}
 
 pub several : (bytes field rest : List ℕ) → fields_of bytes ≡ field ∷ fields_of rest → Several (fields_of bytes)
@@ -17,12 +17,6 @@ several-get fields s = rw s.is refl
 pub several-del : (fields : List (List ℕ)) → Several fields → del_order fields ≡ None
 several-del fields s = rw s.is refl
 
-pub several-pool : (bytes : List ℕ) (fields : List (List ℕ)) → Several fields → pool_order (bytes ∷ fields) ≡ None
-several-pool bytes fields s = rw s.is refl
-
-pub several-set : (pool key value : List ℕ) (fields : List (List ℕ)) → Several fields → set_order (pool ∷ key ∷ value ∷ fields) ≡ None
-several-set pool key value fields s = rw s.is refl
-
 some-noflash : (fields : List (List ℕ)) → Some-fields fields → noflash_order fields ≡ None
 some-noflash fields s = rw s.is refl
 
@@ -30,6 +24,7 @@ either-none : (b : Bool) (order : Option Order) → order ≡ None → None ≡ 
 either-none b order e = elim b as (λ b. ◌≡◌ {A = Option Order} None (if b then order else None)) [ true ↦ rw e refl | false ↦ refl ]
 
 -- no word but `noflash` may stand alone, and that one only alone
-pub no-word : (word fields : List ℕ) → bytes_eq word (codes "get") ≡ false → bytes_eq word (codes "set") ≡ false → bytes_eq word (codes "del") ≡ false → bytes_eq word (codes "pool") ≡ false
-    → None ≡ order_of (word ∷ fields_of fields)
-no-word word fields g s d p = rw (g, s, d, p) (either-none (bytes_eq word (codes "noflash")) (noflash_order (fields_of fields)) (some-noflash (fields_of fields) (fields-some fields)))
+pub no-word : (word fields : List ℕ) → bytes_eq word (codes "get") ≡ false → bytes_eq word (codes "set") ≡ false → bytes_eq word (codes "add") ≡ false → bytes_eq word (codes "del") ≡ false
+    → bytes_eq word (codes "now") ≡ false → bytes_eq word (codes "pool") ≡ false → None ≡ order_of (word ∷ fields_of fields)
+no-word word fields g s a d n p =
+    rw (g, s, a, d, n, p) (either-none (bytes_eq word (codes "noflash")) (noflash_order (fields_of fields)) (some-noflash (fields_of fields) (fields-some fields)))

@@ -5,11 +5,10 @@ use Rattle.std.proofs.lemmas.Grind.{common_steps}
 use Rattle.std.proofs.KnownBytes.{Appends-nil, Appends-trans, Consumes-nil, Consumes-trans, Keeps-refl, append_known-grown}
 use Rattle.std.specs.Io.KnownBytes.{Appends, Consumes, IsAtEnd, append_known}
 use Rattle.hc_replay.specs.declared.state.State.{State}
-use Rattle.hc_replay.specs.declared.state.State.TheVariants.{Bare}
 use Rattle.hc_replay.specs.Lines.{onto_first, lines_of, Lacks}
 use Rattle.hc_replay.specs.Texts.{fault_text}
 use Rattle.hc_replay.specs.Trace.{onto, output_of, Answers}
-use Rattle.hc_replay.specs.Machine.{stops, turn_of, ended, after_turn, output_from, output_after, Leads, Ends}
+use Rattle.hc_replay.specs.Machine.{begun, stops, turn_of, ended, after_turn, output_from, output_after, Leads, Ends}
 use Rattle.hc_replay.proofs.Parts.{lacks-append, lines-ended}
 use Rattle.hc_replay.proofs.Same.{whole-same}
 
@@ -115,26 +114,26 @@ leads-more {a} {b} {n} {m} {first} {state} {bytes} {line} c k next chunk rest l 
 
 -- the trace stops in the chunk
 answers-stopped : (read now new old mid after : Option (List ℕ)) (bytes line chunk : List ℕ) (m : ℕ) (state : State) → Consumes read now bytes → Consumes now new chunk
-    → Leads old mid 0 Bare bytes m state line → Ends mid after m state (line ++ chunk) → Answers read old after 1
+    → Leads old mid 0 begun bytes m state line → Ends mid after m state (line ++ chunk) → Answers read old after 1
 answers-stopped None now new old mid after bytes line chunk m state c d l r = tt
 answers-stopped (Some input) None new old mid after bytes line chunk m state c d l r = absurd c
 answers-stopped (Some input) (Some rest) None old mid after bytes line chunk m state c d l r = absurd d
 answers-stopped (Some input) (Some rest) (Some next) old mid after bytes line chunk m state c d l r =
     let whole : output_of input ≡ (l.text ++ r.text, 1) =
-    whole-same input ∙ ap (output_after 0 Bare) (c ∙ ap (λ z. bytes ++ z) d) ∙ l.follows (chunk ++ next) ∙ ap (λ z. onto l.text (output_after m state z)) (sym (append_assoc line chunk next)) ∙ ap (onto l.text) (r.follows next) in (
+    whole-same input ∙ ap (output_after 0 begun) (c ∙ ap (λ z. bytes ++ z) d) ∙ l.follows (chunk ++ next) ∙ ap (λ z. onto l.text (output_after m state z)) (sym (append_assoc line chunk next)) ∙ ap (onto l.text) (r.follows next) in (
       sym (ap (λ z. z.1) whole),
       rw whole (Appends-trans old mid after l.text r.text l.wrote r.wrote),
     )
 
 -- the end
-answers-ended : (read now old mid after : Option (List ℕ)) (bytes line : List ℕ) (m status : ℕ) (state : State) → Consumes read now bytes → IsAtEnd now → Leads old mid 0 Bare bytes m state line → Lacks 10 line
+answers-ended : (read now old mid after : Option (List ℕ)) (bytes line : List ℕ) (m status : ℕ) (state : State) → Consumes read now bytes → IsAtEnd now → Leads old mid 0 begun bytes m state line → Lacks 10 line
     → status ≡ (output_from m state (if length line == 0 then [] else line ∷ [])).1 → Appends mid after (output_from m state (if length line == 0 then [] else line ∷ [])).0 → Answers read old after status
 answers-ended None now old mid after bytes line m status state c e l o s w = tt
 answers-ended (Some input) None old mid after bytes line m status state c e l o s w = absurd c
 answers-ended (Some input) (Some rest) old mid after bytes line m status state c e l o s w =
     let out : List ℕ × ℕ = output_from m state (if length line == 0 then [] else line ∷ []) in
     let last : output_after m state (line ++ []) ≡ out = ap (output_after m state) (append-nil line) ∙ ap (output_from m state) (lines-last line o) in
-    let whole : output_of input ≡ onto l.text out = whole-same input ∙ ap (output_after 0 Bare) (c ∙ ap (λ z. bytes ++ z) e) ∙ l.follows [] ∙ ap (onto l.text) last in (
+    let whole : output_of input ≡ onto l.text out = whole-same input ∙ ap (output_after 0 begun) (c ∙ ap (λ z. bytes ++ z) e) ∙ l.follows [] ∙ ap (onto l.text) last in (
       s ∙ sym (ap (λ z. z.1) whole),
       rw whole (Appends-trans old mid after l.text out.0 l.wrote w),
     )
@@ -154,10 +153,10 @@ written (Some x) (Some y) (Some z) out text h w = append-nil z ∙ w ∙ h
 pub record Progress (read now old new : Option (List ℕ)) (m : ℕ) (state : State) (line : List ℕ) : Type 0 where
   pub bytes : List ℕ
   pub took : Consumes read now bytes
-  pub leads : Leads old new 0 Bare bytes m state line
+  pub leads : Leads old new 0 begun bytes m state line
 
-pub progress-start : (read old : Option (List ℕ)) → Progress read read old old 0 Bare []
-progress-start read old = record { bytes = []; took = Consumes-nil read; leads = leads-start old 0 Bare [] }
+pub progress-start : (read old : Option (List ℕ)) → Progress read read old old 0 begun []
+progress-start read old = record { bytes = []; took = Consumes-nil read; leads = leads-start old 0 begun [] }
 
 pub progress-written : {read now old : Option (List ℕ)} {m : ℕ} {state : State} {line : List ℕ} (b c : Option (List ℕ)) (out new : List ℕ) → Progress read now old (append_known b out) m state line → Appends b c out → new ≡ []
     → Progress read now old (append_known c new) m state line

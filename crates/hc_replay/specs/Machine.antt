@@ -1,15 +1,20 @@
 -- The same one line after another: where a trace stands, and what comes of its next line.
-use Rattle.std.specs.Prelude.{◌≡◌, ℕ, ◌+◌, Bool, true, false, List, [], ◌∷◌, ◌++◌, Option, None, if◌then◌else◌}
+use Rattle.std.specs.Prelude.{◌≡◌, ℕ, ◌+◌, Bool, true, false, List, [], ◌∷◌, ◌++◌, Option, Some, None, if◌then◌else◌}
 use Rattle.std.specs.Io.KnownBytes.{Appends}
-use Rattle.hc_types.specs.Limits.{pool_fits}
-use Rattle.hc_types.specs.declared.refusal.Refusal.TheVariants.{BadPool}
+use Rattle.hc_types.specs.Limits.{first_wrong}
+use Rattle.hc_types.specs.declared.config.PoolSize.{PoolSize}
+use Rattle.hc_types.specs.declared.refusal.Refusal.{Refusal}
 use Rattle.hc_replay.specs.declared.state.State.{State}
-use Rattle.hc_replay.specs.declared.state.State.TheVariants.{Bare, Sized, Running}
+use Rattle.hc_replay.specs.declared.state.State.TheVariants.{Configuring, Running}
 use Rattle.hc_replay.specs.Lines.{lines_of}
 use Rattle.hc_replay.specs.Grammar.{Order, Line, Skipped, Says, Fault, Pool, NoFlash, Do, line_of}
 use Rattle.hc_replay.specs.Moves.{move}
 use Rattle.hc_replay.specs.Texts.{line_text, refusal_text, fault_text}
 use Rattle.hc_replay.specs.Trace.{config_of, empty_cache, step_text, ending, onto}
+
+-- where a trace begins
+abbrev pub begun : State
+begun = Configuring []
 
 -- whether the trace goes on, where it stands, and what is printed
 pub record Turn : Type 0 where
@@ -23,12 +28,15 @@ goes state text = record { goes = true; state = state; text = text }
 abbrev pub stops : State → List ℕ → Turn
 stops state text = record { goes = false; state = state; text = text }
 
+-- the end of the configuration of these pools, which may be refused
+abbrev pub configured : List PoolSize → Option Refusal → Turn
+configured sizes None = goes (Running (empty_cache (config_of sizes))) []
+configured sizes (Some refusal) = stops (Configuring sizes) (line_text (refusal_text refusal))
+
 -- an order, where n lines stand before it
 abbrev pub obeyed : ℕ → State → Order → Turn
-obeyed n Bare (Pool bytes items) = goes (Sized (record { bytes = bytes; items = items })) []
-obeyed n Bare NoFlash = stops Bare (line_text (refusal_text BadPool))
-obeyed n (Sized size) NoFlash =
-    if pool_fits size then goes (Running (empty_cache (config_of size))) [] else stops (Sized size) (line_text (refusal_text BadPool))
+obeyed n (Configuring sizes) (Pool bytes items) = goes (Configuring (sizes ++ record { bytes = bytes; items = items } ∷ [])) []
+obeyed n (Configuring sizes) NoFlash = configured sizes (first_wrong (config_of sizes))
 obeyed n (Running cache) (Do step) = goes (Running (move step cache).cache) (step_text (move step cache))
 obeyed n state order = stops state (fault_text (n + 1))
 

@@ -19,6 +19,14 @@ number_of (c ∷ text) = if c == 48 && nat_lt 0 (length text) then None else dig
 abbrev pub IsNumberOf : List ℕ → Option ℕ → Type 0
 IsNumberOf text number = MatchOption number ((n : ℕ) → n < 2 ^ 64 → text ≢ decimal n) (λ n. (n < 2 ^ 64) × (text ≡ decimal n))
 
+-- a number below this limit
+abbrev pub below : ℕ → Option ℕ → Option ℕ
+below limit None = None
+below limit (Some n) = if nat_lt n limit then Some n else None
+
+abbrev pub number_below : ℕ → List ℕ → Option ℕ
+number_below limit text = below limit (number_of text)
+
 -- a byte that can be seen
 abbrev pub is_visible : ℕ → Bool
 is_visible c = nat_le 33 c && nat_le c 126

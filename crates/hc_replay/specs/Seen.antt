@@ -4,8 +4,9 @@ use Rattle.hc_replay.specs.Steps as steps
 use Rattle.hc_replay.specs.Grammar as spec
 use Rattle.hc_replay.specs.declared.value.Value.{Value}
 use Rattle.hc_replay.specs.declared.value.Value.TheVariants.{Plain, Repeated}
+use Rattle.hc_replay.specs.declared.grammar.NewItem.{NewItem}
 use Rattle.hc_replay.specs.declared.grammar.Step.{Step}
-use Rattle.hc_replay.specs.declared.grammar.Step.TheVariants.{Set, Get, Del}
+use Rattle.hc_replay.specs.declared.grammar.Step.TheVariants.{Set, Add, Get, Del, Now}
 use Rattle.hc_replay.specs.declared.grammar.Order.{Order}
 use Rattle.hc_replay.specs.declared.grammar.Order.TheVariants.{Pool, NoFlash, Do}
 use Rattle.hc_replay.specs.declared.grammar.Line.{Line}
@@ -16,10 +17,15 @@ abbrev pub bytes_of : Value → List ℕ
 bytes_of (Plain bytes) = bytes.now
 bytes_of (Repeated count c) = replicate count c
 
+abbrev pub item_seen : NewItem → steps.NewItem
+item_seen item = record { pool = item.pool; key = item.key.now; value = bytes_of item.value; ttl = item.ttl }
+
 abbrev pub step_seen : Step → steps.Step
-step_seen (Set pool key value) = steps.Set pool key.now (bytes_of value)
+step_seen (Set item) = steps.Set (item_seen item)
+step_seen (Add item) = steps.Add (item_seen item)
 step_seen (Get key) = steps.Get key.now
 step_seen (Del key) = steps.Del key.now
+step_seen (Now moment) = steps.Now moment
 
 abbrev pub order_seen : Order → spec.Order
 order_seen (Pool bytes items) = spec.Pool bytes items

@@ -11,7 +11,7 @@ use Rattle.hc_types.specs.Loss.{Scope, Key, Bucket, Hash, Cause, Evicted, Bucket
 use Rattle.hc_history.specs.Note.{Note, Lose}
 use Rattle.hc_history.specs.declared.stats.Stats.{Stats}
 use Rattle.hc_replay.specs.Numbers.{is_visible, value_of}
-use Rattle.hc_replay.specs.Steps.{Answer, Stored, Refused, Hit, Miss, Found, Absent}
+use Rattle.hc_replay.specs.Steps.{Answer, Stored, Refused, Hit, Miss, Found, Absent, Moment}
 
 -- four bytes or more, all equal, and no digits
 abbrev pub is_repeated : List ℕ → Bool
@@ -40,6 +40,7 @@ answer_text (Hit value) = codes "hit " ++ value_text value
 answer_text Miss = codes "miss"
 answer_text Found = codes "found"
 answer_text Absent = codes "absent"
+answer_text (Moment now) = codes "now " ++ decimal now
 
 -- a line of its own
 abbrev pub line_text : List ℕ → List ℕ

@@ -1,13 +1,13 @@
 -- What a trace says, and what is printed for it.
-use Rattle.std.specs.Prelude.{◌≡◌, ℕ, ◌+◌, List, [], ◌∷◌, ◌++◌, Option, Some, None, IfSome, if◌then◌else◌}
+use Rattle.std.specs.Prelude.{◌≡◌, ℕ, ◌+◌, List, [], ◌∷◌, ◌++◌, Option, Some, None, IfSome}
 use Rattle.std.specs.Io.KnownBytes.{Appends}
 use Rattle.hc_types.specs.Config.{Config}
-use Rattle.hc_types.specs.Limits.{pool_fits}
+use Rattle.hc_types.specs.Limits.{first_wrong}
 use Rattle.hc_types.specs.declared.config.PoolSize.{PoolSize}
-use Rattle.hc_types.specs.declared.refusal.Refusal.TheVariants.{BadPool}
+use Rattle.hc_types.specs.declared.refusal.Refusal.{Refusal}
 use Rattle.hc_history.specs.Note.{Note}
 use Rattle.hc_history.specs.Stats.{counts_of}
-use Rattle.hc_core.specs.Cache.{Cache}
+use Rattle.hc_core.specs.Cache.{Cache, new_cache}
 use Rattle.hc_replay.specs.Lines.{lines_of}
 use Rattle.hc_replay.specs.Steps.{Step}
 use Rattle.hc_replay.specs.Grammar.{Line, Skipped, Says, Pool, NoFlash, Do, line_of}
@@ -33,32 +33,36 @@ pub data Trace : Type 0 where
   -- the configuration, and what comes after it
   Runs : (config : Config) (rest : Steps) → Trace
   -- the configuration is refused
-  Refused : Trace
+  Refused : (refusal : Refusal) → Trace
   -- the configuration has a fault at this line
   Faulty : (line : ℕ) → Trace
 
--- one pool of this size, and no flash
-abbrev pub config_of : PoolSize → Config
-config_of size = record { pools = size ∷ []; flash = None }
+-- pools of these sizes, the one with the number 0 first, and no flash
+abbrev pub config_of : List PoolSize → Config
+config_of sizes = record { pools = sizes; flash = None }
 
--- what a line of the configuration says, where n lines stand before it
-abbrev pub trace_line : ℕ → Option PoolSize → Line → (Option PoolSize → Trace) → Steps → Trace
-trace_line n pool Skipped later rest = later pool
-trace_line n None (Says (Pool bytes items)) later rest = later (Some (record { bytes = bytes; items = items }))
-trace_line n None (Says NoFlash) later rest = Refused
-trace_line n (Some size) (Says NoFlash) later rest = if pool_fits size then Runs (config_of size) rest else Refused
-trace_line n pool line later rest = Faulty (n + 1)
+-- the end of a configuration, which is refused where a number is outside its limits
+abbrev pub checked : Config → Option Refusal → Steps → Trace
+checked config None rest = Runs config rest
+checked config (Some refusal) rest = Refused refusal
 
-abbrev pub trace_from : ℕ → Option PoolSize → List (List ℕ) → Trace
-trace_from n pool [] = Faulty (n + 1)
-trace_from n pool (line ∷ lines) = trace_line n pool (line_of line) (λ pool. trace_from (n + 1) pool lines) (steps_from (n + 1) lines)
+-- what a line of the configuration says, where n lines stand before it, and these pools
+abbrev pub trace_line : ℕ → List PoolSize → Line → (List PoolSize → Trace) → Steps → Trace
+trace_line n sizes Skipped later rest = later sizes
+trace_line n sizes (Says (Pool bytes items)) later rest = later (sizes ++ record { bytes = bytes; items = items } ∷ [])
+trace_line n sizes (Says NoFlash) later rest = checked (config_of sizes) (first_wrong (config_of sizes)) rest
+trace_line n sizes line later rest = Faulty (n + 1)
+
+abbrev pub trace_from : ℕ → List PoolSize → List (List ℕ) → Trace
+trace_from n sizes [] = Faulty (n + 1)
+trace_from n sizes (line ∷ lines) = trace_line n sizes (line_of line) (λ sizes. trace_from (n + 1) sizes lines) (steps_from (n + 1) lines)
 
 abbrev pub trace_of : List ℕ → Trace
-trace_of input = trace_from 0 None (lines_of input)
+trace_of input = trace_from 0 [] (lines_of input)
 
--- an empty cache
+-- a new cache, which keeps its log
 abbrev pub empty_cache : Config → Cache
-empty_cache config = record { config = config; items = []; charges = 0; calls = 0; log = Some [] }
+empty_cache config = new_cache config (Some [])
 
 -- what is printed for a step: its answer, and then what it forgot
 abbrev pub step_text : Moved → List ℕ
@@ -102,7 +106,7 @@ run_output cache rest = onto (steps_text cache rest.steps) (ending (after_steps 
 -- the text and the status of a trace
 abbrev pub trace_output : Trace → List ℕ × ℕ
 trace_output (Runs config rest) = run_output (empty_cache config) rest
-trace_output Refused = (line_text (refusal_text BadPool), 1)
+trace_output (Refused refusal) = (line_text (refusal_text refusal), 1)
 trace_output (Faulty line) = (fault_text line, 1)
 
 abbrev pub output_of : List ℕ → List ℕ × ℕ

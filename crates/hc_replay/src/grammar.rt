@@ -1,12 +1,12 @@
 // What a line of a trace says.
-ghost use Rattle.std.specs.Prelude.{◌≡◌, ℕ, ◌≤◌, ◌∷◌, [], None, Some, MatchOption, option_map, if◌then◌else◌};
+ghost use Rattle.std.specs.Prelude.{◌≡◌, ◌^◌, ◌∷◌, [], None, Some, MatchOption, option_map, if◌then◌else◌};
 ghost use Rattle.std.specs.Bool.{MatchBool};
 ghost use Rattle.hc_replay.specs.Lines.{fields_of, Several};
 ghost use Rattle.hc_replay.specs.Grammar as spec;
-ghost use Rattle.hc_replay.specs.Grammar.{pool_order, set_order, get_order, del_order, order_of, line_of};
-ghost use Rattle.hc_replay.specs.Numbers.{number_of};
+ghost use Rattle.hc_replay.specs.Grammar.{pool_order, item_of, set_order, add_order, get_order, del_order, now_order, order_of, line_of};
+ghost use Rattle.hc_replay.specs.Numbers.{number_below};
 ghost use Rattle.hc_replay.specs.Steps.{Get, Del};
-ghost use Rattle.hc_replay.specs.Seen.{order_seen, line_seen};
+ghost use Rattle.hc_replay.specs.Seen.{item_seen, order_seen, line_seen};
 
 use crate::number::number;
 use crate::value::{Value, is_key, value_in};
@@ -15,18 +15,33 @@ use memchr::memchr;
 /// The most bytes of a line.
 pub const LONGEST: usize = 2_097_152;
 
-/// What a client does with the cache.
+/// What is to be stored: a value under a key, in a pool.
+#[derive(Clone, Copy)]
+pub struct NewItem<'a> {
+    pub pool: u8,
+    pub key: &'a [u8],
+    pub value: Value<'a>,
+    /// How many seconds it lives. 0: for good.
+    pub ttl: u32,
+}
+
+/// What a client does with the cache, or the clock does.
 #[derive(Clone, Copy)]
 pub enum Step<'a> {
-    Set(u8, &'a [u8], Value<'a>),
+    /// The item is stored, in place of the key's item where there is one.
+    Set(NewItem<'a>),
+    /// The item is stored where the key has no unexpired one.
+    Add(NewItem<'a>),
     Get(&'a [u8]),
     Del(&'a [u8]),
+    /// The clock moves on to this second.
+    Now(u64),
 }
 
 /// What a line asks for.
 #[derive(Clone, Copy)]
 pub enum Order<'a> {
-    /// A pool of so many bytes and items.
+    /// One more pool, of so many bytes and items.
     Pool(u64, u64),
     /// The end of the configuration.
     NoFlash,
@@ -100,28 +115,47 @@ fn pool_in(fields: &[u8]) -> Option<Order<'_>>
     Some(Order::Pool(number(bytes)?, number(items)?))
 }
 
-// A number below 256.
-fn small_number(text: &[u8]) -> Option<u8>
-    ensures { MatchOption result ((n : ℕ) → number_of text.now ≡ Some n → 256 ≤ n) (λ n. number_of text.now ≡ Some n) }
+// The number of a pool, which there may not be.
+fn pool_number(text: &[u8]) -> Option<u8>
+    ensures { result ≡ number_below (2 ^ 8) text.now }
 {
     let n = number(text)?;
     if n < 256 { Some(n as u8) } else { None }
 }
 
-// A set of these four fields.
-fn set_with<'a>(pool: &[u8], key: &'a [u8], value: &'a [u8], ttl: &[u8]) -> Option<Order<'a>>
-    ensures { option_map order_seen result ≡ set_order (pool.now ∷ key.now ∷ value.now ∷ ttl.now ∷ []) }
+// A time to live.
+fn seconds(text: &[u8]) -> Option<u32>
+    ensures { result ≡ number_below (2 ^ 32) text.now }
 {
-    if !is_key(key) || ttl != b"0".as_slice() {
-        return None;
+    let n = number(text)?;
+    if n < 4_294_967_296 {
+        Some(n as u32)
+    } else {
+        None
     }
-    let pool = small_number(pool)?;
-    Some(Order::Do(Step::Set(pool, key, value_in(value)?)))
 }
 
-// The fields behind `set`.
-fn set_in(fields: &[u8]) -> Option<Order<'_>>
-    ensures { option_map order_seen result ≡ set_order (fields_of fields.now) }
+// The item of these four fields.
+fn item_with<'a>(pool: &[u8], key: &'a [u8], value: &'a [u8], ttl: &[u8]) -> Option<NewItem<'a>>
+    ensures { option_map item_seen result ≡ item_of (pool.now ∷ key.now ∷ value.now ∷ ttl.now ∷ []) }
+{
+    if !is_key(key) {
+        return None;
+    }
+    let pool = pool_number(pool)?;
+    let value = value_in(value)?;
+    let ttl = seconds(ttl)?;
+    Some(NewItem {
+        pool,
+        key,
+        value,
+        ttl,
+    })
+}
+
+// The fields behind `set` and `add`.
+fn item_in(fields: &[u8]) -> Option<NewItem<'_>>
+    ensures { option_map item_seen result ≡ item_of (fields_of fields.now) }
 {
     let (pool, fields) = first_field(fields)?;
     let (key, fields) = first_field(fields)?;
@@ -129,7 +163,31 @@ fn set_in(fields: &[u8]) -> Option<Order<'_>>
     if !is_one_field(ttl) {
         return None;
     }
-    set_with(pool, key, value, ttl)
+    item_with(pool, key, value, ttl)
+}
+
+// The fields behind `set`.
+fn set_in(fields: &[u8]) -> Option<Order<'_>>
+    ensures { option_map order_seen result ≡ set_order (fields_of fields.now) }
+{
+    Some(Order::Do(Step::Set(item_in(fields)?)))
+}
+
+// The fields behind `add`.
+fn add_in(fields: &[u8]) -> Option<Order<'_>>
+    ensures { option_map order_seen result ≡ add_order (fields_of fields.now) }
+{
+    Some(Order::Do(Step::Add(item_in(fields)?)))
+}
+
+// The fields behind `now`.
+fn now_in(fields: &[u8]) -> Option<Order<'_>>
+    ensures { option_map order_seen result ≡ now_order (fields_of fields.now) }
+{
+    if !is_one_field(fields) {
+        return None;
+    }
+    Some(Order::Do(Step::Now(number(fields)?)))
 }
 
 // What a word and the fields behind it ask for.
@@ -142,8 +200,14 @@ fn order_with<'a>(word: &[u8], fields: &'a [u8]) -> Option<Order<'a>>
     if word == b"set".as_slice() {
         return set_in(fields);
     }
+    if word == b"add".as_slice() {
+        return add_in(fields);
+    }
     if word == b"del".as_slice() {
         return del_in(fields);
+    }
+    if word == b"now".as_slice() {
+        return now_in(fields);
     }
     if word == b"pool".as_slice() {
         return pool_in(fields);

@@ -1,11 +1,11 @@
 // One line of a trace after another.
-ghost use Rattle.std.specs.Prelude.{◌≡◌, ◌+◌, ◌^◌, ◌<◌, ◌++◌, true, false, IfOk, OnOk, MatchResult};
-ghost use Rattle.hc_types.specs.Limits.{pool_fits};
+ghost use Rattle.std.specs.Prelude.{◌≡◌, ◌+◌, ◌^◌, ◌<◌, ◌++◌, None, Some, false, IfOk, OnOk, MatchResult};
+ghost use Rattle.hc_types.specs.Limits.{first_wrong};
 ghost use Rattle.hc_replay.specs.Seen.{order_seen};
 ghost use Rattle.hc_replay.specs.Grammar as spec;
 ghost use Rattle.hc_replay.specs.Machine.{stops, obeyed, turn_of, ended};
 ghost use Rattle.hc_replay.specs.Texts.{fault_text};
-ghost use Rattle.hc_replay.specs.Trace.{config_of, empty_cache};
+ghost use Rattle.hc_replay.specs.Trace.{empty_cache};
 
 use crate::grammar::{Line, Order, line_in};
 use crate::state::State;
@@ -26,7 +26,7 @@ fn fault(out: &mut Vec<u8>, taken: u64) -> Result<bool, AllocError>
     Ok(false)
 }
 
-// A pool of the configuration.
+// One more pool of the configuration.
 fn take_pool(
     state: &mut State,
     out: &mut Vec<u8>,
@@ -39,21 +39,20 @@ fn take_pool(
     ensures goes { IfOk result (λ goes. goes ≡ (obeyed taken state.old (spec.Pool size.bytes size.items)).goes) }
 {
     match state {
-        State::Bare => {
-            *state = State::Sized(size);
+        State::Configuring(sizes) => {
+            sizes.push(size)?;
             Ok(true)
         }
-        State::Sized(_) | State::Running(_) => fault(out, taken),
+        State::Running(_) => fault(out, taken),
     }
 }
 
-// The core of one pool of this size and no flash, or why there is none.
-fn new_core(alloc: Global, size: PoolSize) -> Result<Result<Core<Kept>, Refusal>, AllocError>
-    ensures { IfOk result (λ made. MatchResult made (λ core. (pool_fits size ≡ true) × (core ≡ empty_cache (config_of size))) (λ refusal. (pool_fits size ≡ false) × (refusal ≡ Refusal.BadPool))) }
+// The core of this configuration, or why there is none.
+fn new_core(alloc: Global, config: &Config) -> Result<Result<Core<Kept>, Refusal>, AllocError>
+    requires { config.now.flash ≡ None }
+    ensures { IfOk result (λ made. MatchResult made (λ core. (first_wrong config.now ≡ None) × (core ≡ empty_cache config.now)) (λ refusal. first_wrong config.now ≡ Some refusal)) }
 {
-    let mut pools = Vec::new(alloc);
-    pools.push(size)?;
-    match Core::new(alloc, &Config::new(pools, None), Kept::new(alloc)) {
+    match Core::new(alloc, config, Kept::new(alloc)) {
         Ok(core) => Ok(Ok(core)),
         Err(Refusal::NoMemory) => Err(AllocError),
         Err(refusal) => Ok(Err(refusal)),
@@ -72,15 +71,10 @@ fn end_configuration(
     ensures text { OnOk result (out.new.items ≡ out.old.items ++ (obeyed taken state.old spec.NoFlash).text) }
     ensures goes { IfOk result (λ goes. goes ≡ (obeyed taken state.old spec.NoFlash).goes) }
 {
-    let size = match state {
-        State::Bare => {
-            add_refusal(out, Refusal::BadPool)?;
-            return Ok(false);
-        }
-        State::Sized(size) => *size,
-        State::Running(_) => return fault(out, taken),
+    let State::Configuring(sizes) = state else {
+        return fault(out, taken);
     };
-    match new_core(alloc, size)? {
+    match new_core(alloc, sizes.config())? {
         Ok(core) => {
             *state = State::Running(core);
             Ok(true)

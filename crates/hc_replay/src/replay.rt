@@ -4,11 +4,10 @@ ghost use Rattle.std.specs.Io.KnownBytes.{Appends, Consumes, IsAtEnd, append_kno
 ghost use Rattle.hc_replay.specs.Lines.{Lacks};
 ghost use Rattle.hc_replay.specs.Trace.{Answers, LogIsThatOfSteps};
 ghost use Rattle.hc_replay.specs.Machine.{turn_of, output_from, Leads, Ends};
-ghost use Rattle.hc_replay.specs.declared.state.State.TheVariants.{Bare};
 
 use crate::grammar::LONGEST;
 use crate::machine::{end, turn};
-use crate::state::State;
+use crate::state::{Sizes, State};
 use memchr::memchr;
 use std::alloc::Global;
 use std::io;
@@ -195,7 +194,7 @@ fn run<R: Read, W: Write>(
     let mut buffer = Vec::new(alloc);
     buffer.resize(CHUNK, 0u8)?;
     let mut spill = Vec::new(alloc);
-    let mut state = State::Bare;
+    let mut state = State::Configuring(Sizes::new(alloc));
     let mut taken = 0u64;
     let mut total = 0u64;
     'chunks: for _ in 0..READS {

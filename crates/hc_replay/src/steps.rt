@@ -1,21 +1,22 @@
 // The steps of a trace, and their answers.
-ghost use Rattle.std.specs.Prelude.{◌≡◌, ◌++◌, OnOk, IfOk, None, Some, MatchResult};
+ghost use Rattle.std.specs.Prelude.{◌≡◌, ◌≢◌, ◌++◌, OnOk, IfOk, None, Some, MatchResult};
 ghost use Rattle.hc_history.specs.Told.{told_more};
-ghost use Rattle.hc_replay.specs.Seen.{bytes_of, step_seen};
-ghost use Rattle.hc_replay.specs.Steps.{Set, Get, Del};
-ghost use Rattle.hc_replay.specs.Moves.{key_refusal, move};
-ghost use Rattle.hc_replay.specs.Texts.{line_text, answer_text};
+ghost use Rattle.hc_replay.specs.Seen.{item_seen, step_seen};
+ghost use Rattle.hc_replay.specs.Steps.{Get, Del, Now};
+ghost use Rattle.hc_replay.specs.Moves.{unless, key_refusal, stored, move};
+ghost use Rattle.hc_replay.specs.Texts.{line_text, refusal_text, answer_text};
 ghost use Rattle.hc_replay.specs.Trace.{step_text};
 
-use crate::grammar::Step;
-use crate::texts::{add_hit, add_losses, add_refusal, add_word};
-use crate::value::{Value, to_bytes};
-use hc_core::{Core, Found, Removed};
+use crate::grammar::{NewItem, Step};
+use crate::texts::{add_hit, add_losses, add_moment, add_refusal, add_word};
+use crate::value::{Value, repeat};
+use hc_core::{Core, Found, Removed, give_up, give_up_blank, open};
 use hc_history::Kept;
+use hc_memory::Unlinked;
 use hc_types::{Key, Refusal};
 use std::alloc::{AllocError, Global};
 
-// The key, or why there is none. Its client is the first.
+// The key, or why there is none.
 fn key_in(alloc: Global, bytes: &[u8]) -> Result<Result<Key, Refusal>, AllocError>
     ensures { IfOk result (λ made. MatchResult made (λ key. (key ≡ bytes.now) × (key_refusal bytes.now ≡ None)) (λ refusal. key_refusal bytes.now ≡ Some refusal)) }
 {
@@ -26,29 +27,83 @@ fn key_in(alloc: Global, bytes: &[u8]) -> Result<Result<Key, Refusal>, AllocErro
     }
 }
 
-// A set by client 0, and its answer.
-fn set(
-    alloc: Global,
+// A refusal is answered, but not that memory lacks.
+fn refused(out: &mut Vec<u8>, refusal: Refusal) -> Result<(), AllocError>
+    ensures { OnOk result ((refusal ≢ Refusal.NoMemory) × (out.new.items ≡ out.old.items ++ line_text (refusal_text refusal))) }
+{
+    match refusal {
+        Refusal::NoMemory => Err(AllocError),
+        _ => add_refusal(out, refusal),
+    }
+}
+
+// Stores a value under a key, and answers. `replaces` says whether an unexpired item of the key is replaced.
+fn store(
     core: &mut Core<Kept>,
     out: &mut Vec<u8>,
     pool: u8,
-    key: &[u8],
-    value: Value<'_>,
+    key: Key,
+    value: &[u8],
+    ttl: u32,
+    replaces: bool,
 ) -> Result<(), AllocError>
-    ensures cache { OnOk result (core.new ≡ (move (Set pool key.now (bytes_of value.entry)) core.old).cache) }
-    ensures text { OnOk result (out.new.items ≡ out.old.items ++ line_text (answer_text (move (Set pool key.now (bytes_of value.entry)) core.old).answer)) }
+    ensures cache { OnOk result (core.new ≡ (stored replaces (record { pool = pool; key = key; value = value.now; ttl = ttl }) core.old).cache) }
+    ensures text { OnOk result (out.new.items ≡ out.old.items ++ line_text (answer_text (stored replaces (record { pool = pool; key = key; value = value.now; ttl = ttl }) core.old).answer)) }
 {
-    let key = match key_in(alloc, key)? {
+    let blank = match open(core, pool, key, value, ttl) {
+        Ok(blank) => blank,
+        Err(unopened) => return refused(out, unopened.refusal),
+    };
+    let sealed = match blank.seal() {
+        Ok(sealed) => sealed,
+        Err(blank) => {
+            give_up_blank(core, blank);
+            return Err(AllocError);
+        }
+    };
+    let inserted = if replaces {
+        core.insert_or_replace(0, sealed)
+    } else {
+        core.insert(0, sealed)
+    };
+    match inserted {
+        Ok(()) => add_word(out, b"stored"),
+        Err(Unlinked { refusal, sealed }) => {
+            give_up(core, sealed);
+            refused(out, refusal)
+        }
+    }
+}
+
+// Stores an item, and answers. `replaces` says whether an unexpired item of the key is replaced.
+fn put(
+    alloc: Global,
+    core: &mut Core<Kept>,
+    out: &mut Vec<u8>,
+    item: NewItem<'_>,
+    replaces: bool,
+) -> Result<(), AllocError>
+    ensures cache { OnOk result (core.new ≡ (unless (key_refusal item.entry.key.now) core.old (stored replaces (item_seen item.entry) core.old)).cache) }
+    ensures text { OnOk result (out.new.items ≡ out.old.items ++ line_text (answer_text (unless (key_refusal item.entry.key.now) core.old (stored replaces (item_seen item.entry) core.old)).answer)) }
+{
+    let key = match key_in(alloc, item.key)? {
         Ok(key) => key,
         Err(refusal) => return add_refusal(out, refusal),
     };
-    let value = to_bytes(alloc, value)?;
-    match core.set(0, pool, key, value) {
-        Ok(()) => add_word(out, b"stored"),
-        Err(unset) => match unset.refusal {
-            Refusal::NoMemory => Err(AllocError),
-            refusal => add_refusal(out, refusal),
-        },
+    match item.value {
+        Value::Plain(bytes) => store(core, out, item.pool, key, bytes, item.ttl, replaces),
+        Value::Repeated(count, c) => {
+            let bytes = repeat(alloc, count, c)?;
+            store(
+                core,
+                out,
+                item.pool,
+                key,
+                bytes.as_slice(),
+                item.ttl,
+                replaces,
+            )
+        }
     }
 }
 
@@ -67,7 +122,7 @@ fn get(
         Err(refusal) => return add_refusal(out, refusal),
     };
     match core.find(0, &key) {
-        Ok(Found::Hit(value)) => add_hit(out, value.as_slice()),
+        Ok(Found::Hit(value)) => add_hit(out, value.bytes()),
         Ok(Found::Miss) => add_word(out, b"miss"),
         Err(_no_memory) => Err(AllocError),
     }
@@ -94,7 +149,18 @@ fn del(
     }
 }
 
-// A step by client 0, and its answer.
+// Moves the clock on, and answers which moment holds.
+fn now(core: &mut Core<Kept>, out: &mut Vec<u8>, moment: u64) -> Result<(), AllocError>
+    ensures cache { OnOk result (core.new ≡ (move (Now moment) core.old).cache) }
+    ensures text { OnOk result (out.new.items ≡ out.old.items ++ line_text (answer_text (move (Now moment) core.old).answer)) }
+{
+    match core.tick(moment) {
+        Ok(now) => add_moment(out, now),
+        Err(_no_memory) => Err(AllocError),
+    }
+}
+
+// A step, and its answer.
 fn answer(
     alloc: Global,
     core: &mut Core<Kept>,
@@ -105,13 +171,15 @@ fn answer(
     ensures text { OnOk result (out.new.items ≡ out.old.items ++ line_text (answer_text (move (step_seen step.entry) core.old).answer)) }
 {
     match step {
-        Step::Set(pool, key, value) => set(alloc, core, out, pool, key, value),
+        Step::Set(item) => put(alloc, core, out, item, true),
+        Step::Add(item) => put(alloc, core, out, item, false),
         Step::Get(key) => get(alloc, core, out, key),
         Step::Del(key) => del(alloc, core, out, key),
+        Step::Now(moment) => now(core, out, moment),
     }
 }
 
-/// A step by client 0, its answer, and then what it forgot by its notes, which are what the log grows by. An error is
+/// A step, its answer, and then what it forgot by its notes, which are what the log grows by. An error is
 /// want of memory.
 pub fn take_step(
     alloc: Global,

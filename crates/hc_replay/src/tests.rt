@@ -86,7 +86,15 @@ fn faults_of_the_configuration(rt: HostRuntime) {
             b"refused 3 BadPool\n".as_slice(),
         ),
         (
-            b"pool 1000 10\npool 1000 10\nnoflash\n".as_slice(),
+            b"pool 1000 10\npool 63 10\nnoflash\n".as_slice(),
+            b"refused 3 BadPool\n".as_slice(),
+        ),
+        (
+            b"pool 1000 10\nnow 5\n".as_slice(),
+            b"fault line 2\n".as_slice(),
+        ),
+        (
+            b"pool 1000 10\nflash 512 4 2 1 1 496 8 8 0 1000\n".as_slice(),
             b"fault line 2\n".as_slice(),
         ),
         (
@@ -141,6 +149,30 @@ fn faults_of_the_configuration(rt: HostRuntime) {
     }
 }
 
+// So many pools, and an item in the last of them.
+fn pools(alloc: Global, count: usize, last: &[u8]) -> Result<Vec<u8>, AllocError> {
+    let mut trace = Vec::new(alloc);
+    for _ in 0..count {
+        trace.extend_from_slice(b"pool 64 1\n")?;
+    }
+    trace.extend_from_slice(b"noflash\nset ")?;
+    trace.extend_from_slice(last)?;
+    trace.extend_from_slice(b" k = 0\n")?;
+    Ok(trace)
+}
+
+#[test]
+fn one_to_sixteen_pools(rt: HostRuntime) -> Result<(), Fail> {
+    let text =
+        b"stored\nstats stored 1 hits 0 misses 0 removes 0 losses 0 reads 0 writes 0\nverdict legal, honest\n";
+    assert_answers(&rt, pools(rt.alloc(), 1, b"0")?.as_slice(), 0, text);
+    assert_answers(&rt, pools(rt.alloc(), 16, b"15")?.as_slice(), 0, text);
+    let refused = b"refused 3 BadPool\n";
+    assert_answers(&rt, pools(rt.alloc(), 0, b"0")?.as_slice(), 1, refused);
+    assert_answers(&rt, pools(rt.alloc(), 17, b"0")?.as_slice(), 1, refused);
+    Ok(())
+}
+
 #[test]
 fn pools_at_their_limits(rt: HostRuntime) {
     let text =
@@ -152,10 +184,12 @@ fn pools_at_their_limits(rt: HostRuntime) {
 #[test]
 fn faults_of_a_line(rt: HostRuntime) -> Result<(), Fail> {
     let table = [
-        b"set 0 k =v 1\n".as_slice(),
         b"set 0 k =v\n".as_slice(),
         b"set 0 k =v 0 0\n".as_slice(),
         b"set 0 k =v 00\n".as_slice(),
+        b"set 0 k =v 01\n".as_slice(),
+        b"set 0 k =v x\n".as_slice(),
+        b"set 0 k =v 4294967296\n".as_slice(),
         b"set 00 k =v 0\n".as_slice(),
         b"set 256 k =v 0\n".as_slice(),
         b"set 18446744073709551616 k =v 0\n".as_slice(),
@@ -183,7 +217,18 @@ fn faults_of_a_line(rt: HostRuntime) -> Result<(), Fail> {
         b"Get k\n".as_slice(),
         b"del\n".as_slice(),
         b"del k k\n".as_slice(),
-        b"add 0 k =v 0\n".as_slice(),
+        b"add\n".as_slice(),
+        b"add 0 k =v\n".as_slice(),
+        b"add 256 k =v 0\n".as_slice(),
+        b"add 0 k =v 4294967296\n".as_slice(),
+        b"now\n".as_slice(),
+        b"now \n".as_slice(),
+        b"now 05\n".as_slice(),
+        b"now 5 5\n".as_slice(),
+        b"now 18446744073709551616\n".as_slice(),
+        b"reply 1\n".as_slice(),
+        b"done 1\n".as_slice(),
+        b"writer\n".as_slice(),
         b" \n".as_slice(),
         b"\r\n".as_slice(),
     ];
@@ -197,9 +242,71 @@ fn faults_of_a_line(rt: HostRuntime) -> Result<(), Fail> {
 #[test]
 fn refusals_and_values(rt: HostRuntime) {
     let trace =
-        b"pool 97 2\nnoflash\nset 1 a = 0\nset 0 a *1048577x 0\nset 0 a *65x 0\nset 0 a *31x 0\nget a\nset 0 a =xxx 0\nget a\nset 0 a =xxxx 0\nget a\nset 0 a =1111 0\nget a\nset 0 a = 0\nget a\nset 0 a *3! 0\nget a\nset 0 a =xxxy 0\nget a\n";
+        b"pool 97 2\nnoflash\nset 1 a = 0\nset 0 a *1048577x 0\nset 0 a *65x 0\nset 0 a *31x 0\nadd 0 a = 0\nget a\nset 0 a =xxx 0\nget a\nset 0 a =xxxx 0\nget a\nset 0 a =1111 0\nget a\nset 0 a = 0\nget a\nset 0 a *3! 0\nget a\nset 0 a =xxxy 0\nget a\n";
     let text =
-        b"refused 13 NoPool\nrefused 14 ValueTooLong\nrefused 15 NoRoom\nstored\nhit *31x\nstored\nlose key a evicted noflash\nhit =xxx\nstored\nhit *4x\nstored\nhit =1111\nstored\nhit =\nstored\nhit =!!!\nstored\nhit =xxxy\nstats stored 7 hits 7 misses 0 removes 0 losses 1 reads 0 writes 0\nverdict legal, honest\n";
+        b"refused 13 NoPool\nrefused 14 ValueTooLong\nrefused 15 NoRoom\nstored\nrefused 17 Exists\nhit *31x\nstored\nlose key a evicted noflash\nhit =xxx\nstored\nhit *4x\nstored\nhit =1111\nstored\nhit =\nstored\nhit =!!!\nstored\nhit =xxxy\nstats stored 7 hits 7 misses 0 removes 0 losses 1 reads 0 writes 0\nverdict legal, honest\n";
+    assert_answers(&rt, trace, 0, text);
+}
+
+#[test]
+fn each_refusal_of_a_pool(rt: HostRuntime) {
+    let trace =
+        b"pool 97 2\nnoflash\nset 1 a = 0\nset 0 a *1048577x 0\nset 0 a *65x 0\nset 0 a *31x 0\nadd 0 a = 0\nget a\n";
+    let text =
+        b"refused 13 NoPool\nrefused 14 ValueTooLong\nrefused 15 NoRoom\nstored\nrefused 17 Exists\nhit *31x\nstats stored 1 hits 1 misses 0 removes 0 losses 0 reads 0 writes 0\nverdict legal, honest\n";
+    assert_answers(&rt, trace, 0, text);
+}
+
+#[test]
+fn an_item_expires(rt: HostRuntime) {
+    let trace =
+        b"pool 1000 1\nnoflash\nnow 5\nset 0 a =one 10\nnow 14\nget a\nnow 15\nget a\nnow 3\nadd 0 a =two 0\nget a\n";
+    let text =
+        b"now 5\nstored\nnow 14\nhit =one\nnow 15\nmiss\nnow 15\nstored\nlose key a expired\nhit =two\nstats stored 2 hits 2 misses 1 removes 0 losses 1 reads 0 writes 0\nverdict legal, honest\n";
+    assert_answers(&rt, trace, 0, text);
+}
+
+#[test]
+fn an_expired_item_is_removed_and_replaced(rt: HostRuntime) {
+    let trace =
+        b"pool 1000 9\nnoflash\nset 0 a =one 1\nset 0 b =two 1\nset 0 c =six 1\nnow 1\ndel a\ndel a\nset 0 b =one 0\nadd 0 c =two 0\nget b\nget c\n";
+    let text =
+        b"stored\nstored\nstored\nnow 1\nfound\nabsent\nstored\nstored\nhit =one\nhit =two\nstats stored 5 hits 2 misses 0 removes 2 losses 0 reads 0 writes 0\nverdict legal, honest\n";
+    assert_answers(&rt, trace, 0, text);
+}
+
+#[test]
+fn the_longest_time_to_live_and_the_last_second(rt: HostRuntime) {
+    let trace =
+        b"pool 1000 9\nnoflash\nnow 1\nset 0 a =one 4294967295\nnow 4294967295\nget a\nnow 4294967296\nget a\nset 255 a =one 4294967295\nnow 18446744073709551614\nset 0 a =two 2\nget a\nset 0 b =two 0\nnow 18446744073709551615\nget a\nget b\n";
+    let text =
+        b"now 1\nstored\nnow 4294967295\nhit =one\nnow 4294967296\nmiss\nrefused 13 NoPool\nnow 18446744073709551614\nstored\nhit =two\nstored\nnow 18446744073709551615\nmiss\nhit =two\nstats stored 3 hits 3 misses 2 removes 0 losses 0 reads 0 writes 0\nverdict legal, honest\n";
+    assert_answers(&rt, trace, 0, text);
+}
+
+#[test]
+fn an_add_that_is_refused_makes_room_all_the_same(rt: HostRuntime) {
+    let trace =
+        b"pool 106 10\nnoflash\nset 0 a *20x 0\nset 0 b *20y 0\nadd 0 b *20z 0\nget a\nget b\nset 0 c *20w 0\n";
+    let text =
+        b"stored\nstored\nrefused 17 Exists\nlose key a evicted noflash\nmiss\nhit *20y\nstored\nstats stored 3 hits 1 misses 1 removes 0 losses 1 reads 0 writes 0\nverdict legal, honest\n";
+    assert_answers(&rt, trace, 0, text);
+}
+
+#[test]
+fn an_add_can_evict_what_stood_in_its_way(rt: HostRuntime) {
+    let trace = b"pool 100 10\nnoflash\nset 0 a *20x 0\nadd 0 a *20y 0\nget a\n";
+    let text =
+        b"stored\nstored\nlose key a evicted noflash\nhit *20y\nstats stored 2 hits 1 misses 0 removes 0 losses 1 reads 0 writes 0\nverdict legal, honest\n";
+    assert_answers(&rt, trace, 0, text);
+}
+
+#[test]
+fn a_key_has_one_item_in_all_pools(rt: HostRuntime) {
+    let trace =
+        b"pool 80 2\npool 1000 1\nnoflash\nset 0 a =one 0\nset 1 b =two 0\nset 1 a =six 0\nset 0 b =ten 0\nadd 1 b =two 0\nset 0 c =one 0\nget a\nget b\nget c\n";
+    let text =
+        b"stored\nstored\nstored\nlose key b evicted noflash\nstored\nrefused 17 Exists\nlose key a evicted noflash\nstored\nmiss\nhit =ten\nhit =one\nstats stored 5 hits 2 misses 1 removes 0 losses 2 reads 0 writes 0\nverdict legal, honest\n";
     assert_answers(&rt, trace, 0, text);
 }
 
@@ -234,7 +341,7 @@ fn a_key_of_256_bytes_makes_no_step(rt: HostRuntime) -> Result<(), Fail> {
     trace.extend_from_slice(key.as_slice())?;
     trace.extend_from_slice(b"\nset 0 ")?;
     trace.extend_from_slice(key.as_slice())?;
-    trace.extend_from_slice(b" = 1")?;
+    trace.extend_from_slice(b" = 4294967296")?;
     let text = b"refused 2 KeyTooLong\nrefused 2 KeyTooLong\nrefused 2 KeyTooLong\nfault line 6\n";
     assert_answers(&rt, trace.as_slice(), 1, text);
     Ok(())
@@ -380,21 +487,31 @@ fn a_write_that_fails_at_each_line(rt: HostRuntime) {
 
 // The traces and lines of docs/FORMATS.md.
 #[test]
-fn examples_of_the_formats_page(rt: HostRuntime) -> Result<(), Fail> {
+fn examples_of_the_formats_page(rt: HostRuntime) {
     let first = b"pool 100 10\nnoflash\nset 0 a *20x 0\nset 0 b *20y 0\nget a\nget b\n";
     let answers =
         b"stored\nstored\nlose key a evicted noflash\nmiss\nhit *20y\nstats stored 2 hits 1 misses 1 removes 0 losses 1 reads 0 writes 0\nverdict legal, honest\n";
     assert_answers(&rt, first, 0, answers);
     let refused =
-        b"pool 97 2\nnoflash\nset 1 a = 0\nset 0 a *1048577x 0\nset 0 a *65x 0\nset 0 a *31x 0\nget a\ndel a\ndel a\n";
+        b"pool 97 2\nnoflash\nset 1 a = 0\nset 0 a *1048577x 0\nset 0 a *65x 0\nset 0 a *31x 0\nadd 0 a = 0\nget a\ndel a\ndel a\n";
     let answers =
-        b"refused 13 NoPool\nrefused 14 ValueTooLong\nrefused 15 NoRoom\nstored\nhit *31x\nfound\nabsent\nstats stored 1 hits 1 misses 0 removes 2 losses 0 reads 0 writes 0\nverdict legal, honest\n";
+        b"refused 13 NoPool\nrefused 14 ValueTooLong\nrefused 15 NoRoom\nstored\nrefused 17 Exists\nhit *31x\nfound\nabsent\nstats stored 1 hits 1 misses 0 removes 2 losses 0 reads 0 writes 0\nverdict legal, honest\n";
     assert_answers(&rt, refused, 0, answers);
+    let added = b"pool 106 10\nnoflash\nset 0 a *20x 0\nset 0 b *20y 0\nadd 0 b *20z 0\nget b\n";
+    let answers =
+        b"stored\nstored\nrefused 17 Exists\nlose key a evicted noflash\nhit *20y\nstats stored 2 hits 1 misses 0 removes 0 losses 1 reads 0 writes 0\nverdict legal, honest\n";
+    assert_answers(&rt, added, 0, answers);
+}
+
+#[test]
+fn faults_of_the_formats_page(rt: HostRuntime) -> Result<(), Fail> {
     assert_answers(&rt, b"get k\n", 1, b"fault line 1\n");
     for line in [
         b"set 0 k =v\n".as_slice(),
-        b"set 0 k =v 1\n".as_slice(),
-        b"set 00 k =v 0\n".as_slice(),
+        b"set 0 k =v 4294967296\n".as_slice(),
+        b"set 256 k =v 0\n".as_slice(),
+        b"add 00 k =v 0\n".as_slice(),
+        b"now 18446744073709551616\n".as_slice(),
         b"set 0 k *5 0\n".as_slice(),
         b"set 0 k *0x 0\n".as_slice(),
         b"get  k\n".as_slice(),

@@ -5,7 +5,7 @@ ghost use Rattle.std.specs.Fmt.{decimal};
 ghost use Rattle.hc_types.specs.Loss.{scope_of, cause_of};
 ghost use Rattle.hc_replay.specs.Texts as spec;
 ghost use Rattle.hc_replay.specs.Texts.{value_text, ReadsBack, refusal_text, line_text, but_text, scope_text, why_text, cause_text, lose_text, losses_text, finds_text, calls_text, others_text, stats_text, verdict_text, fault_text};
-ghost use Rattle.hc_replay.specs.Steps.{Hit};
+ghost use Rattle.hc_replay.specs.Steps.{Hit, Moment};
 
 use hc_history::{Note, Said, Stats};
 use hc_types::{Cause, Key, Refusal, Scope, Why};
@@ -67,6 +67,15 @@ pub fn add_hit(out: &mut Vec<u8>, value: &[u8]) -> Result<(), AllocError>
 {
     out.extend_from_slice(b"hit ")?;
     add_value(out, value)?;
+    out.push(b'\n')?;
+    Ok(())
+}
+
+/// The line of a moment.
+pub fn add_moment(out: &mut Vec<u8>, now: u64) -> Result<(), AllocError>
+    ensures { OnOk result (out.new.items ≡ out.old.items ++ line_text (spec.answer_text (Moment now))) }
+{
+    add_count(out, b"now ", now)?;
     out.push(b'\n')?;
     Ok(())
 }

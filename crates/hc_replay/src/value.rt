@@ -1,12 +1,11 @@
 // Keys and values as a trace writes them.
-ghost use Rattle.std.specs.Prelude.{◌≡◌, ◌≤◌, Option, IfSome, option_map, IfOk};
+ghost use Rattle.std.specs.Prelude.{◌≡◌, replicate, option_map, IfOk};
 ghost use Rattle.std.specs.List.{list_all};
 ghost use Rattle.hc_replay.specs.Numbers as spec;
 ghost use Rattle.hc_replay.specs.Numbers.{value_of, repeated_of, times};
 ghost use Rattle.hc_replay.specs.Seen.{bytes_of};
 
 use crate::number::number;
-use bytes::Bytes;
 use std::alloc::{AllocError, Global};
 
 /// The most times that a value repeats a byte.
@@ -78,15 +77,9 @@ pub fn value_in(text: &[u8]) -> Option<Value<'_>>
     None
 }
 
-/// Its bytes, which are copied once.
-pub fn to_bytes(alloc: Global, value: Value<'_>) -> Result<Bytes, AllocError>
-    ensures { IfOk result (λ bytes. bytes ≡ bytes_of value.entry) }
+/// So many times the byte.
+pub fn repeat(alloc: Global, count: u64, c: u8) -> Result<Vec<u8>, AllocError>
+    ensures { IfOk result (λ bytes. bytes.items ≡ replicate count c) }
 {
-    match value {
-        Value::Plain(bytes) => Bytes::copy_from_slice(alloc, bytes),
-        Value::Repeated(count, c) => {
-            let bytes = vec![in alloc; c; count as usize]?;
-            Ok(Bytes::from_vec(bytes)?)
-        }
-    }
+    vec![in alloc; c; count as usize]
 }

@@ -11,3 +11,5 @@ returns c =
     (sym (c.eq-2.ensures ∙ ap (bytes_eq word) c.as_slice-2.ensures) ∙ c.if-eq-2.false)
     (sym (c.eq-3.ensures ∙ ap (bytes_eq word) c.as_slice-3.ensures) ∙ c.if-eq-3.false)
     (sym (c.eq-4.ensures ∙ ap (bytes_eq word) c.as_slice-4.ensures) ∙ c.if-eq-4.false)
+    (sym (c.eq-5.ensures ∙ ap (bytes_eq word) c.as_slice-5.ensures) ∙ c.if-eq-5.false)
+    (sym (c.eq-6.ensures ∙ ap (bytes_eq word) c.as_slice-6.ensures) ∙ c.if-eq-6.false)

@@ -1,0 +1,37 @@
+use Rattle.std.proofs.Common.{length, refl, sym, ap, ◌∙◌, arith, subst}
+use Rattle.hc_memory.specs.Item.{Handle}
+use Rattle.hc_memory.specs.Memory.{after_charge}
+use Rattle.hc_core.specs.Mirrors.{FitsConfig}
+use Rattle.hc_core.proofs.Keeps.{follows-as, follows-allocate, fits-allocate, length-as, length-opened, pool-there}
+use Rattle.hc_core.proofs.Made.{allocated-log}
+use Rattle.hc_core.proofs.cache.Core.allocate.Goals as goal
+
+pub invariant_of-self-2 : goal.invariant_of-self-2
+invariant_of-self-2 g c =
+    let f = c.self.inside in
+    let e = c.in-Ok.ensures in
+    let ok = c.in_ok-blank.ensures in
+    let made = c.in_ok-blank.field-0 in
+    let log = allocated-log (g.N.Notes.told f.notes) (g.N.Notes.told c.allocate.new.notes) (g.N.Notes.told c.evictions.new.notes) (g.N.Notes.told c.charged.new.notes) c.in-Ok.copy f.pools f.clock c.args.pool c.number.result c.charge-want.result c.args.key c.args.size made.victims.items
+    e.same c.charge-want.ensures (c.number.ensures ∙ ap (λ (h : Handle). h.number) ok.blank) ok.victims e.copy c.evictions.ensures.told c.charged.ensures.told in (
+      subst (FitsConfig f.config) (sym ok.pools) (fits-allocate f.config f.pools c.args.pool c.args.key c.args.size c.self.invariant.0),
+      follows-as f.config _ (g.N.Notes.told c.charged.new.notes) _ c.charge.new.self f.calls f.calls f.clock log ok.pools refl
+          (follows-allocate f.config (g.N.Notes.told f.notes) f.pools c.args.pool c.args.key c.args.size f.calls f.clock c.self.invariant.0 c.len-len.ensures.sound (pool-there f.pools c.args.pool c.args.key c.args.size e.fits) c.self.invariant.1),
+      omega (arith, length-as (after_charge f.pools c.args.pool c.args.key c.args.size) c.charge.new.self ok.pools, length-opened f.pools c.args.pool c.args.key c.args.size, e.room, ap length ok.victims, c.evictions.ensures.room, c.charged.ensures.room),
+    )
+
+pub returns-clause-ok : goal.returns-clause-ok
+returns-clause-ok g c =
+    let f = c.self.inside in
+    let e = c.in-Ok.ensures in
+    let ok = c.in_ok-blank.ensures in
+    let made = c.in_ok-blank.field-0 in
+    let log = allocated-log (g.N.Notes.told f.notes) (g.N.Notes.told c.allocate.new.notes) (g.N.Notes.told c.evictions.new.notes) (g.N.Notes.told c.charged.new.notes) c.in-Ok.copy f.pools f.clock c.args.pool c.number.result c.charge-want.result c.args.key c.args.size made.victims.items
+    e.same c.charge-want.ensures (c.number.ensures ∙ ap (λ (h : Handle). h.number) ok.blank) ok.victims e.copy c.evictions.ensures.told c.charged.ensures.told in
+    rw (← c.self.view_is) (λ i. record {
+      config = f.config;
+      memory = ok.pools i;
+      now = f.clock;
+      calls = f.calls;
+      log = log i;
+    })

@@ -1,0 +1,13 @@
+use Rattle.std.proofs.Common.{refl, sym, ap, ◌∙◌}
+use Rattle.hc_types.specs.Config.{Config}
+use Rattle.hc_core.specs.Cache.{empty_memory}
+use Rattle.hc_core.proofs.Keeps.{new-holds}
+use Rattle.hc_core.proofs.cache.Core.new.Goals as goal
+
+pub invariant_of-result : goal.invariant_of-result
+invariant_of-result g c =
+    let copied = c.in_ok-config.ensures.cases in
+    new-holds c.in_ok-config.config (g.N.Notes.told c.args.notes) c.in_ok-pools.pools (g.N.Notes.room c.args.notes) (ap (λ (k : Config). k.flash) copied ∙ c.requires.flash) c.requires.log (c.in_ok-pools.ensures ∙ ap empty_memory (sym copied))
+
+pub returns-clause-fits : goal.returns-clause-fits
+returns-clause-fits g c = c.in_ok-check.ensures.ok.0 refl
