@@ -27,6 +27,8 @@ use std::marker::Model;
 ///
 /// An item is written in two steps, as in CacheLib: `allocate` makes room and charges it, and gives a handle through
 /// which it is written; it can be found once its sealed handle is spent by `insert_or_replace` or `insert`.
+///
+/// An insert, a find and a remove take the number of the client that calls, for the log to tell.
 #[derive(Drop)]
 pub struct Core<N: Notes<Note<A>>, A: Allocator = Global> {
     config: Config<A>,
@@ -228,7 +230,7 @@ impl<N: Notes<Note<A>>, A: Allocator + Clone> Core<N, A> {
             Err(refusal) => return Err(Uncharged { refusal, key }),
         };
         let want = charge(&key, size);
-        let _len = self.pools.len();
+        let _sound = self.pools.len();
         let Charged { blank, victims } = self
             .pools
             .charge(pool, key, size, expiry_after(self.clock, ttl))?;
@@ -254,7 +256,7 @@ impl<N: Notes<Note<A>>, A: Allocator + Clone> Core<N, A> {
             Err(refusal) => return Err(Unlinked { refusal, sealed }),
         };
         let charge = sealed.number();
-        let _len = self.pools.len();
+        let _sound = self.pools.len();
         let old = self.pools.link(sealed, false)?;
 
         self.calls = call;

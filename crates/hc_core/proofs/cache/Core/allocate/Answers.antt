@@ -16,7 +16,7 @@ invariant_of-self-2 g c =
     e.same c.charge-want.ensures (c.number.ensures ∙ ap (λ (h : Handle). h.number) ok.blank) ok.victims e.copy c.evictions.ensures.told c.charged.ensures.told in (
       subst (FitsConfig f.config) (sym ok.pools) (fits-allocate f.config f.pools c.args.pool c.args.key c.args.size c.self.invariant.0),
       follows-as f.config _ (g.N.Notes.told c.charged.new.notes) _ c.charge.new.self f.calls f.calls f.clock log ok.pools refl
-          (follows-allocate f.config (g.N.Notes.told f.notes) f.pools c.args.pool c.args.key c.args.size f.calls f.clock c.self.invariant.0 c.len-len.ensures.sound (pool-there f.pools c.args.pool c.args.key c.args.size e.fits) c.self.invariant.1),
+          (follows-allocate f.config (g.N.Notes.told f.notes) f.pools c.args.pool c.args.key c.args.size f.calls f.clock c.self.invariant.0 c.len-sound.ensures.sound (pool-there f.pools c.args.pool c.args.key c.args.size e.fits) c.self.invariant.1),
       omega (arith, length-as (after_charge f.pools c.args.pool c.args.key c.args.size) c.charge.new.self ok.pools, length-opened f.pools c.args.pool c.args.key c.args.size, e.room, ap length ok.victims, c.evictions.ensures.room, c.charged.ensures.room),
     )
 

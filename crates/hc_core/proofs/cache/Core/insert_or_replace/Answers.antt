@@ -18,7 +18,7 @@ invariant_of-self-2 g c =
     e.same e.call c.number-charge.ensures ok.old e.begin c.insert.ensures.told in (
       subst (FitsConfig f.config) (sym ok.pools) (fits-insert f.config f.pools handle c.self.invariant.0),
       follows-as f.config _ (g.N.Notes.told c.insert.new.notes) _ c.link.new.self _ c.in-Ok.plan.0 f.clock log ok.pools e.call
-          (follows-insert f.config (g.N.Notes.told f.notes) f.pools handle c.args.client f.calls f.clock c.len-len.ensures.sound ok.mine c.self.invariant.1),
+          (follows-insert f.config (g.N.Notes.told f.notes) f.pools handle c.args.client f.calls f.clock c.len-sound.ensures.sound ok.mine c.self.invariant.1),
       omega (arith, length-as (after_link f.pools false handle) c.link.new.self ok.pools, length-closed handle.number f.pools.charges (charge_by handle) found, e.room, c.insert.ensures.room),
     )
 
