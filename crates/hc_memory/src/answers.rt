@@ -3,6 +3,8 @@ use crate::handles::{Blank, Sealed};
 use crate::item::Item;
 use hc_types::{Key, Refusal};
 use std::alloc::{Allocator, Global};
+use std::error::Error;
+use std::fmt;
 
 /// A charge that was made: the handle of its item, and the items that went to make room for it, the one that was used
 /// longest ago first.
@@ -22,4 +24,34 @@ pub struct Uncharged<A: Allocator = Global> {
 pub struct Unlinked<A: Allocator = Global> {
     pub refusal: Refusal,
     pub sealed: Sealed<A>,
+}
+
+impl<A: Allocator> fmt::Display for Uncharged<A> {
+    ghost use Rattle.std.specs.Prelude.{Some};
+    ghost use Rattle.hc_types.specs.Refusals.{refusal_text};
+
+    ghost output = { λ e. Some (refusal_text e.refusal) };
+
+    fn fmt<W: fmt::Write>(&self, f: &mut fmt::Formatter<W>) -> fmt::Result {
+        fmt::Display::fmt(&self.refusal, f)
+    }
+}
+
+impl<A: Allocator> fmt::Debug for Uncharged<A> {
+    fn fmt<W: fmt::Write>(&self, f: &mut fmt::Formatter<W>) -> fmt::Result {
+        fmt::Debug::fmt(&self.refusal, f)
+    }
+}
+
+impl<A: Allocator> Error for Uncharged<A> {}
+
+impl<A: Allocator> fmt::Display for Unlinked<A> {
+    ghost use Rattle.std.specs.Prelude.{Some};
+    ghost use Rattle.hc_types.specs.Refusals.{refusal_text};
+
+    ghost output = { λ e. Some (refusal_text e.refusal) };
+
+    fn fmt<W: fmt::Write>(&self, f: &mut fmt::Formatter<W>) -> fmt::Result {
+        fmt::Display::fmt(&self.refusal, f)
+    }
 }

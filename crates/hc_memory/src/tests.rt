@@ -1,5 +1,5 @@
 // What worked runs of the pools want: who goes, what stays readable, and which handles are taken.
-use crate::{Blank, Charged, Glance, Item, Pools, Sealed, Unlinked};
+use crate::{Blank, Charged, Glance, Item, Pools, Sealed, Uncharged, Unlinked};
 use bytes::Bytes;
 use hc_types::{Config, FlashConfig, Key, PoolSize, Refusal, Scope};
 use std::alloc::{AllocError, Global};
@@ -365,5 +365,27 @@ fn marks_are_taken_by_scope(rt: HostRuntime) -> Result<(), Fail> {
     assert!(rt;
         matches!(large.first(), Some(item) if item.clean && item.key.as_slice() == b"b".as_slice())
     );
+    Ok(())
+}
+
+#[test]
+fn what_was_refused_says_why(rt: HostRuntime) -> Result<(), Fail> {
+    let alloc = rt.alloc();
+    let uncharged = Uncharged {
+        refusal: Refusal::NoRoom,
+        key: key(alloc, b"k")?,
+    };
+    let text = format!(in alloc; "{uncharged}")?;
+    assert_eq!(rt; text.as_str(), "refused 15 NoRoom");
+    let blank = Blank::new(1, 0, key(alloc, b"k")?, Vec::new(alloc), 0);
+    let (sealed, _gone) = sealed(blank, b"", 0)?;
+    let unlinked = Unlinked {
+        refusal: Refusal::ForeignHandle,
+        sealed,
+    };
+    let text = format!(in alloc; "{unlinked}");
+    let Unlinked { refusal: _, sealed } = unlinked;
+    let _number = sealed.discard();
+    assert_eq!(rt; text?.as_str(), "refused 16 ForeignHandle");
     Ok(())
 }

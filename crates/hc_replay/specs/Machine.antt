@@ -4,12 +4,13 @@ use Rattle.std.specs.Io.KnownBytes.{Appends}
 use Rattle.hc_types.specs.Limits.{first_wrong}
 use Rattle.hc_types.specs.declared.config.PoolSize.{PoolSize}
 use Rattle.hc_types.specs.declared.refusal.Refusal.{Refusal}
+use Rattle.hc_types.specs.Refusals.{refusal_text}
 use Rattle.hc_replay.specs.declared.state.State.{State}
 use Rattle.hc_replay.specs.declared.state.State.TheVariants.{Configuring, Running}
 use Rattle.hc_replay.specs.Lines.{lines_of}
 use Rattle.hc_replay.specs.Grammar.{Order, Line, Skipped, Says, Fault, Pool, NoFlash, Do, line_of}
 use Rattle.hc_replay.specs.Moves.{move}
-use Rattle.hc_replay.specs.Texts.{line_text, refusal_text, fault_text}
+use Rattle.hc_replay.specs.Texts.{line_text, fault_text}
 use Rattle.hc_replay.specs.Trace.{config_of, empty_cache, step_text, ending, onto}
 
 -- where a trace begins

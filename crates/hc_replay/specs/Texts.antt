@@ -3,10 +3,9 @@ use Rattle.std.specs.Prelude.{◌≡◌, ℕ, ◌≤◌, ◌==◌, nat_le, Bool,
 use Rattle.std.specs.Char.{is_ascii_digit}
 use Rattle.std.specs.List.{list_all}
 use Rattle.std.specs.Fmt.{decimal}
-use Rattle.hc_types.specs.declared.refusal.Refusal.{Refusal}
 use Rattle.hc_types.specs.declared.loss.Why.{Why}
 use Rattle.hc_types.specs.declared.loss.Why.TheVariants.{NoFlash, Tombstone, NotAdmitted, TooLarge, QueueFull}
-use Rattle.hc_types.specs.Refusals as refusals
+use Rattle.hc_types.specs.Refusals.{refusal_text}
 use Rattle.hc_types.specs.Loss.{Scope, Key, Bucket, Hash, Cause, Evicted, BucketFull, Reclaimed, NoCleanRegion, TokenTaken, Collision, Expired, Fault}
 use Rattle.hc_history.specs.Note.{Note, Lose}
 use Rattle.hc_history.specs.declared.stats.Stats.{Stats}
@@ -29,9 +28,6 @@ value_text value = if is_repeated value then 42 ∷ decimal (length value) ++ fi
 -- it is read as what it was
 abbrev pub ReadsBack : List ℕ → Type 0
 ReadsBack value = list_all is_visible value ≡ true → length value ≤ 2097152 → value_of (value_text value) ≡ Some value
-
-abbrev pub refusal_text : Refusal → List ℕ
-refusal_text refusal = codes "refused " ++ decimal (refusals.number_of refusal) ++ codes " " ++ refusals.name_of refusal
 
 abbrev pub answer_text : Answer → List ℕ
 answer_text Stored = codes "stored"

@@ -5,6 +5,7 @@ use Rattle.hc_types.specs.Config.{Config}
 use Rattle.hc_types.specs.Limits.{first_wrong}
 use Rattle.hc_types.specs.declared.config.PoolSize.{PoolSize}
 use Rattle.hc_types.specs.declared.refusal.Refusal.{Refusal}
+use Rattle.hc_types.specs.Refusals.{refusal_text}
 use Rattle.hc_history.specs.Note.{Note}
 use Rattle.hc_history.specs.Stats.{counts_of}
 use Rattle.hc_core.specs.Cache.{Cache, new_cache}
@@ -12,7 +13,7 @@ use Rattle.hc_replay.specs.Lines.{lines_of}
 use Rattle.hc_replay.specs.Steps.{Step}
 use Rattle.hc_replay.specs.Grammar.{Line, Skipped, Says, Pool, NoFlash, Do, line_of}
 use Rattle.hc_replay.specs.Moves.{Moved, move}
-use Rattle.hc_replay.specs.Texts.{line_text, answer_text, refusal_text, losses_text, stats_text, verdict_text, fault_text}
+use Rattle.hc_replay.specs.Texts.{line_text, answer_text, losses_text, stats_text, verdict_text, fault_text}
 
 -- the steps up to the first fault, and its line, where there is a fault
 pub record Steps : Type 0 where

@@ -1,10 +1,11 @@
 // The steps of a trace, and their answers.
 ghost use Rattle.std.specs.Prelude.{◌≡◌, ◌≢◌, ◌++◌, OnOk, IfOk, None, Some, MatchResult};
 ghost use Rattle.hc_history.specs.Told.{told_more};
+ghost use Rattle.hc_types.specs.Refusals.{refusal_text};
 ghost use Rattle.hc_replay.specs.Seen.{item_seen, step_seen};
 ghost use Rattle.hc_replay.specs.Steps.{Get, Del, Now};
 ghost use Rattle.hc_replay.specs.Moves.{unless, key_refusal, stored, move};
-ghost use Rattle.hc_replay.specs.Texts.{line_text, refusal_text, answer_text};
+ghost use Rattle.hc_replay.specs.Texts.{line_text, answer_text};
 ghost use Rattle.hc_replay.specs.Trace.{step_text};
 
 use crate::grammar::{NewItem, Step};

@@ -3,8 +3,9 @@ ghost use Rattle.std.specs.Prelude.{◌≡◌, ◌^◌, ◌<◌, ◌∷◌, ◌+
 ghost use Rattle.std.specs.List.{list_all};
 ghost use Rattle.std.specs.Fmt.{decimal};
 ghost use Rattle.hc_types.specs.Loss.{scope_of, cause_of};
+ghost use Rattle.hc_types.specs.Refusals.{refusal_text};
 ghost use Rattle.hc_replay.specs.Texts as spec;
-ghost use Rattle.hc_replay.specs.Texts.{value_text, ReadsBack, refusal_text, line_text, but_text, scope_text, why_text, cause_text, lose_text, losses_text, finds_text, calls_text, others_text, stats_text, verdict_text, fault_text};
+ghost use Rattle.hc_replay.specs.Texts.{value_text, ReadsBack, line_text, but_text, scope_text, why_text, cause_text, lose_text, losses_text, finds_text, calls_text, others_text, stats_text, verdict_text, fault_text};
 ghost use Rattle.hc_replay.specs.Steps.{Hit, Moment};
 
 use hc_history::{Note, Said, Stats};

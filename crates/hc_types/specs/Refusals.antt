@@ -1,5 +1,6 @@
 -- The numbers and names of the refusals.
-use Rattle.std.specs.Prelude.{ℕ, List, codes}
+use Rattle.std.specs.Prelude.{ℕ, List, ◌++◌, codes}
+use Rattle.std.specs.Fmt.{decimal}
 use Rattle.hc_types.specs.declared.refusal.Refusal.{Refusal}
 use Rattle.hc_types.specs.declared.refusal.Refusal.TheVariants.{KeyEmpty, KeyTooLong, BadPool, BadPage, BadBuckets, BadRegions, BadSmallMax, BadQueue, BadBits, NoCleanRegion, TooLarge, OutOfItem, NoPool, ValueTooLong, NoRoom, ForeignHandle, Exists, FlashOn, UnknownCall, NotReady, UnknownJob, NoMemory, TooManyClients}
 
@@ -52,3 +53,7 @@ name_of NotReady = codes "NotReady"
 name_of UnknownJob = codes "UnknownJob"
 name_of NoMemory = codes "NoMemory"
 name_of TooManyClients = codes "TooManyClients"
+
+-- how a refusal is printed
+abbrev pub refusal_text : Refusal → List ℕ
+refusal_text refusal = codes "refused " ++ decimal (number_of refusal) ++ codes " " ++ name_of refusal

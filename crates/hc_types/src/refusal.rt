@@ -3,79 +3,57 @@ ghost use Rattle.std.specs.Prelude.{◌≡◌};
 ghost use Rattle.hc_types.specs.Refusals.{number_of, name_of};
 
 use std::alloc::AllocError;
-use thiserror::Error;
+use std::error::Error;
+use std::fmt;
 
-/// What a call is refused with. After a refusal everything is as it was.
-#[derive(Clone, Copy, Debug, PartialEq, Eq, Error)]
+/// What a call is refused with. After a refusal everything is as it was. It shows as `refused`, its number and its name.
+#[derive(Clone, Copy, Debug, PartialEq, Eq)]
 pub enum Refusal {
     /// A key of no byte.
-    #[error("refused 1 KeyEmpty")]
     KeyEmpty,
     /// A key of more than 255 bytes.
-    #[error("refused 2 KeyTooLong")]
     KeyTooLong,
     /// No pool or more than 16 of them, or a pool outside its limits.
-    #[error("refused 3 BadPool")]
     BadPool,
     /// A page of other than 512, 1024, 2048 or 4096 bytes.
-    #[error("refused 4 BadPage")]
     BadPage,
     /// A number of buckets outside its limits.
-    #[error("refused 5 BadBuckets")]
     BadBuckets,
     /// A number of regions, of their pages or of those to be kept clean outside its limits.
-    #[error("refused 6 BadRegions")]
     BadRegions,
     /// Small items could be longer than a page holds.
-    #[error("refused 7 BadSmallMax")]
     BadSmallMax,
     /// A length of the queue, or sizes that are admitted, outside their limits.
-    #[error("refused 8 BadQueue")]
     BadQueue,
     /// A number of bits of the kept hash outside its limits.
-    #[error("refused 9 BadBits")]
     BadBits,
     /// No region is clean.
-    #[error("refused 10 NoCleanRegion")]
     NoCleanRegion,
     /// The entry is longer than a region.
-    #[error("refused 11 TooLarge")]
     TooLarge,
     /// The bytes to be written pass the end of the item.
-    #[error("refused 12 OutOfItem")]
     OutOfItem,
     /// No pool has this number.
-    #[error("refused 13 NoPool")]
     NoPool,
     /// A value of more than 1,048,576 bytes.
-    #[error("refused 14 ValueTooLong")]
     ValueTooLong,
     /// The item would not fit into its pool, however much were evicted.
-    #[error("refused 15 NoRoom")]
     NoRoom,
     /// The handle isn't one of this cache's.
-    #[error("refused 16 ForeignHandle")]
     ForeignHandle,
     /// The key has an unexpired item.
-    #[error("refused 17 Exists")]
     Exists,
     /// The call is not there with flash.
-    #[error("refused 18 FlashOn")]
     FlashOn,
     /// The call never waited, or its reply was taken.
-    #[error("refused 19 UnknownCall")]
     UnknownCall,
     /// The reply of the call is not there yet.
-    #[error("refused 20 NotReady")]
     NotReady,
     /// No such job, or none that awaits this.
-    #[error("refused 21 UnknownJob")]
     UnknownJob,
     /// Memory was refused, or a number ran out.
-    #[error("refused 22 NoMemory")]
     NoMemory,
     /// There are 64 clients.
-    #[error("refused 23 TooManyClients")]
     TooManyClients,
 }
 
@@ -144,6 +122,19 @@ impl Refusal {
         }
     }
 }
+
+impl fmt::Display for Refusal {
+    ghost use Rattle.std.specs.Prelude.{Some};
+    ghost use Rattle.hc_types.specs.Refusals.{refusal_text};
+
+    ghost output = { λ refusal. Some (refusal_text refusal) };
+
+    fn fmt<W: fmt::Write>(&self, f: &mut fmt::Formatter<W>) -> fmt::Result {
+        write!(f, "refused {} {}", self.number(), self.name())
+    }
+}
+
+impl Error for Refusal {}
 
 impl From<AllocError> for Refusal {
     ghost use Rattle.std.specs.Prelude.{◌≡◌};
