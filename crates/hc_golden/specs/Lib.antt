@@ -1,0 +1,2 @@
+-- Where two texts differ.
+pub mod Difference

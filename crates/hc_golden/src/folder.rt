@@ -1,0 +1,41 @@
+// The files of a folder of traces.
+use std::{fs, io};
+
+// What stands behind the name of a trace.
+const TRACE: &str = ".trace";
+const ANSWERS: &str = ".answers";
+
+/// The names of a folder's traces, in their order.
+pub fn trace_names(rt: &HostRuntime, folder: &str) -> io::Result<Vec<String>> {
+    let mut names = Vec::new(rt.alloc());
+    for entry in fs::read_dir(rt, folder)? {
+        if let Some(name) = entry?.file_name().strip_suffix(TRACE) {
+            names.push(String::from_str(rt.alloc(), name)?)?;
+        }
+    }
+    names.sort()?;
+    Ok(names)
+}
+
+/// The bytes of a trace.
+pub fn trace_of(rt: &HostRuntime, folder: &str, name: &str) -> io::Result<Vec<u8>> {
+    fs::read(rt, format!(in rt.alloc(); "{folder}/{name}{TRACE}")?)
+}
+
+/// The answers that a trace must give.
+pub fn answers_of(rt: &HostRuntime, folder: &str, name: &str) -> io::Result<Vec<u8>> {
+    fs::read(rt, format!(in rt.alloc(); "{folder}/{name}{ANSWERS}")?)
+}
+
+/// The status with which a folder's traces end: the number in its file `status`, or 0 where there is none.
+pub fn status_of(rt: &HostRuntime, folder: &str) -> io::Result<u8> {
+    let text = match fs::read_to_string(rt, format!(in rt.alloc(); "{folder}/status")?) {
+        Ok(text) => text,
+        Err(error) if error.kind() == io::ErrorKind::NotFound => return Ok(0),
+        Err(error) => return Err(error),
+    };
+    match text.trim().parse() {
+        Ok(status) => Ok(status),
+        Err(_) => Err(io::Error::from(io::ErrorKind::InvalidData)),
+    }
+}

@@ -1,0 +1,67 @@
+//! Replays the traces of each folder that it is given, and compares what is printed with the answers that stand beside
+//! them. A line for each trace says `ok`, or in which line its answers differ first. The status is 0 where all are as
+//! wanted, 1 where one isn't, and 2 where a folder or a file can't be read.
+#![tactic(auto)]
+
+mod difference;
+mod folder;
+mod verdict;
+
+use crate::folder::{answers_of, status_of, trace_names, trace_of};
+use crate::verdict::{Verdict, verdict};
+use std::process::ExitCode;
+use std::{env, io};
+
+// Replays a trace of the folder, and prints a line. Whether it is as wanted.
+fn check_trace(rt: &HostRuntime, folder: &str, name: &str, status: u8) -> io::Result<bool> {
+    let trace = trace_of(rt, folder, name)?;
+    let answers = answers_of(rt, folder, name)?;
+    match verdict(rt.alloc(), &trace, &answers, status) {
+        Verdict::Same => {
+            println!(rt; "{folder}/{name}: ok")?;
+            Ok(true)
+        }
+        Verdict::Line(line) => {
+            println!(rt; "{folder}/{name}: line {line} differs")?;
+            eprintln!(rt; "{folder}/{name}.answers: line {line} is not what is printed")?;
+            Ok(false)
+        }
+        Verdict::Status(ended) => {
+            println!(rt; "{folder}/{name}: status {ended}")?;
+            eprintln!(rt; "{folder}/{name}.trace: status {ended}, and not {status}")?;
+            Ok(false)
+        }
+    }
+}
+
+// Replays the traces of a folder. Whether all are as wanted.
+fn check_folder(rt: &HostRuntime, folder: &str) -> io::Result<bool> {
+    let status = status_of(rt, folder)?;
+    let mut all = true;
+    for name in trace_names(rt, folder)?.iter() {
+        all &= check_trace(rt, folder, name, status)?;
+    }
+    Ok(all)
+}
+
+// Replays the traces of each folder. Whether all are as wanted.
+fn run(rt: &HostRuntime) -> io::Result<bool> {
+    let mut folders = env::args(rt)?;
+    let _program = folders.next();
+    let mut all = true;
+    for folder in folders {
+        all &= check_folder(rt, folder.as_str())?;
+    }
+    Ok(all)
+}
+
+fn main(rt: HostRuntime) -> ExitCode {
+    match run(&rt) {
+        Ok(true) => ExitCode::from(0),
+        Ok(false) => ExitCode::from(1),
+        Err(error) => {
+            let _ = eprintln!(rt; "{error}");
+            ExitCode::from(2)
+        }
+    }
+}

@@ -1,8 +1,0 @@
-use Rattle.hc_replay.proofs.Logs.{log-is}
-use Rattle.hc_replay.proofs.replay.replay.Goals as goal
-
-pub returns-in-Ok-write_out-clause-log : goal.returns-in-Ok-write_out-clause-log
-returns-in-Ok-write_out-clause-log g c = log-is
-
-pub returns-clause-log : goal.returns-clause-log
-returns-clause-log g c = log-is

@@ -1,0 +1,149 @@
+// One line of a trace after another.
+ghost use Rattle.std.specs.Prelude.{◌≡◌, ◌+◌, ◌^◌, ◌<◌, ◌++◌, None, Some, false, IfOk, OnOk, MatchResult};
+ghost use Rattle.hc_types.specs.Limits.{first_wrong};
+ghost use Rattle.hc_trace.specs.Seen.{order_seen};
+ghost use Rattle.hc_trace.specs.Grammar as spec;
+ghost use Rattle.hc_trace.specs.Machine.{stops, obeyed, turn_of, ended};
+ghost use Rattle.hc_trace.specs.Texts.{fault_text};
+ghost use Rattle.hc_trace.specs.Trace.{empty_cache};
+
+use crate::grammar::{Line, Order, line_in};
+use crate::state::State;
+use crate::steps::take_step;
+use crate::texts::{add_fault, add_refusal, add_stats, add_verdict};
+use hc_core::Core;
+use hc_history::Kept;
+use hc_types::{Config, PoolSize, Refusal};
+use std::alloc::{AllocError, Global};
+
+// The fault at the line after so many. The trace stops.
+fn fault(out: &mut Vec<u8>, taken: u64) -> Result<bool, AllocError>
+    requires { taken < 2 ^ 63 }
+    ensures text { OnOk result (out.new.items ≡ out.old.items ++ fault_text (taken + 1)) }
+    ensures goes { IfOk result (λ goes. goes ≡ false) }
+{
+    add_fault(out, taken + 1)?;
+    Ok(false)
+}
+
+// One more pool of the configuration.
+fn take_pool(
+    state: &mut State,
+    out: &mut Vec<u8>,
+    size: PoolSize,
+    taken: u64,
+) -> Result<bool, AllocError>
+    requires { taken < 2 ^ 63 }
+    ensures state { OnOk result (state.new ≡ (obeyed taken state.old (spec.Pool size.bytes size.items)).state) }
+    ensures text { OnOk result (out.new.items ≡ out.old.items ++ (obeyed taken state.old (spec.Pool size.bytes size.items)).text) }
+    ensures goes { IfOk result (λ goes. goes ≡ (obeyed taken state.old (spec.Pool size.bytes size.items)).goes) }
+{
+    match state {
+        State::Configuring(sizes) => {
+            sizes.push(size)?;
+            Ok(true)
+        }
+        State::Running(_) => fault(out, taken),
+    }
+}
+
+// The core of this configuration, or why there is none.
+fn new_core(alloc: Global, config: &Config) -> Result<Result<Core<Kept>, Refusal>, AllocError>
+    requires { config.now.flash ≡ None }
+    ensures { IfOk result (λ made. MatchResult made (λ core. (first_wrong config.now ≡ None) × (core ≡ empty_cache config.now)) (λ refusal. first_wrong config.now ≡ Some refusal)) }
+{
+    match Core::new(alloc, config, Kept::new(alloc)) {
+        Ok(core) => Ok(Ok(core)),
+        Err(Refusal::NoMemory) => Err(AllocError),
+        Err(refusal) => Ok(Err(refusal)),
+    }
+}
+
+// The end of the configuration.
+fn end_configuration(
+    alloc: Global,
+    state: &mut State,
+    out: &mut Vec<u8>,
+    taken: u64,
+) -> Result<bool, AllocError>
+    requires { taken < 2 ^ 63 }
+    ensures state { OnOk result (state.new ≡ (obeyed taken state.old spec.NoFlash).state) }
+    ensures text { OnOk result (out.new.items ≡ out.old.items ++ (obeyed taken state.old spec.NoFlash).text) }
+    ensures goes { IfOk result (λ goes. goes ≡ (obeyed taken state.old spec.NoFlash).goes) }
+{
+    let State::Configuring(sizes) = state else {
+        return fault(out, taken);
+    };
+    match new_core(alloc, sizes.config())? {
+        Ok(core) => {
+            *state = State::Running(core);
+            Ok(true)
+        }
+        Err(refusal) => {
+            add_refusal(out, refusal)?;
+            Ok(false)
+        }
+    }
+}
+
+// An order, after so many lines.
+fn obey(
+    alloc: Global,
+    state: &mut State,
+    out: &mut Vec<u8>,
+    order: Order<'_>,
+    taken: u64,
+) -> Result<bool, AllocError>
+    requires { taken < 2 ^ 63 }
+    ensures state { OnOk result (state.new ≡ (obeyed taken state.old (order_seen order.entry)).state) }
+    ensures text { OnOk result (out.new.items ≡ out.old.items ++ (obeyed taken state.old (order_seen order.entry)).text) }
+    ensures goes { IfOk result (λ goes. goes ≡ (obeyed taken state.old (order_seen order.entry)).goes) }
+{
+    match order {
+        Order::Pool(bytes, items) => take_pool(state, out, PoolSize { bytes, items }, taken),
+        Order::NoFlash => end_configuration(alloc, state, out, taken),
+        Order::Do(step) => {
+            if let State::Running(core) = state {
+                take_step(alloc, core, out, step)?;
+                return Ok(true);
+            }
+            fault(out, taken)
+        }
+    }
+}
+
+/// A line, after so many others: what it does to the state, and what is printed. Whether the trace goes on. An error is
+/// want of memory.
+pub fn turn(
+    alloc: Global,
+    state: &mut State,
+    out: &mut Vec<u8>,
+    line: &[u8],
+    taken: u64,
+) -> Result<bool, AllocError>
+    requires { taken < 2 ^ 63 }
+    ensures state { OnOk result (state.new ≡ (turn_of taken state.old line.now).state) }
+    ensures text { OnOk result (out.new.items ≡ out.old.items ++ (turn_of taken state.old line.now).text) }
+    ensures goes { IfOk result (λ goes. goes ≡ (turn_of taken state.old line.now).goes) }
+{
+    match line_in(line) {
+        Line::Skipped => Ok(true),
+        Line::Says(order) => obey(alloc, state, out, order, taken),
+        Line::Fault => fault(out, taken),
+    }
+}
+
+/// The end of a trace of so many lines. Returns the status.
+pub fn end(state: &State, out: &mut Vec<u8>, taken: u64) -> Result<u8, AllocError>
+    requires { taken < 2 ^ 63 }
+    ensures text { OnOk result (out.new.items ≡ out.old.items ++ (ended taken state.now).0) }
+    ensures status { IfOk result (λ status. status ≡ (ended taken state.now).1) }
+{
+    let State::Running(core) = state else {
+        fault(out, taken)?;
+        return Ok(1);
+    };
+    add_stats(out, &core.notes().stats())?;
+    add_verdict(out)?;
+    Ok(0)
+}

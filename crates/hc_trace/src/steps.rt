@@ -1,0 +1,198 @@
+// The steps of a trace, and their answers.
+ghost use Rattle.std.specs.Prelude.{◌≡◌, ◌≢◌, ◌++◌, OnOk, IfOk, None, Some, MatchResult};
+ghost use Rattle.hc_history.specs.Told.{told_more};
+ghost use Rattle.hc_types.specs.Refusals.{refusal_text};
+ghost use Rattle.hc_trace.specs.Seen.{item_seen, step_seen};
+ghost use Rattle.hc_trace.specs.Steps.{Get, Del, Now};
+ghost use Rattle.hc_trace.specs.Moves.{unless, key_refusal, stored, move};
+ghost use Rattle.hc_trace.specs.Texts.{line_text, answer_text};
+ghost use Rattle.hc_trace.specs.Trace.{step_text};
+
+use crate::grammar::{NewItem, Step};
+use crate::texts::{add_hit, add_losses, add_moment, add_refusal, add_word};
+use crate::value::{Value, repeat};
+use hc_core::{Core, Found, Removed, give_up, give_up_blank, open};
+use hc_history::Kept;
+use hc_memory::Unlinked;
+use hc_types::{Key, Refusal};
+use std::alloc::{AllocError, Global};
+
+// The key, or why there is none.
+fn key_in(alloc: Global, bytes: &[u8]) -> Result<Result<Key, Refusal>, AllocError>
+    ensures { IfOk result (λ made. MatchResult made (λ key. (key ≡ bytes.now) × (key_refusal bytes.now ≡ None)) (λ refusal. key_refusal bytes.now ≡ Some refusal)) }
+{
+    match Key::new(alloc, bytes) {
+        Ok(key) => Ok(Ok(key)),
+        Err(Refusal::NoMemory) => Err(AllocError),
+        Err(refusal) => Ok(Err(refusal)),
+    }
+}
+
+// A refusal is answered, but not that memory lacks.
+fn refused(out: &mut Vec<u8>, refusal: Refusal) -> Result<(), AllocError>
+    ensures { OnOk result ((refusal ≢ Refusal.NoMemory) × (out.new.items ≡ out.old.items ++ line_text (refusal_text refusal))) }
+{
+    match refusal {
+        Refusal::NoMemory => Err(AllocError),
+        _ => add_refusal(out, refusal),
+    }
+}
+
+// Stores a value under a key, and answers. `replaces` says whether an unexpired item of the key is replaced.
+fn store(
+    core: &mut Core<Kept>,
+    out: &mut Vec<u8>,
+    pool: u8,
+    key: Key,
+    value: &[u8],
+    ttl: u32,
+    replaces: bool,
+) -> Result<(), AllocError>
+    ensures cache { OnOk result (core.new ≡ (stored replaces (record { pool = pool; key = key; value = value.now; ttl = ttl }) core.old).cache) }
+    ensures text { OnOk result (out.new.items ≡ out.old.items ++ line_text (answer_text (stored replaces (record { pool = pool; key = key; value = value.now; ttl = ttl }) core.old).answer)) }
+{
+    let blank = match open(core, pool, key, value, ttl) {
+        Ok(blank) => blank,
+        Err(unopened) => return refused(out, unopened.refusal),
+    };
+    let sealed = match blank.seal() {
+        Ok(sealed) => sealed,
+        Err(blank) => {
+            give_up_blank(core, blank);
+            return Err(AllocError);
+        }
+    };
+    let inserted = if replaces {
+        core.insert_or_replace(0, sealed)
+    } else {
+        core.insert(0, sealed)
+    };
+    match inserted {
+        Ok(()) => add_word(out, b"stored"),
+        Err(Unlinked { refusal, sealed }) => {
+            give_up(core, sealed);
+            refused(out, refusal)
+        }
+    }
+}
+
+// Stores an item, and answers. `replaces` says whether an unexpired item of the key is replaced.
+fn put(
+    alloc: Global,
+    core: &mut Core<Kept>,
+    out: &mut Vec<u8>,
+    item: NewItem<'_>,
+    replaces: bool,
+) -> Result<(), AllocError>
+    ensures cache { OnOk result (core.new ≡ (unless (key_refusal item.entry.key.now) core.old (stored replaces (item_seen item.entry) core.old)).cache) }
+    ensures text { OnOk result (out.new.items ≡ out.old.items ++ line_text (answer_text (unless (key_refusal item.entry.key.now) core.old (stored replaces (item_seen item.entry) core.old)).answer)) }
+{
+    let key = match key_in(alloc, item.key)? {
+        Ok(key) => key,
+        Err(refusal) => return add_refusal(out, refusal),
+    };
+    match item.value {
+        Value::Plain(bytes) => store(core, out, item.pool, key, bytes, item.ttl, replaces),
+        Value::Repeated(count, c) => {
+            let bytes = repeat(alloc, count, c)?;
+            store(
+                core,
+                out,
+                item.pool,
+                key,
+                bytes.as_slice(),
+                item.ttl,
+                replaces,
+            )
+        }
+    }
+}
+
+// A find by client 0, and its answer.
+fn get(
+    alloc: Global,
+    core: &mut Core<Kept>,
+    out: &mut Vec<u8>,
+    key: &[u8],
+) -> Result<(), AllocError>
+    ensures cache { OnOk result (core.new ≡ (move (Get key.now) core.old).cache) }
+    ensures text { OnOk result (out.new.items ≡ out.old.items ++ line_text (answer_text (move (Get key.now) core.old).answer)) }
+{
+    let key = match key_in(alloc, key)? {
+        Ok(key) => key,
+        Err(refusal) => return add_refusal(out, refusal),
+    };
+    match core.find(0, &key) {
+        Ok(Found::Hit(value)) => add_hit(out, value.bytes()),
+        Ok(Found::Miss) => add_word(out, b"miss"),
+        Err(_no_memory) => Err(AllocError),
+    }
+}
+
+// A remove by client 0, and its answer.
+fn del(
+    alloc: Global,
+    core: &mut Core<Kept>,
+    out: &mut Vec<u8>,
+    key: &[u8],
+) -> Result<(), AllocError>
+    ensures cache { OnOk result (core.new ≡ (move (Del key.now) core.old).cache) }
+    ensures text { OnOk result (out.new.items ≡ out.old.items ++ line_text (answer_text (move (Del key.now) core.old).answer)) }
+{
+    let key = match key_in(alloc, key)? {
+        Ok(key) => key,
+        Err(refusal) => return add_refusal(out, refusal),
+    };
+    match core.remove(0, &key) {
+        Ok(Removed::FoundInMemory) => add_word(out, b"found"),
+        Ok(Removed::NotInMemory) => add_word(out, b"absent"),
+        Err(_no_memory) => Err(AllocError),
+    }
+}
+
+// Moves the clock on, and answers which moment holds.
+fn now(core: &mut Core<Kept>, out: &mut Vec<u8>, moment: u64) -> Result<(), AllocError>
+    ensures cache { OnOk result (core.new ≡ (move (Now moment) core.old).cache) }
+    ensures text { OnOk result (out.new.items ≡ out.old.items ++ line_text (answer_text (move (Now moment) core.old).answer)) }
+{
+    match core.tick(moment) {
+        Ok(now) => add_moment(out, now),
+        Err(_no_memory) => Err(AllocError),
+    }
+}
+
+// A step, and its answer.
+fn answer(
+    alloc: Global,
+    core: &mut Core<Kept>,
+    out: &mut Vec<u8>,
+    step: Step<'_>,
+) -> Result<(), AllocError>
+    ensures cache { OnOk result (core.new ≡ (move (step_seen step.entry) core.old).cache) }
+    ensures text { OnOk result (out.new.items ≡ out.old.items ++ line_text (answer_text (move (step_seen step.entry) core.old).answer)) }
+{
+    match step {
+        Step::Set(item) => put(alloc, core, out, item, true),
+        Step::Add(item) => put(alloc, core, out, item, false),
+        Step::Get(key) => get(alloc, core, out, key),
+        Step::Del(key) => del(alloc, core, out, key),
+        Step::Now(moment) => now(core, out, moment),
+    }
+}
+
+/// A step, its answer, and then what it forgot by its notes, which are what the log grows by. An error is
+/// want of memory.
+pub fn take_step(
+    alloc: Global,
+    core: &mut Core<Kept>,
+    out: &mut Vec<u8>,
+    step: Step<'_>,
+) -> Result<(), AllocError>
+    ensures cache { OnOk result (core.new ≡ (move (step_seen step.entry) core.old).cache) }
+    ensures log { OnOk result (core.new.log ≡ told_more core.old.log (move (step_seen step.entry) core.old).notes) }
+    ensures text { OnOk result (out.new.items ≡ out.old.items ++ step_text (move (step_seen step.entry) core.old)) }
+{
+    let before = core.notes().notes.len();
+    answer(alloc, core, out, step)?;
+    add_losses(out, &core.notes().notes[before..])
+}
