@@ -3,6 +3,7 @@ use std::{fs, io};
 
 // What stands behind the name of a trace.
 const TRACE: &str = ".trace";
+
 const ANSWERS: &str = ".answers";
 
 /// The names of a folder's traces, in their order.
@@ -17,14 +18,26 @@ pub fn trace_names(rt: &HostRuntime, folder: &str) -> io::Result<Vec<String>> {
     Ok(names)
 }
 
+// The bytes of a file of a folder. One that can't be read is named on standard error.
+fn read(rt: &HostRuntime, folder: &str, name: &str, ending: &str) -> io::Result<Vec<u8>> {
+    let path = format!(in rt.alloc(); "{folder}/{name}{ending}")?;
+    match fs::read(rt, path.as_str()) {
+        Ok(bytes) => Ok(bytes),
+        Err(error) => {
+            eprintln!(rt; "{path}: {error}")?;
+            Err(error)
+        }
+    }
+}
+
 /// The bytes of a trace.
 pub fn trace_of(rt: &HostRuntime, folder: &str, name: &str) -> io::Result<Vec<u8>> {
-    fs::read(rt, format!(in rt.alloc(); "{folder}/{name}{TRACE}")?)
+    read(rt, folder, name, TRACE)
 }
 
 /// The answers that a trace must give.
 pub fn answers_of(rt: &HostRuntime, folder: &str, name: &str) -> io::Result<Vec<u8>> {
-    fs::read(rt, format!(in rt.alloc(); "{folder}/{name}{ANSWERS}")?)
+    read(rt, folder, name, ANSWERS)
 }
 
 /// The status with which a folder's traces end: the number in its file `status`, or 0 where there is none.

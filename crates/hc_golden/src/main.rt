@@ -5,10 +5,10 @@
 
 mod difference;
 mod folder;
-mod verdict;
+mod judging;
 
 use crate::folder::{answers_of, status_of, trace_names, trace_of};
-use crate::verdict::{Verdict, verdict};
+use crate::judging::{Verdict, judge};
 use std::process::ExitCode;
 use std::{env, io};
 
@@ -16,7 +16,7 @@ use std::{env, io};
 fn check_trace(rt: &HostRuntime, folder: &str, name: &str, status: u8) -> io::Result<bool> {
     let trace = trace_of(rt, folder, name)?;
     let answers = answers_of(rt, folder, name)?;
-    match verdict(rt.alloc(), &trace, &answers, status) {
+    match judge(rt.alloc(), &trace, &answers, status) {
         Verdict::Same => {
             println!(rt; "{folder}/{name}: ok")?;
             Ok(true)

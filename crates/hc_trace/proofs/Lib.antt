@@ -5,3 +5,4 @@ pub mod Same
 pub mod Streams
 pub mod Values
 pub mod Logs
+pub mod Rows

@@ -21,7 +21,7 @@ fn answers(
 ) -> Result<(u8, Vec<u8>), AllocError> {
     let mut trace = Vec::from_slice(alloc, CONFIGURATION)?;
     trace.extend_from_slice(front)?;
-    trace.resize(trace.len() + count, b'v')?;
+    trace.extend_from_slice(vec![in alloc; b'v'; count]?.as_slice())?;
     trace.extend_from_slice(end)?;
     let mut reader = trace.as_slice();
     let mut writer = Vec::new(alloc);
@@ -69,6 +69,9 @@ fn the_longest_value(rt: HostRuntime) -> Result<(), Fail> {
 fn a_longer_value_is_refused(rt: HostRuntime) -> Result<(), Fail> {
     let (status, text) = answers(rt.alloc(), b"set 0 k =", 1_048_577, b" 0\nget k\n")?;
     assert_eq!(rt; status, 0);
-    assert!(rt; text.as_slice().starts_with(b"refused 14 ValueTooLong\nmiss\n"));
+    assert!(rt;
+        text.as_slice()
+            .starts_with(b"refused 14 ValueTooLong\nmiss\n")
+    );
     Ok(())
 }

@@ -16,7 +16,7 @@ pub enum Verdict {
 }
 
 /// Replays a trace, whose answers and status are to be these.
-pub fn verdict(alloc: Global, trace: &[u8], answers: &[u8], status: u8) -> Verdict {
+pub fn judge(alloc: Global, trace: &[u8], answers: &[u8], status: u8) -> Verdict {
     let mut reader = trace;
     let mut printed = Vec::new(alloc);
     let ended = replay(alloc, &mut reader, &mut printed, None);
