@@ -12,6 +12,3 @@ pub use fitting::{entry_len, fits};
 pub use laws::one_list_a_page;
 pub use reading::{decode_page, decode_shared};
 pub use writing::encode_page;
-
-#[cfg(test)]
-mod tests;

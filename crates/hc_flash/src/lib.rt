@@ -10,6 +10,3 @@ pub use fail_at::FailAt;
 pub use flash::{Flash, FlashError};
 pub use liar::Liar;
 pub use mem_flash::MemFlash;
-
-#[cfg(test)]
-mod tests;

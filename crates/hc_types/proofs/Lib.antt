@@ -1,2 +1,3 @@
--- Sums over lists, for whoever counts.
+-- Sums over lists, for whoever counts, and the definitions against values worked out by hand.
 pub mod Tallies
+pub mod Rows

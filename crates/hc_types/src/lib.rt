@@ -13,6 +13,3 @@ pub use entry::{Entry, VALUE_MAX, charge, is_small};
 pub use key::{KEY_MAX, Key, bucket_of, hash, kept};
 pub use loss::{Cause, Scope, Why};
 pub use refusal::Refusal;
-
-#[cfg(test)]
-mod tests;

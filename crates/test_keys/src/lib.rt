@@ -1,0 +1,5 @@
+//! Tests of keys, configurations and refusals.
+#![tactic(auto)]
+
+#[cfg(test)]
+mod tests;
