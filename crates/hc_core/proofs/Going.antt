@@ -1,11 +1,11 @@
 -- A run goes on by one step.
-use Rattle.std.proofs.Common.{◌≡◌, ℕ, ◌+◌, ◌++◌, List, [], ◌∷◌, Some, length, refl, ap, sym, ◌∙◌, arith, subst, length-append, append_assoc, append-nil, zero-add, ◌<◌, take, get_or}
+use Rattle.std.proofs.Common.{◌≡◌, ℕ, ◌+◌, ◌++◌, List, [], ◌∷◌, length, refl, ap, sym, ◌∙◌, arith, subst, length-append, append_assoc, append-nil, zero-add, ◌<◌, take, get_or}
 use Rattle.std.proofs.lemmas.List.{take_more}
 use Rattle.hc_types.specs.Config.{Config}
 use Rattle.hc_history.specs.Note.{Note}
-use Rattle.hc_history.specs.Told.{told_more}
+use Rattle.hc_history.specs.Told.{Log, told_more}
 use Rattle.hc_core.specs.World.{Step, Open, Put, PutNew, Discard, Find, Remove, Tick, Answer, Answered, Refused, NoSlot, Filled, Discarded, Moment, Stage, Idle, World, Run, joined, ends_from, log_length, new_stage, Goes, IsRun}
-use Rattle.hc_core.proofs.Telling.{told-nothing}
+use Rattle.hc_history.proofs.Telling.{told-nothing}
 
 run_more : (old : Stage) (steps : List Step) (answers : List Answer) (parts : List (List Note)) (mid : Stage) (step : Step) (answer : Answer) (part : List Note) (new : Stage)
     → Run old steps answers parts mid → World mid step answer part new → Run old (steps ++ step ∷ []) (answers ++ answer ∷ []) (parts ++ part ∷ []) new
@@ -61,11 +61,11 @@ IsRun-none config = record { parts = []; run = refl; log = refl; ended = refl }
 
 IsRun-more : (config : Config) (steps : List Step) (answers answers' : List Answer) (ends ends' : List ℕ) (old new : Stage) (step : Step) → IsRun config steps answers ends old → Goes old answers ends step new answers' ends' → IsRun config (steps ++ step ∷ []) answers' ends' new
 IsRun-more config steps answers answers' ends ends' old new step r g =
-    let log : new.cache.log ≡ Some (joined r.parts ++ g.part) = (world_leaves old step g.answer g.part new g.world).0 ∙ ap (λ l. told_more l g.part) r.log in
+    let log : new.cache.log ≡ Log (joined r.parts ++ g.part) = (world_leaves old step g.answer g.part new g.world).0 ∙ ap (λ l. told_more l g.part) r.log in
     record {
       parts = r.parts ++ g.part ∷ [];
       run = subst (λ as'. Run (new_stage config) (steps ++ step ∷ []) as' (r.parts ++ g.part ∷ []) new) (sym g.answered) (run_more (new_stage config) steps answers r.parts old step g.answer g.part new r.run g.world);
-      log = log ∙ ap Some (sym (joined_more r.parts g.part));
+      log = log ∙ ap (λ ns. Log ns) (sym (joined_more r.parts g.part));
       ended = g.ended ∙ ap (λ es. es ++ log_length new.cache.log ∷ []) r.ended ∙ ap (λ l. ends_from 0 r.parts ++ log_length l ∷ []) log ∙ ap (λ n. ends_from 0 r.parts ++ n ∷ []) (sym (zero-add (length (joined r.parts ++ g.part)))) ∙ sym (ends_more 0 r.parts g.part);
     }
 

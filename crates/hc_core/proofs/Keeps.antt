@@ -1,6 +1,5 @@
 -- Each call keeps what holds of every core.
 use Rattle.std.proofs.Common.{◌≡◌, ℕ, zero, suc, ◌+◌, ◌<◌, ◌≤◌, ◌++◌, List, [], ◌∷◌, length, length-append, not, Bool, true, false, nat_lt, Option, Some, None, refl, sym, ap, ◌∙◌, arith, subst, map, slice_get, slice_set, max}
-use Rattle.std.specs.Prelude.{IfSome}
 use Rattle.std.specs.Option.{option_map_or}
 use mathlib.Core.Bool.{cond}
 use Rattle.hc_types.specs.Config.{Config}
@@ -14,7 +13,7 @@ use Rattle.hc_memory.specs.Sound.{Sound}
 use Rattle.hc_memory.proofs.Books.{tally-closed}
 use Rattle.hc_memory.proofs.Linking.{ones}
 use Rattle.hc_history.specs.Note.{Note, Freed, Now}
-use Rattle.hc_history.specs.Told.{told_more}
+use Rattle.hc_history.specs.Told.{Heard, Nothing, Log, Counts, IfLog, told_more}
 use Rattle.hc_history.specs.Lawful.{Lawful, past}
 use Rattle.hc_history.proofs.Appended.{Legal-append, past-append}
 use Rattle.hc_core.specs.Cache.{empty_memory}
@@ -44,38 +43,39 @@ follows_log config log part before after calls calls' now now' f both = record {
 }
 
 -- the same, where a log may not be kept
-follows_more : (config : Config) (log : Option (List Note)) (part : List Note) (before after : Memory) (calls calls' now now' : ℕ) → Follows log config before calls now
+follows_more : (config : Config) (log : Heard) (part : List Note) (before after : Memory) (calls calls' now now' : ℕ) → Follows log config before calls now
     → ((older : List Note) → MirrorsMemory older before calls now → Lawful config older part × MirrorsMemory (past older part) after calls' now')
     → Follows (told_more log part) config after calls' now'
-follows_more config None part before after calls calls' now now' f step = tt
-follows_more config (Some log) part before after calls calls' now now' f step = follows_log config log part before after calls calls' now now' f (step (past [] log) f.mirrors)
+follows_more config Nothing part before after calls calls' now now' f step = tt
+follows_more config (Counts counts losses) part before after calls calls' now now' f step = tt
+follows_more config (Log log) part before after calls calls' now now' f step = follows_log config log part before after calls calls' now now' f (step (past [] log) f.mirrors)
 
-pub follows-allocate : (config : Config) (log : Option (List Note)) (memory : Memory) (pool : ℕ) (key : List ℕ) (size calls now : ℕ) → FitsConfig config memory → Sound memory.pools memory.charges memory.made → pool < length memory.pools → Follows log config memory calls now
+pub follows-allocate : (config : Config) (log : Heard) (memory : Memory) (pool : ℕ) (key : List ℕ) (size calls now : ℕ) → FitsConfig config memory → Sound memory.pools memory.charges memory.made → pool < length memory.pools → Follows log config memory calls now
     → Follows (told_more log (part_of_allocate memory now pool key size)) config (pools.after_charge memory pool key size) calls now
 follows-allocate config log memory pool key size calls now fits sound lt f =
     follows_more config log (part_of_allocate memory now pool key size) memory (pools.after_charge memory pool key size) calls calls now now f (λ older m. allocates config older memory pool key size calls now fits sound lt m)
 
-pub follows-discard : (config : Config) (log : Option (List Note)) (memory : Memory) (c : Open) (number calls now : ℕ) → charge_at number memory.charges ≡ Some c → Follows log config memory calls now
+pub follows-discard : (config : Config) (log : Heard) (memory : Memory) (c : Open) (number calls now : ℕ) → charge_at number memory.charges ≡ Some c → Follows log config memory calls now
     → Follows (told_more log (Freed number ∷ [])) config (pools.after_free memory number) calls now
 follows-discard config log memory c number calls now found f =
     follows_more config log (Freed number ∷ []) memory (pools.after_free memory number) calls calls now now f (λ older m. discards config older memory c number calls now found m)
 
-pub follows-insert : (config : Config) (log : Option (List Note)) (memory : Memory) (handle : Handle) (client calls now : ℕ) → Sound memory.pools memory.charges memory.made → is_open (charge_by handle) memory.charges ≡ true → Follows log config memory calls now
+pub follows-insert : (config : Config) (log : Heard) (memory : Memory) (handle : Handle) (client calls now : ℕ) → Sound memory.pools memory.charges memory.made → is_open (charge_by handle) memory.charges ≡ true → Follows log config memory calls now
     → Follows (told_more log (insert_notes (calls + 1) client handle (linked_at handle.key memory.pools))) config (pools.after_link memory false handle) (calls + 1) now
 follows-insert config log memory handle client calls now sound mine f =
     follows_more config log (insert_notes (calls + 1) client handle (linked_at handle.key memory.pools)) memory (pools.after_link memory false handle) calls (calls + 1) now now f (λ older m. inserts config older memory handle client calls now sound mine m)
 
-pub follows-find : (config : Config) (log : Option (List Note)) (memory : Memory) (key : List ℕ) (client calls now : ℕ) → Follows log config memory calls now
+pub follows-find : (config : Config) (log : Heard) (memory : Memory) (key : List ℕ) (client calls now : ℕ) → Follows log config memory calls now
     → Follows (told_more log (find_notes (calls + 1) client key (value_at now key memory.pools))) config (pools.after_find memory now key) (calls + 1) now
 follows-find config log memory key client calls now f =
     follows_more config log (find_notes (calls + 1) client key (value_at now key memory.pools)) memory (pools.after_find memory now key) calls (calls + 1) now now f (λ older m. finds config older memory key client calls now m)
 
-pub follows-remove : (config : Config) (log : Option (List Note)) (memory : Memory) (key : List ℕ) (client calls now : ℕ) → Follows log config memory calls now
+pub follows-remove : (config : Config) (log : Heard) (memory : Memory) (key : List ℕ) (client calls now : ℕ) → Follows log config memory calls now
     → Follows (told_more log (remove_notes (calls + 1) client key (linked_at key memory.pools))) config (pools.after_unlink memory key) (calls + 1) now
 follows-remove config log memory key client calls now f =
     follows_more config log (remove_notes (calls + 1) client key (linked_at key memory.pools)) memory (pools.after_unlink memory key) calls (calls + 1) now now f (λ older m. removes config older memory key client calls now m)
 
-pub follows-tick : (config : Config) (log : Option (List Note)) (memory : Memory) (moment calls now : ℕ) → Follows log config memory calls now
+pub follows-tick : (config : Config) (log : Heard) (memory : Memory) (moment calls now : ℕ) → Follows log config memory calls now
     → Follows (told_more log (tick_notes now moment)) config memory calls (max now moment)
 follows-tick config log memory moment calls now f =
     follows_more config log (tick_notes now moment) memory memory calls calls now (max now moment) f (λ older m. ticks config older memory moment calls now m)
@@ -125,7 +125,7 @@ fits-discard config memory number fits = record { sizes = fits.sizes; no_flash =
 
 -- ---- the same cache
 
-pub follows-as : (config : Config) (log log' : Option (List Note)) (memory memory' : Memory) (calls calls' now : ℕ) → log' ≡ log → memory' ≡ memory → calls' ≡ calls → Follows log config memory calls now → Follows log' config memory' calls' now
+pub follows-as : (config : Config) (log log' : Heard) (memory memory' : Memory) (calls calls' now : ℕ) → log' ≡ log → memory' ≡ memory → calls' ≡ calls → Follows log config memory calls now → Follows log' config memory' calls' now
 follows-as config log log' memory memory' calls calls' now el em ec f =
     subst (λ l. Follows l config memory' calls' now) (sym el) (subst (λ m. Follows log config m calls' now) (sym em) (subst (λ n. Follows log config memory n now) (sym ec) f))
 
@@ -137,13 +137,13 @@ length-as memory memory' em = ap (λ (m : Memory). length m.charges) em
 pub length-closed : (number : ℕ) (charges : List Open) (c : Open) → charge_at number charges ≡ Some c → length (closed number charges) + 1 ≡ length charges
 length-closed number charges c found = omega (arith, tally-closed (λ _. 1) number charges c found, ones (closed number charges), ones charges)
 
-later_step : (config : Config) (log new : Option (List Note)) (memory : Memory) (calls now moment : ℕ) (b : Bool) → nat_lt now moment ≡ b → now < moment → new ≡ told_more log (Now moment ∷ []) → Follows (told_more log (cond b (Now moment ∷ []) [])) config memory calls (max now moment) → Follows new config memory calls moment
+later_step : (config : Config) (log new : Heard) (memory : Memory) (calls now moment : ℕ) (b : Bool) → nat_lt now moment ≡ b → now < moment → new ≡ told_more log (Now moment ∷ []) → Follows (told_more log (cond b (Now moment ∷ []) [])) config memory calls (max now moment) → Follows new config memory calls moment
 later_step config log new memory calls now moment true e lt told f =
     subst (λ l. Follows l config memory calls moment) (sym told) (subst (λ n. Follows (told_more log (Now moment ∷ [])) config memory calls n) (omega (arith, lt)) f)
 later_step config log new memory calls now moment false e lt told f = absurd (grind (arith, e, lt))
 
 -- the clock moves on to a later moment
-pub later : (config : Config) (log new : Option (List Note)) (memory : Memory) (calls now moment : ℕ) → now < moment → new ≡ told_more log (Now moment ∷ []) → Follows log config memory calls now → Follows new config memory calls moment
+pub later : (config : Config) (log new : Heard) (memory : Memory) (calls now moment : ℕ) → now < moment → new ≡ told_more log (Now moment ∷ []) → Follows log config memory calls now → Follows new config memory calls moment
 later config log new memory calls now moment lt told f = later_step config log new memory calls now moment (nat_lt now moment) refl lt told (follows-tick config log memory moment calls now f)
 
 -- ---- a new cache
@@ -175,12 +175,13 @@ new_log config log e = subst (λ l. FollowsLog l config (empty_memory config) 0 
   mirrors = subst (λ items. Mirrors [] items [] 0 0 0) (sym (none_yet config.pools)) nothing;
 })
 
-new_follows : (config : Config) (log : Option (List Note)) → IfSome log (λ l. l ≡ []) → Follows log config (empty_memory config) 0 0
-new_follows config None h = tt
-new_follows config (Some log) h = new_log config log h
+new_follows : (config : Config) (log : Heard) → IfLog log (λ l. l ≡ []) → Follows log config (empty_memory config) 0 0
+new_follows config Nothing h = tt
+new_follows config (Counts counts losses) h = tt
+new_follows config (Log log) h = new_log config log h
 
 -- what holds of a new cache
-pub new-holds : (config : Config) (log : Option (List Note)) (memory : Memory) (room : ℕ) → config.flash ≡ None → IfSome log (λ l. l ≡ []) → memory ≡ empty_memory config → FitsConfig config memory × Follows log config memory 0 0 × (length memory.charges ≤ room)
+pub new-holds : (config : Config) (log : Heard) (memory : Memory) (room : ℕ) → config.flash ≡ None → IfLog log (λ l. l ≡ []) → memory ≡ empty_memory config → FitsConfig config memory × Follows log config memory 0 0 × (length memory.charges ≤ room)
 new-holds config log memory room flash h is = (
   subst (FitsConfig config) (sym is) (record { sizes = of_sizes config.pools; no_flash = flash }),
   subst (λ m. Follows log config m 0 0) (sym is) (new_follows config log h),

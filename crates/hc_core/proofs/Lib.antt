@@ -1,4 +1,3 @@
-pub mod Telling
 pub mod Items
 pub mod Flat
 pub mod Same
@@ -14,3 +13,4 @@ pub mod Standing
 pub mod Filled
 pub mod Staging
 pub mod Going
+pub mod Leading

@@ -1,5 +1,5 @@
 -- What each step does to a cache and its slots.
-use Rattle.std.proofs.Common.{◌≡◌, ℕ, ◌+◌, ◌<◌, ◌≤◌, ◌⊎◌, Bool, true, false, List, [], ◌∷◌, Option, Some, None, length, get_or, slice_set, length-set, refl, ap, sym, ◌∙◌, arith, subst, append-nil, append_assoc, ⊎_elim}
+use Rattle.std.proofs.Common.{◌≡◌, ℕ, ◌+◌, ◌<◌, ◌≤◌, ◌⊎◌, Bool, true, false, List, [], ◌∷◌, Option, Some, None, length, get_or, slice_set, length-set, refl, ap, sym, ◌∙◌, arith, subst, ⊎_elim}
 use Rattle.std.specs.Prelude.{is_some, IfSome}
 use Rattle.std.proofs.lemmas.List.{get_or_read}
 use mathlib.Core.Bool.{cond}
@@ -10,7 +10,8 @@ use Rattle.hc_memory.specs.Item.{Open, Handle, charge_by}
 use Rattle.hc_memory.specs.Charges.{has_number, is_open}
 use Rattle.hc_memory.specs.Memory.{linked_at}
 use Rattle.hc_history.specs.Note.{Note, Stored, Freed}
-use Rattle.hc_history.specs.Told.{told_more}
+use Rattle.hc_history.specs.Told.{Heard, told_more}
+use Rattle.hc_history.proofs.Telling.{told-twice, told-nothing}
 use Rattle.hc_core.specs.Cache.{Cache}
 use Rattle.hc_core.specs.Refused.{handle_refusal, insert_refusal}
 use Rattle.hc_core.specs.Steps.{opened, after_allocate, after_insert, insert_notes}
@@ -145,9 +146,8 @@ first-open cache held slots holds unique = given-open cache (held ∷ slots) 0 h
 pub first-held : (cache : Cache) (held : Option Handle) (slots : List (Option Handle)) → SlotsHold cache.memory.charges (held ∷ slots) → ((n : ℕ) → count (has_number n) cache.memory.charges ≤ 1) → SlotsHold (after_give_up cache held).memory.charges slots
 first-held cache held slots holds unique f = omega (arith, given-held cache (held ∷ slots) 0 holds unique (omega arith) held refl f)
 
-freed_more : (log : Option (List Note)) (number : ℕ) (notes : List Note) → told_more (told_more log (Freed number ∷ [])) notes ≡ told_more log (Freed number ∷ notes)
-freed_more None number notes = refl
-freed_more (Some log) number notes = ap Some (append_assoc log (Freed number ∷ []) notes)
+freed_more : (log : Heard) (number : ℕ) (notes : List Note) → told_more (told_more log (Freed number ∷ [])) notes ≡ told_more log (Freed number ∷ notes)
+freed_more heard number notes = told-twice heard (Freed number ∷ []) notes
 
 pub first-told : (cache : Cache) (held : Option Handle) (slots : List (Option Handle)) → told_more (after_give_up cache held).log (left_notes slots) ≡ told_more cache.log (left_notes (held ∷ slots))
 first-told cache None slots = refl
@@ -157,9 +157,8 @@ pub given-config : (cache : Cache) (held : Option Handle) → (after_give_up cac
 given-config cache None = refl
 given-config cache (Some handle) = refl
 
-none_told : (log : Option (List Note)) → log ≡ told_more log []
-none_told None = refl
-none_told (Some log) = ap Some (sym (append-nil log))
+none_told : (log : Heard) → log ≡ told_more log []
+none_told heard = sym (told-nothing heard)
 
 pub nothing-left : (cache : Cache) (slots : List (Option Handle)) → length slots ≡ 0 → cache.log ≡ told_more cache.log (left_notes slots)
 nothing-left cache [] none = none_told cache.log

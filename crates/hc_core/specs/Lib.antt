@@ -6,3 +6,4 @@ pub mod Answers
 pub mod Steps
 pub mod World
 pub mod Asked
+pub mod Legality

@@ -6,6 +6,7 @@ use Rattle.hc_memory.specs.Item.{Item, Open, cost, open_cost}
 use Rattle.hc_memory.specs.Pool.{Pool, is_at, item_at}
 use Rattle.hc_memory.specs.Memory.{Memory}
 use Rattle.hc_history.specs.Note.{Note}
+use Rattle.hc_history.specs.Told.{Heard, Log}
 use Rattle.hc_history.specs.Books.{Charge, Entry, charges, has_number, begun, open_calls, owed, entry_at, now_at}
 use Rattle.hc_history.specs.Lawful.{Legal, past}
 
@@ -58,6 +59,6 @@ pub record FollowsLog (log : List Note) (config : Config) (memory : Memory) (cal
   pub mirrors : Mirrors (past [] log) (items_of memory.pools) memory.charges memory.made calls now
 
 -- the same, where the log is kept
-abbrev pub Follows : Option (List Note) → Config → Memory → ℕ → ℕ → Type 0
-Follows None config memory calls now = Unit {0}
-Follows (Some log) config memory calls now = FollowsLog log config memory calls now
+abbrev pub Follows : Heard → Config → Memory → ℕ → ℕ → Type 0
+Follows (Log log) config memory calls now = FollowsLog log config memory calls now
+Follows heard config memory calls now = Unit {0}

@@ -9,7 +9,8 @@ use Rattle.hc_memory.specs.Pool.{is_expired}
 use Rattle.hc_memory.specs.Memory as pools
 use Rattle.hc_memory.specs.Memory.{Memory, linked_at, value_at, victims_of}
 use Rattle.hc_history.specs.Note.{Reply, Stored, Hit, Miss, FoundInMemory, NotInMemory, Insert, Find, Remove, Note, Begin, Did, End, Lose, Charged, Linked, Freed, Now}
-use Rattle.hc_history.specs.Told.{told_more}
+use Rattle.hc_history.specs.Told.{Heard, told_more, told_count}
+use Rattle.hc_history.specs.declared.stats.Kind.{Kind}
 use Rattle.hc_core.specs.Cache.{Cache}
 use Rattle.hc_core.specs.declared.answers.Removed.{Removed}
 use Rattle.hc_core.specs.declared.answers.Removed.TheVariants as removed
@@ -76,6 +77,11 @@ after_insert cache client handle = record cache {
 }
 
 -- ---- finds
+
+-- a find is answered: by its note, where that is kept, and else by its kind alone
+abbrev pub told_did : Heard → Option Note → Kind → Heard
+told_did heard (Some did) kind = told_more heard (did ∷ [])
+told_did heard None kind = told_count heard kind
 
 abbrev pub find_reply : Option (List ℕ) → Reply
 find_reply None = Miss

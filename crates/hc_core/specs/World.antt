@@ -7,7 +7,7 @@ use Rattle.hc_memory.specs.Item as memory
 use Rattle.hc_memory.specs.Item.{Handle, charge_by}
 use Rattle.hc_memory.specs.Memory.{linked_at, value_at}
 use Rattle.hc_history.specs.Note.{Note, Reply, Stored, Freed}
-use Rattle.hc_history.specs.Told.{told_more}
+use Rattle.hc_history.specs.Told.{Heard, Log, told_more}
 use Rattle.hc_core.specs.Cache.{Cache, new_cache}
 use Rattle.hc_core.specs.Refused.{allocate_refusal, insert_refusal}
 use Rattle.hc_core.specs.Steps.{opened, part_of_allocate, after_allocate, after_discard, insert_notes, after_insert, find_reply, find_notes, after_find, remove_reply, remove_notes, after_remove, tick_notes, after_tick}
@@ -125,7 +125,7 @@ ends_from at (part ∷ parts) = (at + length part) ∷ ends_from (at + length pa
 
 -- a new cache that keeps its log, and 256 slots that are empty
 abbrev pub new_stage : Config → Stage
-new_stage config = record { cache = new_cache config (Some []); slots = replicate 256 None }
+new_stage config = record { cache = new_cache config (Log []); slots = replicate 256 None }
 
 -- what fills a slot is given up
 abbrev pub after_give_up : Cache → Option Handle → Cache
@@ -138,9 +138,9 @@ left_notes [] = []
 left_notes (None ∷ slots) = left_notes slots
 left_notes (Some handle ∷ slots) = Freed handle.number ∷ left_notes slots
 
-abbrev pub log_length : Option (List Note) → ℕ
-log_length None = 0
-log_length (Some log) = length log
+abbrev pub log_length : Heard → ℕ
+log_length (Log log) = length log
+log_length heard = 0
 
 -- one step more, with its answer and the end of its part
 pub record Goes (old : Stage) (answers : List Answer) (ends : List ℕ) (step : Step) (new : Stage) (answers' : List Answer) (ends' : List ℕ) : Type 0 where
@@ -154,7 +154,7 @@ pub record Goes (old : Stage) (answers : List Answer) (ends : List ℕ) (step : 
 pub record IsRun (config : Config) (steps : List Step) (answers : List Answer) (ends : List ℕ) (new : Stage) : Type 0 where
   pub parts : List (List Note)
   pub run : Run (new_stage config) steps answers parts new
-  pub log : new.cache.log ≡ Some (joined parts)
+  pub log : new.cache.log ≡ Log (joined parts)
   pub ended : ends ≡ ends_from 0 parts
 
 -- The same of the log alone: it is that of a run, and then what still fills a slot is given up. No other charge is open
@@ -163,4 +163,4 @@ pub record IsRunOf (config : Config) (steps : List Step) (answers : List Answer)
   pub new : Stage
   pub runs : IsRun config steps answers ends new
   pub held : SlotsHold new.cache.memory.charges new.slots
-  pub told : Some log ≡ told_more new.cache.log (left_notes new.slots)
+  pub told : Log log ≡ told_more new.cache.log (left_notes new.slots)

@@ -1,7 +1,8 @@
 // The core of a cache of pools, and no flash.
-ghost use Rattle.std.specs.Prelude.{◌≡◌, ◌+◌, ◌^◌, ◌≤◌, ◌⊎◌, ◌↔◌, true, false, [], None, Some, length, max, IfOk, OnOk, OnErr, IfErr, IfSome, IsSome};
+ghost use Rattle.std.specs.Prelude.{◌≡◌, ◌+◌, ◌^◌, ◌≤◌, ◌⊎◌, ◌↔◌, true, false, [], None, Some, length, max, IfOk, OnOk, OnErr, IfErr};
 ghost use Rattle.hc_types.specs.Limits.{first_wrong};
 ghost use Rattle.hc_history.specs.Lawful.{Legal};
+ghost use Rattle.hc_history.specs.Told.{Log, IfLog, Hears, losses_taken};
 ghost use Rattle.hc_memory.specs.Item.{charge_by};
 ghost use Rattle.hc_memory.specs.Charges.{is_open};
 ghost use Rattle.hc_memory.specs.Memory.{linked_at, value_at, blank_of};
@@ -13,7 +14,7 @@ ghost use Rattle.hc_core.specs.Steps.{expiry_of, after_allocate, after_discard, 
 use crate::answers::{Found, Removed};
 use crate::plans::{Finding, expiry_after, has_unexpired};
 use crate::{plans, tells};
-use hc_history::{Kept, Note, Notes, Said};
+use hc_history::{Counting, Kept, Note, Notes, Said};
 use hc_memory::{Blank, Charged, Pools, Sealed, Uncharged, Unlinked};
 use hc_types::{Config, Key, Refusal, VALUE_MAX, charge};
 use std::alloc::{Allocator, Global};
@@ -57,7 +58,7 @@ impl<N: Notes<Note<A>>, A: Allocator + Copy> Core<N, A> {
     /// configuration, which has no flash: that comes later. Refused for the first number of the configuration that is
     /// outside its limits, as `Config::check` is, and with `NoMemory`.
     pub fn new(alloc: A, config: &Config<A>, notes: N) -> Result<Core<N, A>, Refusal>
-        requires log { IfSome (N.told notes) (λ log. log ≡ []) }
+        requires log { IfLog (N.told notes) (λ log. log ≡ []) }
         requires flash { config.now.flash ≡ None }
         ensures ok { IfOk result (λ core. core ≡ new_cache config.now (N.told notes)) }
         ensures fits { OnOk result (first_wrong config.now ≡ None) }
@@ -113,7 +114,7 @@ impl<N: Notes<Note<A>>, A: Allocator> Core<N, A> {
     #[must_use]
     pub fn notes(&self) -> &N
         ensures log { N.told result.now ≡ self.now.log }
-        ensures legal { IfSome self.now.log (Legal self.now.config) }
+        ensures legal { IfLog self.now.log (Legal self.now.config) }
     {
         &self.notes
     }
@@ -125,7 +126,7 @@ impl<N: Notes<Note<A>>, A: Allocator> Core<N, A> {
         ensures now { IfOk result (λ now. now ≡ max self.old.now moment) }
         ensures err { OnErr result (self.new ≡ self.old) }
         ensures memory { IfErr result (λ refusal. refusal ≡ Refusal.NoMemory) }
-        ensures silent { OnErr result (IsSome self.old.log) }
+        ensures silent { OnErr result (Hears self.old.log) }
     {
         if moment <= self.clock {
             return Ok(self.clock);
@@ -144,7 +145,7 @@ impl<N: Notes<Note<A>>, A: Allocator> Core<N, A> {
         ensures removed { IfOk result (λ removed. removed ≡ removed_of (linked_at key.now self.old.memory.pools)) }
         ensures err { OnErr result (self.new ≡ self.old) }
         ensures memory { IfErr result (λ refusal. refusal ≡ Refusal.NoMemory) }
-        ensures silent { OnErr result (IsSome self.old.log ⊎ (self.old.calls + 1 ≡ 2 ^ 64)) }
+        ensures silent { OnErr result (Hears self.old.log ⊎ (self.old.calls + 1 ≡ 2 ^ 64)) }
     {
         let (call, begin) = plans::remove(&mut self.notes, &self.pools, self.calls, client, key)?;
 
@@ -173,7 +174,8 @@ impl<N: Notes<Note<A>>, A: Allocator> Core<N, A> {
         let found = self.pools.find(key, self.clock)?;
 
         self.calls = call;
-        tells::find(&mut self.notes, call, begin, did);
+        let kind = plans::kind_by(&found);
+        tells::find(&mut self.notes, call, begin, did, kind);
         Ok(plans::found_by(found))
     }
 
@@ -269,8 +271,8 @@ impl<N: Notes<Note<A>>, A: Allocator + Clone> Core<N, A> {
     pub fn insert(&mut self, client: u8, sealed: Sealed<A>) -> Result<(), Unlinked<A>>
         ensures ok { OnOk result (self.new ≡ after_insert self.old client sealed) }
         ensures fits { OnOk result (insert_refusal self.old sealed ≡ None) }
-        ensures free { IfSome self.old.log (λ log. OnOk result (map_has log sealed.key ≡ false)) }
-        ensures exists { IfSome self.old.log (λ log. IfErr result (λ e. (e.refusal ≡ Refusal.Exists) ↔ (map_has log sealed.key ≡ true))) }
+        ensures free { IfLog self.old.log (λ log. OnOk result (map_has log sealed.key ≡ false)) }
+        ensures exists { IfLog self.old.log (λ log. IfErr result (λ e. (e.refusal ≡ Refusal.Exists) ↔ (map_has log sealed.key ≡ true))) }
         ensures err { OnErr result (self.new ≡ self.old) }
         ensures why { IfErr result (λ e. (insert_refusal self.old sealed ≡ Some e.refusal) ⊎ ((insert_refusal self.old sealed ≡ None) × (e.refusal ≡ Refusal.NoMemory))) }
         ensures sealed_returned { IfErr result (λ e. e.sealed ≡ sealed) }
@@ -285,11 +287,20 @@ impl<N: Notes<Note<A>>, A: Allocator + Clone> Core<N, A> {
     }
 }
 
+impl<A: Allocator> Core<Counting<A>, A> {
+    /// The losses that the log counts are taken, and kept no longer.
+    pub fn forget_losses(&mut self)
+        ensures { self.new ≡ record self.old { log = losses_taken self.old.log } }
+    {
+        self.notes.forget_losses();
+    }
+}
+
 impl<A: Allocator> Core<Kept<A>, A> {
     /// The log, which is legal and outlives the cache. The items are dropped.
     #[must_use]
     pub fn into_notes(self) -> Kept<A>
-        ensures log { Some result.notes.items ≡ self.log }
+        ensures log { Log result.notes.items ≡ self.log }
         ensures legal { Legal self.config result.notes.items }
     {
         let Core {

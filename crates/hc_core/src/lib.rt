@@ -3,6 +3,7 @@
 
 mod answers;
 mod cache;
+mod laws;
 mod opens;
 mod plans;
 mod runs;
@@ -13,6 +14,7 @@ mod tells;
 
 pub use answers::{Found, Removed};
 pub use cache::Core;
+pub use laws::steps_are_legal;
 pub use opens::{give_up, give_up_blank, open};
 pub use runs::{Ran, run};
 pub use stage::Stage;

@@ -1,8 +1,8 @@
 // What a call needs before it changes anything: its number, and the notes that copy keys and values.
-ghost use Rattle.std.specs.Prelude.{◌≡◌, ◌+◌, ◌*◌, ◌^◌, ◌≤◌, ◌⊎◌, true, false, length, is_some, None, Some, IfOk, OnOk, OnErr, IfErr, IsSome};
+ghost use Rattle.std.specs.Prelude.{◌≡◌, ◌+◌, ◌*◌, ◌^◌, ◌≤◌, ◌⊎◌, true, false, length, is_some, None, Some, IfOk, OnOk, OnErr, IfErr};
 ghost use Rattle.hc_types.specs.Charge.{charge_of};
 ghost use Rattle.hc_history.specs.Note.{Begin, Did, Insert, Find, Remove};
-ghost use Rattle.hc_history.specs.Told.{where_kept};
+ghost use Rattle.hc_history.specs.Told.{where_kept, kind_of, Hears};
 ghost use Rattle.hc_history.specs.Seen.{reply_of};
 ghost use Rattle.hc_memory.specs.Item.{charge_by};
 ghost use Rattle.hc_memory.specs.Pool.{unexpired};
@@ -13,7 +13,7 @@ ghost use Rattle.hc_core.specs.Refused.{refusal_of};
 ghost use Rattle.hc_core.specs.Steps.{find_reply, expiry_of};
 
 use crate::answers::Found;
-use hc_history::{Note, Notes, Op, Reply, Said};
+use hc_history::{Kind, Note, Notes, Op, Reply, Said};
 use hc_memory::{Pools, ReadHandle, Sealed};
 use hc_types::{Key, Refusal, VALUE_MAX, charge};
 use std::alloc::{AllocError, Allocator};
@@ -46,7 +46,7 @@ fn copy_of<A: Allocator, N: Notes<Note<A>>>(
     key: &Key<A>,
 ) -> Result<Option<Key<A>>, AllocError>
     ensures copy { IfOk result (λ copy. copy ≡ where_kept (N.told notes.now) key.now) }
-    ensures silent { OnErr result (IsSome (N.told notes.now)) }
+    ensures silent { OnErr result (Hears (N.told notes.now)) }
 {
     if !notes.keeps() {
         return Ok(None);
@@ -62,7 +62,7 @@ fn begin_find<A: Allocator, N: Notes<Note<A>>>(
     key: &Key<A>,
 ) -> Result<Option<Note<A>>, AllocError>
     ensures told { IfOk result (λ note. note ≡ where_kept (N.told notes.now) (Begin call client (Find key.now))) }
-    ensures silent { OnErr result (IsSome (N.told notes.now)) }
+    ensures silent { OnErr result (Hears (N.told notes.now)) }
 {
     if !notes.keeps() {
         return Ok(None);
@@ -79,7 +79,7 @@ fn begin_remove<A: Allocator, N: Notes<Note<A>>>(
     key: &Key<A>,
 ) -> Result<Option<Note<A>>, AllocError>
     ensures told { IfOk result (λ note. note ≡ where_kept (N.told notes.now) (Begin call client (Remove key.now))) }
-    ensures silent { OnErr result (IsSome (N.told notes.now)) }
+    ensures silent { OnErr result (Hears (N.told notes.now)) }
 {
     if !notes.keeps() {
         return Ok(None);
@@ -96,7 +96,7 @@ fn begin_insert<A: Allocator, N: Notes<Note<A>>>(
     sealed: &Sealed<A>,
 ) -> Result<Option<Note<A>>, AllocError>
     ensures told { IfOk result (λ note. note ≡ where_kept (N.told notes.now) (Begin call client (Insert sealed.now.key sealed.now.value sealed.now.expiry))) }
-    ensures silent { OnErr result (IsSome (N.told notes.now)) }
+    ensures silent { OnErr result (Hears (N.told notes.now)) }
 {
     if !notes.keeps() {
         return Ok(None);
@@ -130,7 +130,7 @@ fn did_find<A: Allocator, N: Notes<Note<A>>>(
     now: u64,
 ) -> Result<Option<Note<A>>, AllocError>
     ensures told { IfOk result (λ note. note ≡ where_kept (N.told notes.now) (Did call (find_reply (value_at now key.now pools.now.pools)))) }
-    ensures silent { OnErr result (IsSome (N.told notes.now)) }
+    ensures silent { OnErr result (Hears (N.told notes.now)) }
 {
     if !notes.keeps() {
         return Ok(None);
@@ -146,6 +146,16 @@ pub fn has_unexpired<A: Allocator>(pools: &Pools<A>, key: &Key<A>, now: u64) -> 
     match pools.peek(key) {
         Some(glance) => !glance.is_expired(now),
         None => false,
+    }
+}
+
+/// As what a find is counted, by what the pools found.
+pub fn kind_by<A: Allocator>(found: &Option<ReadHandle<A>>) -> Kind
+    ensures { result ≡ kind_of (find_reply found.now) }
+{
+    match found {
+        Some(_) => Kind::Hit,
+        None => Kind::Miss,
     }
 }
 
@@ -169,7 +179,7 @@ pub fn make_room<A: Allocator, N: Notes<Note<A>>>(
     ensures same { N.told notes.new ≡ N.told notes.old }
     ensures room { OnOk result (count + length pools.now.charges ≤ N.room notes.new) }
     ensures more { N.room notes.old ≤ N.room notes.new }
-    ensures silent { OnErr result (IsSome (N.told notes.old)) }
+    ensures silent { OnErr result (Hears (N.told notes.old)) }
 {
     notes.reserve(count + pools.open_charges())
 }
@@ -258,7 +268,7 @@ pub fn remove<A: Allocator, N: Notes<Note<A>>>(
     ensures room { OnOk result (4 + length pools.now.charges ≤ N.room notes.new) }
     ensures more { N.room notes.old ≤ N.room notes.new }
     ensures err { IfErr result (λ refusal. refusal ≡ Refusal.NoMemory) }
-    ensures silent { OnErr result (IsSome (N.told notes.old) ⊎ (calls + 1 ≡ 2 ^ 64)) }
+    ensures silent { OnErr result (Hears (N.told notes.old) ⊎ (calls + 1 ≡ 2 ^ 64)) }
 {
     let call = number_after(calls)?;
     let begin = begin_remove(notes, call, client, key)?;

@@ -4,7 +4,7 @@ ghost use Rattle.hc_types.specs.Limits.{first_wrong};
 ghost use Rattle.hc_types.specs.declared.refusal.Refusal.{Refusal};
 ghost use Rattle.hc_history.specs.Lawful.{Legal};
 ghost use Rattle.hc_history.specs.Seen.{reply_of};
-ghost use Rattle.hc_history.specs.Told.{told_more};
+ghost use Rattle.hc_history.specs.Told.{Log, told_more};
 ghost use Rattle.hc_memory.specs.Item.{charge_by};
 ghost use Rattle.hc_memory.specs.Charges.{is_open};
 ghost use Rattle.hc_core.specs.Answers.{found_value, reply_of_removed};
@@ -116,7 +116,7 @@ impl<A: Allocator> Stage<A> {
     /// of another item is open.
     #[must_use]
     pub fn into_log(self) -> Kept<A>
-        ensures log { Some result.notes.items ≡ told_more self.cache.log (left_notes self.slots) }
+        ensures log { Log result.notes.items ≡ told_more self.cache.log (left_notes self.slots) }
         ensures legal { Legal self.cache.config result.notes.items }
         ensures held { SlotsHold self.cache.memory.charges self.slots }
     {

@@ -5,10 +5,10 @@ ghost use Rattle.hc_history.specs.Seen.{reply_of};
 ghost use Rattle.hc_history.specs.Told.{told_more};
 ghost use Rattle.hc_types.specs.Loss.{cause_of};
 ghost use Rattle.hc_core.specs.Steps as spec;
-ghost use Rattle.hc_core.specs.Steps.{eviction_notes, freed_notes, remove_reply, removed_of};
+ghost use Rattle.hc_core.specs.Steps.{told_did, eviction_notes, freed_notes, remove_reply, removed_of};
 
 use crate::answers::Removed;
-use hc_history::{Note, Notes, Reply, Said};
+use hc_history::{Kind, Note, Notes, Reply, Said};
 use hc_memory::Item;
 use hc_types::{Cause, Key, Scope, Why};
 use std::alloc::Allocator;
@@ -24,14 +24,49 @@ pub fn tell<A: Allocator, N: Notes<Note<A>>>(notes: &mut N, note: Option<Note<A>
     }
 }
 
+/// Tells that a reply is handed out. That is counted nowhere, and so told only where notes are kept.
+fn ended<A: Allocator, N: Notes<Note<A>>>(notes: &mut N, call: u64)
+    requires { 0 < N.room notes.old }
+    ensures told { N.told notes.new ≡ told_more (N.told notes.old) (End call ∷ []) }
+    ensures room { N.room notes.old ≤ N.room notes.new + 1 }
+{
+    if notes.keeps() {
+        notes.note(Note::new(Said::End { call }));
+    }
+}
+
+/// Tells that an item can be found. That is counted nowhere, and so told only where notes are kept.
+fn linked<A: Allocator, N: Notes<Note<A>>>(notes: &mut N, charge: u64)
+    requires { 0 < N.room notes.old }
+    ensures told { N.told notes.new ≡ told_more (N.told notes.old) (Linked charge ∷ []) }
+    ensures room { N.room notes.old ≤ N.room notes.new + 1 }
+{
+    if notes.keeps() {
+        notes.note(Note::new(Said::Linked { charge }));
+    }
+}
+
+/// Answers the call: by its note, where notes are kept.
+fn answered<A: Allocator, N: Notes<Note<A>>>(notes: &mut N, call: u64, reply: Reply<A>)
+    requires { 0 < N.room notes.old }
+    ensures told { N.told notes.new ≡ told_more (N.told notes.old) (Did call (reply_of reply) ∷ []) }
+    ensures room { N.room notes.old ≤ N.room notes.new + 1 }
+{
+    if notes.keeps() {
+        notes.note(Note::new(Said::Did { call, reply }));
+    } else {
+        notes.count(reply.kind());
+    }
+}
+
 /// Answers the call and hands out its reply.
 pub fn end<A: Allocator, N: Notes<Note<A>>>(notes: &mut N, call: u64, reply: Reply<A>)
     requires { 2 ≤ N.room notes.old }
     ensures told { N.told notes.new ≡ told_more (N.told notes.old) (Did call (reply_of reply) ∷ End call ∷ []) }
     ensures room { N.room notes.old ≤ N.room notes.new + 2 }
 {
-    notes.note(Note::new(Said::Did { call, reply }));
-    notes.note(Note::new(Said::End { call }));
+    answered(notes, call, reply);
+    ended(notes, call);
 }
 
 /// Tells that a charge is free, where there was one.
@@ -41,7 +76,9 @@ pub fn freed<A: Allocator, N: Notes<Note<A>>>(notes: &mut N, charge: Option<u64>
     ensures room { N.room notes.old ≤ N.room notes.new + 1 }
 {
     if let Some(charge) = charge {
-        notes.note(Note::new(Said::Freed { charge }));
+        if notes.keeps() {
+            notes.note(Note::new(Said::Freed { charge }));
+        }
     }
 }
 
@@ -67,20 +104,33 @@ pub fn charged<A: Allocator, N: Notes<Note<A>>>(
     }
 }
 
-/// Tells the notes of a find.
+/// Answers a find: by its note, where notes are kept.
+fn did<A: Allocator, N: Notes<Note<A>>>(notes: &mut N, did: Option<Note<A>>, kind: Kind)
+    requires { 0 < N.room notes.old }
+    ensures told { N.told notes.new ≡ told_did (N.told notes.old) did kind }
+    ensures room { N.room notes.old ≤ N.room notes.new + 1 }
+{
+    match did {
+        Some(note) => notes.note(note),
+        None => notes.count(kind),
+    }
+}
+
+/// Tells the notes of a find, or counts its answer as this kind.
 pub fn find<A: Allocator, N: Notes<Note<A>>>(
     notes: &mut N,
     call: u64,
     begin: Option<Note<A>>,
-    did: Option<Note<A>>,
+    answer: Option<Note<A>>,
+    kind: Kind,
 )
     requires { 3 ≤ N.room notes.old }
-    ensures told { N.told notes.new ≡ told_more (told_more (told_more (N.told notes.old) (option_to_list begin)) (option_to_list did)) (End call ∷ []) }
+    ensures told { N.told notes.new ≡ told_more (told_did (told_more (N.told notes.old) (option_to_list begin)) answer kind) (End call ∷ []) }
     ensures room { N.room notes.old ≤ N.room notes.new + 3 }
 {
     tell(notes, begin);
-    tell(notes, did);
-    notes.note(Note::new(Said::End { call }));
+    did(notes, answer, kind);
+    ended(notes, call);
 }
 
 /// Tells the notes of a remove that freed this charge, or none.
@@ -120,7 +170,7 @@ pub fn insert<A: Allocator, N: Notes<Note<A>>>(
 {
     tell(notes, begin);
     freed(notes, old);
-    notes.note(Note::new(Said::Linked { charge }));
+    linked(notes, charge);
     end(notes, call, Reply::Stored);
 }
 

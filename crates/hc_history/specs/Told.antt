@@ -1,12 +1,98 @@
--- A log that may not be kept.
-use Rattle.std.specs.Prelude.{List, ◌++◌, Option, Some, None}
+-- What is heard of a log, which may not be kept.
+use Rattle.std.specs.Prelude.{ℕ, ◌+◌, ◌-◌, ◌^◌, Bool, true, false, List, [], ◌++◌, filter, Option, Some, None, if◌then◌else◌}
+use Rattle.hc_types.specs.Tally.{count}
+use Rattle.hc_history.specs.Note.{Note, Reply}
+use Rattle.hc_history.specs.Note as note
+use Rattle.hc_history.specs.Stats.{is_stored, is_hit, is_miss, is_removed, is_loss, is_read, is_write}
+use Rattle.hc_history.specs.declared.stats.Stats.{Stats}
+use Rattle.hc_history.specs.declared.stats.Kind.{Kind}
+use Rattle.hc_history.specs.declared.stats.Kind.TheVariants.{Stored, Hit, Miss, Removed, Lost, Read, Written}
 
--- the log with this part after it, where it is kept
-abbrev pub told_more : {T : Type 0} → Option (List T) → List T → Option (List T)
-told_more None part = None
-told_more (Some log) part = Some (log ++ part)
+pub data Heard : Type 0 where
+  -- nothing
+  Nothing : Heard
+  -- all of it, the oldest note first
+  Log : (log : List Note) → Heard
+  -- its counts, and the losses that weren't taken yet
+  Counts : (counts : Stats) (losses : List Note) → Heard
+
+-- these counts, and those of a part
+abbrev pub counts_more : Stats → List Note → Stats
+counts_more counts part = record {
+  stored = counts.stored + count is_stored part;
+  hits = counts.hits + count is_hit part;
+  misses = counts.misses + count is_miss part;
+  removes = counts.removes + count is_removed part;
+  losses = counts.losses + count is_loss part;
+  reads = counts.reads + count is_read part;
+  writes = counts.writes + count is_write part;
+}
+
+-- the losses of a part
+abbrev pub losses_of : List Note → List Note
+losses_of part = filter is_loss part
+
+-- what is heard once this part is told
+abbrev pub told_more : Heard → List Note → Heard
+told_more Nothing part = Nothing
+told_more (Log log) part = Log (log ++ part)
+told_more (Counts counts losses) part = Counts (counts_more counts part) (losses ++ losses_of part)
+
+-- one more of this kind
+abbrev pub counts_one : Stats → Kind → Stats
+counts_one counts Stored = record counts { stored = counts.stored + 1 }
+counts_one counts Hit = record counts { hits = counts.hits + 1 }
+counts_one counts Miss = record counts { misses = counts.misses + 1 }
+counts_one counts Removed = record counts { removes = counts.removes + 1 }
+counts_one counts Lost = record counts { losses = counts.losses + 1 }
+counts_one counts Read = record counts { reads = counts.reads + 1 }
+counts_one counts Written = record counts { writes = counts.writes + 1 }
+
+-- as what an answer is counted
+abbrev pub kind_of : Reply → Kind
+kind_of note.Stored = Stored
+kind_of (note.Hit value) = Hit
+kind_of note.Miss = Miss
+kind_of note.FoundInMemory = Removed
+kind_of note.NotInMemory = Removed
+
+-- what is heard once something of this kind is counted, where its note isn't kept
+abbrev pub told_count : Heard → Kind → Heard
+told_count (Counts counts losses) kind = Counts (counts_one counts kind) losses
+told_count heard kind = heard
+
+-- the whole log is kept
+abbrev pub is_log : Heard → Bool
+is_log (Log log) = true
+is_log heard = false
+
+-- something is heard of it
+abbrev pub Hears : Heard → Type 0
+Hears Nothing = ⊥
+Hears heard = Unit {0}
 
 -- a thing that is made only where the log is kept, as a note
-abbrev pub where_kept : {T X : Type 0} → Option (List T) → X → Option X
-where_kept None thing = None
-where_kept (Some log) thing = Some thing
+abbrev pub where_kept : {X : Type 0} → Heard → X → Option X
+where_kept (Log log) thing = Some thing
+where_kept heard thing = None
+
+-- the log has this, where it is kept
+abbrev pub IfLog : Heard → (List Note → Type 0) → Type 0
+IfLog (Log log) p = p log
+IfLog heard p = Unit {0}
+
+-- the losses were taken
+abbrev pub losses_taken : Heard → Heard
+losses_taken (Counts counts losses) = Counts counts []
+losses_taken heard = heard
+
+-- all that was counted
+abbrev pub total : Stats → ℕ
+total counts = counts.stored + counts.hits + counts.misses + counts.removes + counts.losses + counts.reads + counts.writes
+
+-- how many notes can still be counted in 64 bits
+abbrev pub left_to_count : Stats → ℕ
+left_to_count counts = 2 ^ 64 - 1 - total counts
+
+abbrev pub no_counts : Stats
+no_counts = record { stored = 0; hits = 0; misses = 0; removes = 0; losses = 0; reads = 0; writes = 0 }

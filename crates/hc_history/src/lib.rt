@@ -10,15 +10,12 @@ ghost use Rattle.hc_types.specs.Config.{Config};
 ghost use Rattle.hc_history.specs.Note.{Note as Meaning};
 ghost use Rattle.hc_history.specs.Lawful.{ExtendsLegal};
 
-pub use note::{Note, Op, Reply, Said};
-pub use notes::{Kept, Notes, Silent};
-pub use stats::Stats;
+pub use note::{Note, Op, Reply, Said, Says};
+pub use notes::{Counting, Kept, Notes, Silent};
+pub use stats::{Kind, Stats};
 
 /// The law by which a step extends a legal log: where its notes are lawful by the books of the log, and what holds
 /// between two steps holds after them, the log with them is legal. It does nothing when it runs.
 pub fn extends()
     ensures { (config : Config) (log part : List Meaning) → ExtendsLegal config log part }
 {}
-
-#[cfg(test)]
-mod tests;

@@ -1,6 +1,7 @@
 // What the core tells of its steps.
 ghost use Rattle.std.specs.Prelude.{◌≡◌};
 ghost use Rattle.hc_history.specs.Seen.{note_of};
+ghost use Rattle.hc_history.specs.Note.{Note as Meaning};
 
 use bytes::Bytes;
 use hc_types::{Cause, Key, Scope};
@@ -84,6 +85,16 @@ impl<A: Allocator> Model for Note<A> {
     ghost use Rattle.hc_history.specs.Seen.{note_of};
 
     ghost view = { λ n. note_of n.said };
+}
+
+/// Says what notes say.
+pub trait Says {
+    /// What it says.
+    ghost says: { Self → Meaning };
+}
+
+impl<A: Allocator> Says for Note<A> {
+    ghost says = { λ n. n };
 }
 
 impl<A: Allocator> Note<A> {

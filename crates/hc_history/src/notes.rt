@@ -1,33 +1,40 @@
 // Whom the notes are told.
-ghost use Rattle.std.specs.Prelude.{◌≡◌, ℕ, ◌+◌, ◌-◌, ◌^◌, ◌<◌, ◌≤◌, List, [], ◌∷◌, ◌++◌, Option, Some, None, IsSome, is_some, OnOk, OnErr, vec_len, vec_capacity};
-ghost use Rattle.hc_history.specs.Told.{told_more};
+ghost use Rattle.std.specs.Prelude.{◌≡◌, ℕ, ◌+◌, ◌-◌, ◌^◌, ◌<◌, ◌≤◌, List, [], ◌∷◌, ◌++◌, min, OnOk, OnErr, IfOk, vec_len, vec_capacity};
+ghost use Rattle.hc_history.specs.Told.{Heard, Nothing, Log, Counts, told_more, told_count, is_log, Hears, left_to_count, no_counts};
 
-use crate::note::Note;
+use crate::note::{Note, Said, Says};
+use crate::stats::{Kind, Stats};
 use std::alloc::{AllocError, Allocator, Global};
 
-/// Whom the core tells its notes, of type `T`. Room is made first; then telling a note can't fail.
-pub trait Notes<T>: Drop {
-    /// The log, the oldest note first, where it is kept.
-    ghost told: { Self → Option (List T) };
+/// Whom the core tells its notes. Room is made first; then telling a note can't fail.
+pub trait Notes<T: Says>: Drop {
+    /// What is heard of the log.
+    ghost told: { Self → Heard };
 
     /// How many notes there is room for.
     ghost room: { Self → ℕ };
 
-    /// Whether notes are kept. Where they aren't, none need be made.
+    /// Whether notes are kept. Where they aren't, those that copy a key or a value need not be made.
     fn keeps(&self) -> bool
-        ensures { result ≡ is_some (told self.now) };
+        ensures { result ≡ is_log (told self.now) };
 
-    /// Makes room for `n` notes, and takes none away. It fails only where notes are kept.
+    /// Makes room for `n` notes, and takes none away. It fails only where something is heard.
     fn reserve(&mut self, n: usize) -> Result<(), AllocError>
         ensures same { told self.new ≡ told self.old }
         ensures room { OnOk result (n ≤ room self.new) }
         ensures more { room self.old ≤ room self.new }
-        ensures fails { OnErr result (IsSome (told self.old)) };
+        ensures fails { OnErr result (Hears (told self.old)) };
 
     /// Tells a note, for which there is room.
     fn note(&mut self, note: T)
         requires { 0 < room self.old }
-        ensures told { told self.new ≡ told_more (told self.old) (note ∷ []) }
+        ensures told { told self.new ≡ told_more (told self.old) (T.says note ∷ []) }
+        ensures room { room self.old ≤ room self.new + 1 };
+
+    /// Counts one more of this kind, in place of a note that isn't made where notes aren't kept.
+    fn count(&mut self, kind: Kind)
+        requires { 0 < room self.old }
+        ensures told { told self.new ≡ told_count (told self.old) kind }
         ensures room { room self.old ≤ room self.new + 1 };
 }
 
@@ -50,7 +57,7 @@ impl<A: Allocator> Kept<A> {
 }
 
 impl<A: Allocator> Notes<Note<A>> for Kept<A> {
-    ghost told = { λ k. Some k.notes.items };
+    ghost told = { λ k. Log k.notes.items };
 
     ghost room = { λ k. vec_capacity k.notes - vec_len k.notes };
 
@@ -65,14 +72,16 @@ impl<A: Allocator> Notes<Note<A>> for Kept<A> {
     fn note(&mut self, note: Note<A>) {
         let _ = self.notes.push(note);
     }
+
+    fn count(&mut self, _kind: Kind) {}
 }
 
 /// Keeps nothing, takes no memory and refuses nothing.
 #[derive(Clone, Copy, Debug, Default)]
 pub struct Silent;
 
-impl<T: Drop> Notes<T> for Silent {
-    ghost told = { λ _. None };
+impl<T: Says + Drop> Notes<T> for Silent {
+    ghost told = { λ _. Nothing };
 
     ghost room = { λ _. 2 ^ 64 };
 
@@ -85,4 +94,69 @@ impl<T: Drop> Notes<T> for Silent {
     }
 
     fn note(&mut self, _note: T) {}
+
+    fn count(&mut self, _kind: Kind) {}
+}
+
+/// Counts the notes, and keeps the losses until they are taken. Its memory doesn't grow with the log. Where 64 bits
+/// can't count more, it refuses room as if memory lacked.
+#[derive(Drop)]
+pub struct Counting<A: Allocator = Global> {
+    /// The counts of the log.
+    pub counts: Stats,
+    /// The losses that weren't taken yet, the oldest first.
+    pub losses: Vec<Note<A>, A>,
+}
+
+impl<A: Allocator> Counting<A> {
+    /// The counts of an empty log.
+    pub fn new(alloc: A) -> Counting<A>
+        ensures { (result.counts ≡ no_counts) × (result.losses.items ≡ []) }
+    {
+        Counting {
+            counts: Stats::default(),
+            losses: Vec::new(alloc),
+        }
+    }
+
+    /// The losses are taken, and forgotten here.
+    pub fn forget_losses(&mut self)
+        ensures counts { self.new.counts ≡ self.old.counts }
+        ensures losses { self.new.losses.items ≡ [] }
+        ensures room { vec_capacity self.old.losses - vec_len self.old.losses ≤ vec_capacity self.new.losses - vec_len self.new.losses }
+    {
+        self.losses.clear();
+    }
+}
+
+impl<A: Allocator> Notes<Note<A>> for Counting<A> {
+    ghost told = { λ c. Counts c.counts c.losses.items };
+
+    ghost room = { λ c. min (vec_capacity c.losses - vec_len c.losses) (left_to_count c.counts) };
+
+    fn keeps(&self) -> bool {
+        false
+    }
+
+    fn reserve(&mut self, n: usize) -> Result<(), AllocError> {
+        if !self.counts.can_count(n as u64) {
+            return Err(AllocError);
+        }
+        self.losses.reserve(n)
+    }
+
+    fn note(&mut self, note: Note<A>) {
+        match &note.said {
+            Said::Did { reply, .. } => self.counts.answered(reply),
+            Said::Lose { .. } => {
+                self.counts.losses += 1;
+                let _ = self.losses.push(note);
+            }
+            _ => {}
+        }
+    }
+
+    fn count(&mut self, kind: Kind) {
+        self.counts.count(kind);
+    }
 }

@@ -1,5 +1,8 @@
 // What a log comes to in numbers.
-ghost use Rattle.std.specs.Prelude.{◌≡◌};
+ghost use Rattle.std.specs.Prelude.{◌≡◌, ◌≤◌, ◌<◌, ◌^◌, ◌+◌, ◌∷◌, [], ℕ, true, MatchOption};
+ghost use Rattle.hc_history.specs.Told.{total, left_to_count, counts_more, counts_one, kind_of};
+ghost use Rattle.hc_history.specs.Note.{Did};
+ghost use Rattle.hc_history.specs.Seen.{reply_of};
 ghost use Rattle.hc_history.specs.Stats as spec;
 ghost use Rattle.hc_history.specs.Stats.{counts_of};
 
@@ -24,6 +27,84 @@ pub struct Stats {
     pub reads: u64,
     /// Results of page writes. There is no flash yet, and so none.
     pub writes: u64,
+}
+
+/// What is counted of a log: a kind for each of the seven counts.
+#[derive(Clone, Copy, Debug, PartialEq, Eq)]
+pub enum Kind {
+    Stored,
+    Hit,
+    Miss,
+    Removed,
+    Lost,
+    Read,
+    Written,
+}
+
+impl Stats {
+    /// All that was counted, where 64 bits hold it.
+    fn total(self) -> Option<u64>
+        ensures { MatchOption result (2 ^ 64 ≤ total self) (λ n. n ≡ total self) }
+    {
+        self.stored
+            .checked_add(self.hits)?
+            .checked_add(self.misses)?
+            .checked_add(self.removes)?
+            .checked_add(self.losses)?
+            .checked_add(self.reads)?
+            .checked_add(self.writes)
+    }
+
+    /// One more of this kind.
+    pub fn count(&mut self, kind: Kind)
+        requires { 0 < left_to_count self.old }
+        ensures room { left_to_count self.old ≤ left_to_count self.new + 1 }
+        ensures counts { self.new ≡ counts_one self.old kind }
+    {
+        match kind {
+            Kind::Stored => self.stored += 1,
+            Kind::Hit => self.hits += 1,
+            Kind::Miss => self.misses += 1,
+            Kind::Removed => self.removes += 1,
+            Kind::Lost => self.losses += 1,
+            Kind::Read => self.reads += 1,
+            Kind::Written => self.writes += 1,
+        }
+    }
+
+    /// A call more is answered.
+    pub fn answered<A: Allocator>(&mut self, reply: &Reply<A>)
+        requires { 0 < left_to_count self.old }
+        ensures room { left_to_count self.old ≤ left_to_count self.new + 1 }
+        ensures counts { (call : ℕ) → self.new ≡ counts_more self.old (Did call (reply_of reply.now) ∷ []) }
+    {
+        self.count(reply.kind());
+    }
+
+    /// Whether so many notes more can be counted.
+    pub fn can_count(self, n: u64) -> bool
+        ensures { result ≡ true → n ≤ left_to_count self }
+    {
+        match self.total() {
+            Some(total) => n <= u64::MAX - total,
+            None => false,
+        }
+    }
+}
+
+impl<A: Allocator> Reply<A> {
+    /// As what it is counted.
+    #[must_use]
+    pub fn kind(&self) -> Kind
+        ensures { result ≡ kind_of (reply_of self.now) }
+    {
+        match self {
+            Reply::Stored => Kind::Stored,
+            Reply::Hit(_) => Kind::Hit,
+            Reply::Miss => Kind::Miss,
+            Reply::FoundInMemory | Reply::NotInMemory => Kind::Removed,
+        }
+    }
 }
 
 impl<A: Allocator> Kept<A> {

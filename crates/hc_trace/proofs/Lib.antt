@@ -1,8 +1,9 @@
 pub mod Decimals
 pub mod Parts
 pub mod Orders
+pub mod Logs
 pub mod Same
 pub mod Streams
 pub mod Values
-pub mod Logs
+pub mod Legality
 pub mod Rows

@@ -1,36 +1,29 @@
--- The log is that of the steps.
-use Rattle.std.proofs.Common.{◌≡◌, ℕ, ◌+◌, ◌-◌, ◌≤◌, Bool, true, false, not, ◌&&◌, if◌then◌else◌, List, [], ◌∷◌, ◌++◌, length, take, drop, Option, None, Some, refl, sym, ◌∙◌, ap, append_assoc, append-nil, arith, length-append}
-use Rattle.std.proofs.Math.Seq.{drop-append_seam}
-use Rattle.std.proofs.lemmas.List.{take_rest}
+-- What a step tells.
+use Rattle.std.proofs.Common.{◌≡◌, ◌+◌, Bool, true, false, not, ◌&&◌, if◌then◌else◌, List, [], ◌∷◌, ◌++◌, length, Option, None, Some, refl, sym, ◌∙◌, ap}
 use Rattle.hc_types.specs.declared.refusal.Refusal.{Refusal}
 use Rattle.hc_memory.specs.Item.{Handle}
 use Rattle.hc_memory.specs.Memory.{linked_at}
-use Rattle.hc_history.specs.Note.{Note, Freed}
-use Rattle.hc_history.specs.Told.{told_more}
+use Rattle.hc_history.specs.Note.{Note, Begin, Did, End, Lose, Charged, Linked, Freed, Now}
+use Rattle.hc_history.specs.Told.{Heard, Nothing, Counts, told_more, counts_more, losses_of}
+use Rattle.hc_history.specs.declared.stats.Stats.{Stats}
+use Rattle.hc_history.proofs.Telling.{told-nothing, told-twice}
 use Rattle.hc_core.specs.Cache.{Cache}
 use Rattle.hc_core.specs.Refused.{allocate_refusal}
 use Rattle.hc_core.specs.Steps.{insert_notes}
-use Rattle.hc_trace.specs.Steps.{NewItem, Step, Set, Add, Get, Del, Now}
+use Rattle.hc_trace.specs.Steps as steps
+use Rattle.hc_trace.specs.Steps.{NewItem, Step, Set, Add, Get, Del}
 use Rattle.hc_trace.specs.Moves.{Moved, unless, key_refusal, handle_of, after_open, open_notes, inserted, given_up, is_taken, finished, stored, move}
-use Rattle.hc_trace.specs.Texts.{line_text, answer_text, losses_text}
-use Rattle.hc_trace.specs.Trace.{empty_cache, step_text, after_steps, notes_of, log_of, LogIsThatOfSteps}
-
-told-nothing : (log : Option (List Note)) → log ≡ told_more log []
-told-nothing None = refl
-told-nothing (Some log) = ap (λ z. Some z) (sym (append-nil log))
+use Rattle.hc_trace.specs.Texts.{line_text, answer_text, losses_text, loss_text}
+use Rattle.hc_trace.specs.Trace.{step_text}
+use Rattle.hc_trace.specs.Machine.{losses_in, told_text}
 
 unless-log : (refusal : Option Refusal) (cache : Cache) (moved : Moved) → moved.cache.log ≡ told_more cache.log moved.notes
     → (unless refusal cache moved).cache.log ≡ told_more cache.log (unless refusal cache moved).notes
 unless-log None cache moved h = h
-unless-log (Some refusal) cache moved h = told-nothing cache.log
-
--- one part after another
-told-twice : (log : Option (List Note)) (a b : List Note) → told_more (told_more log a) b ≡ told_more log (a ++ b)
-told-twice None a b = refl
-told-twice (Some notes) a b = ap (λ ns. Some ns) (append_assoc notes a b)
+unless-log (Some refusal) cache moved h = sym (told-nothing cache.log)
 
 -- the end of an item that is open, after the notes of its open
-finished-log : (taken : Bool) (handle : Handle) (cache : Cache) (log : Option (List Note)) (part : List Note) → cache.log ≡ told_more log part
+finished-log : (taken : Bool) (handle : Handle) (cache : Cache) (log : Heard) (part : List Note) → cache.log ≡ told_more log part
     → (let moved = if taken then given_up handle cache part else inserted handle cache part in moved.cache.log ≡ told_more log moved.notes)
 finished-log true handle cache log part e = ap (λ l. told_more l (Freed handle.number ∷ [])) e ∙ told-twice log part (Freed handle.number ∷ [])
 finished-log false handle cache log part e =
@@ -44,46 +37,64 @@ stored-log replaces item cache =
     unless-log (allocate_refusal cache item.pool item.key (length item.value)) cache (finished replaces handle mid (open_notes item cache))
     (finished-log (not replaces && is_taken item.key mid) handle mid cache.log (open_notes item cache) refl)
 
-move-log : (step : Step) (cache : Cache) → (move step cache).cache.log ≡ told_more cache.log (move step cache).notes
+pub move-log : (step : Step) (cache : Cache) → (move step cache).cache.log ≡ told_more cache.log (move step cache).notes
 move-log (Set item) cache = unless-log (key_refusal item.key) cache (stored true item cache) (stored-log true item cache)
 move-log (Add item) cache = unless-log (key_refusal item.key) cache (stored false item cache) (stored-log false item cache)
 move-log (Get key) cache = unless-log (key_refusal key) cache _ refl
 move-log (Del key) cache = unless-log (key_refusal key) cache _ refl
-move-log (Now moment) cache = refl
+move-log (steps.Now moment) cache = refl
 
-after-log : (cache : Cache) (log : List Note) (steps : List Step) → cache.log ≡ Some log → (after_steps cache steps).log ≡ Some (log ++ notes_of cache steps)
-after-log cache log [] e = e ∙ ap (λ z. Some z) (sym (append-nil log))
-after-log cache log (step ∷ steps) e =
-    let moved = move step cache in
-    let next : moved.cache.log ≡ Some (log ++ moved.notes) = move-log step cache ∙ ap (λ l. told_more l moved.notes) e in
-    after-log moved.cache (log ++ moved.notes) steps next ∙ ap (λ z. Some z) (append_assoc log moved.notes (notes_of moved.cache steps))
+-- the texts of the losses are those of all the notes
+pub losses-same : (notes : List Note) → losses_text (losses_of notes) ≡ losses_text notes
+losses-same [] = refl
+losses-same (Lose scope cause ∷ notes) = ap (λ text. loss_text (Lose scope cause) ++ text) (losses-same notes)
+losses-same (Begin call client op ∷ notes) = losses-same notes
+losses-same (Did call reply ∷ notes) = losses-same notes
+losses-same (End call ∷ notes) = losses-same notes
+losses-same (Charged charge key pool bytes ∷ notes) = losses-same notes
+losses-same (Linked charge ∷ notes) = losses-same notes
+losses-same (Freed charge ∷ notes) = losses-same notes
+losses-same (Now moment ∷ notes) = losses-same notes
 
-pub log-is : LogIsThatOfSteps
-log-is = λ config steps. after-log (empty_cache config) [] steps refl
+-- where all losses were taken, what is heard after a step is counted, and has the losses of the step
+pub counted : (step : Step) (cache : Cache) (counts : Stats) → cache.log ≡ Counts counts [] → (move step cache).cache.log ≡ Counts (counts_more counts (move step cache).notes) (losses_of (move step cache).notes)
+counted step cache counts e = move-log step cache ∙ ap (λ heard. told_more heard (move step cache).notes) e
 
-same-some : (a b : List Note) → ◌≡◌ {A = Option (List Note)} (Some a) (Some b) → a ≡ b
-same-some a b e = ap (λ (o : Option (List Note)). log_of o) e
+-- so its text is that of the step
+pub told-same : (step : Step) (cache : Cache) (counts : Stats) → cache.log ≡ Counts counts [] → told_text (move step cache) ≡ step_text (move step cache)
+told-same step cache counts e =
+    ap (λ heard. line_text (answer_text (move step cache).answer) ++ losses_text (losses_in heard)) (counted step cache counts e)
+    ∙ ap (λ text. line_text (answer_text (move step cache).answer) ++ text) (losses-same (move step cache).notes)
 
-pub step-log : (step : Step) (old new : Cache) → new ≡ (move step old).cache → new.log ≡ told_more old.log (move step old).notes
-step-log step old new moved = ap (λ (c : Cache). c.log) moved ∙ move-log step old
+-- ---- a cache and what is heard of it
 
--- the notes after a step are those before it, and then the step's
-more-told : (before after : List Note) (step : Step) (old new : Cache) → Some before ≡ old.log → Some after ≡ new.log → new ≡ (move step old).cache → after ≡ before ++ (move step old).notes
-more-told before after step old new was is moved =
-    same-some after (before ++ (move step old).notes) (is ∙ step-log step old new moved ∙ ap (λ l. told_more l (move step old).notes) (sym was))
+-- the cache, and nothing heard of it
+abbrev pub silent : Cache → Cache
+silent cache = record cache { log = Nothing }
 
-pub grown : (before after : List Note) (step : Step) (old new : Cache) → Some before ≡ old.log → Some after ≡ new.log → new ≡ (move step old).cache → length before ≤ length after
-grown before after step old new was is moved = omega (arith, ap length (more-told before after step old new was is moved), length-append before (move step old).notes)
+abbrev hushed : Moved → Moved
+hushed moved = record moved { cache = silent moved.cache }
 
--- the notes behind those before a step are the step's
-behind : (before after : List Note) (step : Step) (old new : Cache) (n : ℕ) → Some before ≡ old.log → Some after ≡ new.log → new ≡ (move step old).cache → n ≡ length before → take (length after - n) (drop n after) ≡ (move step old).notes
-behind before after step old new n was is moved at =
-    take_rest after n ∙ ap (λ ns. drop n ns) (more-told before after step old new was is moved) ∙ ap (λ m. drop m (before ++ (move step old).notes)) at ∙ drop-append_seam before (move step old).notes
+unless-silent : (refusal : Option Refusal) (cache : Cache) (a b : Moved) → a ≡ hushed b → unless refusal (silent cache) a ≡ hushed (unless refusal cache b)
+unless-silent None cache a b h = h
+unless-silent (Some refusal) cache a b h = refl
 
--- the text of a step, where its answer is told first, and then what the notes behind those before it forget
-pub step-told : (out mid : List ℕ) (before after : List Note) (step : Step) (old new : Cache) (n : ℕ) → Some before ≡ old.log → Some after ≡ new.log → new ≡ (move step old).cache → n ≡ length before
-    → mid ≡ out ++ line_text (answer_text (move step old).answer) → mid ++ losses_text (take (length after - n) (drop n after)) ≡ out ++ step_text (move step old)
-step-told out mid before after step old new n was is moved at said =
-    ap (λ o. o ++ losses_text (take (length after - n) (drop n after))) said
-    ∙ ap (λ ns. (out ++ line_text (answer_text (move step old).answer)) ++ losses_text ns) (behind before after step old new n was is moved at)
-    ∙ append_assoc out (line_text (answer_text (move step old).answer)) (losses_text (move step old).notes)
+finished-silent : (taken : Bool) (handle : Handle) (cache : Cache) (part : List Note)
+    → (if taken then given_up handle (silent cache) part else inserted handle (silent cache) part) ≡ hushed (if taken then given_up handle cache part else inserted handle cache part)
+finished-silent true handle cache part = refl
+finished-silent false handle cache part = refl
+
+stored-silent : (replaces : Bool) (item : NewItem) (cache : Cache) → stored replaces item (silent cache) ≡ hushed (stored replaces item cache)
+stored-silent replaces item cache =
+    let handle = handle_of item cache in
+    let mid = after_open item cache in
+    unless-silent (allocate_refusal cache item.pool item.key (length item.value)) cache _ (finished replaces handle mid (open_notes item cache))
+    (finished-silent (not replaces && is_taken item.key mid) handle mid (open_notes item cache))
+
+-- what a step does isn't changed by what is heard
+pub move-silent : (step : Step) (cache : Cache) → move step (silent cache) ≡ hushed (move step cache)
+move-silent (Set item) cache = unless-silent (key_refusal item.key) cache _ (stored true item cache) (stored-silent true item cache)
+move-silent (Add item) cache = unless-silent (key_refusal item.key) cache _ (stored false item cache) (stored-silent false item cache)
+move-silent (Get key) cache = unless-silent (key_refusal key) cache _ _ refl
+move-silent (Del key) cache = unless-silent (key_refusal key) cache _ _ refl
+move-silent (steps.Now moment) cache = refl

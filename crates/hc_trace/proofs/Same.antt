@@ -1,38 +1,69 @@
 -- One line after another, a trace comes to the output that it is said to have.
-use Rattle.std.proofs.Common.{◌≡◌, ℕ, ◌+◌, List, [], ◌∷◌, ◌++◌, Option, None, Some, refl, sym, ◌∙◌, ap, append_assoc}
+use Rattle.std.proofs.Common.{◌≡◌, ℕ, ◌+◌, zero-add, List, [], ◌∷◌, ◌++◌, Option, None, Some, refl, sym, ◌∙◌, ap, append_assoc}
 use Rattle.hc_types.specs.Limits.{first_wrong}
 use Rattle.hc_types.specs.declared.config.PoolSize.{PoolSize}
 use Rattle.hc_types.specs.declared.refusal.Refusal.{Refusal}
+use Rattle.hc_types.specs.Tally.{count}
+use Rattle.hc_history.specs.Note.{Note}
+use Rattle.hc_history.specs.Stats.{counts_of, is_stored, is_hit, is_miss, is_removed, is_loss, is_read, is_write}
+use Rattle.hc_history.specs.declared.stats.Stats.{Stats}
+use Rattle.hc_history.specs.Told.{Counts, no_counts, counts_more, losses_taken}
+use Rattle.hc_history.proofs.Telling.{counts-none, counts-twice}
 use Rattle.hc_core.specs.Cache.{Cache}
 use Rattle.hc_trace.specs.declared.state.State.TheVariants.{Configuring, Running}
 use Rattle.hc_trace.specs.Lines.{lines_of}
 use Rattle.hc_trace.specs.Grammar.{Line, Skipped, Says, Fault, Pool, NoFlash, Do, line_of}
-use Rattle.hc_trace.specs.Moves.{move}
-use Rattle.hc_trace.specs.Trace.{checked, steps_line, steps_from, config_of, trace_line, trace_from, empty_cache, step_text, steps_text, after_steps, ending, onto, run_output, trace_output, output_of}
-use Rattle.hc_trace.specs.Machine.{begun, configured, turned, after_turn, output_from, output_after}
+use Rattle.hc_trace.specs.Moves.{Moved, move}
+use Rattle.hc_trace.specs.Trace.{checked, steps_line, steps_from, config_of, trace_line, trace_from, Steps, empty_cache, step_text, steps_text, notes_of, ending, onto, trace_output, output_of}
+use Rattle.hc_trace.proofs.Logs.{counted, told-same, silent, move-silent}
+use Rattle.hc_trace.specs.Machine.{begun, counting_cache, next, counts_in, told_text, configured, turned, after_turn, output_from, output_after}
 
 onto-onto : (a b : List ℕ) (output : List ℕ × ℕ) → onto a (onto b output) ≡ onto (a ++ b) output
 onto-onto a b output = ap (λ z. (z, output.1)) (sym (append_assoc a b output.0))
 
-run-line : (n : ℕ) (cache : Cache) (line : Line) (lines : List (List ℕ)) → ((cache : Cache) → output_from (n + 1) (Running cache) lines ≡ run_output cache (steps_from (n + 1) lines))
-    → after_turn (turned n (Running cache) line) (output_from (n + 1) (turned n (Running cache) line).state lines) ≡ run_output cache (steps_line n line (steps_from (n + 1) lines))
-run-line n cache Skipped lines later = later cache
-run-line n cache (Says (Pool bytes items)) lines later = refl
-run-line n cache (Says NoFlash) lines later = refl
-run-line n cache (Says (Do step)) lines later =
-    let moved = move step cache in
-    let rest = steps_from (n + 1) lines in
-    ap (onto (step_text moved)) (later moved.cache)
-    ∙ onto-onto (step_text moved) (steps_text moved.cache rest.steps) (ending (after_steps moved.cache rest.steps) rest.fault)
-run-line n cache Fault lines later = refl
+-- the output of steps whose log so far has these counts
+abbrev Rest : Cache → Stats → Steps → List ℕ × ℕ
+Rest cache counts rest = onto (steps_text cache rest.steps) (ending (counts_more counts (notes_of cache rest.steps)) rest.fault)
 
-run-same : (n : ℕ) (cache : Cache) (lines : List (List ℕ)) → output_from n (Running cache) lines ≡ run_output cache (steps_from n lines)
-run-same n cache [] = refl
-run-same n cache (line ∷ lines) = run-line n cache (line_of line) lines (λ cache. run-same (n + 1) cache lines)
+run-line : (n : ℕ) (cache : Cache) (counts : Stats) (line : Line) (lines : List (List ℕ)) → cache.log ≡ Counts counts [] → ((cache : Cache) (counts : Stats) → cache.log ≡ Counts counts [] → output_from (n + 1) (Running cache) lines ≡ Rest (silent cache) counts (steps_from (n + 1) lines))
+    → after_turn (turned n (Running cache) line) (output_from (n + 1) (turned n (Running cache) line).state lines) ≡ Rest (silent cache) counts (steps_line n line (steps_from (n + 1) lines))
+run-line n cache counts Skipped lines e later = later cache counts e
+run-line n cache counts (Says (Pool bytes items)) lines e later = refl
+run-line n cache counts (Says NoFlash) lines e later = refl
+run-line n cache counts (Says (Do step)) lines e later =
+    let rest = steps_from (n + 1) lines in
+    let moved = move step cache in
+    let after = silent moved.cache in
+    let more = counts_more counts moved.notes in
+    let known : (next step cache).log ≡ Counts more [] = ap losses_taken (counted step cache counts e) in
+    ap (onto (told_text moved)) (later (next step cache) more known)
+    ∙ onto-onto (told_text moved) (steps_text after rest.steps) (ending (counts_more more (notes_of after rest.steps)) rest.fault)
+    ∙ (λ i. onto (told-same step cache counts e i ++ steps_text after rest.steps) (ending (counts-twice counts moved.notes (notes_of after rest.steps) i) rest.fault))
+    ∙ ap (λ (m : Moved). onto (step_text m ++ steps_text m.cache rest.steps) (ending (counts_more counts (m.notes ++ notes_of m.cache rest.steps)) rest.fault)) (sym (move-silent step cache))
+run-line n cache counts Fault lines e later = refl
+
+run-same : (n : ℕ) (cache : Cache) (counts : Stats) (lines : List (List ℕ)) → cache.log ≡ Counts counts [] → output_from n (Running cache) lines ≡ Rest (silent cache) counts (steps_from n lines)
+run-same n cache counts [] e = ap (λ heard. ending (counts_in heard) None) e ∙ ap (λ s. ending s None) (sym (counts-none counts))
+run-same n cache counts (line ∷ lines) e = run-line n cache counts (line_of line) lines e (λ cache counts e. run-same (n + 1) cache counts lines e)
+
+-- counts from nothing on are those of the log
+none_before : (log : List Note) → counts_more no_counts log ≡ counts_of log
+none_before log = λ i. record {
+  stored = zero-add (count is_stored log) i;
+  hits = zero-add (count is_hit log) i;
+  misses = zero-add (count is_miss log) i;
+  removes = zero-add (count is_removed log) i;
+  losses = zero-add (count is_loss log) i;
+  reads = zero-add (count is_read log) i;
+  writes = zero-add (count is_write log) i;
+}
 
 end-line : (n : ℕ) (sizes : List PoolSize) (wrong : Option Refusal) (lines : List (List ℕ)) → after_turn (configured sizes wrong) (output_from (n + 1) (configured sizes wrong).state lines)
     ≡ trace_output (checked (config_of sizes) wrong (steps_from (n + 1) lines))
-end-line n sizes None lines = run-same (n + 1) (empty_cache (config_of sizes)) lines
+end-line n sizes None lines =
+    let cache = empty_cache (config_of sizes) in
+    let rest = steps_from (n + 1) lines in
+    run-same (n + 1) (counting_cache (config_of sizes)) no_counts lines refl ∙ ap (λ s. onto (steps_text cache rest.steps) (ending s rest.fault)) (none_before (notes_of cache rest.steps))
 end-line n sizes (Some refusal) lines = refl
 
 trace-line-same : (n : ℕ) (sizes : List PoolSize) (line : Line) (lines : List (List ℕ)) → ((sizes : List PoolSize) → output_from (n + 1) (Configuring sizes) lines ≡ trace_output (trace_from (n + 1) sizes lines))

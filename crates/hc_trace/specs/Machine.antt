@@ -9,9 +9,36 @@ use Rattle.hc_trace.specs.declared.state.State.{State}
 use Rattle.hc_trace.specs.declared.state.State.TheVariants.{Configuring, Running}
 use Rattle.hc_trace.specs.Lines.{lines_of}
 use Rattle.hc_trace.specs.Grammar.{Order, Line, Skipped, Says, Fault, Pool, NoFlash, Do, line_of}
-use Rattle.hc_trace.specs.Moves.{move}
-use Rattle.hc_trace.specs.Texts.{line_text, fault_text}
-use Rattle.hc_trace.specs.Trace.{config_of, empty_cache, step_text, ending, onto}
+use Rattle.hc_history.specs.Note.{Note}
+use Rattle.hc_history.specs.Told.{Heard, Counts, no_counts, losses_taken}
+use Rattle.hc_types.specs.Config.{Config}
+use Rattle.hc_core.specs.Cache.{Cache, new_cache}
+use Rattle.hc_trace.specs.Steps.{Step}
+use Rattle.hc_history.specs.declared.stats.Stats.{Stats}
+use Rattle.hc_trace.specs.Moves.{Moved, move}
+use Rattle.hc_trace.specs.Texts.{line_text, answer_text, losses_text, fault_text}
+use Rattle.hc_trace.specs.Trace.{config_of, ending, onto}
+
+-- the cache of a trace, whose log is counted, and its losses kept until they are printed
+abbrev pub counting_cache : Config → Cache
+counting_cache config = new_cache config (Counts no_counts [])
+
+-- the cache that a step leaves, once its losses are printed
+abbrev pub next : Step → Cache → Cache
+next step cache = record (move step cache).cache { log = losses_taken (move step cache).cache.log }
+
+-- the counts that are heard, and the losses that weren't taken
+abbrev pub counts_in : Heard → Stats
+counts_in (Counts counts losses) = counts
+counts_in heard = no_counts
+
+abbrev pub losses_in : Heard → List Note
+losses_in (Counts counts losses) = losses
+losses_in heard = []
+
+-- what is printed for a step: its answer, and the losses that its cache has
+abbrev pub told_text : Moved → List ℕ
+told_text moved = line_text (answer_text moved.answer) ++ losses_text (losses_in moved.cache.log)
 
 -- where a trace begins
 abbrev pub begun : State
@@ -31,14 +58,14 @@ stops state text = record { goes = false; state = state; text = text }
 
 -- the end of the configuration of these pools, which may be refused
 abbrev pub configured : List PoolSize → Option Refusal → Turn
-configured sizes None = goes (Running (empty_cache (config_of sizes))) []
+configured sizes None = goes (Running (counting_cache (config_of sizes))) []
 configured sizes (Some refusal) = stops (Configuring sizes) (line_text (refusal_text refusal))
 
 -- an order, where n lines stand before it
 abbrev pub obeyed : ℕ → State → Order → Turn
 obeyed n (Configuring sizes) (Pool bytes items) = goes (Configuring (sizes ++ record { bytes = bytes; items = items } ∷ [])) []
 obeyed n (Configuring sizes) NoFlash = configured sizes (first_wrong (config_of sizes))
-obeyed n (Running cache) (Do step) = goes (Running (move step cache).cache) (step_text (move step cache))
+obeyed n (Running cache) (Do step) = goes (Running (next step cache)) (told_text (move step cache))
 obeyed n state order = stops state (fault_text (n + 1))
 
 abbrev pub turned : ℕ → State → Line → Turn
@@ -51,7 +78,7 @@ turn_of n state line = turned n state (line_of line)
 
 -- the end of the text, after n lines
 abbrev pub ended : ℕ → State → List ℕ × ℕ
-ended n (Running cache) = ending cache None
+ended n (Running cache) = ending (counts_in cache.log) None
 ended n state = (fault_text (n + 1), 1)
 
 abbrev pub after_turn : Turn → List ℕ × ℕ → List ℕ × ℕ

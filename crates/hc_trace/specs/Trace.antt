@@ -8,6 +8,9 @@ use Rattle.hc_types.specs.declared.refusal.Refusal.{Refusal}
 use Rattle.hc_types.specs.Refusals.{refusal_text}
 use Rattle.hc_history.specs.Note.{Note}
 use Rattle.hc_history.specs.Stats.{counts_of}
+use Rattle.hc_history.specs.declared.stats.Stats.{Stats}
+use Rattle.hc_history.specs.Told.{Nothing}
+use Rattle.hc_history.specs.Lawful.{Legal}
 use Rattle.hc_core.specs.Cache.{Cache, new_cache}
 use Rattle.hc_trace.specs.Lines.{lines_of}
 use Rattle.hc_trace.specs.Steps.{Step}
@@ -61,9 +64,9 @@ trace_from n sizes (line ∷ lines) = trace_line n sizes (line_of line) (λ size
 abbrev pub trace_of : List ℕ → Trace
 trace_of input = trace_from 0 [] (lines_of input)
 
--- a new cache, which keeps its log
+-- a new cache; the log of its steps is told apart from it, below
 abbrev pub empty_cache : Config → Cache
-empty_cache config = new_cache config (Some [])
+empty_cache config = new_cache config Nothing
 
 -- what is printed for a step: its answer, and then what it forgot
 abbrev pub step_text : Moved → List ℕ
@@ -74,35 +77,26 @@ abbrev pub steps_text : Cache → List Step → List ℕ
 steps_text cache [] = []
 steps_text cache (step ∷ steps) = step_text (move step cache) ++ steps_text (move step cache).cache steps
 
-abbrev pub after_steps : Cache → List Step → Cache
-after_steps cache [] = cache
-after_steps cache (step ∷ steps) = after_steps (move step cache).cache steps
-
--- the notes of steps, one after another
+-- the log of steps: their notes, one after another
 abbrev pub notes_of : Cache → List Step → List Note
 notes_of cache [] = []
 notes_of cache (step ∷ steps) = (move step cache).notes ++ notes_of (move step cache).cache steps
 
--- whatever the steps, their notes are the log of the cache that they leave: those whose losses are printed, and that are
--- counted at the end
-abbrev pub LogIsThatOfSteps : Type 0
-LogIsThatOfSteps = (config : Config) (steps : List Step) → (after_steps (empty_cache config) steps).log ≡ Some (notes_of (empty_cache config) steps)
-
-abbrev pub log_of : Option (List Note) → List Note
-log_of None = []
-log_of (Some log) = log
+-- whatever the steps, their log is legal: the one whose losses are printed, and that is counted at the end
+abbrev pub LogsAreLegal : Type 0
+LogsAreLegal = (config : Config) (steps : List Step) → config.flash ≡ None → first_wrong config ≡ None → Legal config (notes_of (empty_cache config) steps)
 
 -- the last text, and the status
-abbrev pub ending : Cache → Option ℕ → List ℕ × ℕ
-ending cache None = (line_text (stats_text (counts_of (log_of cache.log))) ++ verdict_text, 0)
-ending cache (Some line) = (fault_text line, 1)
+abbrev pub ending : Stats → Option ℕ → List ℕ × ℕ
+ending counts None = (line_text (stats_text counts) ++ verdict_text, 0)
+ending counts (Some line) = (fault_text line, 1)
 
 -- a text before others
 abbrev pub onto : List ℕ → List ℕ × ℕ → List ℕ × ℕ
 onto text output = (text ++ output.0, output.1)
 
 abbrev pub run_output : Cache → Steps → List ℕ × ℕ
-run_output cache rest = onto (steps_text cache rest.steps) (ending (after_steps cache rest.steps) rest.fault)
+run_output cache rest = onto (steps_text cache rest.steps) (ending (counts_of (notes_of cache rest.steps)) rest.fault)
 
 -- the text and the status of a trace
 abbrev pub trace_output : Trace → List ℕ × ℕ

@@ -2,7 +2,7 @@
 ghost use Rattle.std.specs.Prelude.{◌≡◌, ◌≢◌, ◌<◌, ◌≤◌, ◌+◌, ◌++◌, ◌∷◌, ◌^◌, ◌==◌, [], length, take, vec_len, None, IfOk, OnOk, IfSome, OnSome, MatchOption, if◌then◌else◌};
 ghost use Rattle.std.specs.Io.KnownBytes.{Appends, Consumes, IsAtEnd, append_known};
 ghost use Rattle.hc_trace.specs.Lines.{Lacks};
-ghost use Rattle.hc_trace.specs.Trace.{Answers, LogIsThatOfSteps};
+ghost use Rattle.hc_trace.specs.Trace.{Answers, LogsAreLegal};
 ghost use Rattle.hc_trace.specs.Machine.{turn_of, output_from, Leads, Ends};
 
 use crate::grammar::LONGEST;
@@ -237,7 +237,7 @@ pub fn replay<R: Read, W: Write>(
 ) -> u8
     requires { clients ≡ None }
     ensures answers { result ≢ 4 → Answers (R.remaining reader.old) (W.contents writer.old) (W.contents writer.new) result }
-    ensures log { LogIsThatOfSteps }
+    ensures log { LogsAreLegal }
 {
     let mut out = Vec::new(alloc);
     let status = match run(alloc, reader, writer, &mut out) {

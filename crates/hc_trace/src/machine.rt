@@ -3,16 +3,15 @@ ghost use Rattle.std.specs.Prelude.{◌≡◌, ◌+◌, ◌^◌, ◌<◌, ◌++�
 ghost use Rattle.hc_types.specs.Limits.{first_wrong};
 ghost use Rattle.hc_trace.specs.Seen.{order_seen};
 ghost use Rattle.hc_trace.specs.Grammar as spec;
-ghost use Rattle.hc_trace.specs.Machine.{stops, obeyed, turn_of, ended};
+ghost use Rattle.hc_trace.specs.Machine.{counting_cache, stops, obeyed, turn_of, ended};
 ghost use Rattle.hc_trace.specs.Texts.{fault_text};
-ghost use Rattle.hc_trace.specs.Trace.{empty_cache};
 
 use crate::grammar::{Line, Order, line_in};
 use crate::state::State;
 use crate::steps::take_step;
 use crate::texts::{add_fault, add_refusal, add_stats, add_verdict};
 use hc_core::Core;
-use hc_history::Kept;
+use hc_history::Counting;
 use hc_types::{Config, PoolSize, Refusal};
 use std::alloc::{AllocError, Global};
 
@@ -48,11 +47,11 @@ fn take_pool(
 }
 
 // The core of this configuration, or why there is none.
-fn new_core(alloc: Global, config: &Config) -> Result<Result<Core<Kept>, Refusal>, AllocError>
+fn new_core(alloc: Global, config: &Config) -> Result<Result<Core<Counting>, Refusal>, AllocError>
     requires { config.now.flash ≡ None }
-    ensures { IfOk result (λ made. MatchResult made (λ core. (first_wrong config.now ≡ None) × (core ≡ empty_cache config.now)) (λ refusal. first_wrong config.now ≡ Some refusal)) }
+    ensures { IfOk result (λ made. MatchResult made (λ core. (first_wrong config.now ≡ None) × (core ≡ counting_cache config.now)) (λ refusal. first_wrong config.now ≡ Some refusal)) }
 {
-    match Core::new(alloc, config, Kept::new(alloc)) {
+    match Core::new(alloc, config, Counting::new(alloc)) {
         Ok(core) => Ok(Ok(core)),
         Err(Refusal::NoMemory) => Err(AllocError),
         Err(refusal) => Ok(Err(refusal)),
@@ -143,7 +142,7 @@ pub fn end(state: &State, out: &mut Vec<u8>, taken: u64) -> Result<u8, AllocErro
         fault(out, taken)?;
         return Ok(1);
     };
-    add_stats(out, &core.notes().stats())?;
+    add_stats(out, &core.notes().counts)?;
     add_verdict(out)?;
     Ok(0)
 }

@@ -3,7 +3,7 @@ ghost use Rattle.std.specs.Prelude.{◌≡◌, ◌++◌, ◌∷◌, [], OnOk};
 ghost use Rattle.hc_trace.specs.Trace.{config_of};
 
 use hc_core::Core;
-use hc_history::Kept;
+use hc_history::Counting;
 use hc_types::{Config, PoolSize};
 use std::alloc::{AllocError, Global};
 use std::marker::Model;
@@ -59,5 +59,5 @@ pub enum State {
     /// These pools were given.
     Configuring(Sizes),
     /// The configuration has ended.
-    Running(Core<Kept>),
+    Running(Core<Counting>),
 }

@@ -1,18 +1,17 @@
 // The steps of a trace, and their answers.
 ghost use Rattle.std.specs.Prelude.{◌≡◌, ◌≢◌, ◌++◌, OnOk, IfOk, None, Some, MatchResult};
-ghost use Rattle.hc_history.specs.Told.{told_more};
 ghost use Rattle.hc_types.specs.Refusals.{refusal_text};
 ghost use Rattle.hc_trace.specs.Seen.{item_seen, step_seen};
 ghost use Rattle.hc_trace.specs.Steps.{Get, Del, Now};
 ghost use Rattle.hc_trace.specs.Moves.{unless, key_refusal, stored, move};
 ghost use Rattle.hc_trace.specs.Texts.{line_text, answer_text};
-ghost use Rattle.hc_trace.specs.Trace.{step_text};
+ghost use Rattle.hc_trace.specs.Machine.{next, told_text};
 
 use crate::grammar::{NewItem, Step};
 use crate::texts::{add_hit, add_losses, add_moment, add_refusal, add_word};
 use crate::value::{Value, repeat};
 use hc_core::{Core, Found, Removed, give_up, give_up_blank, open};
-use hc_history::Kept;
+use hc_history::Counting;
 use hc_memory::Unlinked;
 use hc_types::{Key, Refusal};
 use std::alloc::{AllocError, Global};
@@ -40,7 +39,7 @@ fn refused(out: &mut Vec<u8>, refusal: Refusal) -> Result<(), AllocError>
 
 // Stores a value under a key, and answers. `replaces` says whether an unexpired item of the key is replaced.
 fn store(
-    core: &mut Core<Kept>,
+    core: &mut Core<Counting>,
     out: &mut Vec<u8>,
     pool: u8,
     key: Key,
@@ -79,7 +78,7 @@ fn store(
 // Stores an item, and answers. `replaces` says whether an unexpired item of the key is replaced.
 fn put(
     alloc: Global,
-    core: &mut Core<Kept>,
+    core: &mut Core<Counting>,
     out: &mut Vec<u8>,
     item: NewItem<'_>,
     replaces: bool,
@@ -111,7 +110,7 @@ fn put(
 // A find by client 0, and its answer.
 fn get(
     alloc: Global,
-    core: &mut Core<Kept>,
+    core: &mut Core<Counting>,
     out: &mut Vec<u8>,
     key: &[u8],
 ) -> Result<(), AllocError>
@@ -132,7 +131,7 @@ fn get(
 // A remove by client 0, and its answer.
 fn del(
     alloc: Global,
-    core: &mut Core<Kept>,
+    core: &mut Core<Counting>,
     out: &mut Vec<u8>,
     key: &[u8],
 ) -> Result<(), AllocError>
@@ -151,7 +150,7 @@ fn del(
 }
 
 // Moves the clock on, and answers which moment holds.
-fn now(core: &mut Core<Kept>, out: &mut Vec<u8>, moment: u64) -> Result<(), AllocError>
+fn now(core: &mut Core<Counting>, out: &mut Vec<u8>, moment: u64) -> Result<(), AllocError>
     ensures cache { OnOk result (core.new ≡ (move (Now moment) core.old).cache) }
     ensures text { OnOk result (out.new.items ≡ out.old.items ++ line_text (answer_text (move (Now moment) core.old).answer)) }
 {
@@ -164,7 +163,7 @@ fn now(core: &mut Core<Kept>, out: &mut Vec<u8>, moment: u64) -> Result<(), Allo
 // A step, and its answer.
 fn answer(
     alloc: Global,
-    core: &mut Core<Kept>,
+    core: &mut Core<Counting>,
     out: &mut Vec<u8>,
     step: Step<'_>,
 ) -> Result<(), AllocError>
@@ -180,19 +179,18 @@ fn answer(
     }
 }
 
-/// A step, its answer, and then what it forgot by its notes, which are what the log grows by. An error is
-/// want of memory.
+/// A step, its answer, and then what it forgot. An error is want of memory.
 pub fn take_step(
     alloc: Global,
-    core: &mut Core<Kept>,
+    core: &mut Core<Counting>,
     out: &mut Vec<u8>,
     step: Step<'_>,
 ) -> Result<(), AllocError>
-    ensures cache { OnOk result (core.new ≡ (move (step_seen step.entry) core.old).cache) }
-    ensures log { OnOk result (core.new.log ≡ told_more core.old.log (move (step_seen step.entry) core.old).notes) }
-    ensures text { OnOk result (out.new.items ≡ out.old.items ++ step_text (move (step_seen step.entry) core.old)) }
+    ensures cache { OnOk result (core.new ≡ next (step_seen step.entry) core.old) }
+    ensures text { OnOk result (out.new.items ≡ out.old.items ++ told_text (move (step_seen step.entry) core.old)) }
 {
-    let before = core.notes().notes.len();
     answer(alloc, core, out, step)?;
-    add_losses(out, &core.notes().notes[before..])
+    add_losses(out, &core.notes().losses)?;
+    core.forget_losses();
+    Ok(())
 }

@@ -25,7 +25,11 @@ fn add_number(out: &mut Vec<u8>, number: u64) -> Result<(), AllocError>
 fn all_are(bytes: &[u8], c: u8) -> bool
     ensures { result ≡ list_all (λ b. b == c) bytes.now }
 {
-    bytes.iter().all(|b| *b == c)
+    let mut same = true;
+    for b in bytes {
+        same &= *b == c;
+    }
+    same
 }
 
 // Four bytes or more, all equal, and no digits.
@@ -36,7 +40,7 @@ fn is_repeated(value: &[u8]) -> bool
         return false;
     };
     let c = *first;
-    rest.len() >= 3 && !c.is_ascii_digit() && all_are(rest, c)
+    rest.len() >= 3 && rest[0] == c && !c.is_ascii_digit() && all_are(rest, c)
 }
 
 // A value: `*`, how many bytes and which, or `=` and its bytes.

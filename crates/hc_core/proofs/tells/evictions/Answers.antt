@@ -3,7 +3,7 @@ use Rattle.std.specs.Vec.Iter.{into_iter_items}
 use Rattle.hc_memory.specs.Item.{Item}
 use Rattle.hc_history.specs.Told.{told_more}
 use Rattle.hc_core.specs.Steps.{eviction_notes}
-use Rattle.hc_core.proofs.Telling.{told-nothing}
+use Rattle.hc_history.proofs.Telling.{told-nothing}
 use Rattle.hc_core.proofs.tells.evictions.Goals as goal
 
 nothing_left : (items : List Item) → length items ≡ 0 → items ≡ []

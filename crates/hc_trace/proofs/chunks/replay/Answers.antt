@@ -1,8 +1,8 @@
-use Rattle.hc_trace.proofs.Logs.{log-is}
+use Rattle.hc_trace.proofs.Legality.{logs-are-legal}
 use Rattle.hc_trace.proofs.chunks.replay.Goals as goal
 
 pub returns-in-Ok-write_out-clause-log : goal.returns-in-Ok-write_out-clause-log
-returns-in-Ok-write_out-clause-log g c = log-is
+returns-in-Ok-write_out-clause-log g c = logs-are-legal
 
 pub returns-clause-log : goal.returns-clause-log
-returns-clause-log g c = log-is
+returns-clause-log g c = logs-are-legal
