@@ -19,6 +19,3 @@ pub use stats::Stats;
 pub fn extends()
     ensures { (config : Config) (log part : List Meaning) → ExtendsLegal config log part }
 {}
-
-#[cfg(test)]
-mod tests;
