@@ -3,8 +3,6 @@
 #![tactic(auto)]
 
 #[cfg(test)]
+mod cores;
+#[cfg(test)]
 mod counts;
-#[cfg(test)]
-mod kept_core;
-#[cfg(test)]
-mod silent_core;
