@@ -5,36 +5,56 @@ use hc_types::Refusal;
 use std::alloc::Global;
 use std::process::Abort;
 
-// How many items would go from the first pool to make room, and what its open charges come to.
-fn told(rt: &impl Abort, pools: &Pools, want: u64) -> (usize, u64, u64) {
+// That so many items would go from the first pool to make room for `want` bytes.
+fn assert_gone(rt: &impl Abort, pools: &Pools, want: u64, count: usize) {
+    assert!(rt; 0 < pools.len());
+    let gone = pools.victims(0, want).expect(rt, "there is room");
+    assert!(rt; gone == count);
+}
+
+// That so many charges of so many bytes are open in the first pool.
+fn assert_open(rt: &impl Abort, pools: &Pools, number: u64, bytes: u64) {
     assert!(rt; 0 < pools.len());
     let usage = pools.open_usage(0);
-    let gone = pools.victims(0, want).expect(rt, "there is room");
-    (gone, usage.bytes, usage.number)
+    assert!(rt; usage.number == number && usage.bytes == bytes);
 }
 
 #[test]
-fn an_open_charge_takes_room(rt: HostRuntime) {
-    let mut pools = two_pools(&rt, rt.alloc(), 100);
-    store(&rt, rt.alloc(), &mut pools, b"a", b"fourteen bytes");
-    assert_eq!(rt; told(&rt, &pools, 53), (0, 0, 0));
-    assert_eq!(rt; told(&rt, &pools, 54), (1, 0, 0));
-    let own = written(&rt, rt.alloc(), &mut pools, 0, b"b", b"two");
-    assert_eq!(rt; told(&rt, &pools, 17), (0, 36, 1));
-    assert_eq!(rt; told(&rt, &pools, 18), (1, 36, 1));
+fn items_take_room(rt: HostRuntime) {
+    let alloc = rt.alloc();
+    let mut pools = two_pools(&rt, alloc, 100);
+    store(&rt, alloc, &mut pools, b"a", b"fourteen bytes");
+    assert_gone(&rt, &pools, 53, 0);
+    assert_gone(&rt, &pools, 54, 1);
+    assert_open(&rt, &pools, 0, 0);
+}
+
+#[test]
+fn open_charges_take_room(rt: HostRuntime) {
+    let alloc = rt.alloc();
+    let mut pools = two_pools(&rt, alloc, 100);
+    store(&rt, alloc, &mut pools, b"a", b"fourteen bytes");
+    let own = written(&rt, alloc, &mut pools, 0, b"b", b"two");
+    assert_gone(&rt, &pools, 17, 0);
+    assert_gone(&rt, &pools, 18, 1);
+    assert_open(&rt, &pools, 1, 36);
     link(&rt, &mut pools, own);
-    assert_eq!(rt; told(&rt, &pools, 17), (0, 0, 0));
+}
+
+// That so many charges are open in all pools.
+fn assert_all(rt: &impl Abort, pools: &Pools, count: usize) {
+    assert!(rt; pools.open_charges() == count);
 }
 
 #[test]
 fn an_open_charge_is_counted_until_it_is_linked(rt: HostRuntime) {
-    let mut pools = two_pools(&rt, rt.alloc(), 100);
-    let own = written(&rt, rt.alloc(), &mut pools, 1, b"b", b"two");
-    assert!(rt; pools.knows(&own));
-    assert_eq!(rt; pools.open_charges(), 1);
-    assert_eq!(rt; told(&rt, &pools, 100), (0, 0, 0));
-    assert_eq!(rt; link(&rt, &mut pools, own), None);
-    assert_eq!(rt; pools.open_charges(), 0);
+    let alloc = rt.alloc();
+    let mut pools = two_pools(&rt, alloc, 100);
+    let own = written(&rt, alloc, &mut pools, 1, b"b", b"two");
+    assert_all(&rt, &pools, 1);
+    assert_open(&rt, &pools, 0, 0);
+    link(&rt, &mut pools, own);
+    assert_all(&rt, &pools, 0);
 }
 
 // Charges an item of no byte to the first pool, which has no room for it. The key comes back.
@@ -44,8 +64,8 @@ fn assert_no_room(rt: &impl Abort, alloc: Global, pools: &mut Pools) {
     match pools.charge(0, key, 0, 0) {
         Ok(_) => panic!(rt; "there is no room"),
         Err(uncharged) => {
-            assert_eq!(rt; uncharged.refusal, Refusal::NoRoom);
-            assert_eq!(rt; uncharged.key.as_slice(), b"k".as_slice());
+            assert!(rt; uncharged.refusal == Refusal::NoRoom);
+            assert!(rt; uncharged.key.as_slice() == b"k".as_slice());
         }
     }
 }
@@ -60,10 +80,11 @@ fn give_up(rt: &impl Abort, pools: &mut Pools, blank: Blank) {
 
 #[test]
 fn open_charges_alone_can_leave_no_room(rt: HostRuntime) {
-    let mut pools = two_pools(&rt, rt.alloc(), 64);
-    let full = blank(&rt, rt.alloc(), &mut pools, 0, b"a", 31);
-    assert_no_room(&rt, rt.alloc(), &mut pools);
+    let alloc = rt.alloc();
+    let mut pools = two_pools(&rt, alloc, 64);
+    let full = blank(&rt, alloc, &mut pools, 0, b"a", 31);
+    assert_no_room(&rt, alloc, &mut pools);
     give_up(&rt, &mut pools, full);
-    let empty = blank(&rt, rt.alloc(), &mut pools, 0, b"b", 0);
+    let empty = blank(&rt, alloc, &mut pools, 0, b"b", 0);
     give_up(&rt, &mut pools, empty);
 }

@@ -5,7 +5,6 @@ use hc_memory::{Blank, Sealed, Unlinked};
 use hc_types::{Config, Key, PoolSize, Refusal};
 use std::alloc::Global;
 use std::process::Abort;
-use std::test::Fail;
 
 const SIZE: PoolSize = PoolSize {
     bytes: 1000,
@@ -56,16 +55,18 @@ fn give_up_sealed(rt: &impl Abort, core: &mut Core<Kept>, sealed: Sealed) {
     }
 }
 
+// The sealed handle, which is refused as another cache's.
+fn foreign(rt: &impl Abort, inserted: Result<(), Unlinked>) -> Sealed {
+    let Unlinked { refusal, sealed } = inserted.expect_err(rt, "the handle is another cache's");
+    assert!(rt; refusal == Refusal::ForeignHandle);
+    sealed
+}
+
 // The sealed handle of another cache, after it was neither inserted nor given up.
 fn back(rt: &impl Abort, core: &mut Core<Kept>, sealed: Sealed) -> Sealed {
-    let Unlinked { refusal, sealed } = core
-        .insert_or_replace(0, sealed)
-        .expect_err(rt, "the handle is another cache's");
-    assert_eq!(rt; refusal, Refusal::ForeignHandle);
-    let Unlinked { refusal, sealed } = core
-        .insert(0, sealed)
-        .expect_err(rt, "the handle is another cache's");
-    assert_eq!(rt; refusal, Refusal::ForeignHandle);
+    let replaced = core.insert_or_replace(0, sealed);
+    let inserted = core.insert(0, foreign(rt, replaced));
+    let sealed = foreign(rt, inserted);
     core.discard(sealed)
         .expect_err(rt, "the handle is another cache's")
 }
@@ -73,7 +74,8 @@ fn back(rt: &impl Abort, core: &mut Core<Kept>, sealed: Sealed) -> Sealed {
 // That a handle of such an item of another cache comes back, and is taken by its own. An item of `a` with three bytes
 // is open in the first pool of the cache that refuses it.
 fn assert_foreign(rt: &impl Abort, alloc: Global, pool: u8, text: &[u8], size: u64) {
-    let (mut core, mut other) = (cache(rt, alloc), cache(rt, alloc));
+    let mut core = cache(rt, alloc);
+    let mut other = cache(rt, alloc);
     let own = blank(rt, alloc, &mut core, 0, b"a", 3);
     let foreign = blank(rt, alloc, &mut other, pool, text, size);
     let foreign = core
@@ -91,26 +93,40 @@ fn a_handle_of_another_cache_comes_back(rt: HostRuntime) {
     assert_foreign(&rt, rt.alloc(), 0, b"a", 4);
 }
 
-#[test]
-fn a_cache_tells_its_configuration_and_clock(rt: HostRuntime) -> Result<(), Fail> {
-    let mut core = cache(&rt, rt.alloc());
-    assert_eq!(rt; core.tick(15)?, 15);
-    assert_eq!(rt; core.now(), 15);
-    assert_eq!(rt; core.config().pools.as_slice(), [SIZE, SIZE].as_slice());
-    Ok(())
+// Moves the clock on, and answers the second that it tells.
+fn tick(rt: &impl Abort, core: &mut Core<Kept>, moment: u64) -> u64 {
+    let now = core.tick(moment).expect(rt, "there is memory");
+    assert!(rt; core.now() == now);
+    now
 }
 
 #[test]
-fn a_cache_tells_its_calls_and_pools(rt: HostRuntime) -> Result<(), Fail> {
+fn a_cache_tells_its_configuration_and_clock(rt: HostRuntime) {
+    let mut core = cache(&rt, rt.alloc());
+    assert!(rt; tick(&rt, &mut core, 15) == 15);
+    assert!(rt; tick(&rt, &mut core, 14) == 15);
+    assert!(rt; core.config().pools.as_slice() == [SIZE, SIZE].as_slice());
+}
+
+// That so many calls were begun, and so many charges are open.
+fn assert_told(rt: &impl Abort, core: &Core<Kept>, calls: u64, open: usize) {
+    assert!(rt; core.calls() == calls);
+    assert!(rt; core.pools().open_charges() == open);
+}
+
+// Inserts the item of a handle.
+fn insert(rt: &impl Abort, core: &mut Core<Kept>, sealed: Sealed) {
+    match core.insert(0, sealed) {
+        Ok(()) => {}
+        Err(_) => panic!(rt; "the handle is this cache's"),
+    }
+}
+
+#[test]
+fn a_cache_tells_its_calls_and_pools(rt: HostRuntime) {
     let mut core = cache(&rt, rt.alloc());
     let blank = blank(&rt, rt.alloc(), &mut core, 0, b"a", 3);
-    let told = (core.calls(), core.pools().open_charges());
-    match core.insert(0, seal(&rt, blank)) {
-        Ok(()) => {}
-        Err(_) => panic!(&rt; "the handle is this cache's"),
-    }
-    assert_eq!(rt; told, (0, 1));
-    assert_eq!(rt; core.calls(), 1);
-    assert_eq!(rt; core.pools().open_charges(), 0);
-    Ok(())
+    assert_told(&rt, &core, 0, 1);
+    insert(&rt, &mut core, seal(&rt, blank));
+    assert_told(&rt, &core, 1, 0);
 }

@@ -20,20 +20,24 @@ fn give_up(rt: &impl Abort, pools: &mut Pools, sealed: Sealed) {
     }
 }
 
-// The sealed handle, which these pools don't know, after it was neither linked nor given up.
-fn back(rt: &impl Abort, pools: &mut Pools, sealed: Sealed) -> Sealed {
-    assert!(rt; !pools.knows(&sealed));
-    let sealed = match pools.link(sealed, true) {
+// The sealed handle, which these pools don't know, after it wasn't linked.
+fn not_linked(rt: &impl Abort, pools: &mut Pools, sealed: Sealed) -> Sealed {
+    match pools.link(sealed, true) {
         Ok(_) => panic!(rt; "the handle is of other pools"),
         Err(Unlinked { refusal, sealed }) => {
-            assert_eq!(rt; refusal, Refusal::ForeignHandle);
+            assert!(rt; refusal == Refusal::ForeignHandle);
             sealed
         }
-    };
-    match pools.discard(sealed) {
-        Ok(_) => panic!(rt; "the handle is of other pools"),
-        Err(sealed) => sealed,
     }
+}
+
+// The same, after it wasn't given up either.
+fn back(rt: &impl Abort, pools: &mut Pools, sealed: Sealed) -> Sealed {
+    assert!(rt; !pools.knows(&sealed));
+    let sealed = not_linked(rt, pools, sealed);
+    pools
+        .discard(sealed)
+        .expect_err(rt, "the handle is of other pools")
 }
 
 // That a sealed handle of such an item of other pools comes back, and is taken by its own.
@@ -55,13 +59,14 @@ fn a_sealed_handle_of_other_pools_comes_back(rt: HostRuntime) {
 
 #[test]
 fn a_sealed_handle_with_another_number_comes_back(rt: HostRuntime) {
-    let (mut pools, own) = opened(&rt, rt.alloc());
-    let (mut others, first) = opened(&rt, rt.alloc());
-    let second = written(&rt, rt.alloc(), &mut others, 0, b"a", b"one");
+    let alloc = rt.alloc();
+    let (mut pools, own) = opened(&rt, alloc);
+    let (mut others, first) = opened(&rt, alloc);
+    let second = written(&rt, alloc, &mut others, 0, b"a", b"one");
     let second = back(&rt, &mut pools, second);
-    give_up(&rt, &mut others, second);
-    give_up(&rt, &mut others, first);
-    give_up(&rt, &mut pools, own);
+    link(&rt, &mut others, second);
+    link(&rt, &mut others, first);
+    link(&rt, &mut pools, own);
 }
 
 // That a blank of such an item of other pools comes back, and is taken by its own.
@@ -69,10 +74,9 @@ fn assert_blank(rt: &impl Abort, alloc: Global, pool: u8, text: &[u8], size: u64
     let (mut pools, own) = opened(rt, alloc);
     let mut others = two_pools(rt, alloc, 1000);
     let foreign = blank(rt, alloc, &mut others, pool, text, size);
-    let foreign = match pools.discard_blank(foreign) {
-        Ok(_) => panic!(rt; "the handle is of other pools"),
-        Err(foreign) => foreign,
-    };
+    let foreign = pools
+        .discard_blank(foreign)
+        .expect_err(rt, "the handle is of other pools");
     give_up(rt, &mut others, seal(rt, foreign));
     give_up(rt, &mut pools, own);
 }

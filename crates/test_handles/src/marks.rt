@@ -4,7 +4,6 @@ use hc_memory::{Item, Pools};
 use hc_types::Scope;
 use std::alloc::Global;
 use std::process::Abort;
-use std::test::Fail;
 
 // Pools with a small item `a`, charged 36, and a large one `b`, charged 233.
 fn marked(rt: &impl Abort, alloc: Global) -> Pools {
@@ -18,31 +17,35 @@ fn marked(rt: &impl Abort, alloc: Global) -> Pools {
 fn gone(rt: &impl Abort, pools: &mut Pools, want: u64) -> Item {
     assert!(rt; 0 < pools.len());
     let mut gone = pools.make_room(0, want).expect(rt, "there is room");
-    assert_eq!(rt; gone.len(), 1);
+    assert!(rt; gone.len() == 1);
     gone.pop().expect(rt, "one goes")
 }
 
-// Whether `a` and `b` are clean, which go one after the other.
-fn marks(rt: &impl Abort, pools: &mut Pools) -> (bool, bool) {
-    let a = gone(rt, pools, 767);
-    let b = gone(rt, pools, 768);
-    assert_eq!(rt; a.key.as_slice(), b"a".as_slice());
-    assert_eq!(rt; b.key.as_slice(), b"b".as_slice());
-    (a.clean, b.clean)
+// That this item goes to make room for so many bytes, clean or not.
+fn assert_gone(rt: &impl Abort, pools: &mut Pools, want: u64, text: &[u8], clean: bool) {
+    let item = gone(rt, pools, want);
+    assert!(rt; item.key.as_slice() == text);
+    assert!(rt; item.clean == clean);
+}
+
+// Takes the marks of what the scope covers.
+fn unmark(rt: &impl Abort, pools: &mut Pools, scope: Scope) {
+    pools.unmark(&scope).expect(rt, "there is memory");
 }
 
 #[test]
-fn a_bucket_takes_the_marks_of_small_items(rt: HostRuntime) -> Result<(), Fail> {
+fn a_bucket_takes_the_marks_of_small_items(rt: HostRuntime) {
     let mut pools = marked(&rt, rt.alloc());
-    pools.unmark(&Scope::Bucket(0))?;
-    assert_eq!(rt; marks(&rt, &mut pools), (false, true));
-    Ok(())
+    unmark(&rt, &mut pools, Scope::Bucket(0));
+    assert_gone(&rt, &mut pools, 767, b"a", false);
+    assert_gone(&rt, &mut pools, 768, b"b", true);
 }
 
 #[test]
-fn a_key_takes_its_own_mark(rt: HostRuntime) -> Result<(), Fail> {
+fn a_key_takes_its_own_mark(rt: HostRuntime) {
     let mut pools = marked(&rt, rt.alloc());
-    pools.unmark(&Scope::Key(key(&rt, rt.alloc(), b"b")))?;
-    assert_eq!(rt; marks(&rt, &mut pools), (true, false));
-    Ok(())
+    let scope = Scope::Key(key(&rt, rt.alloc(), b"b"));
+    unmark(&rt, &mut pools, scope);
+    assert_gone(&rt, &mut pools, 767, b"a", true);
+    assert_gone(&rt, &mut pools, 768, b"b", false);
 }

@@ -3,7 +3,6 @@ use crate::fixtures::{key, store, two_pools};
 use hc_memory::{Pools, ReadHandle};
 use std::alloc::Global;
 use std::process::Abort;
-use std::test::Fail;
 
 // The value of an item that was stored, and its pools.
 fn found(rt: &impl Abort, alloc: Global, value: &[u8]) -> (Pools, ReadHandle) {
@@ -16,36 +15,54 @@ fn found(rt: &impl Abort, alloc: Global, value: &[u8]) -> (Pools, ReadHandle) {
     }
 }
 
+// That no item is under the key any more, and that the value is read all the same.
+fn assert_read(rt: &impl Abort, alloc: Global, pools: &Pools, handle: &ReadHandle) {
+    let key = key(rt, alloc, b"a");
+    assert!(rt; pools.peek(&key).is_none());
+    assert!(rt; handle.bytes() == b"one".as_slice());
+}
+
 #[test]
 fn a_value_is_read_after_its_item_was_evicted(rt: HostRuntime) {
-    let (mut pools, handle) = found(&rt, rt.alloc(), b"one");
-    let a = key(&rt, rt.alloc(), b"a");
-    store(&rt, rt.alloc(), &mut pools, b"b", b"another");
-    assert!(rt; pools.peek(&a).is_none());
-    assert_eq!(rt; handle.bytes(), b"one".as_slice());
+    let alloc = rt.alloc();
+    let (mut pools, handle) = found(&rt, alloc, b"one");
+    store(&rt, alloc, &mut pools, b"b", b"another");
+    assert_read(&rt, alloc, &pools, &handle);
+}
+
+// Takes the item out.
+fn remove(rt: &impl Abort, alloc: Global, pools: &mut Pools) {
+    let key = key(rt, alloc, b"a");
+    let number = pools.unlink(&key).expect(rt, "the item is there");
+    assert!(rt; number == 1);
 }
 
 #[test]
 fn a_value_is_read_after_its_item_was_removed(rt: HostRuntime) {
-    let (mut pools, handle) = found(&rt, rt.alloc(), b"one");
-    let a = key(&rt, rt.alloc(), b"a");
-    assert_eq!(rt; pools.unlink(&a), Some(1));
-    assert!(rt; pools.peek(&a).is_none());
-    assert_eq!(rt; handle.bytes(), b"one".as_slice());
+    let alloc = rt.alloc();
+    let (mut pools, handle) = found(&rt, alloc, b"one");
+    remove(&rt, alloc, &mut pools);
+    assert_read(&rt, alloc, &pools, &handle);
 }
 
-#[test]
-fn a_value_is_shared(rt: HostRuntime) -> Result<(), Fail> {
-    let (pools, handle) = found(&rt, rt.alloc(), b"one");
+// That other owners of the value have its bytes.
+fn assert_shared(rt: &impl Abort, handle: ReadHandle, value: &[u8]) {
+    let shared = handle.to_bytes().expect(rt, "there is memory");
+    assert!(rt; shared.as_slice() == value);
+    assert!(rt; handle.into_bytes().as_slice() == value);
+}
+
+// That a value of so many bytes is shared and outlives its pools.
+fn assert_outlives(rt: &impl Abort, alloc: Global, value: &[u8], len: usize) {
+    let (pools, handle) = found(rt, alloc, value);
     drop(pools);
-    assert!(rt; handle.len() == 3 && !handle.is_empty());
-    assert_eq!(rt; handle.to_bytes()?.as_slice(), b"one".as_slice());
-    assert_eq!(rt; handle.into_bytes().as_slice(), b"one".as_slice());
-    Ok(())
+    assert!(rt; handle.len() == len);
+    assert!(rt; handle.is_empty() == (len == 0));
+    assert_shared(rt, handle, value);
 }
 
 #[test]
-fn a_value_may_be_empty(rt: HostRuntime) {
-    let (_pools, handle) = found(&rt, rt.alloc(), b"");
-    assert!(rt; handle.is_empty());
+fn a_value_is_shared_and_outlives_its_pools(rt: HostRuntime) {
+    assert_outlives(&rt, rt.alloc(), b"one", 3);
+    assert_outlives(&rt, rt.alloc(), b"", 0);
 }

@@ -1,11 +1,9 @@
 // What is written into an item, and what isn't.
 use crate::fixtures::{blank, seal, two_pools};
-use bytes::Bytes;
-use hc_memory::{Blank, Pools};
+use hc_memory::{Blank, Pools, Sealed};
 use hc_types::Refusal;
 use std::alloc::Global;
 use std::process::Abort;
-use std::test::Fail;
 
 // The handle of an item of so many bytes, the first of its pools.
 fn handle(rt: &impl Abort, alloc: Global, size: u64) -> (Pools, Blank) {
@@ -14,21 +12,33 @@ fn handle(rt: &impl Abort, alloc: Global, size: u64) -> (Pools, Blank) {
     (pools, handle)
 }
 
-// The bytes of the item, which is given up.
-fn bytes(rt: &impl Abort, pools: &mut Pools, blank: Blank) -> Bytes {
-    let sealed = seal(rt, blank);
-    let bytes = sealed.to_bytes().expect(rt, "there is memory");
+// Gives up the item, whose charge is the first.
+fn give_up(rt: &impl Abort, pools: &mut Pools, sealed: Sealed) {
     match pools.discard(sealed) {
-        Ok(number) => assert_eq!(rt; number, 1),
+        Ok(number) => assert!(rt; number == 1),
         Err(_) => panic!(rt; "the handle is of these pools"),
     }
-    bytes
 }
 
-// That what passes the end of an item of four bytes is refused.
+// That the item has these bytes. It is given up.
+fn assert_bytes(rt: &impl Abort, pools: &mut Pools, blank: Blank, want: &[u8]) {
+    let sealed = seal(rt, blank);
+    let bytes = sealed.to_bytes().expect(rt, "there is memory");
+    give_up(rt, pools, sealed);
+    assert!(rt; bytes.as_slice() == want);
+}
+
+// That what passes the item's end is refused.
 fn assert_refused(rt: &impl Abort, blank: &mut Blank, at: usize, bytes: &[u8]) {
-    let written = blank.write_at(at, bytes);
-    assert_eq!(rt; written, Err(Refusal::OutOfItem));
+    let refusal = blank
+        .write_at(at, bytes)
+        .expect_err(rt, "it passes the end");
+    assert!(rt; refusal == Refusal::OutOfItem);
+}
+
+// Writes what fits.
+fn write(rt: &impl Abort, blank: &mut Blank, at: usize, bytes: &[u8]) {
+    blank.write_at(at, bytes).expect(rt, "it fits");
 }
 
 #[test]
@@ -38,14 +48,7 @@ fn what_passes_the_end_is_refused_and_writes_nothing(rt: HostRuntime) {
     assert_refused(&rt, &mut blank, 4, b"x");
     assert_refused(&rt, &mut blank, 5, b"");
     assert_refused(&rt, &mut blank, usize::MAX, b"xy");
-    let bytes = bytes(&rt, &mut pools, blank);
-    assert_eq!(rt; bytes.as_slice(), b"\0\0\0\0".as_slice());
-}
-
-// Writes what fits.
-fn write(rt: &impl Abort, blank: &mut Blank, at: usize, bytes: &[u8]) {
-    let written = blank.write_at(at, bytes);
-    assert_eq!(rt; written, Ok(()));
+    assert_bytes(&rt, &mut pools, blank, b"\0\0\0\0");
 }
 
 #[test]
@@ -54,8 +57,7 @@ fn what_was_written_last_is_read_and_else_0(rt: HostRuntime) {
     write(&rt, &mut blank, 1, b"abc");
     write(&rt, &mut blank, 2, b"x");
     write(&rt, &mut blank, 5, b"");
-    let bytes = bytes(&rt, &mut pools, blank);
-    assert_eq!(rt; bytes.as_slice(), b"\0axc\0".as_slice());
+    assert_bytes(&rt, &mut pools, blank, b"\0axc\0");
 }
 
 #[test]
@@ -63,33 +65,37 @@ fn an_item_may_be_empty(rt: HostRuntime) {
     let (mut pools, mut blank) = handle(&rt, rt.alloc(), 0);
     write(&rt, &mut blank, 0, b"");
     assert_refused(&rt, &mut blank, 0, b"x");
-    let bytes = bytes(&rt, &mut pools, blank);
-    assert!(rt; bytes.is_empty());
+    assert_bytes(&rt, &mut pools, blank, b"");
+}
+
+// Gives up the item that is being written, whose charge is the first.
+fn give_up_blank(rt: &impl Abort, pools: &mut Pools, blank: Blank) {
+    match pools.discard_blank(blank) {
+        Ok(number) => assert!(rt; number == 1),
+        Err(_) => panic!(rt; "the handle is of these pools"),
+    }
 }
 
 #[test]
-fn a_blank_can_be_given_up(rt: HostRuntime) -> Result<(), Fail> {
+fn a_blank_can_be_given_up(rt: HostRuntime) {
     let (mut pools, blank) = handle(&rt, rt.alloc(), 3);
-    let told = (blank.number(), blank.len());
-    let number = match pools.discard_blank(blank) {
-        Ok(number) => number,
-        Err(_) => panic!(rt; "the handle is of these pools"),
-    };
-    assert!(rt; told == (1, 3) && number == 1);
-    assert_eq!(rt; pools.open_charges(), 0);
-    Ok(())
+    assert!(rt; blank.number() == 1 && blank.len() == 3);
+    give_up_blank(&rt, &mut pools, blank);
+    assert!(rt; pools.open_charges() == 0);
+}
+
+// That a sealed handle tells its item: the first, of `k`, with so many bytes, which expires at second 15.
+fn assert_tells(rt: &impl Abort, sealed: &Sealed, len: usize) {
+    assert!(rt; sealed.number() == 1);
+    assert!(rt; sealed.key().as_slice() == b"k".as_slice());
+    assert!(rt; sealed.expiry() == 15);
+    assert!(rt; sealed.len() == len);
 }
 
 #[test]
 fn a_sealed_handle_tells_its_item(rt: HostRuntime) {
-    let (mut pools, mut blank) = handle(&rt, rt.alloc(), 3);
-    write(&rt, &mut blank, 0, b"two");
+    let (mut pools, blank) = handle(&rt, rt.alloc(), 3);
     let sealed = seal(&rt, blank);
-    assert!(rt; sealed.number() == 1 && sealed.expiry() == 15 && sealed.len() == 3);
-    assert_eq!(rt; sealed.key().as_slice(), b"k".as_slice());
-    let number = match pools.discard(sealed) {
-        Ok(number) => number,
-        Err(_) => panic!(rt; "the handle is of these pools"),
-    };
-    assert_eq!(rt; number, 1);
+    assert_tells(&rt, &sealed, 3);
+    give_up(&rt, &mut pools, sealed);
 }
