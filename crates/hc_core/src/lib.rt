@@ -19,6 +19,3 @@ pub use opens::{give_up, give_up_blank, open};
 pub use runs::{Ran, run};
 pub use stage::Stage;
 pub use steps::{Answer, Outcome, Request, Step};
-
-#[cfg(test)]
-mod tests;

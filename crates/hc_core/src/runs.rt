@@ -77,6 +77,3 @@ pub fn run<A: Allocator + Copy>(
         stopped: None,
     })
 }
-
-#[cfg(test)]
-mod tests;

@@ -335,6 +335,3 @@ pub fn each_byte()
     ensures bytes { (old bytes : List ℕ) (at : ℕ) → at + length bytes ≤ length old → EachByte old at bytes (written old at bytes) }
     ensures length { (old bytes : List ℕ) (at : ℕ) → at + length bytes ≤ length old → length (written old at bytes) ≡ length old }
 {}
-
-#[cfg(test)]
-mod tests;

@@ -18,6 +18,3 @@ pub use item::Item;
 pub use pool::Glance;
 pub use pools::Pools;
 pub use usage::Usage;
-
-#[cfg(test)]
-mod tests;

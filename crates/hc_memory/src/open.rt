@@ -161,6 +161,3 @@ fn without_charge(usage: Usage, cost: u64) -> Usage
         number: usage.number - 1,
     }
 }
-
-#[cfg(test)]
-mod tests;

@@ -348,6 +348,3 @@ fn full(size: PoolSize, usage: Usage, want: u64, bytes: u64, items: usize) -> bo
 {
     usage.bytes + bytes + want > size.bytes || usage.number + items as u64 == size.items
 }
-
-#[cfg(test)]
-mod tests;

@@ -1,0 +1,132 @@
+// Handles that another cache made, and what a cache tells of itself.
+use hc_core::Core;
+use hc_history::Kept;
+use hc_memory::{Blank, Sealed, Unlinked};
+use hc_types::{Config, Key, PoolSize, Refusal};
+use std::alloc::Global;
+use std::process::Abort;
+
+const SIZE: PoolSize = PoolSize {
+    bytes: 1000,
+    items: 10,
+};
+
+// An empty cache of two pools.
+fn cache(rt: &impl Abort, alloc: Global) -> Core<Kept> {
+    let sizes = Vec::from_slice(alloc, [SIZE, SIZE].as_slice()).expect(rt, "there is memory");
+    Core::new(alloc, &Config::new(sizes, None), Kept::new(alloc)).expect(rt, "the pools fit")
+}
+
+// The handle of an item that is being written.
+fn blank(
+    rt: &impl Abort,
+    alloc: Global,
+    core: &mut Core<Kept>,
+    pool: u8,
+    text: &[u8],
+    size: u64,
+) -> Blank {
+    let key = Key::new(alloc, text).expect(rt, "the key fits");
+    core.allocate(pool, key, size, 15)
+        .expect(rt, "there is room")
+}
+
+// The handle, sealed.
+fn seal(rt: &impl Abort, blank: Blank) -> Sealed {
+    match blank.seal() {
+        Ok(sealed) => sealed,
+        Err(_) => panic!(rt; "there is memory"),
+    }
+}
+
+// Gives up the item of a handle.
+fn give_up(rt: &impl Abort, core: &mut Core<Kept>, blank: Blank) {
+    match core.discard_blank(blank) {
+        Ok(()) => {}
+        Err(_) => panic!(rt; "the handle is this cache's"),
+    }
+}
+
+// Gives up the item of a sealed handle.
+fn give_up_sealed(rt: &impl Abort, core: &mut Core<Kept>, sealed: Sealed) {
+    match core.discard(sealed) {
+        Ok(()) => {}
+        Err(_) => panic!(rt; "the handle is this cache's"),
+    }
+}
+
+// The sealed handle, which is refused as another cache's.
+fn foreign(rt: &impl Abort, inserted: Result<(), Unlinked>) -> Sealed {
+    let Unlinked { refusal, sealed } = inserted.expect_err(rt, "the handle is another cache's");
+    assert!(rt; refusal == Refusal::ForeignHandle);
+    sealed
+}
+
+// The sealed handle of another cache, after it was neither inserted nor given up.
+fn back(rt: &impl Abort, core: &mut Core<Kept>, sealed: Sealed) -> Sealed {
+    let replaced = core.insert_or_replace(0, sealed);
+    let inserted = core.insert(0, foreign(rt, replaced));
+    let sealed = foreign(rt, inserted);
+    core.discard(sealed)
+        .expect_err(rt, "the handle is another cache's")
+}
+
+// That a handle of such an item of another cache comes back, and is taken by its own. An item of `a` with three bytes
+// is open in the first pool of the cache that refuses it.
+fn assert_foreign(rt: &impl Abort, alloc: Global, pool: u8, text: &[u8], size: u64) {
+    let mut core = cache(rt, alloc);
+    let mut other = cache(rt, alloc);
+    let own = blank(rt, alloc, &mut core, 0, b"a", 3);
+    let foreign = blank(rt, alloc, &mut other, pool, text, size);
+    let foreign = core
+        .discard_blank(foreign)
+        .expect_err(rt, "the handle is another cache's");
+    let foreign = back(rt, &mut core, seal(rt, foreign));
+    give_up_sealed(rt, &mut other, foreign);
+    give_up(rt, &mut core, own);
+}
+
+#[test]
+fn a_handle_of_another_cache_comes_back(rt: HostRuntime) {
+    assert_foreign(&rt, rt.alloc(), 1, b"a", 3);
+    assert_foreign(&rt, rt.alloc(), 0, b"b", 3);
+    assert_foreign(&rt, rt.alloc(), 0, b"a", 4);
+}
+
+// Moves the clock on, and answers the second that it tells.
+fn tick(rt: &impl Abort, core: &mut Core<Kept>, moment: u64) -> u64 {
+    let now = core.tick(moment).expect(rt, "there is memory");
+    assert!(rt; core.now() == now);
+    now
+}
+
+#[test]
+fn a_cache_tells_its_configuration_and_clock(rt: HostRuntime) {
+    let mut core = cache(&rt, rt.alloc());
+    assert!(rt; tick(&rt, &mut core, 15) == 15);
+    assert!(rt; tick(&rt, &mut core, 14) == 15);
+    assert!(rt; core.config().pools.as_slice() == [SIZE, SIZE].as_slice());
+}
+
+// That so many calls were begun, and so many charges are open.
+fn assert_told(rt: &impl Abort, core: &Core<Kept>, calls: u64, open: usize) {
+    assert!(rt; core.calls() == calls);
+    assert!(rt; core.pools().open_charges() == open);
+}
+
+// Inserts the item of a handle.
+fn insert(rt: &impl Abort, core: &mut Core<Kept>, sealed: Sealed) {
+    match core.insert(0, sealed) {
+        Ok(()) => {}
+        Err(_) => panic!(rt; "the handle is this cache's"),
+    }
+}
+
+#[test]
+fn a_cache_tells_its_calls_and_pools(rt: HostRuntime) {
+    let mut core = cache(&rt, rt.alloc());
+    let blank = blank(&rt, rt.alloc(), &mut core, 0, b"a", 3);
+    assert_told(&rt, &core, 0, 1);
+    insert(&rt, &mut core, seal(&rt, blank));
+    assert_told(&rt, &core, 1, 0);
+}

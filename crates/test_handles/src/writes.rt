@@ -1,0 +1,101 @@
+// What is written into an item, and what isn't.
+use crate::fixtures::{blank, seal, two_pools};
+use hc_memory::{Blank, Pools, Sealed};
+use hc_types::Refusal;
+use std::alloc::Global;
+use std::process::Abort;
+
+// The handle of an item of so many bytes, the first of its pools.
+fn handle(rt: &impl Abort, alloc: Global, size: u64) -> (Pools, Blank) {
+    let mut pools = two_pools(rt, alloc, 1000);
+    let handle = blank(rt, alloc, &mut pools, 1, b"k", size);
+    (pools, handle)
+}
+
+// Gives up the item, whose charge is the first.
+fn give_up(rt: &impl Abort, pools: &mut Pools, sealed: Sealed) {
+    match pools.discard(sealed) {
+        Ok(number) => assert!(rt; number == 1),
+        Err(_) => panic!(rt; "the handle is of these pools"),
+    }
+}
+
+// That the item has these bytes. It is given up.
+fn assert_bytes(rt: &impl Abort, pools: &mut Pools, blank: Blank, want: &[u8]) {
+    let sealed = seal(rt, blank);
+    let bytes = sealed.to_bytes().expect(rt, "there is memory");
+    give_up(rt, pools, sealed);
+    assert!(rt; bytes.as_slice() == want);
+}
+
+// That what passes the item's end is refused.
+fn assert_refused(rt: &impl Abort, blank: &mut Blank, at: usize, bytes: &[u8]) {
+    let refusal = blank
+        .write_at(at, bytes)
+        .expect_err(rt, "it passes the end");
+    assert!(rt; refusal == Refusal::OutOfItem);
+}
+
+// Writes what fits.
+fn write(rt: &impl Abort, blank: &mut Blank, at: usize, bytes: &[u8]) {
+    blank.write_at(at, bytes).expect(rt, "it fits");
+}
+
+#[test]
+fn what_passes_the_end_is_refused_and_writes_nothing(rt: HostRuntime) {
+    let (mut pools, mut blank) = handle(&rt, rt.alloc(), 4);
+    assert_refused(&rt, &mut blank, 3, b"xy");
+    assert_refused(&rt, &mut blank, 4, b"x");
+    assert_refused(&rt, &mut blank, 5, b"");
+    assert_refused(&rt, &mut blank, usize::MAX, b"xy");
+    assert_bytes(&rt, &mut pools, blank, b"\0\0\0\0");
+}
+
+#[test]
+fn what_was_written_last_is_read_and_else_0(rt: HostRuntime) {
+    let (mut pools, mut blank) = handle(&rt, rt.alloc(), 5);
+    write(&rt, &mut blank, 1, b"abc");
+    write(&rt, &mut blank, 2, b"x");
+    write(&rt, &mut blank, 5, b"");
+    assert_bytes(&rt, &mut pools, blank, b"\0axc\0");
+}
+
+#[test]
+fn an_item_may_be_empty(rt: HostRuntime) {
+    let (mut pools, mut blank) = handle(&rt, rt.alloc(), 0);
+    write(&rt, &mut blank, 0, b"");
+    assert_refused(&rt, &mut blank, 0, b"x");
+    assert_bytes(&rt, &mut pools, blank, b"");
+}
+
+// Gives up the item that is being written, whose charge is the first.
+fn give_up_blank(rt: &impl Abort, pools: &mut Pools, blank: Blank) {
+    match pools.discard_blank(blank) {
+        Ok(number) => assert!(rt; number == 1),
+        Err(_) => panic!(rt; "the handle is of these pools"),
+    }
+}
+
+#[test]
+fn a_blank_can_be_given_up(rt: HostRuntime) {
+    let (mut pools, blank) = handle(&rt, rt.alloc(), 3);
+    assert!(rt; blank.number() == 1 && blank.len() == 3);
+    give_up_blank(&rt, &mut pools, blank);
+    assert!(rt; pools.open_charges() == 0);
+}
+
+// That a sealed handle tells its item: the first, of `k`, with so many bytes, which expires at second 15.
+fn assert_tells(rt: &impl Abort, sealed: &Sealed, len: usize) {
+    assert!(rt; sealed.number() == 1);
+    assert!(rt; sealed.key().as_slice() == b"k".as_slice());
+    assert!(rt; sealed.expiry() == 15);
+    assert!(rt; sealed.len() == len);
+}
+
+#[test]
+fn a_sealed_handle_tells_its_item(rt: HostRuntime) {
+    let (mut pools, blank) = handle(&rt, rt.alloc(), 3);
+    let sealed = seal(&rt, blank);
+    assert_tells(&rt, &sealed, 3);
+    give_up(&rt, &mut pools, sealed);
+}

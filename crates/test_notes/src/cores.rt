@@ -1,0 +1,104 @@
+// A core answers the same whether its log is kept or not, and a log that is kept counts its answers.
+ghost use Rattle.std.specs.Prelude.{◌≡◌, None};
+
+use hc_core::{Core, Found, Removed, open};
+use hc_history::{Kept, Note, Notes, Silent, Stats};
+use hc_memory::{Blank, Sealed};
+use hc_types::{Config, Key, PoolSize};
+use std::alloc::Global;
+use std::process::Abort;
+
+// One pool, and no flash.
+fn config(rt: &impl Abort, alloc: Global) -> Config
+    ensures { result.flash ≡ None }
+{
+    let (bytes, items) = (1000, 10);
+    let sizes = Vec::from_slice(alloc, [PoolSize { bytes, items }].as_slice());
+    Config::new(sizes.expect(rt, "there is memory"), None)
+}
+
+fn key(rt: &impl Abort, alloc: Global) -> Key {
+    Key::new(alloc, b"k").expect(rt, "the key fits")
+}
+
+// The handle, sealed.
+fn seal(rt: &impl Abort, blank: Blank) -> Sealed {
+    match blank.seal() {
+        Ok(sealed) => sealed,
+        Err(_) => panic!(rt; "there is memory"),
+    }
+}
+
+// Stores a value for five seconds.
+fn store<N: Notes<Note>>(rt: &impl Abort, alloc: Global, core: &mut Core<N>) {
+    let blank = open(core, 0, key(rt, alloc), b"value", 5).expect(rt, "there is room");
+    match core.insert(0, seal(rt, blank)) {
+        Ok(()) => {}
+        Err(_) => panic!(rt; "the handle is this cache's"),
+    }
+}
+
+// Whether the value is found.
+fn hits<N: Notes<Note>>(rt: &impl Abort, alloc: Global, core: &mut Core<N>) -> bool {
+    match core.find(0, &key(rt, alloc)) {
+        Ok(Found::Hit(handle)) => handle.bytes() == b"value".as_slice(),
+        Ok(Found::Miss) => false,
+        Err(_) => panic!(rt; "there is memory"),
+    }
+}
+
+// Moves the clock on to a second at which the value is expired, and takes it out.
+fn clear<N: Notes<Note>>(rt: &impl Abort, alloc: Global, core: &mut Core<N>) -> bool {
+    let now = core.tick(5).expect(rt, "there is memory");
+    assert!(rt; now == 5);
+    let removed = core
+        .remove(0, &key(rt, alloc))
+        .expect(rt, "there is memory");
+    removed == Removed::FoundInMemory
+}
+
+// Three calls that succeed, and a find that misses.
+fn use_it<N: Notes<Note>>(rt: &impl Abort, alloc: Global, core: &mut Core<N>) {
+    store(rt, alloc, core);
+    assert!(rt; hits(rt, alloc, core));
+    assert!(rt; clear(rt, alloc, core));
+    assert!(rt; !hits(rt, alloc, core));
+    assert!(rt; core.calls() == 4);
+}
+
+#[test]
+fn a_core_whose_notes_are_silent_answers(rt: HostRuntime) {
+    let config = config(&rt, rt.alloc());
+    let mut core: Core<Silent> = Core::new(rt.alloc(), &config, Silent).expect(
+        &rt,
+        "the pool fits",
+    );
+    use_it(&rt, rt.alloc(), &mut core);
+}
+
+// A core whose log is kept.
+fn kept(rt: &impl Abort, alloc: Global) -> Core<Kept> {
+    let config = config(rt, alloc);
+    Core::new(alloc, &config, Kept::new(alloc)).expect(rt, "the pool fits")
+}
+
+// The counts over its log.
+fn stats(core: Core<Kept>) -> Stats {
+    core.into_notes().stats()
+}
+
+#[test]
+fn a_core_whose_log_is_kept_answers_and_counts(rt: HostRuntime) {
+    let mut core = kept(&rt, rt.alloc());
+    use_it(&rt, rt.alloc(), &mut core);
+    let want = Stats {
+        stored: 1,
+        hits: 1,
+        misses: 1,
+        removes: 1,
+        losses: 0,
+        reads: 0,
+        writes: 0,
+    };
+    assert!(rt; stats(core) == want);
+}
