@@ -11,7 +11,7 @@ ghost use Rattle.hc_core.specs.Refused.{allocate_refusal, handle_refusal, insert
 ghost use Rattle.hc_core.specs.Steps.{expiry_of, after_allocate, after_discard, after_insert, after_find, after_remove, removed_of, after_tick};
 
 use crate::answers::{Found, Removed};
-use crate::plans::{Finding, expiry_after, has_unexpired};
+use crate::plans::{expiry_after, has_unexpired};
 use crate::{plans, tells};
 use hc_history::{Kept, Note, Notes, Said};
 use hc_memory::{Blank, Charged, Pools, Sealed, Uncharged, Unlinked};
@@ -162,7 +162,7 @@ impl<N: Notes<Note<A>>, A: Allocator> Core<N, A> {
         ensures err { OnErr result (self.new ≡ self.old) }
         ensures memory { IfErr result (λ refusal. refusal ≡ Refusal.NoMemory) }
     {
-        let Finding { call, begin, did } = plans::find(
+        let plan = plans::find(
             &mut self.notes,
             &self.pools,
             self.calls,
@@ -170,10 +170,16 @@ impl<N: Notes<Note<A>>, A: Allocator> Core<N, A> {
             key,
             self.clock,
         )?;
-        let found = self.pools.find(key, self.clock)?;
+        let found = match self.pools.find(key, self.clock) {
+            Ok(found) => found,
+            Err(no_memory) => {
+                drop(plan);
+                return Err(Refusal::from(no_memory));
+            }
+        };
 
-        self.calls = call;
-        tells::find(&mut self.notes, call, begin, did);
+        self.calls = plan.call;
+        tells::find(&mut self.notes, plan);
         Ok(plans::found_by(found))
     }
 

@@ -8,6 +8,7 @@ ghost use Rattle.hc_core.specs.Steps as spec;
 ghost use Rattle.hc_core.specs.Steps.{eviction_notes, freed_notes, remove_reply, removed_of};
 
 use crate::answers::Removed;
+use crate::plans::Finding;
 use hc_history::{Note, Notes, Reply, Said};
 use hc_memory::Item;
 use hc_types::{Cause, Key, Scope, Why};
@@ -68,16 +69,12 @@ pub fn charged<A: Allocator, N: Notes<Note<A>>>(
 }
 
 /// Tells the notes of a find.
-pub fn find<A: Allocator, N: Notes<Note<A>>>(
-    notes: &mut N,
-    call: u64,
-    begin: Option<Note<A>>,
-    did: Option<Note<A>>,
-)
+pub fn find<A: Allocator, N: Notes<Note<A>>>(notes: &mut N, plan: Finding<A>)
     requires { 3 ≤ N.room notes.old }
-    ensures told { N.told notes.new ≡ told_more (told_more (told_more (N.told notes.old) (option_to_list begin)) (option_to_list did)) (End call ∷ []) }
+    ensures told { N.told notes.new ≡ told_more (told_more (told_more (N.told notes.old) (option_to_list plan.begin)) (option_to_list plan.did)) (End plan.call ∷ []) }
     ensures room { N.room notes.old ≤ N.room notes.new + 3 }
 {
+    let Finding { call, begin, did } = plan;
     tell(notes, begin);
     tell(notes, did);
     notes.note(Note::new(Said::End { call }));
