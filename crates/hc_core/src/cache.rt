@@ -237,9 +237,14 @@ impl<N: Notes<Note<A>>, A: Allocator + Clone> Core<N, A> {
         };
         let want = charge(&key, size);
         let _sound = self.pools.len();
-        let Charged { blank, victims } = self
-            .pools
-            .charge(pool, key, size, expiry_after(self.clock, ttl))?;
+        let expiry = expiry_after(self.clock, ttl);
+        let Charged { blank, victims } = match self.pools.charge(pool, key, size, expiry) {
+            Ok(charged) => charged,
+            Err(uncharged) => {
+                drop(copy);
+                return Err(uncharged);
+            }
+        };
 
         tells::evictions(&mut self.notes, self.clock, pool, want, victims);
         tells::charged(&mut self.notes, copy, blank.number(), pool, want);
@@ -263,7 +268,13 @@ impl<N: Notes<Note<A>>, A: Allocator + Clone> Core<N, A> {
         };
         let charge = sealed.number();
         let _sound = self.pools.len();
-        let old = self.pools.link(sealed, false)?;
+        let old = match self.pools.link(sealed, false) {
+            Ok(old) => old,
+            Err(unlinked) => {
+                drop(begin);
+                return Err(unlinked);
+            }
+        };
 
         self.calls = call;
         tells::insert(&mut self.notes, call, begin, old, charge);
