@@ -27,7 +27,12 @@ fn is_visible(c: u8) -> bool
 fn all_visible(text: &[u8]) -> bool
     ensures { result ≡ list_all spec.is_visible text.now }
 {
-    text.iter().all(|c| is_visible(*c))
+    // not `all`, which stops at the first other byte: this is done for many bytes at a time
+    let mut seen = true;
+    'text: for c in text {
+        seen &= is_visible(*c);
+    }
+    seen
 }
 
 /// Whether it is a key: one visible byte or more.
