@@ -12,7 +12,7 @@ ghost use Rattle.hc_core.specs.Refused.{allocate_refusal, handle_refusal, insert
 ghost use Rattle.hc_core.specs.Steps.{expiry_of, after_allocate, after_discard, after_insert, after_find, after_remove, removed_of, after_tick};
 
 use crate::answers::{Found, Removed};
-use crate::plans::{Finding, expiry_after, has_unexpired};
+use crate::plans::{expiry_after, has_unexpired};
 use crate::{plans, tells};
 use hc_history::{Counting, Kept, Note, Notes, Said};
 use hc_memory::{Blank, Charged, Pools, Sealed, Uncharged, Unlinked};
@@ -163,7 +163,7 @@ impl<N: Notes<Note<A>>, A: Allocator> Core<N, A> {
         ensures err { OnErr result (self.new ≡ self.old) }
         ensures memory { IfErr result (λ refusal. refusal ≡ Refusal.NoMemory) }
     {
-        let Finding { call, begin, did } = plans::find(
+        let plan = plans::find(
             &mut self.notes,
             &self.pools,
             self.calls,
@@ -171,11 +171,17 @@ impl<N: Notes<Note<A>>, A: Allocator> Core<N, A> {
             key,
             self.clock,
         )?;
-        let found = self.pools.find(key, self.clock)?;
+        let found = match self.pools.find(key, self.clock) {
+            Ok(found) => found,
+            Err(no_memory) => {
+                drop(plan);
+                return Err(Refusal::from(no_memory));
+            }
+        };
 
-        self.calls = call;
+        self.calls = plan.call;
         let kind = plans::kind_by(&found);
-        tells::find(&mut self.notes, call, begin, did, kind);
+        tells::find(&mut self.notes, plan, kind);
         Ok(plans::found_by(found))
     }
 
@@ -233,9 +239,14 @@ impl<N: Notes<Note<A>>, A: Allocator + Clone> Core<N, A> {
         };
         let want = charge(&key, size);
         let _sound = self.pools.len();
-        let Charged { blank, victims } = self
-            .pools
-            .charge(pool, key, size, expiry_after(self.clock, ttl))?;
+        let expiry = expiry_after(self.clock, ttl);
+        let Charged { blank, victims } = match self.pools.charge(pool, key, size, expiry) {
+            Ok(charged) => charged,
+            Err(uncharged) => {
+                drop(copy);
+                return Err(uncharged);
+            }
+        };
 
         tells::evictions(&mut self.notes, self.clock, pool, want, victims);
         tells::charged(&mut self.notes, copy, blank.number(), pool, want);
@@ -259,7 +270,13 @@ impl<N: Notes<Note<A>>, A: Allocator + Clone> Core<N, A> {
         };
         let charge = sealed.number();
         let _sound = self.pools.len();
-        let old = self.pools.link(sealed, false)?;
+        let old = match self.pools.link(sealed, false) {
+            Ok(old) => old,
+            Err(unlinked) => {
+                drop(begin);
+                return Err(unlinked);
+            }
+        };
 
         self.calls = call;
         tells::insert(&mut self.notes, call, begin, old, charge);

@@ -222,9 +222,8 @@ pub fn allocate<A: Allocator, N: Notes<Note<A>>>(
     ensures err { IfErr result (λ refusal. (refusal_of pools.now pool key.now size ≡ Some refusal) ⊎ ((refusal_of pools.now pool key.now size ≡ None) × (refusal ≡ Refusal.NoMemory))) }
 {
     let count = victims_for(pools, pool, key, size)?;
-    let copy = copy_of(notes, key)?;
     make_room(notes, pools, 2 * count + 2)?;
-    Ok(copy)
+    Ok(copy_of(notes, key)?)
 }
 
 /// What an insert needs before it changes anything: its number, and the note with which it begins, where notes are
@@ -248,8 +247,8 @@ pub fn insert<A: Allocator, N: Notes<Note<A>>>(
         return Err(Refusal::ForeignHandle);
     }
     let call = number_after(calls)?;
-    let begin = begin_insert(notes, call, client, sealed)?;
     make_room(notes, pools, 5)?;
+    let begin = begin_insert(notes, call, client, sealed)?;
     Ok((call, begin))
 }
 
@@ -271,8 +270,8 @@ pub fn remove<A: Allocator, N: Notes<Note<A>>>(
     ensures silent { OnErr result (Hears (N.told notes.old) ⊎ (calls + 1 ≡ 2 ^ 64)) }
 {
     let call = number_after(calls)?;
-    let begin = begin_remove(notes, call, client, key)?;
     make_room(notes, pools, 4)?;
+    let begin = begin_remove(notes, call, client, key)?;
     Ok((call, begin))
 }
 
@@ -282,6 +281,29 @@ pub struct Finding<A: Allocator> {
     pub call: u64,
     pub begin: Option<Note<A>>,
     pub did: Option<Note<A>>,
+}
+
+// The notes of the find with this number, where notes are kept.
+fn notes_of_find<A: Allocator, N: Notes<Note<A>>>(
+    notes: &N,
+    call: u64,
+    client: u8,
+    pools: &Pools<A>,
+    key: &Key<A>,
+    now: u64,
+) -> Result<Finding<A>, AllocError>
+    ensures call { IfOk result (λ plan. plan.call ≡ call) }
+    ensures begin { IfOk result (λ plan. plan.begin ≡ where_kept (N.told notes.now) (Begin call client (Find key.now))) }
+    ensures did { IfOk result (λ plan. plan.did ≡ where_kept (N.told notes.now) (Did call (find_reply (value_at now key.now pools.now.pools)))) }
+{
+    let begin = begin_find(notes, call, client, key)?;
+    match did_find(notes, call, pools, key, now) {
+        Ok(did) => Ok(Finding { call, begin, did }),
+        Err(no_memory) => {
+            drop(begin);
+            Err(no_memory)
+        }
+    }
 }
 
 /// What a find at `now` (seconds) needs before it changes anything. Room is made for its notes.
@@ -302,8 +324,7 @@ pub fn find<A: Allocator, N: Notes<Note<A>>>(
     ensures err { IfErr result (λ refusal. refusal ≡ Refusal.NoMemory) }
 {
     let call = number_after(calls)?;
-    let begin = begin_find(notes, call, client, key)?;
-    let did = did_find(notes, call, pools, key, now)?;
     make_room(notes, pools, 3)?;
-    Ok(Finding { call, begin, did })
+    let plan = notes_of_find(notes, call, client, pools, key, now)?;
+    Ok(plan)
 }

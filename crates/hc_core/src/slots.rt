@@ -61,12 +61,12 @@ impl<A: Allocator> Slot<A> {
     }
 }
 
-/// 256 slots, which are empty.
-pub fn empty_slots<A: Allocator>(alloc: A) -> Result<Vec<Slot<A>, A>, AllocError>
-    ensures { IfOk result (λ slots. slots.items ≡ replicate 256 None) }
+/// So many slots, which are empty.
+pub fn empty_slots<A: Allocator>(alloc: A, count: usize) -> Result<Vec<Slot<A>, A>, AllocError>
+    ensures { IfOk result (λ slots. slots.items ≡ replicate count None) }
 {
-    let mut slots = Vec::with_capacity(alloc, 256)?;
-    for _ in 0..256_usize {
+    let mut slots = Vec::with_capacity(alloc, count)?;
+    for _ in 0..count {
         slots.push_reserved(Slot::new(Content::Empty));
     }
     Ok(slots)

@@ -8,7 +8,7 @@ ghost use Rattle.hc_history.specs.Told.{Log, told_more};
 ghost use Rattle.hc_memory.specs.Item.{charge_by};
 ghost use Rattle.hc_memory.specs.Charges.{is_open};
 ghost use Rattle.hc_core.specs.Answers.{found_value, reply_of_removed};
-ghost use Rattle.hc_core.specs.Asked.{answer_of, handle_of};
+ghost use Rattle.hc_core.specs.Asked.{answer_of, handle_of, step_of};
 ghost use Rattle.hc_core.specs.Steps.{find_reply};
 ghost use Rattle.hc_core.specs.World.{Open, Put, PutNew, Discard, Find, Remove, Tick, May, SlotsHold, new_stage, after_give_up, left_notes, log_length};
 
@@ -19,7 +19,7 @@ use crate::slots::{Content, Slot, empty_slots, fill, take, take_sealed};
 use crate::steps::{Answer, Outcome, Request, Step};
 use bytes::Bytes;
 use hc_history::{Kept, Reply};
-use hc_memory::Unlinked;
+use hc_memory::{Uncharged, Unlinked};
 use hc_types::{Config, Key, Refusal};
 use std::alloc::{AllocError, Allocator, Global};
 use std::marker::Model;
@@ -52,7 +52,7 @@ impl<A: Allocator + Copy> Stage<A> {
         ensures err { IfErr result (λ refusal. (first_wrong config.now ≡ Some refusal) ⊎ ((first_wrong config.now ≡ None) × (refusal ≡ Refusal.NoMemory))) }
     {
         let core = Core::new(alloc, config, Kept::new(alloc))?;
-        let slots = empty_slots(alloc)?;
+        let slots = empty_slots(alloc, 256)?;
         Ok(Stage { core, slots })
     }
 }
@@ -148,7 +148,10 @@ impl<A: Allocator + Clone> Stage<A> {
                 fill(&mut self.slots, slot, Content::Written(blank));
                 Ok(Outcome::Filled)
             }
-            Err(uncharged) => Ok(Outcome::Refused(but_memory(uncharged.refusal)?)),
+            Err(Uncharged { refusal, key }) => {
+                drop(key);
+                Ok(Outcome::Refused(but_memory(refusal)?))
+            }
         }
     }
 
@@ -191,26 +194,34 @@ impl<A: Allocator + Clone> Stage<A> {
         }
     }
 
-    /// One step. Where memory is wanted, everything is as it was.
-    pub fn step(&mut self, step: &Step<A>) -> Result<Answer<A>, AllocError>
-        ensures ok { IfOk result (λ answer. May self.old step.now answer self.new) }
+    /// What comes of a request. Where memory is wanted, everything is as it was.
+    fn serve(&mut self, request: &Request<A>) -> Result<Outcome<A>, AllocError>
+        ensures ok { IfOk result (λ outcome. May self.old (step_of request.now) (answer_of outcome) self.new) }
         ensures err { OnErr result (self.new ≡ self.old) }
     {
-        let outcome = match &step.request {
+        match request {
             Request::Open {
                 slot,
                 pool,
                 key,
                 value,
                 ttl,
-            } => self.open(*slot, *pool, key, value, *ttl)?,
-            Request::Put { client, slot } => self.put(*client, *slot)?,
-            Request::PutNew { client, slot } => self.put_new(*client, *slot)?,
-            Request::Discard { slot } => self.discard(*slot),
-            Request::Find { client, key } => self.find(*client, key)?,
-            Request::Remove { client, key } => self.remove(*client, key)?,
-            Request::Tick { moment } => self.tick(*moment)?,
-        };
+            } => self.open(*slot, *pool, key, value, *ttl),
+            Request::Put { client, slot } => self.put(*client, *slot),
+            Request::PutNew { client, slot } => self.put_new(*client, *slot),
+            Request::Discard { slot } => Ok(self.discard(*slot)),
+            Request::Find { client, key } => self.find(*client, key),
+            Request::Remove { client, key } => self.remove(*client, key),
+            Request::Tick { moment } => self.tick(*moment),
+        }
+    }
+
+    /// One step. Where memory is wanted, everything is as it was.
+    pub fn step(&mut self, step: &Step<A>) -> Result<Answer<A>, AllocError>
+        ensures ok { IfOk result (λ answer. May self.old step.now answer self.new) }
+        ensures err { OnErr result (self.new ≡ self.old) }
+    {
+        let outcome = self.serve(&step.request)?;
         Ok(Answer { outcome })
     }
 }

@@ -8,6 +8,7 @@ ghost use Rattle.hc_core.specs.Steps as spec;
 ghost use Rattle.hc_core.specs.Steps.{told_did, eviction_notes, freed_notes, remove_reply, removed_of};
 
 use crate::answers::Removed;
+use crate::plans::Finding;
 use hc_history::{Kind, Note, Notes, Reply, Said};
 use hc_memory::Item;
 use hc_types::{Cause, Key, Scope, Why};
@@ -117,17 +118,16 @@ fn did<A: Allocator, N: Notes<Note<A>>>(notes: &mut N, did: Option<Note<A>>, kin
 }
 
 /// Tells the notes of a find, or counts its answer as this kind.
-pub fn find<A: Allocator, N: Notes<Note<A>>>(
-    notes: &mut N,
-    call: u64,
-    begin: Option<Note<A>>,
-    answer: Option<Note<A>>,
-    kind: Kind,
-)
+pub fn find<A: Allocator, N: Notes<Note<A>>>(notes: &mut N, plan: Finding<A>, kind: Kind)
     requires { 3 ≤ N.room notes.old }
-    ensures told { N.told notes.new ≡ told_more (told_did (told_more (N.told notes.old) (option_to_list begin)) answer kind) (End call ∷ []) }
+    ensures told { N.told notes.new ≡ told_more (told_did (told_more (N.told notes.old) (option_to_list plan.begin)) plan.did kind) (End plan.call ∷ []) }
     ensures room { N.room notes.old ≤ N.room notes.new + 3 }
 {
+    let Finding {
+        call,
+        begin,
+        did: answer,
+    } = plan;
     tell(notes, begin);
     did(notes, answer, kind);
     ended(notes, call);

@@ -3,7 +3,7 @@ ghost use Rattle.std.specs.Prelude.{◌≡◌, ◌≢◌, ◌<◌, ◌≤◌, �
 ghost use Rattle.std.specs.Io.KnownBytes.{Appends, Consumes, IsAtEnd, append_known};
 ghost use Rattle.hc_trace.specs.Lines.{Lacks};
 ghost use Rattle.hc_trace.specs.Trace.{Answers, LogsAreLegal};
-ghost use Rattle.hc_trace.specs.Machine.{turn_of, output_from, Leads, Ends};
+ghost use Rattle.hc_trace.specs.Machine.{begun, turn_of, output_from, Leads, Ends};
 
 use crate::grammar::LONGEST;
 use crate::machine::{end, turn};
@@ -183,6 +183,43 @@ fn finish<W: Write>(
     Ok(status)
 }
 
+// Answers one chunk after another, until the trace ends or stops. Returns the status.
+fn answer_chunks<R: Read, W: Write>(
+    alloc: Global,
+    reader: &mut R,
+    writer: &mut W,
+    out: &mut Vec<u8>,
+    buffer: &mut Vec<u8>,
+    spill: &mut Vec<u8>,
+    state: &mut State,
+) -> io::Result<u8>
+    requires sized { vec_len buffer.old ≡ 65536 }
+    requires empty { spill.old.items ≡ [] }
+    requires begun { state.old ≡ begun }
+    ensures { IfOk result (λ status. Answers (R.remaining reader.old) (append_known (W.contents writer.old) out.old.items) (append_known (W.contents writer.new) out.new.items) status) }
+{
+    let mut taken = 0u64;
+    let mut total = 0u64;
+    'chunks: for _ in 0..READS {
+        write_out(writer, out)?;
+        let n = read_chunk(reader, buffer)?;
+        if n == 0 {
+            let status = finish(alloc, state, writer, out, spill, taken)?;
+            return Ok(status);
+        }
+        total += n as u64;
+        if total > MOST {
+            break 'chunks;
+        }
+        match take_chunk(alloc, state, writer, out, spill, &buffer[..n], taken)? {
+            Some(next) => taken = next,
+            None => return Ok(1),
+        }
+    }
+    Err(io::Error::from(io::ErrorKind::FileTooLarge))
+}
+
+// The same from the start, with a buffer for the bytes that are read and one for what is kept of a line.
 fn run<R: Read, W: Write>(
     alloc: Global,
     reader: &mut R,
@@ -195,33 +232,15 @@ fn run<R: Read, W: Write>(
     buffer.resize(CHUNK, 0u8)?;
     let mut spill = Vec::new(alloc);
     let mut state = State::Configuring(Sizes::new(alloc));
-    let mut taken = 0u64;
-    let mut total = 0u64;
-    'chunks: for _ in 0..READS {
-        write_out(writer, out)?;
-        let n = read_chunk(reader, &mut buffer)?;
-        if n == 0 {
-            let status = finish(alloc, &mut state, writer, out, &spill, taken)?;
-            return Ok(status);
-        }
-        total += n as u64;
-        if total > MOST {
-            break 'chunks;
-        }
-        match take_chunk(
-            alloc,
-            &mut state,
-            writer,
-            out,
-            &mut spill,
-            &buffer[..n],
-            taken,
-        )? {
-            Some(next) => taken = next,
-            None => return Ok(1),
-        }
-    }
-    Err(io::Error::from(io::ErrorKind::FileTooLarge))
+    answer_chunks(
+        alloc,
+        reader,
+        writer,
+        out,
+        &mut buffer,
+        &mut spill,
+        &mut state,
+    )
 }
 
 /// Replays the trace that the reader has, and writes its answers. Status 0 says that it was done, and 1 that it has a

@@ -3,7 +3,7 @@ ghost use Rattle.std.specs.Prelude.{◌≡◌, ◌≢◌, ◌++◌, OnOk, IfOk, 
 ghost use Rattle.hc_types.specs.Refusals.{refusal_text};
 ghost use Rattle.hc_trace.specs.Seen.{item_seen, step_seen};
 ghost use Rattle.hc_trace.specs.Steps.{Get, Del, Now};
-ghost use Rattle.hc_trace.specs.Moves.{unless, key_refusal, stored, move};
+ghost use Rattle.hc_trace.specs.Moves.{unless, key_refusal, stored, get_moved, del_moved, move};
 ghost use Rattle.hc_trace.specs.Texts.{line_text, answer_text};
 ghost use Rattle.hc_trace.specs.Machine.{next, told_text};
 
@@ -108,6 +108,18 @@ fn put(
 }
 
 // A find by client 0, and its answer.
+fn find(core: &mut Core<Kept>, out: &mut Vec<u8>, key: &Key) -> Result<(), AllocError>
+    ensures cache { OnOk result (core.new ≡ (get_moved key.now core.old).cache) }
+    ensures text { OnOk result (out.new.items ≡ out.old.items ++ line_text (answer_text (get_moved key.now core.old).answer)) }
+{
+    match core.find(0, key) {
+        Ok(Found::Hit(value)) => add_hit(out, value.bytes()),
+        Ok(Found::Miss) => add_word(out, b"miss"),
+        Err(_no_memory) => Err(AllocError),
+    }
+}
+
+// The same of a key as it is read.
 fn get(
     alloc: Global,
     core: &mut Core<Counting>,
@@ -117,18 +129,25 @@ fn get(
     ensures cache { OnOk result (core.new ≡ (move (Get key.now) core.old).cache) }
     ensures text { OnOk result (out.new.items ≡ out.old.items ++ line_text (answer_text (move (Get key.now) core.old).answer)) }
 {
-    let key = match key_in(alloc, key)? {
-        Ok(key) => key,
-        Err(refusal) => return add_refusal(out, refusal),
-    };
-    match core.find(0, &key) {
-        Ok(Found::Hit(value)) => add_hit(out, value.bytes()),
-        Ok(Found::Miss) => add_word(out, b"miss"),
-        Err(_no_memory) => Err(AllocError),
+    match key_in(alloc, key)? {
+        Ok(key) => find(core, out, &key),
+        Err(refusal) => add_refusal(out, refusal),
     }
 }
 
 // A remove by client 0, and its answer.
+fn remove(core: &mut Core<Kept>, out: &mut Vec<u8>, key: &Key) -> Result<(), AllocError>
+    ensures cache { OnOk result (core.new ≡ (del_moved key.now core.old).cache) }
+    ensures text { OnOk result (out.new.items ≡ out.old.items ++ line_text (answer_text (del_moved key.now core.old).answer)) }
+{
+    match core.remove(0, key) {
+        Ok(Removed::FoundInMemory) => add_word(out, b"found"),
+        Ok(Removed::NotInMemory) => add_word(out, b"absent"),
+        Err(_no_memory) => Err(AllocError),
+    }
+}
+
+// The same of a key as it is read.
 fn del(
     alloc: Global,
     core: &mut Core<Counting>,
@@ -138,14 +157,9 @@ fn del(
     ensures cache { OnOk result (core.new ≡ (move (Del key.now) core.old).cache) }
     ensures text { OnOk result (out.new.items ≡ out.old.items ++ line_text (answer_text (move (Del key.now) core.old).answer)) }
 {
-    let key = match key_in(alloc, key)? {
-        Ok(key) => key,
-        Err(refusal) => return add_refusal(out, refusal),
-    };
-    match core.remove(0, &key) {
-        Ok(Removed::FoundInMemory) => add_word(out, b"found"),
-        Ok(Removed::NotInMemory) => add_word(out, b"absent"),
-        Err(_no_memory) => Err(AllocError),
+    match key_in(alloc, key)? {
+        Ok(key) => remove(core, out, &key),
+        Err(refusal) => add_refusal(out, refusal),
     }
 }
 

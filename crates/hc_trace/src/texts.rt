@@ -25,8 +25,9 @@ fn add_number(out: &mut Vec<u8>, number: u64) -> Result<(), AllocError>
 fn all_are(bytes: &[u8], c: u8) -> bool
     ensures { result ≡ list_all (λ b. b == c) bytes.now }
 {
+    // not `all`, which stops at the first other byte: this is done for many bytes at a time
     let mut same = true;
-    for b in bytes {
+    'bytes: for b in bytes {
         same &= *b == c;
     }
     same
@@ -61,8 +62,7 @@ pub fn add_word(out: &mut Vec<u8>, word: &[u8]) -> Result<(), AllocError>
     ensures { OnOk result (out.new.items ≡ out.old.items ++ line_text word.now) }
 {
     out.extend_from_slice(word)?;
-    out.push(b'\n')?;
-    Ok(())
+    out.extend_from_slice(b"\n")
 }
 
 /// The line of a value that was found. A trace that has the value so is read as having this value.
@@ -81,8 +81,7 @@ pub fn add_moment(out: &mut Vec<u8>, now: u64) -> Result<(), AllocError>
     ensures { OnOk result (out.new.items ≡ out.old.items ++ line_text (spec.answer_text (Moment now))) }
 {
     add_count(out, b"now ", now)?;
-    out.push(b'\n')?;
-    Ok(())
+    out.extend_from_slice(b"\n")
 }
 
 /// The line of a refusal.
@@ -93,8 +92,7 @@ pub fn add_refusal(out: &mut Vec<u8>, refusal: Refusal) -> Result<(), AllocError
     add_number(out, u64::from(refusal.number()))?;
     out.push(b' ')?;
     out.extend_from_slice(refusal.name().as_bytes())?;
-    out.push(b'\n')?;
-    Ok(())
+    out.extend_from_slice(b"\n")
 }
 
 // Words and a key.
@@ -174,8 +172,7 @@ fn add_loss(out: &mut Vec<u8>, note: &Note) -> Result<(), AllocError>
     match &note.said {
         Said::Lose { scope, cause } => {
             add_lose(out, scope, cause)?;
-            out.push(b'\n')?;
-            Ok(())
+            out.extend_from_slice(b"\n")
         }
         _ => Ok(()),
     }
@@ -231,8 +228,7 @@ pub fn add_stats(out: &mut Vec<u8>, counts: &Stats) -> Result<(), AllocError>
 {
     add_calls(out, counts)?;
     add_others(out, counts)?;
-    out.push(b'\n')?;
-    Ok(())
+    out.extend_from_slice(b"\n")
 }
 
 /// The line of the verdict.
@@ -248,6 +244,5 @@ pub fn add_fault(out: &mut Vec<u8>, line: u64) -> Result<(), AllocError>
 {
     out.extend_from_slice(b"fault line ")?;
     add_number(out, line)?;
-    out.push(b'\n')?;
-    Ok(())
+    out.extend_from_slice(b"\n")
 }

@@ -28,8 +28,9 @@ fn is_visible(c: u8) -> bool
 fn all_visible(text: &[u8]) -> bool
     ensures { result ≡ list_all spec.is_visible text.now }
 {
+    // not `all`, which stops at the first other byte: this is done for many bytes at a time
     let mut seen = true;
-    for c in text {
+    'text: for c in text {
         seen &= is_visible(*c);
     }
     seen

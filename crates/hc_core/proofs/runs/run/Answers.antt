@@ -1,4 +1,6 @@
-use Rattle.std.proofs.Common.{[], length, ap, sym, subst}
+use Rattle.std.proofs.Common.{[], length, take, ap, sym, subst, ◌∙◌}
+use Rattle.hc_types.specs.Config.{Config}
+use Rattle.hc_history.specs.Lawful.{Legal}
 use Rattle.hc_core.specs.World.{Stage, IsRun}
 use Rattle.hc_core.proofs.Going.{IsRun-none, run_turn}
 use Rattle.hc_core.proofs.runs.run.Goals as goal
@@ -19,3 +21,31 @@ loop-i-preserved g c =
     let turn = run_turn c.args.config.now c.args.steps.now c.loop-i.i c.index-steps-i.result c.loop-i.answers.items c.go_on.new.answers.items c.loop-i.ends.items c.go_on.new.ends.items c.loop-i.stage c.go_on.new.stage
     c.loop-i-test.true c.index-steps-i.is i.config i.runs i.made c.in-Ok.ensures.ok in
     record { config = turn.0; runs = turn.1; made = turn.2 }
+
+pub returns-clause-follows : goal.returns-clause-follows
+returns-clause-follows g c =
+    let kept = c.loop-i.invariant in
+    record {
+      new = c.loop-i.stage;
+      runs = subst (λ n. IsRun c.args.config.now (take n c.args.steps.now) c.loop-i.answers.items c.loop-i.ends.items c.loop-i.stage) (sym kept.made) kept.runs;
+      held = c.into_log-2.ensures.held;
+      told = c.into_log-2.ensures.log;
+    }
+
+pub returns-clause-legal : goal.returns-clause-legal
+returns-clause-legal g c = subst (λ (k : Config). Legal k c.into_log-2.result.notes.items) c.loop-i.invariant.config c.into_log-2.ensures.legal
+
+pub returns-in-Err-clause-follows : goal.returns-in-Err-clause-follows
+returns-in-Err-clause-follows g c =
+    let kept = c.loop-i.invariant in
+    let back = c.in-Err.ensures.err in
+    record {
+      new = c.go_on.new.stage;
+      runs = rw (back.0, back.1, back.2, kept.made) kept.runs;
+      held = c.into_log.ensures.held;
+      told = c.into_log.ensures.log;
+    }
+
+pub returns-in-Err-clause-legal : goal.returns-in-Err-clause-legal
+returns-in-Err-clause-legal g c =
+    subst (λ (k : Config). Legal k c.into_log.result.notes.items) (ap (λ (s : Stage). s.cache.config) c.in-Err.ensures.err.0 ∙ c.loop-i.invariant.config) c.into_log.ensures.legal

@@ -7,5 +7,5 @@ abbrev pub invariant-loop : goal.invariant-loop
 invariant-loop g l = record {
   empty : l.slots.items ≡ replicate l.counter None;
   len : vec_len l.slots ≡ l.counter;
-  room : 256 ≤ vec_capacity l.slots;
+  room : l.fn.count ≤ vec_capacity l.slots;
 }

@@ -10,8 +10,8 @@ pub invariant_of-self-2 : goal.invariant_of-self-2
 invariant_of-self-2 g c =
     let f = c.self.inside in
     let e = c.in-Ok.ensures in
-    let ok = c.in_ok-blank.ensures in
-    let made = c.in_ok-blank.field-0 in
+    let ok = c.in-Ok-charge.ensures in
+    let made = c.in-Ok-charge.charged in
     let log = allocated-log (g.N.Notes.told f.notes) (g.N.Notes.told c.allocate.new.notes) (g.N.Notes.told c.evictions.new.notes) (g.N.Notes.told c.charged.new.notes) c.in-Ok.copy f.pools f.clock c.args.pool c.number.result c.charge-want.result c.args.key c.args.size made.victims.items
     e.same c.charge-want.ensures (c.number.ensures ∙ ap (λ (h : Handle). h.number) ok.blank) ok.victims e.copy c.evictions.ensures.told c.charged.ensures.told in (
       subst (FitsConfig f.config) (sym ok.pools) (fits-allocate f.config f.pools c.args.pool c.args.key c.args.size c.self.invariant.0),
@@ -24,8 +24,8 @@ pub returns-clause-ok : goal.returns-clause-ok
 returns-clause-ok g c =
     let f = c.self.inside in
     let e = c.in-Ok.ensures in
-    let ok = c.in_ok-blank.ensures in
-    let made = c.in_ok-blank.field-0 in
+    let ok = c.in-Ok-charge.ensures in
+    let made = c.in-Ok-charge.charged in
     let log = allocated-log (g.N.Notes.told f.notes) (g.N.Notes.told c.allocate.new.notes) (g.N.Notes.told c.evictions.new.notes) (g.N.Notes.told c.charged.new.notes) c.in-Ok.copy f.pools f.clock c.args.pool c.number.result c.charge-want.result c.args.key c.args.size made.victims.items
     e.same c.charge-want.ensures (c.number.ensures ∙ ap (λ (h : Handle). h.number) ok.blank) ok.victims e.copy c.evictions.ensures.told c.charged.ensures.told in
     rw (← c.self.view_is) (λ i. record {

@@ -12,9 +12,9 @@ invariant_of-self-2 g c =
     let f = c.self.inside in
     let handle = c.args.sealed in
     let e = c.in-Ok.ensures in
-    let ok = c.in_ok-old.ensures in
+    let ok = c.in-Ok-link.ensures in
     let found = is_open-found (charge_by handle) f.pools.charges ok.mine in
-    let log = inserted-log (g.N.Notes.told f.notes) (g.N.Notes.told c.insert-plan.new.notes) (g.N.Notes.told c.insert.new.notes) c.in-Ok.plan.1 c.in-Ok.plan.0 c.args.client f.calls c.number-charge.result handle c.in_ok-old.old (linked_at handle.key f.pools.pools)
+    let log = inserted-log (g.N.Notes.told f.notes) (g.N.Notes.told c.insert-plan.new.notes) (g.N.Notes.told c.insert.new.notes) c.in-Ok.plan.1 c.in-Ok.plan.0 c.args.client f.calls c.number-charge.result handle c.in-Ok-link.old (linked_at handle.key f.pools.pools)
     e.same e.call c.number-charge.ensures ok.old e.begin c.insert.ensures.told in (
       subst (FitsConfig f.config) (sym ok.pools) (fits-insert f.config f.pools handle c.self.invariant.0),
       follows-as f.config _ (g.N.Notes.told c.insert.new.notes) _ c.link.new.self _ c.in-Ok.plan.0 f.clock log ok.pools e.call
@@ -27,8 +27,8 @@ returns-clause-ok g c =
     let f = c.self.inside in
     let handle = c.args.sealed in
     let e = c.in-Ok.ensures in
-    let ok = c.in_ok-old.ensures in
-    let log = inserted-log (g.N.Notes.told f.notes) (g.N.Notes.told c.insert-plan.new.notes) (g.N.Notes.told c.insert.new.notes) c.in-Ok.plan.1 c.in-Ok.plan.0 c.args.client f.calls c.number-charge.result handle c.in_ok-old.old (linked_at handle.key f.pools.pools)
+    let ok = c.in-Ok-link.ensures in
+    let log = inserted-log (g.N.Notes.told f.notes) (g.N.Notes.told c.insert-plan.new.notes) (g.N.Notes.told c.insert.new.notes) c.in-Ok.plan.1 c.in-Ok.plan.0 c.args.client f.calls c.number-charge.result handle c.in-Ok-link.old (linked_at handle.key f.pools.pools)
     e.same e.call c.number-charge.ensures ok.old e.begin c.insert.ensures.told in
     rw (← c.self.view_is) (λ i. record {
       config = f.config;

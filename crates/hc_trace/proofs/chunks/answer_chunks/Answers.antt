@@ -1,6 +1,17 @@
 use Rattle.std.proofs.Common.{take, rules, ◌∙◌}
-use Rattle.hc_trace.proofs.Streams.{progress-written, progress-more, progress-stopped, progress-end}
-use Rattle.hc_trace.proofs.chunks.run.Goals as goal
+use Rattle.hc_trace.proofs.Streams.{progress-start, progress-written, progress-more, progress-stopped, progress-end}
+use Rattle.hc_trace.proofs.chunks.answer_chunks.Goals as goal
+
+pub chunks-init : goal.chunks-init
+chunks-init g c =
+    let none = c.requires.empty in
+    record {
+      sized = c.requires.sized;
+      few = search rules;
+      most = search rules;
+      unbroken = rw none tt;
+      progress = rw (none, c.requires.begun) (progress-start _ _);
+    }
 
 pub returns-then-n-eq0 : goal.returns-then-n-eq0
 returns-then-n-eq0 g c =
