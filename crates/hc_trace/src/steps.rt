@@ -1,9 +1,11 @@
 // The steps of a trace, and their answers.
-ghost use Rattle.std.specs.Prelude.{◌≡◌, ◌≢◌, ◌++◌, OnOk, IfOk, None, Some, MatchResult};
+ghost use Rattle.std.specs.Prelude.{◌≡◌, ◌≢◌, ◌++◌, [], true, false, OnOk, IfOk, None, Some, MatchResult};
 ghost use Rattle.hc_types.specs.Refusals.{refusal_text};
 ghost use Rattle.hc_trace.specs.Seen.{item_seen, step_seen};
 ghost use Rattle.hc_trace.specs.Steps.{Get, Del, Now};
-ghost use Rattle.hc_trace.specs.Moves.{unless, key_refusal, stored, get_moved, del_moved, move};
+ghost use Rattle.hc_trace.specs.Moves.{unless, key_refusal, finished, stored, get_moved, del_moved, move};
+ghost use Rattle.hc_memory.specs.Item.{charge_by};
+ghost use Rattle.hc_memory.specs.Charges.{is_open};
 ghost use Rattle.hc_trace.specs.Texts.{line_text, answer_text};
 ghost use Rattle.hc_trace.specs.Machine.{next, told_text};
 
@@ -12,7 +14,7 @@ use crate::texts::{add_hit, add_losses, add_moment, add_refusal, add_word};
 use crate::value::{Value, repeat};
 use hc_core::{Core, Found, Removed, give_up, give_up_blank, open};
 use hc_history::Counting;
-use hc_memory::Unlinked;
+use hc_memory::{Sealed, Uncharged, Unlinked};
 use hc_types::{Key, Refusal};
 use std::alloc::{AllocError, Global};
 
@@ -37,6 +39,36 @@ fn refused(out: &mut Vec<u8>, refusal: Refusal) -> Result<(), AllocError>
     }
 }
 
+// Inserts an item, in place of the key's, and answers.
+fn link(core: &mut Core<Counting>, out: &mut Vec<u8>, sealed: Sealed) -> Result<(), AllocError>
+    requires { is_open (charge_by sealed) core.old.memory.charges ≡ true }
+    ensures cache { OnOk result (core.new ≡ (finished true sealed core.old []).cache) }
+    ensures text { OnOk result (out.new.items ≡ out.old.items ++ line_text (answer_text (finished true sealed core.old []).answer)) }
+{
+    match core.insert_or_replace(0, sealed) {
+        Ok(()) => add_word(out, b"stored"),
+        Err(Unlinked { refusal, sealed }) => {
+            give_up(core, sealed);
+            refused(out, refusal)
+        }
+    }
+}
+
+// The same where the key has no unexpired item.
+fn link_new(core: &mut Core<Counting>, out: &mut Vec<u8>, sealed: Sealed) -> Result<(), AllocError>
+    requires { is_open (charge_by sealed) core.old.memory.charges ≡ true }
+    ensures cache { OnOk result (core.new ≡ (finished false sealed core.old []).cache) }
+    ensures text { OnOk result (out.new.items ≡ out.old.items ++ line_text (answer_text (finished false sealed core.old []).answer)) }
+{
+    match core.insert(0, sealed) {
+        Ok(()) => add_word(out, b"stored"),
+        Err(Unlinked { refusal, sealed }) => {
+            give_up(core, sealed);
+            refused(out, refusal)
+        }
+    }
+}
+
 // Stores a value under a key, and answers. `replaces` says whether an unexpired item of the key is replaced.
 fn store(
     core: &mut Core<Counting>,
@@ -52,25 +84,17 @@ fn store(
 {
     let blank = match open(core, pool, key, value, ttl) {
         Ok(blank) => blank,
-        Err(unopened) => return refused(out, unopened.refusal),
-    };
-    let sealed = match blank.seal() {
-        Ok(sealed) => sealed,
-        Err(blank) => {
-            give_up_blank(core, blank);
-            return Err(AllocError);
+        Err(Uncharged { refusal, key }) => {
+            drop(key);
+            return refused(out, refusal);
         }
     };
-    let inserted = if replaces {
-        core.insert_or_replace(0, sealed)
-    } else {
-        core.insert(0, sealed)
-    };
-    match inserted {
-        Ok(()) => add_word(out, b"stored"),
-        Err(Unlinked { refusal, sealed }) => {
-            give_up(core, sealed);
-            refused(out, refusal)
+    match blank.seal() {
+        Ok(sealed) if replaces => link(core, out, sealed),
+        Ok(sealed) => link_new(core, out, sealed),
+        Err(blank) => {
+            give_up_blank(core, blank);
+            Err(AllocError)
         }
     }
 }
@@ -108,7 +132,7 @@ fn put(
 }
 
 // A find by client 0, and its answer.
-fn find(core: &mut Core<Kept>, out: &mut Vec<u8>, key: &Key) -> Result<(), AllocError>
+fn find(core: &mut Core<Counting>, out: &mut Vec<u8>, key: &Key) -> Result<(), AllocError>
     ensures cache { OnOk result (core.new ≡ (get_moved key.now core.old).cache) }
     ensures text { OnOk result (out.new.items ≡ out.old.items ++ line_text (answer_text (get_moved key.now core.old).answer)) }
 {
@@ -136,7 +160,7 @@ fn get(
 }
 
 // A remove by client 0, and its answer.
-fn remove(core: &mut Core<Kept>, out: &mut Vec<u8>, key: &Key) -> Result<(), AllocError>
+fn remove(core: &mut Core<Counting>, out: &mut Vec<u8>, key: &Key) -> Result<(), AllocError>
     ensures cache { OnOk result (core.new ≡ (del_moved key.now core.old).cache) }
     ensures text { OnOk result (out.new.items ≡ out.old.items ++ line_text (answer_text (del_moved key.now core.old).answer)) }
 {
