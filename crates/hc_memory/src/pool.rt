@@ -280,7 +280,10 @@ impl<A: Allocator + Clone> Pool<A> {
         let _len = self.cache.len();
         let key_len = key.len() as u64;
         let cost = cost(&key, &held);
-        let old = self.cache.put(key, held)?;
+        let old = match self.cache.put(key, held) {
+            Ok(old) => old,
+            Err(failed) => return Err(failed),
+        };
         self.bytes = self.bytes - freed(key_len, &old) + cost;
         Ok(number_of(&old))
     }
