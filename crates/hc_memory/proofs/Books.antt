@@ -1,12 +1,12 @@
 -- Sums over the charges that are open, as one opens and as one closes.
-use Rattle.std.proofs.Common.{◌≡◌, ℕ, ◌+◌, ◌-◌, ◌<◌, ◌≤◌, ◌==◌, nat_eq, nat_lt, Bool, true, false, cond, not, ◌&&◌, ◌||◌, List, [], ◌∷◌, ◌++◌, map, length, Option, Some, None, find, position, slice_get, slice_set, get_or, swap_remove, sum_by, option_map, refl, sym, ap, ◌∙◌, arith, subst, ⊎_elim, bytes_eq, length-set, eqb-true, eq-eqb, ltb-true, ltb-false, lt-ltb, le-ltb, length-append}
+use Rattle.std.proofs.Common.{◌≡◌, ℕ, ◌+◌, ◌-◌, ◌<◌, ◌≤◌, ◌==◌, nat_eq, nat_lt, Bool, true, false, cond, not, ◌&&◌, ◌||◌, List, [], ◌∷◌, ◌++◌, map, length, Option, Some, None, find, position, take, replicate, slice_get, slice_set, get_or, swap_remove, sum_by, option_map, refl, sym, ap, ◌∙◌, arith, subst, ⊎_elim, bytes_eq, length-set, eqb-true, eq-eqb, ltb-true, ltb-false, lt-ltb, le-ltb, length-append}
 use Rattle.std.specs.List.{position_or_len}
 use Rattle.std.specs.Option.{option_map_or}
 use Rattle.std.specs.Map.{lookup, keys_of}
 use Rattle.std.proofs.lemmas.Bool.{and_parts, and_from}
 use Rattle.std.proofs.lemmas.Bool.Decides.{eqb_tells}
 use Rattle.std.proofs.lemmas.Grind.{get_or-set_at}
-use Rattle.std.proofs.lemmas.List.{get_or-set_other, length-map, map-append}
+use Rattle.std.proofs.lemmas.List.{get_or-set_other, length-map, length-replicate, get_or-replicate, map-append, take_all}
 use Rattle.std.proofs.lemmas.List.Folds.{find_at}
 use Rattle.std.proofs.lemmas.List.Sums.{sum_by-cons, sum_by-swap_remove}
 use Rattle.std.proofs.lemmas.Option.{slice_get_within, slice_get-get_or, get_or_from_slice_get}
@@ -253,3 +253,21 @@ ended-entries number es new is = ap (map open_of) is ∙ closed-entries number e
 
 pub closed-grown : (number : ℕ) (more less : List Open) (charge : Open) → charge_at number more ≡ Some charge → less ≡ closed number more → (f : Open → ℕ) → tally f more ≡ tally f less + f charge
 closed-grown number more less charge found is f = sym (tally-closed f number more charge found) ∙ ap (λ xs. tally f xs + f charge) (sym is)
+
+-- ---- none yet
+
+abbrev idle : Usage
+idle = record { bytes = 0; number = 0 }
+
+from_none : (pools : ℕ) → take pools [] ++ replicate (pools - 0) idle ≡ replicate pools idle
+from_none pools =
+    let few : take pools [] ≡ [] = take_all pools [] (omega arith) in
+    let same : pools - 0 ≡ pools = omega arith in
+    λ i. few i ++ replicate (same i) idle
+
+-- as many counters as pools
+pub no-usage : (pools many : ℕ) (old new : List Usage) → old ≡ [] → many ≡ 0 → new ≡ take pools old ++ replicate (pools - many) (record { bytes = 0; number = 0 }) → new ≡ replicate pools (record { bytes = 0; number = 0 })
+no-usage pools many old new none zero is = is ∙ (λ i. take pools (none i) ++ replicate (pools - zero i) idle) ∙ from_none pools
+
+pub no-sums : (pools : ℕ) (usage : List Usage) (charges : List Open) → usage ≡ replicate pools (record { bytes = 0; number = 0 }) → charges ≡ [] → AreSums usage charges × (count (is_stray (length usage)) charges ≡ 0)
+no-sums pools usage charges is none = rw (is, none) (λ pool lt. slice_get-get_or (replicate pools idle) pool idle lt ∙ ap (λ u. Some u) (get_or-replicate pools pool idle idle (omega (arith, lt, length-replicate pools idle))), refl)

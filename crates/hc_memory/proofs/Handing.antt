@@ -4,6 +4,7 @@ use Rattle.hc_memory.specs.Item.{Item, Open, Handle, cost, open_cost, charge_by,
 use Rattle.hc_memory.specs.Pool.{Pool, is_at, item_at, without, bytes_of}
 use Rattle.hc_memory.specs.Memory.{has, home_of, linked_at, change_at, change_home, unlinked}
 use Rattle.hc_memory.specs.Sound.{Sound, items_at}
+use Rattle.std.proofs.lemmas.List.{set-get_or}
 use Rattle.std.proofs.lemmas.Slice.Eq.{bytes_eq-Decides}
 use Rattle.hc_memory.specs.Charges.{closed, is_open}
 use Rattle.hc_memory.proofs.Books.{tally-closed, count-closed, is_open-found}
@@ -51,6 +52,10 @@ added key pools own pool new item e lt read is = ap (λ p. slice_set pools own p
 
 pub added-old : (key : List ℕ) (pools : List Pool) (own : ℕ) (pool : Pool) → home_of key pools ≡ None → own < length pools → pool ≡ get_or pools own pool → item_at key pool.items ≡ linked_at key pools
 added-old key pools own pool e lt read = nowhere key pools own pool e (read-there pools own pool lt read) ∙ sym (away key pools e).linked
+
+-- where nothing was linked
+pub untouched : (pools : List Pool) (own : ℕ) (pool new : Pool) → own < length pools → pool ≡ get_or pools own pool → new ≡ pool → slice_set pools own new ≡ pools
+untouched pools own pool new lt read is = ap (slice_set pools own) (is ∙ read) ∙ set-get_or pools own pool
 
 -- ---- the handle is one of this cache's
 

@@ -1,7 +1,7 @@
 -- The item under a key, and sums over items.
-use Rattle.std.proofs.Common.{◌≡◌, ℕ, ◌+◌, ◌++◌, Bool, true, false, List, [], ◌∷◌, Option, Some, None, is_some, refl, ap, arith, subst}
+use Rattle.std.proofs.Common.{◌≡◌, ℕ, ◌+◌, ◌++◌, Bool, true, false, List, [], ◌∷◌, Option, Some, None, is_some, Bor, refl, ap, arith, subst}
 use mathlib.Core.Bool.{cond}
-use Rattle.std.specs.Option.{option_map}
+use Rattle.std.specs.Option.{option_map, option_copied}
 use Rattle.std.specs.Str.{bytes_eq}
 use Rattle.std.proofs.lemmas.Slice.Eq.{bytes_eq-Decides}
 use Rattle.hc_types.specs.Tally.{tally, count}
@@ -13,6 +13,15 @@ use Rattle.hc_memory.specs.Pool.{is_at, item_at, without, used, is_expired, unex
 pub mapped-none : {X Y : Type 0} (f : X → Y) (o : Option X) → option_map f o ≡ None → o ≡ None
 mapped-none f None h = refl
 mapped-none f (Some x) h = cc
+
+-- what is lent is there where its copy is
+pub copied-map : {X Y : Type 0} (f : X → Y) (o : Option (Bor X)) → option_map (λ (x : Bor X). f x.now) o ≡ option_map f (option_copied o)
+copied-map f None = refl
+copied-map f (Some x) = refl
+
+pub is_some-mapped : {X Y : Type 0} (f : X → Y) (o : Option X) → is_some (option_map f o) ≡ is_some o
+is_some-mapped f None = refl
+is_some-mapped f (Some x) = refl
 
 -- keys that are alike are one
 pub same_bytes : (a b : List ℕ) → bytes_eq a b ≡ true → a ≡ b

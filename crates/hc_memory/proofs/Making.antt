@@ -1,5 +1,5 @@
 -- New pools, and room that is made in one.
-use Rattle.std.proofs.Common.{◌≡◌, ℕ, zero, suc, ◌+◌, ◌<◌, ◌≤◌, leb, ◌-◌, Bool, true, false, not, List, [], ◌∷◌, ◌++◌, length, take, drop, map, Option, Some, None, Result, Ok, Err, IfOk, OnOk, OnErr, refl, ap, sym, ◌∙◌, arith, subst, slice_get, slice_set, get_or}
+use Rattle.std.proofs.Common.{◌≡◌, ℕ, zero, suc, ◌+◌, ◌<◌, ◌≤◌, leb, ◌-◌, Bool, true, false, not, List, [], ◌∷◌, ◌++◌, length, take, drop, map, append_assoc, Option, Some, None, Result, Ok, Err, IfOk, OnOk, OnErr, refl, ap, sym, ◌∙◌, arith, subst, slice_get, slice_set, get_or}
 use mathlib.Core.Bool.{cond}
 use Rattle.hc_types.specs.Config.{Config}
 use Rattle.hc_types.specs.Limits.{pool_fits, all_fit, pools_fit, page_fits, regions_fit, queue_fits, is_within, wrong_behind, first_wrong}
@@ -13,7 +13,7 @@ use Rattle.hc_memory.specs.Item.{Item, Open, open_cost}
 use Rattle.hc_memory.specs.Pool.{Pool, item_at, used, unexpired, is_full, kept, dropped}
 use Rattle.hc_memory.specs.Charges.{usage_of, charge_at, closed}
 use Rattle.std.proofs.lemmas.Bool.{and_parts}
-use Rattle.std.proofs.lemmas.List.{length-map, length-take-le, set-get_or}
+use Rattle.std.proofs.lemmas.List.{length-map, length-take-le, set-get_or, drop_more}
 use Rattle.std.proofs.lemmas.Option.{slice_get_within, get_or_from_slice_get}
 use Rattle.hc_memory.proofs.Books.{tally-closed, closed-none}
 use Rattle.hc_memory.proofs.Homes.{home}
@@ -49,6 +49,16 @@ sound_of sizes few fit = record {
   unique = λ number. omega arith;
   placed = refl;
 }
+
+-- one more pool
+pub next-made : (sizes : List PoolSize) (i : ℕ) (size : PoolSize) (pools new : List Pool) (pool : Pool) → i < length sizes → pool ≡ empty_pool (get_or sizes i size) → new ≡ pools ++ pool ∷ [] → pools ++ map empty_pool (drop i sizes) ≡ map empty_pool sizes → new ++ map empty_pool (drop (i + 1) sizes) ≡ map empty_pool sizes
+next-made sizes i size pools new pool lt is grown so =
+    let rest = map empty_pool (drop (i + 1) sizes) in
+    ap (λ ps. ps ++ rest) grown
+    ∙ append_assoc pools (pool ∷ []) rest
+    ∙ ap (λ p. pools ++ p ∷ rest) is
+    ∙ ap (λ ss. pools ++ map empty_pool ss) (sym (drop_more sizes i size lt))
+    ∙ so
 
 size_step : (sizes : List PoolSize) (o : Option Refusal) (b : Bool) → pools_fit sizes ≡ b → (if_wrong : cond (not b) (Some BadPool) o ≡ None) → (pools_fit sizes ≡ true) × (o ≡ None)
 size_step sizes o true e h = (e, h)

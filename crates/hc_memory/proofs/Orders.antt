@@ -5,6 +5,7 @@ use Rattle.std.specs.Option.{option_map, option_map_or}
 use Rattle.std.specs.Map.{keys_of, lookup, lookup_entry, remove_entry, set_value}
 use Rattle.std.specs.Map.Iter.{TakesFirst}
 use Rattle.std.specs.Str.{bytes_eq}
+use Rattle.std.proofs.lemmas.Option.{slice_get-get_or}
 use Rattle.std.proofs.lemmas.Map.Keys.{IsDistinct-head, IsDistinct-tail}
 use Rattle.std.proofs.lemmas.Grind.{common_steps}
 use Rattle.std.proofs.lemmas.List.{reverse-reverse, reverse-append}
@@ -176,3 +177,8 @@ module _ {A : Type 0} where
   last-first es e last =
       let first : reverse es ≡ e ∷ reverse (take (length es - 1) es) = subst (λ o. TakesFirst (λ (x : List ℕ × Held A). x) (reverse es) o (reverse (take (length es - 1) es))) last (pops_last es) in
       ap items_of (last_step es e first) ∙ items_of-push (take (length es - 1) es) e
+
+  -- where none is last there is none
+  pub no-entries : (es : List (List ℕ × Held A)) → last_entry es ≡ None → es ≡ []
+  no-entries [] last = refl
+  no-entries (e ∷ es) last = absurd (let there = slice_get-get_or (e ∷ es) (length (e ∷ es) - 1) e (omega arith) in cc)

@@ -169,6 +169,8 @@ fn move_over<A: Allocator + Clone>(
         Ok(copy) => copy,
         Err(_) => return Err(AllocFailed { value: (key, held) }),
     };
-    pools[own].link(key, held)?;
-    Ok(pools[at].unlink(&copy))
+    match pools[own].link(key, held) {
+        Ok(_) => Ok(pools[at].unlink(&copy)),
+        Err(failed) => Err(failed),
+    }
 }

@@ -103,8 +103,15 @@ impl<A: Allocator> Pool<A> {
     pub fn has(&self, key: &Key<A>) -> bool
         ensures { result ≡ is_some (item_at key.now self.now.items) }
     {
+        self.held(key).is_some()
+    }
+
+    /// What is held under the key, expired or not. It isn't used.
+    fn held(&self, key: &Key<A>) -> Option<&Held<A>>
+        ensures { option_map (λ h. item_of (key.now, h.now)) result ≡ item_at key.now self.now.items }
+    {
         let _len = self.cache.len();
-        self.cache.contains(key)
+        self.cache.peek(key)
     }
 
     /// The number and the expiry of the item under the key, expired or not. It isn't used.
@@ -112,8 +119,7 @@ impl<A: Allocator> Pool<A> {
     pub fn peek(&self, key: &Key<A>) -> Option<Glance>
         ensures { result ≡ option_map glance_of (item_at key.now self.now.items) }
     {
-        let _len = self.cache.len();
-        match self.cache.peek(key) {
+        match self.held(key) {
             Some(held) => Some(Glance {
                 number: held.number,
                 expiry: held.expiry,
@@ -197,8 +203,7 @@ impl<A: Allocator> Pool<A> {
     pub fn fresh(&self, key: &Key<A>, now: u64) -> Result<Option<Bytes<A>>, AllocError>
         ensures value { IfOk result (λ found. found ≡ option_map (λ i. i.value) (unexpired now (item_at key.now self.now.items))) }
     {
-        let _len = self.cache.len();
-        let Some(held) = self.cache.peek(key) else {
+        let Some(held) = self.held(key) else {
             return Ok(None);
         };
         if expired(now, held.expiry) {
@@ -275,7 +280,10 @@ impl<A: Allocator + Clone> Pool<A> {
         let _len = self.cache.len();
         let key_len = key.len() as u64;
         let cost = cost(&key, &held);
-        let old = self.cache.put(key, held)?;
+        let old = match self.cache.put(key, held) {
+            Ok(old) => old,
+            Err(failed) => return Err(failed),
+        };
         self.bytes = self.bytes - freed(key_len, &old) + cost;
         Ok(number_of(&old))
     }

@@ -138,13 +138,11 @@ impl<A: Allocator + Copy> Pools<A> {
         requires { first_wrong config.now ≡ None }
         ensures { IfOk result (λ pools. pools ≡ record { flash = config.now.flash; pools = map empty_pool config.now.pools; charges = []; made = 0 }) }
     {
-        let pools = empty_pools(alloc, config.pools.as_slice())?;
-        let made = pools.as_slice();
-        let charges = OpenCharges::new(alloc, made.len())?;
+        let sizes = config.pools.as_slice();
         Ok(Pools {
             flash: config.flash,
-            pools,
-            charges,
+            pools: empty_pools(alloc, sizes)?,
+            charges: OpenCharges::new(alloc, sizes.len())?,
             made: 0,
         })
     }
@@ -184,7 +182,7 @@ fn empty_pools<A: Allocator + Copy>(
 {
     let mut pools = Vec::with_capacity(alloc, sizes.len())?;
     for size in sizes {
-        pools.push(Pool::new(alloc, *size)?)?;
+        pools.push_reserved(Pool::new(alloc, *size)?);
     }
     Ok(pools)
 }
@@ -323,7 +321,7 @@ impl<A: Allocator + Clone> Pools<A> {
     fn plan(&self, pool: u8, key: &Key<A>, size: u64) -> Result<Plan<A>, Refusal>
         requires pool { pool < length self.now.pools }
         requires size { size ≤ VALUE_MAX }
-        ensures plan { IfOk result (IsPlanned self.now pool key.now size) }
+        ensures plan { IfOk result (IsPlanned (self.now.made + 1) (length (victims_of self.now pool (charge_of key.now size))) key.now size) }
         ensures room { OnOk result (is_hopeless self.now pool (charge_of key.now size) ≡ false) }
         ensures why { IfErr result (λ refusal. ((refusal ≡ Refusal.NoRoom) × (is_hopeless self.now pool (charge_of key.now size) ≡ true)) ⊎ ((refusal ≡ Refusal.NoMemory) × (is_hopeless self.now pool (charge_of key.now size) ≡ false))) }
     {
@@ -339,13 +337,7 @@ impl<A: Allocator + Clone> Pools<A> {
 
     /// The memory that a charge takes, where so many items go.
     fn memory_for(&self, count: usize, key: &Key<A>, size: u64) -> Result<Plan<A>, AllocError>
-        ensures number { IfOk result (λ plan. plan.number ≡ self.now.made + 1) }
-        ensures count { IfOk result (λ plan. plan.count ≡ count) }
-        ensures bytes { IfOk result (λ plan. plan.bytes.items ≡ replicate size 0) }
-        ensures copy { IfOk result (λ plan. plan.copy ≡ key.now) }
-        ensures empty { IfOk result (λ plan. plan.victims.items ≡ []) }
-        ensures len { IfOk result (λ plan. vec_len plan.victims ≡ 0) }
-        ensures room { IfOk result (λ plan. count ≤ vec_capacity plan.victims) }
+        ensures { IfOk result (IsPlanned (self.now.made + 1) count key.now size) }
     {
         let alloc = self.pools.allocator();
         let number = match self.made.checked_add(1) {

@@ -38,7 +38,7 @@ fn gather<A: Allocator + Clone>(
 {
     let mut lists = Vec::with_capacity(alloc.clone()?, pools.len())?;
     for pool in pools {
-        lists.push(marked_in(alloc, flash, scope, pool)?)?;
+        lists.push_reserved(marked_in(alloc, flash, scope, pool)?);
     }
     Ok(lists)
 }

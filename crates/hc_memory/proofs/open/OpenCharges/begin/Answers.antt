@@ -16,6 +16,27 @@ with_charge-requires-clause-number g c =
     let read = read-sum f.usage.items (map open_of f.charges.entries) c.args.pool c.index.result.now c.self.invariant.0 within (c.index.ensures ∙ ap (λ n. get_or f.usage.items n c.index.result.now) c.from-at.ensures) in
     omega (arith, ap (λ u. u.number) read, number-below c.args.pool (map open_of f.charges.entries) _ charge begun, length-map c.insert.new.self.entries open_of, c.len-count.ensures.len, c.len-count.ensures.small)
 
+pub with_charge-requires-clause-bytes : goal.with_charge-requires-clause-bytes
+with_charge-requires-clause-bytes g c =
+    let f = c.self.inside in
+    let within = rw (← c.self.view_is) at c.requires.pool in
+    let fits = rw (← c.self.view_is) at c.requires.bytes in
+    let read = read-sum f.usage.items (map open_of f.charges.entries) c.args.pool c.index.result.now c.self.invariant.0 within (c.index.ensures ∙ ap (λ n. get_or f.usage.items n c.index.result.now) c.from-at.ensures) in
+    omega (arith, ap (λ u. u.bytes) read, c.charge-cost.ensures, fits)
+
+pub index-requires : goal.index-requires
+index-requires g c =
+    let within = rw (← c.self.view_is) at c.requires.pool in
+    omega (arith, within, c.from-at.ensures)
+
+pub index_mut-requires : goal.index_mut-requires
+index_mut-requires g c =
+    let within = rw (← c.self.view_is) at c.requires.pool in
+    omega (arith, within, c.from-at.ensures)
+
+pub invariant_of-self : goal.invariant_of-self
+invariant_of-self g c = rw c.in_err-insert.ensures.err c.self.invariant
+
 pub invariant_of-self-2 : goal.invariant_of-self-2
 invariant_of-self-2 g c =
     let f = c.self.inside in

@@ -1,4 +1,4 @@
-use Rattle.std.proofs.Common.{◌∷◌, ◌++◌, [], sym, ◌∙◌, ap, arith, append_assoc, slice_get, drop}
+use Rattle.std.proofs.Common.{◌≡◌, ◌∷◌, ◌++◌, [], sym, ◌∙◌, ap, arith, refl, append-nil, append_assoc, slice_get, take, drop, vec_len}
 use Rattle.std.proofs.lemmas.List.{drop-drop}
 use Rattle.hc_memory.specs.Pool.{Pool}
 use Rattle.hc_memory.proofs.Rooms.{take-next}
@@ -16,3 +16,31 @@ loop-preserved g c =
       len = omega (arith, c.push_reserved.ensures.len, inv.len);
       room = c.push_reserved.ensures.capacity ∙ inv.room;
     }
+
+pub loop-init : goal.loop-init
+loop-init g c = record {
+  left = refl;
+  gone = sym (append-nil c.args.victims.now.items);
+  len = omega arith;
+  room = refl;
+}
+
+pub push_reserved-requires : goal.push_reserved-requires
+push_reserved-requires g c =
+    let inv = c.loop.invariant in
+    omega (arith, inv.len, inv.room, c.requires.room, c.loop-test.true)
+
+pub returns-clause-victims : goal.returns-clause-victims
+returns-clause-victims g c =
+    let all : c.loop.counter ≡ c.args.count = omega (arith, c.loop-test.false, c.loop.auto) in
+    c.loop.invariant.gone ∙ ap (λ n. c.args.victims.now.items ++ take n c.args.self.now.items) all
+
+pub returns-clause-len : goal.returns-clause-len
+returns-clause-len g c =
+    let inv = c.loop.invariant in
+    omega (arith, inv.len, c.loop-test.false, c.loop.auto)
+
+pub returns-clause-items : goal.returns-clause-items
+returns-clause-items g c =
+    let all : c.loop.counter ≡ c.args.count = omega (arith, c.loop-test.false, c.loop.auto) in
+    c.loop.invariant.left ∙ (λ i. record { size = c.args.self.now.size; items = drop (all i) c.args.self.now.items })

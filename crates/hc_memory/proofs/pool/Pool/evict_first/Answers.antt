@@ -1,6 +1,8 @@
-use Rattle.std.proofs.Common.{sym, ◌∙◌, ap, arith, drop, slice_get}
+use Rattle.std.proofs.Common.{◌≡◌, ◌-◌, [], sym, ◌∙◌, ap, arith, take, drop, length, slice_get}
 use Rattle.hc_memory.specs.Pool.{bytes_of}
-use Rattle.hc_memory.proofs.Orders.{last-first}
+use Rattle.std.proofs.lemmas.List.{take_all}
+use Rattle.hc_memory.specs.Seen.{items_of}
+use Rattle.hc_memory.proofs.Orders.{last-first, no-entries}
 use Rattle.hc_memory.proofs.pool.Pool.evict_first.Goals as goal
 
 pub overflow_sub-self : goal.overflow_sub-self
@@ -25,3 +27,23 @@ returns-clause-items g c =
     let first = last-first c.self.inside.cache.entries (c.in_ok-key.key, c.in_ok-key.held) (sym c.pop_oldest.ensures.value ∙ c.in_ok-key.was) in
     let rest = ap (drop 1) (sym first) in
     rw (← c.self.view_is) (rw c.pop_oldest.ensures.entries (λ i. record { size = c.self.inside.size; items = rest i }))
+
+pub invariant_of-self : goal.invariant_of-self
+invariant_of-self g c =
+    let es = c.self.inside.cache.entries in
+    let none = no-entries es (sym c.pop_oldest.ensures.value ∙ c.in_err-key.was) in
+    let same : take (length es - 1) es ≡ es = take_all (length es - 1) es (omega (arith, ap length none)) in
+    rw (c.pop_oldest.ensures.entries, same) c.self.invariant
+
+pub returns-in_err-key-clause-value : goal.returns-in_err-key-clause-value
+returns-in_err-key-clause-value g c =
+    let none = no-entries c.self.inside.cache.entries (sym c.pop_oldest.ensures.value ∙ c.in_err-key.was) in
+    rw (← c.self.view_is) (c.from_residual.ensures ∙ sym (ap (λ es. slice_get (items_of es) 0) none))
+
+pub returns-in_err-key-clause-items : goal.returns-in_err-key-clause-items
+returns-in_err-key-clause-items g c =
+    let es = c.self.inside.cache.entries in
+    let none = no-entries es (sym c.pop_oldest.ensures.value ∙ c.in_err-key.was) in
+    let same : take (length es - 1) es ≡ es = take_all (length es - 1) es (omega (arith, ap length none)) in
+    let items = ap items_of (same ∙ none) ∙ sym (ap (λ es. drop 1 (items_of es)) none) in
+    rw (← c.self.view_is) (rw c.pop_oldest.ensures.entries (λ i. record { size = c.self.inside.size; items = items i }))

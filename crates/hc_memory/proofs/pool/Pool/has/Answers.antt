@@ -1,8 +1,6 @@
-use Rattle.std.proofs.Common.{sym, ◌∙◌}
-use Rattle.hc_memory.proofs.Orders.{is_some-held, unique}
+use Rattle.std.proofs.Common.{is_some, sym, ◌∙◌, ap}
+use Rattle.hc_memory.proofs.Keyed.{is_some-mapped}
 use Rattle.hc_memory.proofs.pool.Pool.has.Goals as goal
 
 pub returns : goal.returns
-returns g c =
-    let es = c.self.inside.cache.entries in
-    rw (← c.self.view_is) (c.contains.ensures ∙ sym (is_some-held c.args.key.now es (unique es c.len-len.ensures.valid.0 c.args.key.now)))
+returns g c = c.is_some.ensures ∙ sym (is_some-mapped _ c.held.result) ∙ ap is_some c.held.ensures

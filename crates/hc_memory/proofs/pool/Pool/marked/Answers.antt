@@ -1,4 +1,4 @@
-use Rattle.std.proofs.Common.{◌≡◌, ◌<◌, ◌^◌, ◌∷◌, ◌++◌, [], All, length, sym, ◌∙◌, ap, subst, append_assoc}
+use Rattle.std.proofs.Common.{◌≡◌, ◌<◌, ◌^◌, ◌∷◌, ◌++◌, [], All, length, sym, ◌∙◌, ap, subst, append-nil, append_assoc}
 use Rattle.std.proofs.lemmas.List.Elements.{All-head, All-tail}
 use Rattle.hc_types.specs.Loss.{scope_of}
 use Rattle.hc_memory.specs.Item.{Item}
@@ -30,3 +30,12 @@ loop-key-preserved g c =
       keys = ap (λ ks. ks ++ marked_keys flash scope more) c.in_ok-add_marked.ensures.ok ∙ append_assoc c.loop-key.keys.items this (marked_keys flash scope more) ∙ ap (λ ks. c.loop-key.keys.items ++ ks) (sym next) ∙ inv.keys;
       grown = Grows-more c.args.keys.now.items c.loop-key.keys.items this c.add_marked.new.keys.items inv.grown c.in_ok-add_marked.ensures.ok;
     }
+
+pub returns-clause-ok : goal.returns-clause-ok
+returns-clause-ok g c =
+    let inv = c.loop-key.invariant in
+    let none = ap (λ es. c.loop-key.keys.items ++ marked_keys c.args.flash.now (scope_of c.args.scope.now) (items_of es)) c.in-None.ensures.steps.0 in
+    sym (append-nil c.loop-key.keys.items) ∙ sym none ∙ inv.keys
+
+pub returns-clause-err : goal.returns-clause-err
+returns-clause-err g c = tt

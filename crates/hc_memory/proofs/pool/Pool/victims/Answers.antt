@@ -93,3 +93,25 @@ loop-key-preserved g c =
       stay = sym stay ∙ inv.stay;
       go = ap (λ ys. ys ++ dropped c.args.self.now.size c.args.usage c.args.want more) next ∙ append_assoc (take n items) (x ∷ []) (dropped c.args.self.now.size c.args.usage c.args.want more) ∙ ap (λ ys. take n items ++ ys) (sym go) ∙ inv.go;
     }
+
+pub returns-then-not-full-clause-bound : goal.returns-then-not-full-clause-bound
+returns-then-not-full-clause-bound g c = c.loop-key.invariant.within
+
+pub returns-clause-bound : goal.returns-clause-bound
+returns-clause-bound g c = c.loop-key.invariant.within
+
+pub returns-clause-go : goal.returns-clause-go
+returns-clause-go g c =
+    let inv = c.loop-key.invariant in
+    sym (append-nil (take c.loop-key.gone c.args.self.now.items)) ∙ sym (ap (λ es. take c.loop-key.gone c.args.self.now.items ++ dropped c.args.self.now.size c.args.usage c.args.want (items_of es)) c.in-None.ensures.steps.0) ∙ inv.go
+
+pub returns-clause-stay : goal.returns-clause-stay
+returns-clause-stay g c =
+    let inv = c.loop-key.invariant in
+    let none = c.in-None.ensures.steps.0 in
+    inv.rest ∙ ap items_of none ∙ sym (ap (λ es. kept c.args.self.now.size c.args.usage c.args.want (items_of es)) none) ∙ inv.stay
+
+pub returns-clause-fits : goal.returns-clause-fits
+returns-clause-fits g c =
+    let inv = c.loop-key.invariant in
+    ap (is_full c.args.self.now.size c.args.usage c.args.want) (inv.rest ∙ ap items_of c.in-None.ensures.steps.0) ∙ c.requires.room

@@ -1,7 +1,9 @@
-use Rattle.std.proofs.Common.{◌≡◌, true, sym, ◌∙◌, arith}
+use Rattle.std.proofs.Common.{◌≡◌, true, inr, sym, ◌∙◌, ap, arith}
+use Rattle.std.specs.Prelude.{option_map}
 use Rattle.hc_memory.specs.Item.{Item, charge_by}
 use Rattle.hc_memory.specs.Seen.{item_of}
-use Rattle.hc_memory.specs.Charges.{is_open}
+use Rattle.hc_memory.specs.Charges.{is_open, closed}
+use Rattle.hc_memory.specs.Memory.{linked_at}
 use Rattle.hc_memory.proofs.Handing.{known-place, link-small, length-linked, linked-sound, linked-is}
 use Rattle.hc_memory.proofs.pools.Pools.link.Goals as goal
 
@@ -28,3 +30,22 @@ invariant_of-self g c =
     let is = linked-is c.self.inside.pools.items c.link_over.new.pools.items c.from-own.result c.into_parts-key.result.0 item c.args.sealed c.args.clean c.in-Ok.ensures.pools (c.from-own.ensures ∙ c.pool.ensures) c.into_parts-key.ensures.key c.into_parts-key.ensures.item in
     let sound = linked-sound c.self.inside.pools.items c.self.inside.charges.charges c.self.inside.made c.args.sealed c.args.clean i.0 mine in
     rw (c.end.ensures.closed, c.number-number.ensures, is) (sound, i.1 ∙ sym (length-linked c.args.sealed.key c.args.sealed.pool _ c.self.inside.pools.items), i.2)
+
+pub returns-in-Ok-clause-old : goal.returns-in-Ok-clause-old
+returns-in-Ok-clause-old g c = rw (← c.self.view_is) (c.in-Ok.ensures.old ∙ ap (λ key. option_map (λ (i : Item). i.number) (linked_at key c.self.inside.pools.items)) c.into_parts-key.ensures.key)
+
+pub returns-in-Ok-clause-pools : goal.returns-in-Ok-clause-pools
+returns-in-Ok-clause-pools g c =
+    let item : Item = item_of c.into_parts-key.result in
+    let is = linked-is c.self.inside.pools.items c.link_over.new.pools.items c.from-own.result c.into_parts-key.result.0 item c.args.sealed c.args.clean c.in-Ok.ensures.pools (c.from-own.ensures ∙ c.pool.ensures) c.into_parts-key.ensures.key c.into_parts-key.ensures.item in
+    let charges = ap (λ book. book.charges) c.end.ensures.closed ∙ ap (λ number. closed number c.self.inside.charges.charges) c.number-number.ensures in
+    rw (← c.self.view_is) (λ i. record { flash = c.self.inside.flash; pools = is i; charges = charges i; made = c.self.inside.made })
+
+pub returns-in-Ok-clause-mine : goal.returns-in-Ok-clause-mine
+returns-in-Ok-clause-mine g c = sym c.knows-known.ensures ∙ c.if-not-known.false
+
+pub returns-in-Err-clause-why : goal.returns-in-Err-clause-why
+returns-in-Err-clause-why g c = inr (c.refused-in-Err.ensures.refusal, sym c.knows-known.ensures ∙ c.if-not-known.false)
+
+pub returns-in-Err-clause-err : goal.returns-in-Err-clause-err
+returns-in-Err-clause-err g c = rw (← c.self.view_is) (λ i. record { flash = c.self.inside.flash; pools = c.in-Err.ensures.err i; charges = c.self.inside.charges.charges; made = c.self.inside.made })

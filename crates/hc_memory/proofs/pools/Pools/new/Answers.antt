@@ -1,4 +1,5 @@
-use Rattle.std.proofs.Common.{length, map, ◌∙◌, ap}
+use Rattle.std.proofs.Common.{length, map, sym, ◌∙◌, ap}
+use Rattle.std.proofs.lemmas.List.{length-map}
 use Rattle.hc_memory.specs.Memory.{empty_pool}
 use Rattle.hc_memory.proofs.Making.{sound-new}
 use Rattle.hc_memory.proofs.pools.Pools.new.Goals as goal
@@ -7,5 +8,12 @@ pub invariant_of-result : goal.invariant_of-result
 invariant_of-result g c =
     let h = rw (← c.config.view_is) at c.requires in
     let s = sound-new (record { pools = c.config.inside.pools.items; flash = c.config.inside.flash }) h in
-    let made = c.in_ok-pools.ensures ∙ ap (map empty_pool) c.as_slice.ensures.value in
-    (rw (made, c.in_ok-charges.ensures) s.0, ap (λ book. book.pools) c.in_ok-charges.ensures ∙ ap length c.as_slice-made.ensures.value, s.1)
+    let made = c.in_ok-empty_pools.ensures ∙ ap (map empty_pool) c.as_slice-sizes.ensures.value in
+    let many = ap (λ book. book.pools) c.in_ok-new.ensures ∙ sym (ap length c.in_ok-empty_pools.ensures ∙ length-map c.as_slice-sizes.result.now empty_pool) in
+    (rw (made, c.in_ok-new.ensures) s.0, many, s.1)
+
+pub returns : goal.returns
+returns g c =
+    let made = c.in_ok-empty_pools.ensures ∙ ap (map empty_pool) c.as_slice-sizes.ensures.value in
+    let none = ap (λ book. book.charges) c.in_ok-new.ensures in
+    rw (← c.config.view_is) (λ i. record { flash = c.config.inside.flash; pools = made i; charges = none i; made = 0 })
