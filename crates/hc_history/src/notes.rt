@@ -38,7 +38,8 @@ pub trait Notes<T: Says>: Drop {
         ensures room { room self.old ≤ room self.new + 1 };
 }
 
-/// Keeps every note.
+/// Keeps every note. A call takes some 480 bytes for its notes, and a find looks its value up twice, since its note
+/// shares the value: take `Counting` where the counts and the losses are enough.
 #[derive(Drop)]
 pub struct Kept<A: Allocator = Global> {
     /// The log, the oldest note first.

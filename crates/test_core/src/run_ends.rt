@@ -1,5 +1,5 @@
 // Where steps end in the log, and what its end gives up.
-use crate::steps::{left, ran};
+use crate::run_steps::{left, ran};
 use hc_core::Ran;
 use hc_history::Said;
 use std::alloc::Global;

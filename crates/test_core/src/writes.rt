@@ -83,19 +83,3 @@ fn a_blank_can_be_given_up(rt: HostRuntime) {
     give_up_blank(&rt, &mut pools, blank);
     assert!(rt; pools.open_charges() == 0);
 }
-
-// That a sealed handle tells its item: the first, of `k`, with so many bytes, which expires at second 15.
-fn assert_tells(rt: &impl Abort, sealed: &Sealed, len: usize) {
-    assert!(rt; sealed.number() == 1);
-    assert!(rt; sealed.key().as_slice() == b"k".as_slice());
-    assert!(rt; sealed.expiry() == 15);
-    assert!(rt; sealed.len() == len);
-}
-
-#[test]
-fn a_sealed_handle_tells_its_item(rt: HostRuntime) {
-    let (mut pools, blank) = handle(&rt, rt.alloc(), 3);
-    let sealed = seal(&rt, blank);
-    assert_tells(&rt, &sealed, 3);
-    give_up(&rt, &mut pools, sealed);
-}

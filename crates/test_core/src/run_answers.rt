@@ -1,5 +1,5 @@
 // What steps are answered.
-use crate::steps::{discard, find, left, open, put, put_new, ran, remove, tick};
+use crate::run_steps::{discard, find, left, open, put, put_new, ran, remove, tick};
 use hc_core::{Answer, Outcome, Ran, Step};
 use hc_history::Reply;
 use hc_types::Refusal;

@@ -1,8 +1,8 @@
-// A core answers the same whether its log is kept or not, and a log that is kept counts its answers.
+// A core answers the same whether its log is kept, counted or not heard, and counts its answers alike.
 ghost use Rattle.std.specs.Prelude.{◌≡◌, None};
 
 use hc_core::{Core, Found, Removed, open};
-use hc_history::{Kept, Note, Notes, Silent, Stats};
+use hc_history::{Counting, Kept, Note, Notes, Silent, Stats};
 use hc_memory::{Blank, Sealed};
 use hc_types::{Config, Key, PoolSize};
 use std::alloc::Global;
@@ -57,6 +57,17 @@ fn clear<N: Notes<Note>>(rt: &impl Abort, alloc: Global, core: &mut Core<N>) -> 
     removed == Removed::FoundInMemory
 }
 
+// What these calls count.
+const COUNTS: Stats = Stats {
+    stored: 1,
+    hits: 1,
+    misses: 1,
+    removes: 1,
+    losses: 0,
+    reads: 0,
+    writes: 0,
+};
+
 // Three calls that succeed, and a find that misses.
 fn use_it<N: Notes<Note>>(rt: &impl Abort, alloc: Global, core: &mut Core<N>) {
     store(rt, alloc, core);
@@ -91,14 +102,19 @@ fn stats(core: Core<Kept>) -> Stats {
 fn a_core_whose_log_is_kept_answers_and_counts(rt: HostRuntime) {
     let mut core = kept(&rt, rt.alloc());
     use_it(&rt, rt.alloc(), &mut core);
-    let want = Stats {
-        stored: 1,
-        hits: 1,
-        misses: 1,
-        removes: 1,
-        losses: 0,
-        reads: 0,
-        writes: 0,
-    };
-    assert!(rt; stats(core) == want);
+    assert!(rt; stats(core) == COUNTS);
+}
+
+// A core whose log is counted.
+fn counting(rt: &impl Abort, alloc: Global) -> Core<Counting> {
+    let config = config(rt, alloc);
+    Core::new(alloc, &config, Counting::new(alloc)).expect(rt, "the pool fits")
+}
+
+#[test]
+fn a_core_whose_log_is_counted_answers_and_counts(rt: HostRuntime) {
+    let mut core = counting(&rt, rt.alloc());
+    use_it(&rt, rt.alloc(), &mut core);
+    core.forget_losses();
+    assert!(rt; core.notes().counts == COUNTS);
 }

@@ -107,26 +107,3 @@ fn a_cache_tells_its_configuration_and_clock(rt: HostRuntime) {
     assert!(rt; tick(&rt, &mut core, 14) == 15);
     assert!(rt; core.config().pools.as_slice() == [SIZE, SIZE].as_slice());
 }
-
-// That so many calls were begun, and so many charges are open.
-fn assert_told(rt: &impl Abort, core: &Core<Kept>, calls: u64, open: usize) {
-    assert!(rt; core.calls() == calls);
-    assert!(rt; core.pools().open_charges() == open);
-}
-
-// Inserts the item of a handle.
-fn insert(rt: &impl Abort, core: &mut Core<Kept>, sealed: Sealed) {
-    match core.insert(0, sealed) {
-        Ok(()) => {}
-        Err(_) => panic!(rt; "the handle is this cache's"),
-    }
-}
-
-#[test]
-fn a_cache_tells_its_calls_and_pools(rt: HostRuntime) {
-    let mut core = cache(&rt, rt.alloc());
-    let blank = blank(&rt, rt.alloc(), &mut core, 0, b"a", 3);
-    assert_told(&rt, &core, 0, 1);
-    insert(&rt, &mut core, seal(&rt, blank));
-    assert_told(&rt, &core, 1, 0);
-}

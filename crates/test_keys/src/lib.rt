@@ -1,5 +1,0 @@
-//! Tests of keys, configurations and refusals.
-#![tactic(auto)]
-
-#[cfg(test)]
-mod tests;
