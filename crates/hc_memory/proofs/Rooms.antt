@@ -1,5 +1,5 @@
 -- Who goes where room is made.
-use Rattle.std.proofs.Common.{◌≡◌, ℕ, ◌+◌, ◌≤◌, ◌==◌, nat_lt, ◌||◌, length, ◌++◌, Bool, true, false, List, [], ◌∷◌, Some, take, drop, slice_get, ap, ◌∙◌, arith}
+use Rattle.std.proofs.Common.{◌≡◌, ℕ, ◌+◌, ◌<◌, ◌≤◌, ◌==◌, nat_lt, ◌||◌, length, ◌++◌, Bool, true, false, List, [], ◌∷◌, Some, None, take, drop, slice_get, ap, ◌∙◌, arith}
 use mathlib.Core.Bool.{cond}
 use Rattle.std.proofs.Math.Seq.{take-add}
 use Rattle.std.proofs.lemmas.Grind.{common_steps}
@@ -40,3 +40,8 @@ first_one x (y ∷ items) first = let same : y ≡ x = cc in ap (λ z. z ∷ [])
 -- the item after the first n is the next that is taken
 pub take-next : (n : ℕ) (items : List Item) (x : Item) → Some x ≡ slice_get (drop n items) 0 → take (n + 1) items ≡ take n items ++ x ∷ []
 take-next n items x first = take-add n 1 items ∙ ap (λ xs. take n items ++ xs) (first_one x (drop n items) first)
+
+-- where one is left there is a first
+pub first-there : (xs : List Item) → 0 < length xs → None ≡ slice_get xs 0 → ⊥
+first-there [] some none = omega (arith, some)
+first-there (x ∷ xs) some none = cc

@@ -1,7 +1,7 @@
-use Rattle.std.proofs.Common.{◌≡◌, ◌∷◌, ◌++◌, [], sym, ◌∙◌, ap, arith, refl, append-nil, append_assoc, slice_get, take, drop, vec_len}
+use Rattle.std.proofs.Common.{◌≡◌, ◌∷◌, ◌++◌, [], sym, ◌∙◌, ap, arith, refl, append-nil, append_assoc, length, length-drop, slice_get, take, drop, vec_len}
 use Rattle.std.proofs.lemmas.List.{drop-drop}
 use Rattle.hc_memory.specs.Pool.{Pool}
-use Rattle.hc_memory.proofs.Rooms.{take-next}
+use Rattle.hc_memory.proofs.Rooms.{take-next, first-there}
 use Rattle.hc_memory.proofs.pool.Pool.evict.Goals as goal
 
 pub loop-preserved : goal.loop-preserved
@@ -44,3 +44,9 @@ pub returns-clause-items : goal.returns-clause-items
 returns-clause-items g c =
     let all : c.loop.counter ≡ c.args.count = omega (arith, c.loop-test.false, c.loop.auto) in
     c.loop.invariant.left ∙ (λ i. record { size = c.args.self.now.size; items = drop (all i) c.args.self.now.items })
+
+pub unreachable-requires : goal.unreachable-requires
+unreachable-requires g c =
+    let inv = c.loop.invariant in
+    let left = ap (λ (p : Pool). length p.items) inv.left in
+    first-there c.loop.self.items (omega (arith, left, length-drop c.loop.counter c.args.self.now.items, c.loop-test.true, c.requires.some)) c.in-None.ensures.value

@@ -2,11 +2,23 @@ use Rattle.std.proofs.Common.{◌≡◌, ◌<◌, ◌^◌, ◌∷◌, ◌++◌, 
 use Rattle.std.proofs.lemmas.List.Elements.{All-head, All-tail}
 use Rattle.hc_types.specs.Loss.{scope_of}
 use Rattle.hc_memory.specs.Item.{Item}
-use Rattle.hc_memory.specs.Pool.{marked_keys}
+use Rattle.hc_memory.specs.Pool.{Pool, marked_keys}
 use Rattle.hc_memory.specs.Seen.{item_of, items_of}
 use Rattle.hc_memory.proofs.Marks.{marked-cons, Grows-more}
 use Rattle.hc_memory.proofs.Orders.{items_of-push}
 use Rattle.hc_memory.proofs.pool.Pool.marked.Goals as goal
+
+pub loop-key-init : goal.loop-key-init
+loop-key-init g c =
+    let all = ap (λ r. r.iter) c.into_iter-key-iterator.ensures.into_iter_gives ∙ c.rev-key-items.ensures.source ∙ c.iter.ensures.rest in
+    let items = ap items_of all ∙ ap (λ (p : Pool). p.items) c.self.view_is in
+    record {
+      can = tt;
+      finite = tt;
+      short = subst (All (λ (i : Item). length i.value < 2 ^ 63)) (sym items) c.requires.lengths;
+      keys = ap (λ xs. c.args.keys.now.items ++ marked_keys c.args.flash.now (scope_of c.args.scope.now) xs) items;
+      grown = ([], sym (append-nil c.args.keys.now.items));
+    }
 
 pub add_marked-requires-clause-len : goal.add_marked-requires-clause-len
 add_marked-requires-clause-len g c =

@@ -8,6 +8,22 @@ use Rattle.hc_memory.proofs.Orders.{items_of-push, length-items_of}
 use Rattle.hc_memory.proofs.Rooms.{full-is, want-fits, kept-stop, kept-go, dropped-stop, dropped-go, take-next}
 use Rattle.hc_memory.proofs.pool.Pool.victims.Goals as goal
 
+pub loop-key-init : goal.loop-key-init
+loop-key-init g c =
+    let all = ap (λ r. r.iter) c.into_iter-key-iterator.ensures.into_iter_gives ∙ c.rev-key-items.ensures.source ∙ c.iter.ensures.rest in
+    let items = ap items_of all ∙ ap (λ (p : Pool). p.items) c.self.view_is in
+    record {
+      can = tt;
+      finite = tt;
+      limits = ap (λ (p : Pool). p.size) c.self.view_is;
+      bytes = c.self.invariant.0 ∙ sym (ap (λ es. bytes_of (items_of es)) all);
+      left = c.len-left.ensures.len ∙ sym (ap length all);
+      rest = sym items;
+      within = omega arith;
+      stay = ap (kept c.args.self.now.size c.args.usage c.args.want) items;
+      go = ap (dropped c.args.self.now.size c.args.usage c.args.want) items;
+    }
+
 pub full-requires-clause-bytes : goal.full-requires-clause-bytes
 full-requires-clause-bytes g c =
     let inv = c.loop-key.invariant in

@@ -1,4 +1,4 @@
-use Rattle.std.proofs.Common.{◌≡◌, ◌+◌, ◌++◌, ◌∷◌, List, ℕ, [], take, length, refl, sym, ◌∙◌, ap, arith, length-set}
+use Rattle.std.proofs.Common.{◌≡◌, ◌+◌, ◌++◌, ◌∷◌, List, ℕ, [], inr, take, length, refl, sym, ◌∙◌, ap, arith, length-set}
 use Rattle.hc_types.specs.Charge.{charge_of}
 use Rattle.hc_types.proofs.Tallies.{find-none}
 use Rattle.hc_memory.specs.Item.{Item, Open}
@@ -85,3 +85,33 @@ returns-clause-pools g c =
     let book : c.begin.new.self.charges ≡ c.self.inside.charges.charges ++ record { number = c.self.inside.made + 1; pool = c.args.pool; key = c.args.key; size = c.args.size } ∷ [] =
     ap (λ book. book.charges) c.in-Ok-begin.ensures.ok ∙ (λ i. c.self.inside.charges.charges ++ record { number = p.number i; pool = c.args.pool; key = p.copy i; size = c.args.size } ∷ []) in
     rw (← c.self.view_is) (λ i. record { flash = c.self.inside.flash; pools = rooms i; charges = book i; made = p.number i })
+
+pub begin-requires-clause-pool : goal.begin-requires-clause-pool
+begin-requires-clause-pool g c =
+    let lt = rw (← c.self.view_is) at c.requires.pool in
+    omega (arith, lt, c.self.invariant.1)
+
+pub invariant_of-self : goal.invariant_of-self
+invariant_of-self g c = rw c.in-Err-begin.ensures.err c.self.invariant
+
+pub returns-in-Err-clause-why : goal.returns-in-Err-clause-why
+returns-in-Err-clause-why g c = c.in-Err.ensures.why
+
+pub returns-in-Err-begin-clause-why : goal.returns-in-Err-begin-clause-why
+returns-in-Err-begin-clause-why g c = inr (refl, c.in-Ok.ensures.room)
+
+pub returns-in-Err-begin-clause-err : goal.returns-in-Err-begin-clause-err
+returns-in-Err-begin-clause-err g c = rw (← c.self.view_is) (λ i. record { flash = c.self.inside.flash; pools = c.self.inside.pools.items; charges = (c.in-Err-begin.ensures.err i).charges; made = c.self.inside.made })
+
+pub evict-requires-clause-room : goal.evict-requires-clause-room
+evict-requires-clause-room g c =
+    let p = c.in-Ok.ensures.plan in
+    omega (arith, p.len, p.room)
+
+pub returns-clause-room : goal.returns-clause-room
+returns-clause-room g c = c.in-Ok.ensures.room
+
+pub returns-clause-blank : goal.returns-clause-blank
+returns-clause-blank g c =
+    let p = c.in-Ok.ensures.plan in
+    c.new.ensures ∙ (λ i. record { number = p.number i; pool = c.args.pool; key = c.args.key; expiry = c.args.expiry; value = p.bytes i })

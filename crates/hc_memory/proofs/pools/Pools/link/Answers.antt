@@ -49,3 +49,12 @@ returns-in-Err-clause-why g c = inr (c.refused-in-Err.ensures.refusal, sym c.kno
 
 pub returns-in-Err-clause-err : goal.returns-in-Err-clause-err
 returns-in-Err-clause-err g c = rw (← c.self.view_is) (λ i. record { flash = c.self.inside.flash; pools = c.in-Err.ensures.err i; charges = c.self.inside.charges.charges; made = c.self.inside.made })
+
+pub returns-in-Err-clause-sealed_returned : goal.returns-in-Err-clause-sealed_returned
+returns-in-Err-clause-sealed_returned g c =
+    let parts = c.in-Err.ensures.value_returned in
+    let item = c.into_parts-key.ensures.item in
+    c.refused-in-Err.ensures.sealed
+    ∙ c.from_parts.ensures
+    ∙ (λ i. record { number = (parts i).1.number; pool = (parts i).1.pool; key = (parts i).0; expiry = (parts i).1.expiry; value = (parts i).1.value })
+    ∙ (λ i. record { number = (item i).number; pool = (item i).pool; key = c.into_parts-key.ensures.key i; expiry = (item i).expiry; value = (item i).value })

@@ -1,4 +1,4 @@
-use Rattle.std.proofs.Common.{◌≡◌, ◌++◌, List, [], drop, take, inl, inr, refl, sym, ◌∙◌, ap, get_or, slice_set, length-set}
+use Rattle.std.proofs.Common.{◌≡◌, ◌++◌, List, [], drop, take, inl, inr, refl, sym, ◌∙◌, ap, arith, get_or, slice_set, length-set}
 use Rattle.hc_memory.specs.declared.usage.Usage.{Usage}
 use Rattle.hc_memory.specs.Item.{Item}
 use Rattle.hc_memory.specs.Pool.{Pool, is_full, dropped, kept}
@@ -72,3 +72,16 @@ returns-clause-room g c =
     let k = known view c.args.pool c.args.want c.index.result.now at in
     let same : is_full c.index.result.now.size c.usage-usage.result c.args.want [] ≡ is_hopeless view c.args.pool c.args.want = ap (λ (u : Usage). is_full c.index.result.now.size u c.args.want []) c.usage-usage.ensures ∙ sym k.hopeless in
     rw (← c.self.view_is) (sym same ∙ c.in-Ok.ensures.room)
+
+pub index-requires : goal.index-requires
+index-requires g c =
+    let lt = rw (← c.self.view_is) at c.requires in
+    omega (arith, lt, c.from-at.ensures)
+
+pub index_mut-requires : goal.index_mut-requires
+index_mut-requires g c =
+    let lt = rw (← c.self.view_is) at c.requires in
+    omega (arith, lt, c.from-at.ensures)
+
+pub evict-requires-clause-room : goal.evict-requires-clause-room
+evict-requires-clause-room g c = omega (arith, c.in-Ok-room_for.ensures.len, c.in-Ok-room_for.ensures.room)
