@@ -1,4 +1,4 @@
-// Handles that another cache made, and what a cache tells of itself.
+// Handles that another cache made.
 use hc_core::Core;
 use hc_history::Kept;
 use hc_memory::{Blank, Sealed, Unlinked};
@@ -91,19 +91,4 @@ fn a_handle_of_another_cache_comes_back(rt: HostRuntime) {
     assert_foreign(&rt, rt.alloc(), 1, b"a", 3);
     assert_foreign(&rt, rt.alloc(), 0, b"b", 3);
     assert_foreign(&rt, rt.alloc(), 0, b"a", 4);
-}
-
-// Moves the clock on, and answers the second that it tells.
-fn tick(rt: &impl Abort, core: &mut Core<Kept>, moment: u64) -> u64 {
-    let now = core.tick(moment).expect(rt, "there is memory");
-    assert!(rt; core.now() == now);
-    now
-}
-
-#[test]
-fn a_cache_tells_its_configuration_and_clock(rt: HostRuntime) {
-    let mut core = cache(&rt, rt.alloc());
-    assert!(rt; tick(&rt, &mut core, 15) == 15);
-    assert!(rt; tick(&rt, &mut core, 14) == 15);
-    assert!(rt; core.config().pools.as_slice() == [SIZE, SIZE].as_slice());
 }

@@ -1,5 +1,5 @@
 //! Tests of what only code can say of the core: cores whose notes are kept, counted or silent, handles that another cache
-//! made, writes past an item's end, values that are read when their item is gone, clean marks, runs with slots, and keys.
+//! made, writes past an item's end, values that are read when their item is gone, clean marks, and runs with slots.
 #![tactic(auto)]
 
 #[cfg(test)]
@@ -8,8 +8,6 @@ mod cores;
 mod fixtures;
 #[cfg(test)]
 mod foreign;
-#[cfg(test)]
-mod keys;
 #[cfg(test)]
 mod marks;
 #[cfg(test)]

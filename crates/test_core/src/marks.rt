@@ -1,5 +1,5 @@
 // The clean marks that a scope takes.
-use crate::fixtures::{key, store, two_pools};
+use crate::fixtures::{store, two_pools};
 use hc_memory::{Item, Pools};
 use hc_types::Scope;
 use std::alloc::Global;
@@ -39,13 +39,4 @@ fn a_bucket_takes_the_marks_of_small_items(rt: HostRuntime) {
     unmark(&rt, &mut pools, Scope::Bucket(0));
     assert_gone(&rt, &mut pools, 767, b"a", false);
     assert_gone(&rt, &mut pools, 768, b"b", true);
-}
-
-#[test]
-fn a_key_takes_its_own_mark(rt: HostRuntime) {
-    let mut pools = marked(&rt, rt.alloc());
-    let scope = Scope::Key(key(&rt, rt.alloc(), b"b"));
-    unmark(&rt, &mut pools, scope);
-    assert_gone(&rt, &mut pools, 767, b"a", true);
-    assert_gone(&rt, &mut pools, 768, b"b", false);
 }

@@ -1,5 +1,5 @@
 // What steps are answered.
-use crate::run_steps::{discard, find, left, open, put, put_new, ran, remove, tick};
+use crate::run_steps::{discard, left, open, put, put_new, ran};
 use hc_core::{Answer, Outcome, Ran, Step};
 use hc_history::Reply;
 use hc_types::Refusal;
@@ -72,28 +72,4 @@ fn slots_in_the_wrong_state_are_told(rt: HostRuntime) {
         steps,
         "|no slot|no slot|no slot|filled|no slot",
     );
-}
-
-// A clock that moves on once, and an item that is added.
-fn added(alloc: Global) -> Result<Vec<Step>, AllocError> {
-    let mut steps = vec![in alloc; tick(7), tick(6)]?;
-    steps.push(open(alloc, 0, b"one")?)?;
-    steps.push(put_new(0))?;
-    Ok(steps)
-}
-
-// That item is removed.
-fn removed(alloc: Global) -> Result<Vec<Step>, AllocError> {
-    let mut steps = added(alloc)?;
-    steps.push(remove(alloc)?)?;
-    steps.push(remove(alloc)?)?;
-    steps.push(find(alloc)?)?;
-    Ok(steps)
-}
-
-#[test]
-fn what_is_removed_is_gone(rt: HostRuntime) {
-    let steps = removed(rt.alloc()).expect(&rt, "there is memory");
-    let want = "|second 7|second 7|filled|stored|found|absent|miss";
-    assert_words(&rt, rt.alloc(), steps, want);
 }

@@ -45,17 +45,6 @@ pub fn find(alloc: Global) -> Result<Step, AllocError> {
     Ok(step(Request::Find { client: 1, key }))
 }
 
-/// To remove the key.
-pub fn remove(alloc: Global) -> Result<Step, AllocError> {
-    let key = key(alloc)?;
-    Ok(step(Request::Remove { client: 2, key }))
-}
-
-/// To move the clock on.
-pub fn tick(moment: u64) -> Step {
-    step(Request::Tick { moment })
-}
-
 // An item is stored, and the next one of its key waits in slot 1.
 fn stored(alloc: Global) -> Result<Vec<Step>, AllocError> {
     let mut steps = Vec::new(alloc);

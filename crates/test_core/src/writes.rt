@@ -67,19 +67,3 @@ fn an_item_may_be_empty(rt: HostRuntime) {
     assert_refused(&rt, &mut blank, 0, b"x");
     assert_bytes(&rt, &mut pools, blank, b"");
 }
-
-// Gives up the item that is being written, whose charge is the first.
-fn give_up_blank(rt: &impl Abort, pools: &mut Pools, blank: Blank) {
-    match pools.discard_blank(blank) {
-        Ok(number) => assert!(rt; number == 1),
-        Err(_) => panic!(rt; "the handle is of these pools"),
-    }
-}
-
-#[test]
-fn a_blank_can_be_given_up(rt: HostRuntime) {
-    let (mut pools, blank) = handle(&rt, rt.alloc(), 3);
-    assert!(rt; blank.number() == 1 && blank.len() == 3);
-    give_up_blank(&rt, &mut pools, blank);
-    assert!(rt; pools.open_charges() == 0);
-}
