@@ -1,6 +1,7 @@
 // One line of a trace after another.
 ghost use Rattle.std.specs.Prelude.{◌≡◌, ◌+◌, ◌^◌, ◌<◌, ◌++◌, None, Some, false, IfOk, OnOk, MatchResult};
 ghost use Rattle.hc_types.specs.Limits.{first_wrong};
+ghost use Rattle.hc_trace.specs.declared.state.State.TheVariants.{Running};
 ghost use Rattle.hc_trace.specs.Seen.{order_seen};
 ghost use Rattle.hc_trace.specs.Grammar as spec;
 ghost use Rattle.hc_trace.specs.Machine.{counting_cache, stops, obeyed, turn_of, ended};
@@ -58,6 +59,13 @@ fn new_core(alloc: Global, config: &Config) -> Result<Result<Core<Counting>, Ref
     }
 }
 
+// From here on the steps are run.
+fn begin(state: &mut State, core: Core<Kept>)
+    ensures { state.new ≡ Running core }
+{
+    *state = State::Running(core);
+}
+
 // The end of the configuration.
 fn end_configuration(
     alloc: Global,
@@ -75,7 +83,7 @@ fn end_configuration(
     };
     match new_core(alloc, sizes.config())? {
         Ok(core) => {
-            *state = State::Running(core);
+            begin(state, core);
             Ok(true)
         }
         Err(refusal) => {

@@ -1,4 +1,4 @@
-use Rattle.std.proofs.Common.{[], ◌∷◌, ◌++◌, None, ◌∙◌, arith}
+use Rattle.std.proofs.Common.{◌≡◌, [], ◌∷◌, ◌++◌, None, replicate, ap, ◌∙◌, arith}
 use Rattle.std.proofs.lemmas.List.{replicate_more}
 use Rattle.hc_core.proofs.slots.empty_slots.Goals as goal
 
@@ -11,3 +11,11 @@ loop-preserved g c =
       len = omega (arith, push.len, i.len);
       room = omega (arith, push.capacity, i.room);
     }
+
+pub push_reserved-requires : goal.push_reserved-requires
+push_reserved-requires g c = omega (arith, c.loop.invariant.len, c.loop.invariant.room, c.loop-test.true)
+
+pub returns : goal.returns
+returns g c =
+    let all : c.loop.counter ≡ c.args.count = omega (arith, c.loop.auto.counter-end, c.loop-test.false) in
+    c.loop.invariant.empty ∙ ap (λ n. replicate n None) all

@@ -1,4 +1,4 @@
-use Rattle.std.proofs.Common.{◌≡◌, ◌∷◌, length, ap, sym, ◌∙◌, arith, subst}
+use Rattle.std.proofs.Common.{◌≡◌, ◌∷◌, length, refl, ap, sym, ◌∙◌, arith, subst}
 use Rattle.std.specs.Vec.Iter.{into_iter_items}
 use Rattle.hc_history.specs.Told.{told_more}
 use Rattle.hc_core.specs.Asked.{handle_of}
@@ -32,3 +32,22 @@ loop-slot-preserved g c =
 pub returns-clause-log : goal.returns-clause-log
 returns-clause-log g c =
     nothing-left c.loop-slot.core (into_iter_items c.loop-slot.left) (sym c.loop-slot.invariant.len ∙ c.in_default.ensures.cases.0) ∙ c.loop-slot.invariant.log
+
+pub returns-clause-config : goal.returns-clause-config
+returns-clause-config g c = c.loop-slot.invariant.config
+
+pub loop-slot-init : goal.loop-slot-init
+loop-slot-init g c =
+    let made = c.into_iter-left.ensures in
+    record {
+      log = ap (λ slots. told_more c.args.core.now.log (left_notes slots)) made.rest;
+      config = refl;
+      len = omega (arith, made.len, ap length made.rest);
+      held = rw made.rest c.requires.held;
+    }
+
+pub loop-slot-smaller : goal.loop-slot-smaller
+loop-slot-smaller g c = omega (arith, c.in-Some.ensures.cases)
+
+pub destroy_empty-requires : goal.destroy_empty-requires
+destroy_empty-requires g c = c.in_default.ensures.cases.1

@@ -1,7 +1,9 @@
 use Rattle.std.proofs.Common.{length, refl, sym, ap, ◌∙◌, arith, subst}
 use Rattle.hc_memory.specs.Item.{Handle}
-use Rattle.hc_memory.specs.Memory.{after_charge}
+use Rattle.hc_memory.specs.Memory.{after_charge, blank_of}
+use Rattle.hc_core.specs.Cache.{Cache}
 use Rattle.hc_core.specs.Mirrors.{FitsConfig}
+use Rattle.hc_core.specs.Steps.{expiry_of}
 use Rattle.hc_core.proofs.Keeps.{follows-as, follows-allocate, fits-allocate, length-as, length-opened, pool-there}
 use Rattle.hc_core.proofs.Made.{allocated-log}
 use Rattle.hc_core.proofs.cache.Core.allocate.Goals as goal
@@ -35,3 +37,16 @@ returns-clause-ok g c =
       calls = f.calls;
       log = log i;
     })
+
+pub evictions-requires : goal.evictions-requires
+evictions-requires g c = omega (arith, c.in-Ok.ensures.room, ap length c.in-Ok-charge.ensures.victims)
+
+pub charged-requires : goal.charged-requires
+charged-requires g c = omega (arith, c.in-Ok.ensures.room, ap length c.in-Ok-charge.ensures.victims, c.evictions.ensures.room)
+
+pub returns-clause-blank : goal.returns-clause-blank
+returns-clause-blank g c =
+    let f = c.self.inside in
+    c.in-Ok-charge.ensures.blank
+    ∙ (λ i. blank_of f.pools c.args.pool c.args.key c.args.size (c.expiry_after-expiry.ensures i))
+    ∙ ap (λ (k : Cache). blank_of k.memory c.args.pool c.args.key c.args.size (expiry_of k.now c.args.ttl)) c.self.view_is
