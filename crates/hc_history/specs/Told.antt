@@ -1,5 +1,5 @@
 -- What is heard of a log, which may not be kept.
-use Rattle.std.specs.Prelude.{ℕ, ◌+◌, ◌-◌, ◌^◌, Bool, true, false, List, [], ◌++◌, filter, Option, Some, None, if◌then◌else◌}
+use Rattle.std.specs.Prelude.{ℕ, ◌+◌, ◌-◌, ◌^◌, Bool, true, false, List, [], ◌++◌, filter, Option, Some, None}
 use Rattle.hc_types.specs.Tally.{count}
 use Rattle.hc_history.specs.Note.{Note, Reply}
 use Rattle.hc_history.specs.Note as note

@@ -17,7 +17,7 @@ use std::alloc::{AllocError, AllocFailed, Allocator, Global};
 use std::marker::Model;
 
 /// The number of an item's charge, and the second at which it expires (0: never).
-#[derive(Clone, Copy, PartialEq, Eq)]
+#[derive(Clone, Copy, Debug, PartialEq, Eq)]
 pub struct Glance {
     pub number: u64,
     pub expiry: u64,

@@ -60,7 +60,7 @@ fn new_core(alloc: Global, config: &Config) -> Result<Result<Core<Counting>, Ref
 }
 
 // From here on the steps are run.
-fn begin(state: &mut State, core: Core<Kept>)
+fn begin(state: &mut State, core: Core<Counting>)
     ensures { state.new ≡ Running core }
 {
     *state = State::Running(core);

@@ -1,4 +1,4 @@
-use Rattle.std.proofs.Common.{◌≡◌, ℕ, zero, suc, List, [], Option, None, Some, length, replicate, refl, ap, ◌∙◌, arith}
+use Rattle.std.proofs.Common.{◌≡◌, ℕ, zero, suc, List, [], Option, None, length, replicate, refl, ap, ◌∙◌, arith}
 use Rattle.hc_types.specs.Tally.{tally}
 use Rattle.hc_memory.specs.Item.{Open, Handle}
 use Rattle.hc_core.specs.Cache.{Cache, new_cache}

@@ -1,6 +1,5 @@
-use Rattle.std.proofs.Common.{◌≡◌, List, [], map, length, replicate, ◌∙◌, ap}
+use Rattle.std.proofs.Common.{map, length, ◌∙◌, ap}
 use Rattle.std.proofs.lemmas.List.{length-replicate}
-use Rattle.hc_memory.specs.declared.usage.Usage.{Usage}
 use Rattle.hc_memory.specs.Charges.{open_of}
 use Rattle.hc_memory.proofs.Books.{no-usage, no-sums}
 use Rattle.hc_memory.proofs.open.OpenCharges.new.Goals as goal

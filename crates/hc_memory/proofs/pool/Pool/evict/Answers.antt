@@ -1,4 +1,4 @@
-use Rattle.std.proofs.Common.{◌≡◌, ◌∷◌, ◌++◌, [], sym, ◌∙◌, ap, arith, refl, append-nil, append_assoc, length, length-drop, slice_get, take, drop, vec_len}
+use Rattle.std.proofs.Common.{◌≡◌, ◌∷◌, ◌++◌, [], sym, ◌∙◌, ap, arith, refl, append-nil, append_assoc, length, length-drop, slice_get, take, drop}
 use Rattle.std.proofs.lemmas.List.{drop-drop}
 use Rattle.hc_memory.specs.Pool.{Pool}
 use Rattle.hc_memory.proofs.Rooms.{take-next, first-there}

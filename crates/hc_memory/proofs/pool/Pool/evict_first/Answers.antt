@@ -1,4 +1,4 @@
-use Rattle.std.proofs.Common.{◌≡◌, ◌-◌, [], sym, ◌∙◌, ap, arith, take, drop, length, slice_get}
+use Rattle.std.proofs.Common.{◌≡◌, ◌-◌, sym, ◌∙◌, ap, arith, take, drop, length, slice_get}
 use Rattle.hc_memory.specs.Pool.{bytes_of}
 use Rattle.std.proofs.lemmas.List.{take_all}
 use Rattle.hc_memory.specs.Seen.{items_of}
