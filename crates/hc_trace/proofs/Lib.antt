@@ -1,9 +1,4 @@
-pub mod Decimals
-pub mod Parts
-pub mod Orders
 pub mod Logs
 pub mod Same
 pub mod Streams
-pub mod Values
 pub mod Legality
-pub mod Rows

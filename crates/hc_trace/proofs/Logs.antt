@@ -10,10 +10,10 @@ use Rattle.hc_history.proofs.Telling.{told-nothing, told-twice}
 use Rattle.hc_core.specs.Cache.{Cache}
 use Rattle.hc_core.specs.Refused.{allocate_refusal}
 use Rattle.hc_core.specs.Steps.{insert_notes}
-use Rattle.hc_trace.specs.Steps as steps
-use Rattle.hc_trace.specs.Steps.{NewItem, Step, Set, Add, Get, Del}
+use Rattle.hc_lines.specs.Steps as steps
+use Rattle.hc_lines.specs.Steps.{NewItem, Step, Set, Add, Get, Del}
 use Rattle.hc_trace.specs.Moves.{Moved, unless, key_refusal, handle_of, after_open, open_notes, inserted, given_up, is_taken, finished, stored, move}
-use Rattle.hc_trace.specs.Texts.{line_text, answer_text, losses_text, loss_text}
+use Rattle.hc_lines.specs.Texts.{line_text, answer_text, losses_text, loss_text}
 use Rattle.hc_trace.specs.Trace.{step_text}
 use Rattle.hc_trace.specs.Machine.{losses_in, told_text}
 

@@ -11,8 +11,8 @@ use Rattle.hc_history.specs.Told.{Counts, no_counts, counts_more, losses_taken}
 use Rattle.hc_history.proofs.Telling.{counts-none, counts-twice}
 use Rattle.hc_core.specs.Cache.{Cache}
 use Rattle.hc_trace.specs.declared.state.State.TheVariants.{Configuring, Running}
-use Rattle.hc_trace.specs.Lines.{lines_of}
-use Rattle.hc_trace.specs.Grammar.{Line, Skipped, Says, Fault, Pool, NoFlash, Do, line_of}
+use Rattle.hc_lines.specs.Lines.{lines_of}
+use Rattle.hc_lines.specs.Grammar.{Line, Skipped, Says, Fault, Pool, NoFlash, Do, line_of}
 use Rattle.hc_trace.specs.Moves.{Moved, move}
 use Rattle.hc_trace.specs.Trace.{checked, steps_line, steps_from, config_of, trace_line, trace_from, Steps, empty_cache, step_text, steps_text, notes_of, ending, onto, trace_output, output_of}
 use Rattle.hc_trace.proofs.Logs.{counted, told-same, silent, move-silent}

@@ -5,11 +5,11 @@ use Rattle.std.proofs.lemmas.Grind.{common_steps}
 use Rattle.std.proofs.KnownBytes.{Appends-nil, Appends-trans, Consumes-nil, Consumes-trans, Keeps-refl, append_known-grown}
 use Rattle.std.specs.Io.KnownBytes.{Appends, Consumes, IsAtEnd, append_known}
 use Rattle.hc_trace.specs.declared.state.State.{State}
-use Rattle.hc_trace.specs.Lines.{onto_first, lines_of, Lacks}
-use Rattle.hc_trace.specs.Texts.{fault_text}
+use Rattle.hc_lines.specs.Lines.{onto_first, lines_of, Lacks}
+use Rattle.hc_lines.specs.Texts.{fault_text}
 use Rattle.hc_trace.specs.Trace.{onto, output_of, Answers}
 use Rattle.hc_trace.specs.Machine.{begun, stops, turn_of, ended, after_turn, output_from, output_after, Leads, Ends}
-use Rattle.hc_trace.proofs.Parts.{lacks-append, lines-ended}
+use Rattle.hc_lines.proofs.Parts.{lacks-append, lines-ended}
 use Rattle.hc_trace.proofs.Same.{whole-same}
 
 lines-one : (b : ℕ) (line : List ℕ) → Lacks 10 (b ∷ line) → lines_of (b ∷ line) ≡ (b ∷ line) ∷ []

@@ -1,10 +1,4 @@
--- What a trace says, and what is printed for it.
-pub mod Lines
-pub mod Numbers
-pub mod Steps
-pub mod Grammar
-pub mod Seen
-pub mod Texts
+-- What a step of a trace does, and what is printed for a trace.
 pub mod Moves
 pub mod Trace
 pub mod Machine

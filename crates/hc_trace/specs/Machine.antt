@@ -7,16 +7,16 @@ use Rattle.hc_types.specs.declared.refusal.Refusal.{Refusal}
 use Rattle.hc_types.specs.Refusals.{refusal_text}
 use Rattle.hc_trace.specs.declared.state.State.{State}
 use Rattle.hc_trace.specs.declared.state.State.TheVariants.{Configuring, Running}
-use Rattle.hc_trace.specs.Lines.{lines_of}
-use Rattle.hc_trace.specs.Grammar.{Order, Line, Skipped, Says, Fault, Pool, NoFlash, Do, line_of}
+use Rattle.hc_lines.specs.Lines.{lines_of}
+use Rattle.hc_lines.specs.Grammar.{Order, Line, Skipped, Says, Fault, Pool, NoFlash, Do, line_of}
 use Rattle.hc_history.specs.Note.{Note}
 use Rattle.hc_history.specs.Told.{Heard, Counts, no_counts, losses_taken}
 use Rattle.hc_types.specs.Config.{Config}
 use Rattle.hc_core.specs.Cache.{Cache, new_cache}
-use Rattle.hc_trace.specs.Steps.{Step}
+use Rattle.hc_lines.specs.Steps.{Step}
 use Rattle.hc_history.specs.declared.stats.Stats.{Stats}
 use Rattle.hc_trace.specs.Moves.{Moved, move}
-use Rattle.hc_trace.specs.Texts.{line_text, answer_text, losses_text, fault_text}
+use Rattle.hc_lines.specs.Texts.{line_text, answer_text, losses_text, fault_text}
 use Rattle.hc_trace.specs.Trace.{config_of, ending, onto}
 
 -- the cache of a trace, whose log is counted, and its losses kept until they are printed

@@ -9,7 +9,7 @@ use Rattle.hc_history.specs.Note.{Note, Freed}
 use Rattle.hc_core.specs.Cache.{Cache}
 use Rattle.hc_core.specs.Refused.{allocate_refusal}
 use Rattle.hc_core.specs.Steps.{opened, part_of_allocate, after_allocate, after_discard, insert_notes, after_insert, find_notes, after_find, remove_notes, after_remove, tick_notes, after_tick}
-use Rattle.hc_trace.specs.Steps.{NewItem, Step, Set, Add, Get, Del, Now, Answer, Stored, Refused, Hit, Miss, Found, Absent, Moment}
+use Rattle.hc_lines.specs.Steps.{NewItem, Step, Set, Add, Get, Del, Now, Answer, Stored, Refused, Hit, Miss, Found, Absent, Moment}
 
 -- the cache that a step leaves, what it is answered, and the notes that it adds to the log
 pub record Moved : Type 0 where

@@ -12,11 +12,11 @@ use Rattle.hc_history.specs.declared.stats.Stats.{Stats}
 use Rattle.hc_history.specs.Told.{Nothing}
 use Rattle.hc_history.specs.Lawful.{Legal}
 use Rattle.hc_core.specs.Cache.{Cache, new_cache}
-use Rattle.hc_trace.specs.Lines.{lines_of}
-use Rattle.hc_trace.specs.Steps.{Step}
-use Rattle.hc_trace.specs.Grammar.{Line, Skipped, Says, Pool, NoFlash, Do, line_of}
+use Rattle.hc_lines.specs.Lines.{lines_of}
+use Rattle.hc_lines.specs.Steps.{Step}
+use Rattle.hc_lines.specs.Grammar.{Line, Skipped, Says, Pool, NoFlash, Do, line_of}
 use Rattle.hc_trace.specs.Moves.{Moved, move}
-use Rattle.hc_trace.specs.Texts.{line_text, answer_text, losses_text, stats_text, verdict_text, fault_text}
+use Rattle.hc_lines.specs.Texts.{line_text, answer_text, losses_text, stats_text, verdict_text, fault_text}
 
 -- the steps up to the first fault, and its line, where there is a fault
 pub record Steps : Type 0 where

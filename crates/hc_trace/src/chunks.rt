@@ -1,13 +1,13 @@
 // The loop: it reads by chunks, and writes what was gathered.
 ghost use Rattle.std.specs.Prelude.{◌≡◌, ◌≢◌, ◌<◌, ◌≤◌, ◌+◌, ◌++◌, ◌∷◌, ◌^◌, ◌==◌, [], length, take, vec_len, None, IfOk, OnOk, IfSome, OnSome, MatchOption, if◌then◌else◌};
 ghost use Rattle.std.specs.Io.KnownBytes.{Appends, Consumes, IsAtEnd, append_known};
-ghost use Rattle.hc_trace.specs.Lines.{Lacks};
+ghost use Rattle.hc_lines.specs.Lines.{Lacks};
 ghost use Rattle.hc_trace.specs.Trace.{Answers, LogsAreLegal};
 ghost use Rattle.hc_trace.specs.Machine.{begun, turn_of, output_from, Leads, Ends};
 
-use crate::grammar::LONGEST;
 use crate::machine::{end, turn};
 use crate::state::{Sizes, State};
+use hc_lines::LONGEST;
 use memchr::memchr;
 use std::alloc::Global;
 use std::io;

@@ -2,17 +2,16 @@
 ghost use Rattle.std.specs.Prelude.{◌≡◌, ◌+◌, ◌^◌, ◌<◌, ◌++◌, None, Some, false, IfOk, OnOk, MatchResult};
 ghost use Rattle.hc_types.specs.Limits.{first_wrong};
 ghost use Rattle.hc_trace.specs.declared.state.State.TheVariants.{Running};
-ghost use Rattle.hc_trace.specs.Seen.{order_seen};
-ghost use Rattle.hc_trace.specs.Grammar as spec;
+ghost use Rattle.hc_lines.specs.Seen.{order_seen};
+ghost use Rattle.hc_lines.specs.Grammar as spec;
 ghost use Rattle.hc_trace.specs.Machine.{counting_cache, stops, obeyed, turn_of, ended};
-ghost use Rattle.hc_trace.specs.Texts.{fault_text};
+ghost use Rattle.hc_lines.specs.Texts.{fault_text};
 
-use crate::grammar::{Line, Order, line_in};
 use crate::state::State;
 use crate::steps::take_step;
-use crate::texts::{add_fault, add_refusal, add_stats, add_verdict};
 use hc_core::Core;
 use hc_history::Counting;
+use hc_lines::{Line, Order, add_fault, add_refusal, add_stats, add_verdict, line_in};
 use hc_types::{Config, PoolSize, Refusal};
 use std::alloc::{AllocError, Global};
 

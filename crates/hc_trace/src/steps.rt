@@ -1,19 +1,19 @@
 // The steps of a trace, and their answers.
 ghost use Rattle.std.specs.Prelude.{◌≡◌, ◌≢◌, ◌++◌, [], true, false, OnOk, IfOk, None, Some, MatchResult};
 ghost use Rattle.hc_types.specs.Refusals.{refusal_text};
-ghost use Rattle.hc_trace.specs.Seen.{item_seen, step_seen};
-ghost use Rattle.hc_trace.specs.Steps.{Get, Del, Now};
+ghost use Rattle.hc_lines.specs.Seen.{item_seen, step_seen};
+ghost use Rattle.hc_lines.specs.Steps.{Get, Del, Now};
 ghost use Rattle.hc_trace.specs.Moves.{unless, key_refusal, finished, stored, get_moved, del_moved, move};
 ghost use Rattle.hc_memory.specs.Item.{charge_by};
 ghost use Rattle.hc_memory.specs.Charges.{is_open};
-ghost use Rattle.hc_trace.specs.Texts.{line_text, answer_text};
+ghost use Rattle.hc_lines.specs.Texts.{line_text, answer_text};
 ghost use Rattle.hc_trace.specs.Machine.{next, told_text};
 
-use crate::grammar::{NewItem, Step};
-use crate::texts::{add_hit, add_losses, add_moment, add_refusal, add_word};
-use crate::value::{Value, repeat};
 use hc_core::{Core, Found, Removed, give_up, give_up_blank, open};
 use hc_history::Counting;
+use hc_lines::{
+    NewItem, Step, Value, add_hit, add_losses, add_moment, add_refusal, add_word, repeat,
+};
 use hc_memory::{Sealed, Uncharged, Unlinked};
 use hc_types::{Key, Refusal};
 use std::alloc::{AllocError, Global};

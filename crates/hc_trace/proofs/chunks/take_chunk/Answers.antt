@@ -1,5 +1,5 @@
 use Rattle.std.proofs.Common.{◌<◌, ◌++◌, ◌∷◌, length, ap, ◌∙◌, arith, length-append}
-use Rattle.hc_trace.proofs.Parts.{lacks-append}
+use Rattle.hc_lines.proofs.Parts.{lacks-append}
 use Rattle.hc_trace.proofs.Streams.{leads-line, leads-fault, leads-long}
 use Rattle.hc_trace.proofs.chunks.take_chunk.Goals as goal
 

@@ -1,0 +1,38 @@
+-- How the code's values are seen.
+use Rattle.std.specs.Prelude.{ℕ, List, replicate}
+use Rattle.hc_lines.specs.Steps as steps
+use Rattle.hc_lines.specs.Grammar as spec
+use Rattle.hc_lines.specs.declared.value.Value.{Value}
+use Rattle.hc_lines.specs.declared.value.Value.TheVariants.{Plain, Repeated}
+use Rattle.hc_lines.specs.declared.grammar.NewItem.{NewItem}
+use Rattle.hc_lines.specs.declared.grammar.Step.{Step}
+use Rattle.hc_lines.specs.declared.grammar.Step.TheVariants.{Set, Add, Get, Del, Now}
+use Rattle.hc_lines.specs.declared.grammar.Order.{Order}
+use Rattle.hc_lines.specs.declared.grammar.Order.TheVariants.{Pool, NoFlash, Do}
+use Rattle.hc_lines.specs.declared.grammar.Line.{Line}
+use Rattle.hc_lines.specs.declared.grammar.Line.TheVariants.{Skipped, Says, Fault}
+
+-- the bytes of a value
+abbrev pub bytes_of : Value → List ℕ
+bytes_of (Plain bytes) = bytes.now
+bytes_of (Repeated count c) = replicate count c
+
+abbrev pub item_seen : NewItem → steps.NewItem
+item_seen item = record { pool = item.pool; key = item.key.now; value = bytes_of item.value; ttl = item.ttl }
+
+abbrev pub step_seen : Step → steps.Step
+step_seen (Set item) = steps.Set (item_seen item)
+step_seen (Add item) = steps.Add (item_seen item)
+step_seen (Get key) = steps.Get key.now
+step_seen (Del key) = steps.Del key.now
+step_seen (Now moment) = steps.Now moment
+
+abbrev pub order_seen : Order → spec.Order
+order_seen (Pool bytes items) = spec.Pool bytes items
+order_seen NoFlash = spec.NoFlash
+order_seen (Do step) = spec.Do (step_seen step)
+
+abbrev pub line_seen : Line → spec.Line
+line_seen Skipped = spec.Skipped
+line_seen (Says order) = spec.Says (order_seen order)
+line_seen Fault = spec.Fault

@@ -1,0 +1,256 @@
+// What a line of a trace says.
+ghost use Rattle.std.specs.Prelude.{◌≡◌, ◌^◌, ◌∷◌, [], None, Some, MatchOption, option_map, if◌then◌else◌};
+ghost use Rattle.std.specs.Bool.{MatchBool};
+ghost use Rattle.hc_lines.specs.Lines.{fields_of, Several};
+ghost use Rattle.hc_lines.specs.Grammar as spec;
+ghost use Rattle.hc_lines.specs.Grammar.{pool_order, item_of, set_order, add_order, get_order, del_order, now_order, order_of, line_of};
+ghost use Rattle.hc_lines.specs.Numbers.{number_below};
+ghost use Rattle.hc_lines.specs.Steps.{Get, Del};
+ghost use Rattle.hc_lines.specs.Seen.{item_seen, order_seen, line_seen};
+
+use crate::number::number;
+use crate::value::{Value, is_key, value_in};
+use memchr::memchr;
+
+/// The most bytes of a line.
+pub const LONGEST: usize = 2_097_152;
+
+/// What is to be stored: a value under a key, in a pool.
+#[derive(Clone, Copy)]
+pub struct NewItem<'a> {
+    pub pool: u8,
+    pub key: &'a [u8],
+    pub value: Value<'a>,
+    /// How many seconds it lives. 0: for good.
+    pub ttl: u32,
+}
+
+/// What a client does with the cache, or the clock does.
+#[derive(Clone, Copy)]
+pub enum Step<'a> {
+    /// The item is stored, in place of the key's item where there is one.
+    Set(NewItem<'a>),
+    /// The item is stored where the key has no unexpired one.
+    Add(NewItem<'a>),
+    Get(&'a [u8]),
+    Del(&'a [u8]),
+    /// The clock moves on to this second.
+    Now(u64),
+}
+
+/// What a line asks for.
+#[derive(Clone, Copy)]
+pub enum Order<'a> {
+    /// One more pool, of so many bytes and items.
+    Pool(u64, u64),
+    /// The end of the configuration.
+    NoFlash,
+    Do(Step<'a>),
+}
+
+/// What a line says.
+#[derive(Clone, Copy)]
+pub enum Line<'a> {
+    Skipped,
+    Says(Order<'a>),
+    Fault,
+}
+
+// The first field and the bytes behind its space. None where there is no space.
+fn first_field(bytes: &[u8]) -> Option<(&[u8], &[u8])>
+    ensures { MatchOption result (fields_of bytes.now ≡ bytes.now ∷ []) (λ p. fields_of bytes.now ≡ p.0.now ∷ fields_of p.1.now) }
+{
+    let at = memchr(b' ', bytes)?;
+    Some((&bytes[..at], &bytes[at + 1..]))
+}
+
+// Whether it is one field.
+fn is_one_field(bytes: &[u8]) -> bool
+    ensures { MatchBool result (fields_of bytes.now ≡ bytes.now ∷ []) (Several (fields_of bytes.now)) }
+{
+    if let Some(_several) = first_field(bytes) {
+        return false;
+    }
+    true
+}
+
+// Whether it is one field, and that a key.
+fn is_one_key(bytes: &[u8]) -> bool
+    ensures get { get_order (fields_of bytes.now) ≡ (if result then Some (spec.Do (Get bytes.now)) else None) }
+    ensures del { del_order (fields_of bytes.now) ≡ (if result then Some (spec.Do (Del bytes.now)) else None) }
+{
+    is_one_field(bytes) && is_key(bytes)
+}
+
+// The fields behind `get`.
+fn get_in(fields: &[u8]) -> Option<Order<'_>>
+    ensures { option_map order_seen result ≡ get_order (fields_of fields.now) }
+{
+    if is_one_key(fields) {
+        Some(Order::Do(Step::Get(fields)))
+    } else {
+        None
+    }
+}
+
+// The fields behind `del`.
+fn del_in(fields: &[u8]) -> Option<Order<'_>>
+    ensures { option_map order_seen result ≡ del_order (fields_of fields.now) }
+{
+    if is_one_key(fields) {
+        Some(Order::Do(Step::Del(fields)))
+    } else {
+        None
+    }
+}
+
+// The fields behind `pool`.
+fn pool_in(fields: &[u8]) -> Option<Order<'_>>
+    ensures { option_map order_seen result ≡ pool_order (fields_of fields.now) }
+{
+    let (bytes, items) = first_field(fields)?;
+    if !is_one_field(items) {
+        return None;
+    }
+    Some(Order::Pool(number(bytes)?, number(items)?))
+}
+
+// The number of a pool, which there may not be.
+fn pool_number(text: &[u8]) -> Option<u8>
+    ensures { result ≡ number_below (2 ^ 8) text.now }
+{
+    let n = number(text)?;
+    if n < 256 { Some(n as u8) } else { None }
+}
+
+// A time to live.
+fn seconds(text: &[u8]) -> Option<u32>
+    ensures { result ≡ number_below (2 ^ 32) text.now }
+{
+    let n = number(text)?;
+    if n < 4_294_967_296 {
+        Some(n as u32)
+    } else {
+        None
+    }
+}
+
+// The item of these four fields.
+fn item_with<'a>(pool: &[u8], key: &'a [u8], value: &'a [u8], ttl: &[u8]) -> Option<NewItem<'a>>
+    ensures { option_map item_seen result ≡ item_of (pool.now ∷ key.now ∷ value.now ∷ ttl.now ∷ []) }
+{
+    if !is_key(key) {
+        return None;
+    }
+    let pool = pool_number(pool)?;
+    let value = value_in(value)?;
+    let ttl = seconds(ttl)?;
+    Some(NewItem {
+        pool,
+        key,
+        value,
+        ttl,
+    })
+}
+
+// The fields behind `set` and `add`.
+fn item_in(fields: &[u8]) -> Option<NewItem<'_>>
+    ensures { option_map item_seen result ≡ item_of (fields_of fields.now) }
+{
+    let (pool, fields) = first_field(fields)?;
+    let (key, fields) = first_field(fields)?;
+    let (value, ttl) = first_field(fields)?;
+    if !is_one_field(ttl) {
+        return None;
+    }
+    item_with(pool, key, value, ttl)
+}
+
+// The fields behind `set`.
+fn set_in(fields: &[u8]) -> Option<Order<'_>>
+    ensures { option_map order_seen result ≡ set_order (fields_of fields.now) }
+{
+    Some(Order::Do(Step::Set(item_in(fields)?)))
+}
+
+// The fields behind `add`.
+fn add_in(fields: &[u8]) -> Option<Order<'_>>
+    ensures { option_map order_seen result ≡ add_order (fields_of fields.now) }
+{
+    Some(Order::Do(Step::Add(item_in(fields)?)))
+}
+
+// The fields behind `now`.
+fn now_in(fields: &[u8]) -> Option<Order<'_>>
+    ensures { option_map order_seen result ≡ now_order (fields_of fields.now) }
+{
+    if !is_one_field(fields) {
+        return None;
+    }
+    Some(Order::Do(Step::Now(number(fields)?)))
+}
+
+// What a word and the fields behind it ask for.
+fn order_with<'a>(word: &[u8], fields: &'a [u8]) -> Option<Order<'a>>
+    ensures { option_map order_seen result ≡ order_of (word.now ∷ fields_of fields.now) }
+{
+    if word == b"get".as_slice() {
+        return get_in(fields);
+    }
+    if word == b"set".as_slice() {
+        return set_in(fields);
+    }
+    if word == b"add".as_slice() {
+        return add_in(fields);
+    }
+    if word == b"del".as_slice() {
+        return del_in(fields);
+    }
+    if word == b"now".as_slice() {
+        return now_in(fields);
+    }
+    if word == b"pool".as_slice() {
+        return pool_in(fields);
+    }
+    None
+}
+
+// What the fields of a line ask for.
+fn order_in(line: &[u8]) -> Option<Order<'_>>
+    ensures { option_map order_seen result ≡ order_of (fields_of line.now) }
+{
+    if let Some((word, fields)) = first_field(line) {
+        return order_with(word, fields);
+    }
+    if line == b"noflash".as_slice() {
+        Some(Order::NoFlash)
+    } else {
+        None
+    }
+}
+
+// Whether it is an empty line, or one that begins with `#`.
+fn is_skipped(line: &[u8]) -> bool
+    ensures { result ≡ spec.is_skipped line.now }
+{
+    match line.first() {
+        Some(first) => *first == b'#',
+        None => true,
+    }
+}
+
+/// What a line says.
+pub fn line_in(line: &[u8]) -> Line<'_>
+    ensures { line_seen result ≡ line_of line.now }
+{
+    if line.len() > LONGEST {
+        return Line::Fault;
+    }
+    if is_skipped(line) {
+        return Line::Skipped;
+    }
+    match order_in(line) {
+        Some(order) => Line::Says(order),
+        None => Line::Fault,
+    }
+}
