@@ -10,7 +10,5 @@ pub mod Calls
 pub mod Keeps
 pub mod Made
 pub mod Standing
-pub mod Filled
-pub mod Staging
-pub mod Going
+pub mod Opening
 pub mod Leading

@@ -4,6 +4,4 @@ pub mod Mirrors
 pub mod Refused
 pub mod Answers
 pub mod Steps
-pub mod World
-pub mod Asked
 pub mod Legality

@@ -6,16 +6,9 @@ mod cache;
 mod laws;
 mod opens;
 mod plans;
-mod runs;
-mod slots;
-mod stage;
-mod steps;
 mod tells;
 
 pub use answers::{Found, Removed};
 pub use cache::Core;
 pub use laws::steps_are_legal;
 pub use opens::{give_up, give_up_blank, open};
-pub use runs::{Ran, run};
-pub use stage::Stage;
-pub use steps::{Answer, Outcome, Request, Step};

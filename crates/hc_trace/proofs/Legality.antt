@@ -13,7 +13,7 @@ use Rattle.hc_core.specs.Cache.{Cache}
 use Rattle.hc_core.specs.Refused.{allocate_refusal}
 use Rattle.hc_core.specs.Steps.{after_discard, insert_notes, after_insert}
 use Rattle.hc_core.specs.Legality.{Led}
-use Rattle.hc_core.proofs.Filled.{opened-mine}
+use Rattle.hc_core.proofs.Opening.{opened-mine}
 use Rattle.hc_core.proofs.Leading.{steps-are-legal}
 use Rattle.hc_lines.specs.Steps.{NewItem, Step, Set, Add, Get, Del, Now}
 use Rattle.hc_trace.specs.Moves.{Moved, unless, key_refusal, handle_of, after_open, open_notes, inserted, given_up, is_taken, finished, stored, move}

@@ -1,7 +1,7 @@
 // What steps are answered.
 use crate::run_steps::{discard, left, open, put, put_new, ran};
-use hc_core::{Answer, Outcome, Ran, Step};
 use hc_history::Reply;
+use hc_run::{Answer, Outcome, Ran, Step};
 use hc_types::Refusal;
 use std::alloc::{AllocError, Global};
 use std::process::Abort;

@@ -1,7 +1,7 @@
 // Where steps end in the log, and what its end gives up.
 use crate::run_steps::{left, ran};
-use hc_core::Ran;
 use hc_history::Said;
+use hc_run::Ran;
 use std::alloc::Global;
 use std::process::Abort;
 

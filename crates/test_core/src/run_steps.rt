@@ -1,6 +1,6 @@
 // The steps that the tests run, all of one key, and their run.
 use bytes::Bytes;
-use hc_core::{Ran, Request, Step, run};
+use hc_run::{Ran, Request, Step, run};
 use hc_types::{Config, Key, PoolSize, Refusal};
 use std::alloc::{AllocError, Global};
 

@@ -3,7 +3,7 @@ use Rattle.hc_memory.specs.Item.{Handle, charge_by}
 use Rattle.hc_memory.specs.Charges.{is_open}
 use Rattle.hc_memory.specs.Writes.{written}
 use Rattle.hc_core.specs.Steps.{opened}
-use Rattle.hc_core.proofs.Filled.{written-whole, opened-mine}
+use Rattle.hc_core.proofs.Opening.{written-whole, opened-mine}
 use Rattle.hc_core.proofs.opens.open.Goals as goal
 
 pub returns-clause-ok : goal.returns-clause-ok

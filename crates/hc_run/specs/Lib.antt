@@ -1,0 +1,3 @@
+-- What runs of the core do.
+pub mod World
+pub mod Asked
