@@ -2,8 +2,8 @@
 ghost use Rattle.std.specs.Prelude.{◌≡◌, ℕ, ◌+◌, ◌-◌, ◌^◌, ◌<◌, ◌≤◌, List, [], ◌∷◌, ◌++◌, min, OnOk, OnErr, IfOk, vec_len, vec_capacity};
 ghost use Rattle.hc_history.specs.Told.{Heard, Nothing, Log, Counts, told_more, told_count, is_log, Hears, left_to_count, no_counts};
 
-use crate::note::{Note, Said, Says};
-use crate::stats::{Kind, Stats};
+use crate::note::{Note, Says};
+use crate::stats::{Kind, Stats, is_loss};
 use std::alloc::{AllocError, Allocator, Global};
 
 /// Whom the core tells its notes. Room is made first; then telling a note can't fail.
@@ -71,7 +71,7 @@ impl<A: Allocator> Notes<Note<A>> for Kept<A> {
     }
 
     fn note(&mut self, note: Note<A>) {
-        let _ = self.notes.push(note);
+        self.notes.push_reserved(note);
     }
 
     fn count(&mut self, _kind: Kind) {}
@@ -147,13 +147,11 @@ impl<A: Allocator> Notes<Note<A>> for Counting<A> {
     }
 
     fn note(&mut self, note: Note<A>) {
-        match &note.said {
-            Said::Did { reply, .. } => self.counts.answered(reply),
-            Said::Lose { .. } => {
-                self.counts.losses += 1;
-                let _ = self.losses.push(note);
-            }
-            _ => {}
+        self.counts.heard(&note);
+        if is_loss(&note) {
+            self.losses.push_reserved(note);
+        } else {
+            drop(note);
         }
     }
 

@@ -73,12 +73,25 @@ impl Stats {
     }
 
     /// A call more is answered.
-    pub fn answered<A: Allocator>(&mut self, reply: &Reply<A>)
+    fn answered<A: Allocator>(&mut self, reply: &Reply<A>)
         requires { 0 < left_to_count self.old }
         ensures room { left_to_count self.old ≤ left_to_count self.new + 1 }
         ensures counts { (call : ℕ) → self.new ≡ counts_more self.old (Did call (reply_of reply.now) ∷ []) }
     {
         self.count(reply.kind());
+    }
+
+    /// A note more is heard.
+    pub fn heard<A: Allocator>(&mut self, note: &Note<A>)
+        requires { 0 < left_to_count self.old }
+        ensures room { left_to_count self.old ≤ left_to_count self.new + 1 }
+        ensures counts { self.new ≡ counts_more self.old (note.now ∷ []) }
+    {
+        match &note.said {
+            Said::Did { reply, .. } => self.answered(reply),
+            Said::Lose { .. } => self.count(Kind::Lost),
+            _ => {}
+        }
     }
 
     /// Whether so many notes more can be counted.
@@ -173,7 +186,8 @@ fn is_removed<A: Allocator>(note: &Note<A>) -> bool
     )
 }
 
-fn is_loss<A: Allocator>(note: &Note<A>) -> bool
+/// Whether it tells that something is forgotten.
+pub fn is_loss<A: Allocator>(note: &Note<A>) -> bool
     ensures { result ≡ spec.is_loss note.now }
 {
     matches!(&note.said, Said::Lose { .. })

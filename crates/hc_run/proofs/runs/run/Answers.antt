@@ -49,3 +49,6 @@ returns-in-Err-clause-follows g c =
 pub returns-in-Err-clause-legal : goal.returns-in-Err-clause-legal
 returns-in-Err-clause-legal g c =
     subst (λ (k : Config). Legal k c.into_log.result.notes.items) (ap (λ (s : Stage). s.cache.config) c.in-Err.ensures.err.0 ∙ c.loop-i.invariant.config) c.into_log.ensures.legal
+
+pub returns-in-Err-clause-stopped : goal.returns-in-Err-clause-stopped
+returns-in-Err-clause-stopped g c = ap length c.in-Err.ensures.err.1 ∙ c.loop-i.invariant.made
