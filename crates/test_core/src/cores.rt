@@ -1,8 +1,8 @@
-// A core answers the same whether its log is kept, counted or not heard, and counts its answers alike.
+// A core answers the same whether its log is kept or not heard.
 ghost use Rattle.std.specs.Prelude.{◌≡◌, None};
 
 use hc_core::{Core, Found, Removed, open};
-use hc_history::{Counting, Kept, Note, Notes, Silent, Stats};
+use hc_history::{Kept, Note, Notes, Silent, Stats};
 use hc_memory::{Blank, Sealed};
 use hc_types::{Config, Key, PoolSize};
 use std::alloc::Global;
@@ -38,13 +38,18 @@ fn store<N: Notes<Note>>(rt: &impl Abort, alloc: Global, core: &mut Core<N>) {
     }
 }
 
+fn is_value(found: &Found) -> bool {
+    match found {
+        Found::Hit(handle) => handle.bytes() == b"value".as_slice(),
+        Found::Miss => false,
+    }
+}
+
 // Whether the value is found.
 fn hits<N: Notes<Note>>(rt: &impl Abort, alloc: Global, core: &mut Core<N>) -> bool {
-    match core.find(0, &key(rt, alloc)) {
-        Ok(Found::Hit(handle)) => handle.bytes() == b"value".as_slice(),
-        Ok(Found::Miss) => false,
-        Err(_) => panic!(rt; "there is memory"),
-    }
+    let key = key(rt, alloc);
+    let found = core.find(0, &key).expect(rt, "there is memory");
+    is_value(&found)
 }
 
 // Moves the clock on to a second at which the value is expired, and takes it out.
@@ -103,18 +108,4 @@ fn a_core_whose_log_is_kept_answers_and_counts(rt: HostRuntime) {
     let mut core = kept(&rt, rt.alloc());
     use_it(&rt, rt.alloc(), &mut core);
     assert!(rt; stats(core) == COUNTS);
-}
-
-// A core whose log is counted.
-fn counting(rt: &impl Abort, alloc: Global) -> Core<Counting> {
-    let config = config(rt, alloc);
-    Core::new(alloc, &config, Counting::new(alloc)).expect(rt, "the pool fits")
-}
-
-#[test]
-fn a_core_whose_log_is_counted_answers_and_counts(rt: HostRuntime) {
-    let mut core = counting(&rt, rt.alloc());
-    use_it(&rt, rt.alloc(), &mut core);
-    core.forget_losses();
-    assert!(rt; core.notes().counts == COUNTS);
 }

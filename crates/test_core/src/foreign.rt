@@ -63,12 +63,20 @@ fn foreign(rt: &impl Abort, inserted: Result<(), Unlinked>) -> Sealed {
 }
 
 // The sealed handle of another cache, after it was neither inserted nor given up.
-fn back(rt: &impl Abort, core: &mut Core<Kept>, sealed: Sealed) -> Sealed {
+fn sealed_back(rt: &impl Abort, core: &mut Core<Kept>, sealed: Sealed) -> Sealed {
     let replaced = core.insert_or_replace(0, sealed);
     let inserted = core.insert(0, foreign(rt, replaced));
     let sealed = foreign(rt, inserted);
     core.discard(sealed)
         .expect_err(rt, "the handle is another cache's")
+}
+
+// The same of one that isn't sealed yet.
+fn back(rt: &impl Abort, core: &mut Core<Kept>, blank: Blank) -> Sealed {
+    let blank = core
+        .discard_blank(blank)
+        .expect_err(rt, "the handle is another cache's");
+    sealed_back(rt, core, seal(rt, blank))
 }
 
 // That a handle of such an item of another cache comes back, and is taken by its own. An item of `a` with three bytes
@@ -78,10 +86,7 @@ fn assert_foreign(rt: &impl Abort, alloc: Global, pool: u8, text: &[u8], size: u
     let mut other = cache(rt, alloc);
     let own = blank(rt, alloc, &mut core, 0, b"a", 3);
     let foreign = blank(rt, alloc, &mut other, pool, text, size);
-    let foreign = core
-        .discard_blank(foreign)
-        .expect_err(rt, "the handle is another cache's");
-    let foreign = back(rt, &mut core, seal(rt, foreign));
+    let foreign = back(rt, &mut core, foreign);
     give_up_sealed(rt, &mut other, foreign);
     give_up(rt, &mut core, own);
 }

@@ -11,6 +11,8 @@ mod foreign;
 #[cfg(test)]
 mod marks;
 #[cfg(test)]
+mod memory;
+#[cfg(test)]
 mod reads;
 #[cfg(test)]
 mod run_answers;
