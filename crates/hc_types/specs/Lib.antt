@@ -8,3 +8,4 @@ pub mod Limits
 pub mod Places
 pub mod Refusals
 pub mod Loss
+pub mod KeyBytes

@@ -1,5 +1,5 @@
 // The key of an item, and its hash.
-ghost use Rattle.std.specs.Prelude.{◌≡◌, ◌<◌, ◌≤◌, ◌⊎◌, ◌↔◌, length, nat_eq, IfOk, IfErr, OnOk, IsErrOf, fold};
+ghost use Rattle.std.specs.Prelude.{◌≡◌, ◌≢◌, ◌<◌, ◌≤◌, ◌⊎◌, ◌↔◌, length, nat_eq, IfOk, IfErr, OnOk, IsErrOf, fold};
 ghost use Rattle.std.specs.Hash as fed;
 ghost use Rattle.std.specs.Cmp.Lexicographic.{pointwise, nat_list_eq_equiv};
 ghost use Rattle.std.specs.Cmp.{partial_equiv_from_equiv};
@@ -8,6 +8,7 @@ ghost use Rattle.hc_types.specs.KeyHash.{fnv_respects_eq};
 ghost use Rattle.hc_types.specs.Places.{kept_of, bucket_at};
 
 use crate::config::FlashConfig;
+use crate::key_bytes::KeyBytes;
 use crate::refusal::Refusal;
 use bytes::Bytes;
 use std::alloc::{AllocError, Allocator, Global};
@@ -17,12 +18,13 @@ use std::marker::Model;
 /// The most bytes of a key.
 pub const KEY_MAX: usize = 255;
 
-/// The key of an item: 1 to 255 bytes, which its copies share. Contracts see it as its bytes.
+/// The key of an item: 1 to 255 bytes. Contracts see it as its bytes.
 ///
-/// It keeps its hash, so that no map that holds it feeds the bytes to a hasher.
+/// Up to 46 bytes stand in the key itself, so that it and its copies take no memory. More are shared by its copies. It
+/// keeps its hash, so that no map that holds it feeds the bytes to a hasher.
 #[derive(Drop)]
 pub struct Key<A: Allocator = Global> {
-    bytes: Bytes<A>,
+    bytes: KeyBytes<A>,
     hash: u64,
 }
 
@@ -39,13 +41,14 @@ impl<A: Allocator> Model for Key<A> {
 
 impl<A: Allocator + Clone> Key<A> {
     /// The key of these bytes, which are copied once. Refused with `KeyEmpty` for no byte and with `KeyTooLong` for
-    /// more than 255, whether there is memory or not.
+    /// more than 255, whether there is memory or not. Up to 46 bytes are never refused for memory.
     pub fn new(alloc: A, bytes: &[u8]) -> Result<Key<A>, Refusal>
         ensures ok { IfOk result (λ key. key ≡ bytes.now) }
         ensures fits { OnOk result ((1 ≤ length bytes.now) × (length bytes.now ≤ 255)) }
         ensures empty { IsErrOf result Refusal.KeyEmpty ↔ (length bytes.now ≡ 0) }
         ensures too_long { IsErrOf result Refusal.KeyTooLong ↔ (255 < length bytes.now) }
         ensures others { IfErr result (λ refusal. (refusal ≡ Refusal.KeyEmpty) ⊎ (refusal ≡ Refusal.KeyTooLong) ⊎ (refusal ≡ Refusal.NoMemory)) }
+        ensures short { length bytes.now ≤ 46 → IfErr result (λ refusal. refusal ≢ Refusal.NoMemory) }
     {
         if bytes.is_empty() {
             return Err(Refusal::KeyEmpty);
@@ -54,7 +57,7 @@ impl<A: Allocator + Clone> Key<A> {
             return Err(Refusal::KeyTooLong);
         }
         let hash = hash_of(bytes);
-        match Bytes::copy_from_slice(alloc, bytes) {
+        match KeyBytes::copy_of(alloc, bytes) {
             Ok(bytes) => Ok(Key { bytes, hash }),
             Err(_) => Err(Refusal::NoMemory),
         }
@@ -62,8 +65,8 @@ impl<A: Allocator + Clone> Key<A> {
 }
 
 impl<A: Allocator> Key<A> {
-    /// The key of these bytes, which it shares. Refused with `KeyEmpty` for no byte and with `KeyTooLong` for more
-    /// than 255, and never for memory.
+    /// The key of these bytes, which it shares where they are more than 46. Refused with `KeyEmpty` for no byte and
+    /// with `KeyTooLong` for more than 255, and never for memory.
     pub fn from_bytes(bytes: Bytes<A>) -> Result<Key<A>, Refusal>
         ensures ok { IfOk result (λ key. key ≡ bytes) }
         ensures fits { OnOk result ((1 ≤ length bytes) × (length bytes ≤ 255)) }
@@ -76,6 +79,7 @@ impl<A: Allocator> Key<A> {
             len if len > KEY_MAX => Err(Refusal::KeyTooLong),
             _ => {
                 let hash = hash_of(bytes.as_slice());
+                let bytes = KeyBytes::from_bytes(bytes);
                 Ok(Key { bytes, hash })
             }
         }
@@ -89,7 +93,7 @@ impl<A: Allocator> Key<A> {
         ensures most { result ≤ 255 }
     {
         let _hash = self.hash;
-        self.bytes.len()
+        self.bytes.as_slice().len()
     }
 
     /// Its bytes.
@@ -142,6 +146,8 @@ fn hash_of(bytes: &[u8]) -> u64
 impl<A: Allocator> Clone for Key<A> {
     ghost is_clone = { λ key copy. copy ≡ key };
 
+    ghost is_infallible = { λ key. length key ≤ 46 };
+
     fn clone(&self) -> Result<Key<A>, AllocError> {
         Ok(Key {
             bytes: self.bytes.clone()?,
@@ -156,7 +162,8 @@ impl<A: Allocator> PartialEq for Key<A> {
     ghost laws = { partial_equiv_from_equiv nat_list_eq_equiv };
 
     fn eq(&self, other: &Self) -> bool {
-        self.bytes == other.bytes
+        // (unequal hashes spare the bytes)
+        self.hash == other.hash && self.bytes.as_slice() == other.bytes.as_slice()
     }
 }
 

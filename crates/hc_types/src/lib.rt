@@ -5,6 +5,7 @@
 mod config;
 mod entry;
 mod key;
+mod key_bytes;
 mod loss;
 mod refusal;
 

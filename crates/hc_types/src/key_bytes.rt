@@ -1,0 +1,137 @@
+// The bytes of a key: in place where they are few, and shared where they are many.
+ghost use Rattle.std.specs.Prelude.{◌≡◌, ◌≤◌, length, IsOk, IfOk};
+
+use bytes::Bytes;
+use std::alloc::{AllocError, Allocator, Global};
+use std::marker::Model;
+
+/// The most bytes that stand in place. With their length and the enum's mark they take 48 bytes, as a `Bytes` does with
+/// its mark, so that a key takes 56 with its hash.
+const SHORT_MAX: usize = 46;
+
+/// At most `SHORT_MAX` bytes in place.
+#[derive(Drop)]
+struct Short {
+    len: u8,
+    bytes: [u8; SHORT_MAX],
+}
+
+impl Model for Short {
+    ghost use Rattle.std.specs.Prelude.{◌≤◌, List, ℕ, take};
+
+    ghost Value = { List ℕ };
+
+    ghost view = { λ short. take short.len short.bytes };
+
+    ghost invariant = { λ short. short.len ≤ 46 };
+}
+
+impl Short {
+    fn copy_of(bytes: &[u8]) -> Short
+        requires { length bytes.now ≤ 46 }
+        ensures { result ≡ bytes.now }
+    {
+        let mut room = [0; SHORT_MAX];
+        room[..bytes.len()].copy_from_slice(bytes);
+        Short {
+            len: bytes.len() as u8,
+            bytes: room,
+        }
+    }
+
+    fn copy(&self) -> Short
+        ensures { result ≡ self.now }
+    {
+        Short {
+            len: self.len,
+            bytes: self.bytes,
+        }
+    }
+
+    fn as_slice(&self) -> &[u8]
+        ensures { result.now ≡ self.now }
+    {
+        &self.bytes[..usize::from(self.len)]
+    }
+}
+
+/// Where bytes stand.
+#[derive(Drop)]
+enum Place<A: Allocator> {
+    Short(Short),
+    Long(Bytes<A>),
+}
+
+/// Bytes that stand in place where they are at most `SHORT_MAX`, and else in a block that their copies share.
+#[derive(Drop)]
+pub(crate) struct KeyBytes<A: Allocator = Global> {
+    place: Place<A>,
+}
+
+impl<A: Allocator> Model for KeyBytes<A> {
+    ghost use Rattle.std.specs.Prelude.{List, ℕ};
+    ghost use Rattle.hc_types.specs.KeyBytes.{bytes_at, IsShortInPlace};
+
+    ghost Value = { List ℕ };
+
+    ghost view = { λ bytes. bytes_at bytes.place };
+
+    ghost invariant = { λ bytes. IsShortInPlace bytes.place };
+}
+
+impl<A: Allocator + Clone> KeyBytes<A> {
+    /// These bytes, which are copied once. At most `SHORT_MAX` take no memory.
+    pub(crate) fn copy_of(alloc: A, bytes: &[u8]) -> Result<KeyBytes<A>, AllocError>
+        ensures ok { IfOk result (λ copy. copy ≡ bytes.now) }
+        ensures short { length bytes.now ≤ 46 → IsOk result }
+    {
+        if bytes.len() <= SHORT_MAX {
+            return Ok(KeyBytes {
+                place: Place::Short(Short::copy_of(bytes)),
+            });
+        }
+        Ok(KeyBytes {
+            place: Place::Long(Bytes::copy_from_slice(alloc, bytes)?),
+        })
+    }
+}
+
+impl<A: Allocator> KeyBytes<A> {
+    /// These bytes, which it shares. At most `SHORT_MAX` are copied instead, so that they don't keep a larger block.
+    pub(crate) fn from_bytes(bytes: Bytes<A>) -> KeyBytes<A>
+        ensures { result ≡ bytes }
+    {
+        if bytes.len() <= SHORT_MAX {
+            return KeyBytes {
+                place: Place::Short(Short::copy_of(bytes.as_slice())),
+            };
+        }
+        KeyBytes {
+            place: Place::Long(bytes),
+        }
+    }
+
+    /// The bytes.
+    pub(crate) fn as_slice(&self) -> &[u8]
+        ensures { result.now ≡ self.now }
+    {
+        match &self.place {
+            Place::Short(short) => short.as_slice(),
+            Place::Long(bytes) => bytes.as_slice(),
+        }
+    }
+}
+
+impl<A: Allocator> Clone for KeyBytes<A> {
+    ghost is_clone = { λ bytes copy. copy ≡ bytes };
+
+    ghost is_infallible = { λ bytes. length bytes ≤ 46 };
+
+    fn clone(&self) -> Result<KeyBytes<A>, AllocError> {
+        let place = match &self.place {
+            Place::Short(short) => Place::Short(short.copy()),
+            Place::Long(bytes) => Place::Long(bytes.clone()?),
+        };
+        Ok(KeyBytes { place })
+    }
+}
