@@ -22,6 +22,9 @@ record Reads (m : ℕ) (text : List ℕ) (n : ℕ) : Type 0 where
   value : value_after m text ≡ n
   small : n < 2 ^ 64
 
+pub true-is-not-false : true ≡ false → ⊥
+true-is-not-false e = cc
+
 none-is-not-some : {n : ℕ} → ◌≡◌ {A = Option ℕ} None (Some n) → ⊥
 none-is-not-some e = cc
 
@@ -30,7 +33,12 @@ passes : (b : Bool) (r : Option ℕ) (n : ℕ) → (if b then r else None) ≡ S
 passes true r n e = (refl, e)
 passes false r n e = absurd (none-is-not-some e)
 
-both : (a b : Bool) → (a && b) ≡ true → (a ≡ true) × (b ≡ true)
+-- a choice that came out as some number failed its test
+fails : (b : Bool) (r : Option ℕ) (n : ℕ) → (if b then None else r) ≡ Some n → r ≡ Some n
+fails true r n e = absurd (none-is-not-some e)
+fails false r n e = e
+
+pub both : (a b : Bool) → (a && b) ≡ true → (a ≡ true) × (b ≡ true)
 both true b e = (refl, e)
 both false b e = cc
 
@@ -84,3 +92,8 @@ from-test c text false e = finds (c ∷ text) (digits_after 0 (c ∷ text)) refl
 pub is-number : (text : List ℕ) → IsNumberOf text (number_of text)
 is-number [] = λ n h is. omega (arith, decimal_nonempty n h, ap length is)
 is-number (c ∷ text) = from-test c text _ refl
+
+-- a number is digits
+pub number-digits : (text : List ℕ) (n : ℕ) → number_of text ≡ Some n → all_ascii_digits text ≡ true
+number-digits [] n e = absurd (none-is-not-some e)
+number-digits (c ∷ text) n e = (reads 0 (c ∷ text) n (omega arith) (fails (c == 48 && nat_lt 0 (length text)) _ n e)).digits

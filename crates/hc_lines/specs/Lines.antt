@@ -19,10 +19,3 @@ fields_of (b ∷ bytes) = if b == 32 then [] ∷ fields_of bytes else onto_first
 abbrev pub Lacks : ℕ → List ℕ → Type 0
 Lacks c [] = Unit {0}
 Lacks c (b ∷ bytes) = ((b == c) ≡ false) × Lacks c bytes
-
--- there are two fields or more
-pub record Several (fields : List (List ℕ)) : Type 0 where
-  pub first : List ℕ
-  pub second : List ℕ
-  pub rest : List (List ℕ)
-  pub is : fields ≡ first ∷ second ∷ rest

@@ -1,10 +1,9 @@
 // What a line of a trace says.
-ghost use Rattle.std.specs.Prelude.{◌≡◌, ◌^◌, ◌∷◌, [], None, Some, MatchOption, option_map, if◌then◌else◌};
-ghost use Rattle.std.specs.Bool.{MatchBool};
-ghost use Rattle.hc_lines.specs.Lines.{fields_of, Several};
+ghost use Rattle.std.specs.Prelude.{◌≡◌, ◌≢◌, ◌^◌, ◌∷◌, ◌++◌, [], List, ℕ, Some, None, MatchOption, option_map, if◌then◌else◌};
+ghost use Rattle.hc_lines.specs.Lines.{fields_of};
 ghost use Rattle.hc_lines.specs.Grammar as spec;
 ghost use Rattle.hc_lines.specs.Grammar.{pool_order, item_of, set_order, add_order, get_order, del_order, now_order, order_of, line_of};
-ghost use Rattle.hc_lines.specs.Numbers.{number_below};
+ghost use Rattle.hc_lines.specs.Numbers.{number_of, number_below};
 ghost use Rattle.hc_lines.specs.Steps.{Get, Del};
 ghost use Rattle.hc_lines.specs.Seen.{item_seen, order_seen, line_seen};
 
@@ -64,22 +63,12 @@ fn first_field(bytes: &[u8]) -> Option<(&[u8], &[u8])>
     Some((&bytes[..at], &bytes[at + 1..]))
 }
 
-// Whether it is one field.
-fn is_one_field(bytes: &[u8]) -> bool
-    ensures { MatchBool result (fields_of bytes.now ≡ bytes.now ∷ []) (Several (fields_of bytes.now)) }
-{
-    if let Some(_several) = first_field(bytes) {
-        return false;
-    }
-    true
-}
-
-// Whether it is one field, and that a key.
+// Whether it is one field, and that a key, which has no space.
 fn is_one_key(bytes: &[u8]) -> bool
     ensures get { get_order (fields_of bytes.now) ≡ (if result then Some (spec.Do (Get bytes.now)) else None) }
     ensures del { del_order (fields_of bytes.now) ≡ (if result then Some (spec.Do (Del bytes.now)) else None) }
 {
-    is_one_field(bytes) && is_key(bytes)
+    is_key(bytes)
 }
 
 // The fields behind `get`.
@@ -104,15 +93,19 @@ fn del_in(fields: &[u8]) -> Option<Order<'_>>
     }
 }
 
+// A pool of these two fields. A number has no space.
+fn pool_with<'a>(bytes: &[u8], items: &[u8]) -> Option<Order<'a>>
+    ensures { option_map order_seen result ≡ spec.pool_with (number_of bytes.now) (number_of items.now) }
+{
+    Some(Order::Pool(number(bytes)?, number(items)?))
+}
+
 // The fields behind `pool`.
 fn pool_in(fields: &[u8]) -> Option<Order<'_>>
     ensures { option_map order_seen result ≡ pool_order (fields_of fields.now) }
 {
     let (bytes, items) = first_field(fields)?;
-    if !is_one_field(items) {
-        return None;
-    }
-    Some(Order::Pool(number(bytes)?, number(items)?))
+    pool_with(bytes, items)
 }
 
 // The number of a pool, which there may not be.
@@ -160,9 +153,6 @@ fn item_in(fields: &[u8]) -> Option<NewItem<'_>>
     let (pool, fields) = first_field(fields)?;
     let (key, fields) = first_field(fields)?;
     let (value, ttl) = first_field(fields)?;
-    if !is_one_field(ttl) {
-        return None;
-    }
     item_with(pool, key, value, ttl)
 }
 
@@ -184,43 +174,38 @@ fn add_in(fields: &[u8]) -> Option<Order<'_>>
 fn now_in(fields: &[u8]) -> Option<Order<'_>>
     ensures { option_map order_seen result ≡ now_order (fields_of fields.now) }
 {
-    if !is_one_field(fields) {
-        return None;
-    }
-    Some(Order::Do(Step::Now(number(fields)?)))
+    let moment = number(fields)?;
+    Some(Order::Do(Step::Now(moment)))
 }
 
-// What a word and the fields behind it ask for.
-fn order_with<'a>(word: &[u8], fields: &'a [u8]) -> Option<Order<'a>>
-    ensures { option_map order_seen result ≡ order_of (word.now ∷ fields_of fields.now) }
+// The bytes behind these, where the line begins with them.
+fn behind<'a>(line: &'a [u8], word: &[u8]) -> Option<&'a [u8]>
+    ensures { MatchOption result ((rest : List ℕ) → line.now ≢ word.now ++ rest) (λ rest. line.now ≡ word.now ++ rest.now) }
 {
-    if word == b"get".as_slice() {
-        return get_in(fields);
-    }
-    if word == b"set".as_slice() {
-        return set_in(fields);
-    }
-    if word == b"add".as_slice() {
-        return add_in(fields);
-    }
-    if word == b"del".as_slice() {
-        return del_in(fields);
-    }
-    if word == b"now".as_slice() {
-        return now_in(fields);
-    }
-    if word == b"pool".as_slice() {
-        return pool_in(fields);
-    }
-    None
+    line.strip_prefix(word)
 }
 
 // What the fields of a line ask for.
 fn order_in(line: &[u8]) -> Option<Order<'_>>
     ensures { option_map order_seen result ≡ order_of (fields_of line.now) }
 {
-    if let Some((word, fields)) = first_field(line) {
-        return order_with(word, fields);
+    if let Some(key) = behind(line, b"get ") {
+        return get_in(key);
+    }
+    if let Some(item) = behind(line, b"set ") {
+        return set_in(item);
+    }
+    if let Some(key) = behind(line, b"del ") {
+        return del_in(key);
+    }
+    if let Some(item) = behind(line, b"add ") {
+        return add_in(item);
+    }
+    if let Some(moment) = behind(line, b"now ") {
+        return now_in(moment);
+    }
+    if let Some(sizes) = behind(line, b"pool ") {
+        return pool_in(sizes);
     }
     if line == b"noflash".as_slice() {
         Some(Order::NoFlash)

@@ -97,16 +97,22 @@ fn obey(
     alloc: Global,
     state: &mut State,
     out: &mut Vec<u8>,
-    order: Order<'_>,
+    order: &Order<'_>,
     taken: u64,
 ) -> Result<bool, AllocError>
     requires { taken < 2 ^ 63 }
-    ensures state { OnOk result (state.new ≡ (obeyed taken state.old (order_seen order.entry)).state) }
-    ensures text { OnOk result (out.new.items ≡ out.old.items ++ (obeyed taken state.old (order_seen order.entry)).text) }
-    ensures goes { IfOk result (λ goes. goes ≡ (obeyed taken state.old (order_seen order.entry)).goes) }
+    ensures state { OnOk result (state.new ≡ (obeyed taken state.old (order_seen order.now)).state) }
+    ensures text { OnOk result (out.new.items ≡ out.old.items ++ (obeyed taken state.old (order_seen order.now)).text) }
+    ensures goes { IfOk result (λ goes. goes ≡ (obeyed taken state.old (order_seen order.now)).goes) }
 {
     match order {
-        Order::Pool(bytes, items) => take_pool(state, out, PoolSize { bytes, items }, taken),
+        Order::Pool(bytes, items) => {
+            let size = PoolSize {
+                bytes: *bytes,
+                items: *items,
+            };
+            take_pool(state, out, size, taken)
+        }
         Order::NoFlash => end_configuration(alloc, state, out, taken),
         Order::Do(step) => {
             if let State::Running(core) = state {
@@ -120,6 +126,7 @@ fn obey(
 
 /// A line, after so many others: what it does to the state, and what is printed. Whether the trace goes on. An error is
 /// want of memory.
+#[inline(never)] // small for its caller, which is the loop over lines
 pub fn turn(
     alloc: Global,
     state: &mut State,
@@ -132,7 +139,7 @@ pub fn turn(
     ensures text { OnOk result (out.new.items ≡ out.old.items ++ (turn_of taken state.old line.now).text) }
     ensures goes { IfOk result (λ goes. goes ≡ (turn_of taken state.old line.now).goes) }
 {
-    match line_in(line) {
+    match &line_in(line) {
         Line::Skipped => Ok(true),
         Line::Says(order) => obey(alloc, state, out, order, taken),
         Line::Fault => fault(out, taken),

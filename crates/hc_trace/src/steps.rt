@@ -203,17 +203,17 @@ fn answer(
     alloc: Global,
     core: &mut Core<Counting>,
     out: &mut Vec<u8>,
-    step: Step<'_>,
+    step: &Step<'_>,
 ) -> Result<(), AllocError>
-    ensures cache { OnOk result (core.new ≡ (move (step_seen step.entry) core.old).cache) }
-    ensures text { OnOk result (out.new.items ≡ out.old.items ++ line_text (answer_text (move (step_seen step.entry) core.old).answer)) }
+    ensures cache { OnOk result (core.new ≡ (move (step_seen step.now) core.old).cache) }
+    ensures text { OnOk result (out.new.items ≡ out.old.items ++ line_text (answer_text (move (step_seen step.now) core.old).answer)) }
 {
     match step {
-        Step::Set(item) => put(alloc, core, out, item, true),
-        Step::Add(item) => put(alloc, core, out, item, false),
+        Step::Set(item) => put(alloc, core, out, *item, true),
+        Step::Add(item) => put(alloc, core, out, *item, false),
         Step::Get(key) => get(alloc, core, out, key),
         Step::Del(key) => del(alloc, core, out, key),
-        Step::Now(moment) => now(core, out, moment),
+        Step::Now(moment) => now(core, out, *moment),
     }
 }
 
@@ -222,10 +222,10 @@ pub fn take_step(
     alloc: Global,
     core: &mut Core<Counting>,
     out: &mut Vec<u8>,
-    step: Step<'_>,
+    step: &Step<'_>,
 ) -> Result<(), AllocError>
-    ensures cache { OnOk result (core.new ≡ next (step_seen step.entry) core.old) }
-    ensures text { OnOk result (out.new.items ≡ out.old.items ++ told_text (move (step_seen step.entry) core.old)) }
+    ensures cache { OnOk result (core.new ≡ next (step_seen step.now) core.old) }
+    ensures text { OnOk result (out.new.items ≡ out.old.items ++ told_text (move (step_seen step.now) core.old)) }
 {
     answer(alloc, core, out, step)?;
     add_losses(out, &core.notes().losses)?;

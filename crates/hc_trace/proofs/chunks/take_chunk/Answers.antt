@@ -35,3 +35,6 @@ pub returns-clause-whole : goal.returns-clause-whole
 returns-clause-whole g c =
     let i = c.lines.invariant in
     rw c.in_ok-extend_from_slice.ensures.items (lacks-append 10 _ _ i.unbroken c.in_default.ensures)
+
+pub returns-clause-leads : goal.returns-clause-leads
+returns-clause-leads g c = rw c.in_ok-extend_from_slice.ensures.items c.lines.invariant.leads
