@@ -1,19 +1,20 @@
 -- Handles that are spent: an item is linked in its own pool.
-use Rattle.std.proofs.Common.{◌≡◌, ◌≢◌, ℕ, ◌+◌, ◌<◌, ◌≤◌, ◌^◌, ◌++◌, Bool, true, false, List, [], ◌∷◌, Option, Some, None, refl, ap, sym, ◌∙◌, arith, length, slice_get, slice_set, get_or, not, ◌==◌, nat_lt, cond, length-set, ltb-true, eq-eqb}
+use Rattle.std.proofs.Common.{◌≡◌, ◌≢◌, ◌⊎◌, ⊎_elim, ℕ, ◌+◌, ◌<◌, ◌≤◌, ◌^◌, ◌++◌, Bool, true, false, List, [], ◌∷◌, Option, Some, None, refl, ap, sym, ◌∙◌, arith, length, drop, is_some, option_map, slice_get, slice_set, get_or, not, ◌==◌, nat_lt, cond, length-set, ltb-true, eq-eqb}
 use Rattle.hc_memory.specs.Item.{Item, Open, Handle, cost, open_cost, charge_by, item_by}
 use Rattle.hc_memory.specs.Pool.{Pool, is_at, item_at, without, bytes_of}
-use Rattle.hc_memory.specs.Memory.{has, home_of, linked_at, change_at, change_home, unlinked}
+use Rattle.hc_memory.specs.Memory.{has, home_of, beside, linked_at, change_at, change_home, unlinked}
 use Rattle.hc_memory.specs.Sound.{Sound, items_at}
 use Rattle.std.proofs.lemmas.List.{set-get_or}
 use Rattle.std.proofs.lemmas.Slice.Eq.{bytes_eq-Decides}
 use Rattle.hc_memory.specs.Charges.{closed, is_open}
 use Rattle.hc_memory.proofs.Books.{tally-closed, count-closed, is_open-found}
 use Rattle.hc_memory.proofs.Homes.{home, away}
-use Rattle.hc_memory.proofs.Keys.{get-set-other, nowhere}
-use Rattle.hc_memory.proofs.Looking.{read-there}
+use Rattle.hc_memory.proofs.Keys.{get-set-other, nowhere, beside-none}
+use Rattle.hc_memory.proofs.Looking.{read-there, passed, arrived}
+use Rattle.hc_memory.proofs.Keyed.{mapped-none, is_some-mapped, without-none}
 use Rattle.hc_memory.proofs.Linking.{link-away, link-home, link-other, sound-home, shrinks-without, sound-linked, gone}
 use Rattle.hc_memory.proofs.Sounds.{sound-fewer}
-use Rattle.hc_memory.proofs.Making.{same-there, closed-less, size-bound}
+use Rattle.hc_memory.proofs.Making.{same-there, at-home, closed-less, size-bound}
 
 -- what linking in the pool with this number leaves
 pub record Links (key : List ℕ) (pools : List Pool) (own : ℕ) (item : Item) (after : List Pool) (gone : Option Item) : Type 0 where
@@ -35,27 +36,60 @@ moved key copy pools own at pool first there new item single e other lt read is 
       old = (λ i. item_at (copied i) (same i).items) ∙ sym h.linked;
     }
 
--- where its own has it
-pub replaced : (key : List ℕ) (pools : List Pool) (own at : ℕ) (pool new : Pool) (item : Item) → home_of key pools ≡ Some at → at ≡ own → own < length pools → pool ≡ get_or pools own pool
-    → new ≡ record { size = pool.size; items = without key pool.items ++ item ∷ [] } → slice_set pools own new ≡ change_at own (λ p. record p { items = p.items ++ item ∷ [] }) (unlinked key pools)
-replaced key pools own at pool new item e here lt read is = ap (λ p. slice_set pools own p) is ∙ link-home key pools own pool item (e ∙ ap (λ n. Some n) here) (read-there pools own pool lt read)
+-- where its own has it, or none has
+own_step : (key : List ℕ) (pools : List Pool) (own : ℕ) (pool : Pool) (item : Item) → (home_of key pools ≡ None) ⊎ (home_of key pools ≡ Some own) → slice_get pools own ≡ Some pool → Links key pools own item (slice_set pools own (record pool { items = without key pool.items ++ item ∷ [] })) (item_at key pool.items)
+own_step key pools own pool item e at = ⊎_elim
+    (λ (none : home_of key pools ≡ None). record {
+      set = link-away key pools own pool item none at;
+      old = nowhere key pools own pool none at ∙ sym (away key pools none).linked;
+    })
+    (λ (here : home_of key pools ≡ Some own).
+    let h = home key pools own here in
+    let same : pool ≡ h.pool = let f = h.found in cc in
+    record {
+      set = link-home key pools own pool item here at;
+      old = ap (λ (p : Pool). item_at key p.items) same ∙ sym h.linked;
+    })
+    e
 
-pub replaced-old : (key : List ℕ) (pools : List Pool) (own at : ℕ) (pool : Pool) → home_of key pools ≡ Some at → at ≡ own → pool ≡ get_or pools own pool → item_at key pool.items ≡ linked_at key pools
-replaced-old key pools own at pool e here read =
-    let h = home key pools own (e ∙ ap (λ n. Some n) here) in
-    ap (λ p. item_at key p.items) (same-there pools own pool h.pool h.found read) ∙ sym h.linked
-
--- where none has it
-pub added : (key : List ℕ) (pools : List Pool) (own : ℕ) (pool new : Pool) (item : Item) → home_of key pools ≡ None → own < length pools → pool ≡ get_or pools own pool
-    → new ≡ record { size = pool.size; items = without key pool.items ++ item ∷ [] } → slice_set pools own new ≡ change_at own (λ p. record p { items = p.items ++ item ∷ [] }) (unlinked key pools)
-added key pools own pool new item e lt read is = ap (λ p. slice_set pools own p) is ∙ link-away key pools own pool item e (read-there pools own pool lt read)
-
-pub added-old : (key : List ℕ) (pools : List Pool) (own : ℕ) (pool : Pool) → home_of key pools ≡ None → own < length pools → pool ≡ get_or pools own pool → item_at key pool.items ≡ linked_at key pools
-added-old key pools own pool e lt read = nowhere key pools own pool e (read-there pools own pool lt read) ∙ sym (away key pools e).linked
+pub replaced : (key : List ℕ) (pools : List Pool) (own : ℕ) (pool : Pool) (item : Item) → None ≡ beside own (home_of key pools) → own < length pools → pool ≡ get_or pools own pool → Links key pools own item (slice_set pools own (record pool { items = without key pool.items ++ item ∷ [] })) (item_at key pool.items)
+replaced key pools own pool item e lt read = own_step key pools own pool item (beside-none own (home_of key pools) e) (read-there pools own pool lt read)
 
 -- where nothing was linked
 pub untouched : (pools : List Pool) (own : ℕ) (pool new : Pool) → own < length pools → pool ≡ get_or pools own pool → new ≡ pool → slice_set pools own new ≡ pools
 untouched pools own pool new lt read is = ap (slice_set pools own) (is ∙ read) ∙ set-get_or pools own pool
+
+-- ---- an item that is taken out of one pool after the other
+
+-- this pool had it
+pub record Took (key : List ℕ) (old after : List Pool) (number : ℕ) : Type 0 where
+  pub value : Some number ≡ option_map (λ (i : Item). i.number) (linked_at key old)
+  pub pools : after ≡ unlinked key old
+
+pub took : (key : List ℕ) (old pools : List Pool) (i number : ℕ) (there new : Pool) → pools ≡ old → i < length old → there ≡ get_or pools i there → Some number ≡ option_map (λ (i : Item). i.number) (item_at key there.items) → new ≡ record { size = there.size; items = without key there.items }
+    → option_map (λ n. i + n) (home_of key (drop i old)) ≡ home_of key old → Took key old (slice_set pools i new) number
+took key old pools i number there new same lt read out is so =
+    let out' : Pool → Pool = λ p. record p { items = without key p.items } in
+    let read' = read ∙ ap (λ ps. get_or ps i there) same in
+    let holds = sym (is_some-mapped (λ (i : Item). i.number) (item_at key there.items)) ∙ sym (ap is_some out) in
+    let here = sym (arrived key old i there lt read' holds so) in
+    let h = at-home key old i there new out' here read' is in
+    record { value = out ∙ ap (option_map (λ (i : Item). i.number)) h.item; pools = ap (λ ps. slice_set ps i new) same ∙ h.set }
+
+-- this pool had none
+pub record Left (key : List ℕ) (old after : List Pool) (i : ℕ) : Type 0 where
+  pub same : after ≡ old
+  pub rest : option_map (λ n. (i + 1) + n) (home_of key (drop (i + 1) old)) ≡ home_of key old
+
+pub left : (key : List ℕ) (old pools : List Pool) (i : ℕ) (there new : Pool) → pools ≡ old → i < length old → there ≡ get_or pools i there → None ≡ option_map (λ (i : Item). i.number) (item_at key there.items) → new ≡ record { size = there.size; items = without key there.items }
+    → option_map (λ n. i + n) (home_of key (drop i old)) ≡ home_of key old → Left key old (slice_set pools i new) i
+left key old pools i there new same lt read out is so =
+    let none = mapped-none (λ (i : Item). i.number) (item_at key there.items) (sym out) in
+    let stays : new ≡ there = is ∙ (λ j. record { size = there.size; items = without-none key there.items none j }) in
+    record {
+      same = untouched pools i there new (omega (arith, lt, ap length same)) read stays ∙ same;
+      rest = passed key old i there lt (read ∙ ap (λ ps. get_or ps i there) same) (ap is_some none) so;
+    }
 
 -- ---- the handle is one of this cache's
 
@@ -89,7 +123,7 @@ home_length_step : (g : Pool → Pool) (pool : Pool) (pools rest : List Pool) (b
 home_length_step g pool pools rest true h = omega arith
 home_length_step g pool pools rest false h = omega (arith, h)
 
-length-home : (key : List ℕ) (g : Pool → Pool) (pools : List Pool) → length (change_home key g pools) ≡ length pools
+pub length-home : (key : List ℕ) (g : Pool → Pool) (pools : List Pool) → length (change_home key g pools) ≡ length pools
 length-home key g [] = refl
 length-home key g (pool ∷ pools) = omega (arith, home_length_step g pool pools (change_home key g pools) (has key pool) (length-home key g pools))
 

@@ -1,13 +1,16 @@
 -- Items under a key, in one pool and in all.
-use Rattle.std.proofs.Common.{◌≡◌, ◌≢◌, ℕ, zero, suc, ◌+◌, ◌≤◌, Bool, true, false, List, [], ◌∷◌, Option, Some, None, refl, ap, sym, ◌∙◌, arith, subst, slice_get, slice_set}
+use Rattle.std.proofs.Common.{◌≡◌, ◌≢◌, ◌⊎◌, inl, inr, ⊎_elim, ℕ, zero, suc, ◌+◌, ◌<◌, ◌≤◌, ◌==◌, Bool, true, false, List, [], ◌∷◌, Option, Some, None, refl, ap, sym, ◌∙◌, arith, subst, length, slice_get, slice_set, get_or}
 use Rattle.std.specs.Prelude.{is_some, option_map}
+use Rattle.std.proofs.lemmas.Bool.Decides.{eqb_tells}
+use Rattle.std.proofs.lemmas.Option.{slice_get_within, slice_get_read}
 use mathlib.Core.Bool.{cond}
 use Rattle.hc_types.specs.Tally.{count}
 use Rattle.hc_types.proofs.Tallies.{tally-set, tally-get}
 use Rattle.hc_memory.specs.Item.{Item}
 use Rattle.hc_memory.specs.Pool.{Pool, is_at, item_at}
-use Rattle.hc_memory.specs.Memory.{has, home_of}
+use Rattle.hc_memory.specs.Memory.{has, home_of, beside}
 use Rattle.hc_memory.specs.Sound.{items_at}
+use Rattle.hc_memory.proofs.Homes.{home}
 use Rattle.hc_memory.proofs.Keyed.{mapped-none, item_at-is, tally-without, count-none}
 
 -- ---- lists
@@ -74,3 +77,71 @@ nowhere_at_step key p pools None e h rest =
 pub none_at : (key : List ℕ) (pools : List Pool) → home_of key pools ≡ None → items_at key pools ≡ 0
 none_at key [] h = refl
 none_at key (p ∷ pools) h = nowhere_at_step key p pools (item_at key p.items) refl h (none_at key pools)
+
+-- ---- the key's pool, if it's another one than this
+
+arrived_step : (key : List ℕ) (pools : List Pool) (own i : ℕ) (x : Pool) (o : Option ℕ) → home_of key pools ≡ o → items_at key pools ≤ 1 → slice_get pools i ≡ Some x → has key x ≡ true → i ≢ own → Some i ≡ beside own o
+arrived_step key pools own i x None e single at holds other =
+    let none = ap is_some (nowhere key pools i x e at) in
+    absurd (cc)
+arrived_step key pools own i x (Some h) e single at holds other =
+    let there = home key pools h e in
+    ⊎_elim
+    (λ (same : ((i == h) ≡ true) × (i ≡ h)). ⊎_elim
+    (λ (mine : ((h == own) ≡ true) × (h ≡ own)). absurd (other (same.1 ∙ mine.1)))
+    (λ (apart : ((h == own) ≡ false) × (h ≢ own)). ap Some same.1 ∙ sym (ap (λ b. cond b None (Some h)) apart.0))
+    (eqb_tells h own))
+    (λ (apart : ((i == h) ≡ false) × (i ≢ h)).
+    let none = ap is_some (elsewhere key pools h i there.pool x single there.found there.holds at apart.1) in
+    absurd (cc))
+    (eqb_tells i h)
+
+-- another pool that has the key's item is the key's
+pub arrived-beside : (key : List ℕ) (pools : List Pool) (own i : ℕ) (x : Pool) → items_at key pools ≤ 1 → i < length pools → x ≡ get_or pools i x → has key x ≡ true → i ≢ own → Some i ≡ beside own (home_of key pools)
+arrived-beside key pools own i x single lt read holds other = arrived_step key pools own i x (home_of key pools) refl single (slice_get_read pools (length pools) i x refl lt read) holds other
+
+-- the pools before are one more
+pub further : (key : List ℕ) (pools : List Pool) (own i : ℕ) (x : Pool) → i < length pools → x ≡ get_or pools i x → (i ≢ own → has key x ≡ false) → ((j : ℕ) (pool : Pool) → j < i → j ≢ own → slice_get pools j ≡ Some pool → has key pool ≡ false)
+    → (j : ℕ) (pool : Pool) → j < i + 1 → j ≢ own → slice_get pools j ≡ Some pool → has key pool ≡ false
+further key pools own i x lt read none before j pool below other at = ⊎_elim
+    (λ (same : ((j == i) ≡ true) × (j ≡ i)).
+    let here : slice_get pools i ≡ Some x = slice_get_read pools (length pools) i x refl lt read in
+    let is : x ≡ pool = let at' = sym here ∙ ap (λ n. slice_get pools n) (sym same.1) ∙ at in cc in
+    subst (λ (p : Pool). has key p ≡ false) is (none (λ (e : i ≡ own). other (same.1 ∙ e))))
+    (λ (apart : ((j == i) ≡ false) × (j ≢ i)). before j pool (omega (arith, below, apart.1)) other at)
+    (eqb_tells j i)
+
+passed_step : (key : List ℕ) (pools : List Pool) (own : ℕ) (o : Option ℕ) → home_of key pools ≡ o → ((j : ℕ) (pool : Pool) → j < length pools → j ≢ own → slice_get pools j ≡ Some pool → has key pool ≡ false) → None ≡ beside own o
+passed_step key pools own None e none = refl
+passed_step key pools own (Some h) e none =
+    let there = home key pools h e in
+    ⊎_elim
+    (λ (mine : ((h == own) ≡ true) × (h ≡ own)). sym (ap (λ b. cond b None (Some h)) mine.0))
+    (λ (apart : ((h == own) ≡ false) × (h ≢ own)).
+    let has-none = none h there.pool (slice_get_within pools h there.pool there.found) apart.1 there.found in
+    let holds = there.holds in
+    absurd (cc))
+    (eqb_tells h own)
+
+-- where no other pool has one, the key's is this, or none is
+pub all-passed-beside : (key : List ℕ) (pools : List Pool) (own : ℕ) → ((j : ℕ) (pool : Pool) → j < length pools → j ≢ own → slice_get pools j ≡ Some pool → has key pool ≡ false) → None ≡ beside own (home_of key pools)
+all-passed-beside key pools own none = passed_step key pools own (home_of key pools) refl none
+
+some_step : (own at : ℕ) (o : Option ℕ) → Some at ≡ beside own o → (o ≡ Some at) × (own ≢ at)
+some_step own at None e = absurd cc
+some_step own at (Some h) e = ⊎_elim
+    (λ (mine : ((h == own) ≡ true) × (h ≡ own)). let none = e ∙ ap (λ b. cond b None (Some h)) mine.0 in absurd (cc))
+    (λ (apart : ((h == own) ≡ false) × (h ≢ own)).
+    let same : h ≡ at = let is = e ∙ ap (λ b. cond b None (Some h)) apart.0 in cc in
+    (ap Some same, λ (x : own ≡ at). apart.1 (same ∙ sym x)))
+    (eqb_tells h own)
+
+pub beside-some : (own at : ℕ) (o : Option ℕ) → Some at ≡ beside own o → (o ≡ Some at) × (own ≢ at)
+beside-some own at o e = some_step own at o e
+
+pub beside-none : (own : ℕ) (o : Option ℕ) → None ≡ beside own o → (o ≡ None) ⊎ (o ≡ Some own)
+beside-none own None e = inl refl
+beside-none own (Some h) e = ⊎_elim
+    (λ (mine : ((h == own) ≡ true) × (h ≡ own)). inr (ap Some mine.1))
+    (λ (apart : ((h == own) ≡ false) × (h ≢ own)). let none = e ∙ ap (λ b. cond b None (Some h)) apart.0 in absurd (cc))
+    (eqb_tells h own)

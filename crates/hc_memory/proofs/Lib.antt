@@ -13,3 +13,4 @@ pub mod Making
 pub mod Handing
 pub mod Unmarking
 pub mod Few
+pub mod Finding

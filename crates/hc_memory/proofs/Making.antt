@@ -1,5 +1,5 @@
 -- New pools, and room that is made in one.
-use Rattle.std.proofs.Common.{◌≡◌, ℕ, zero, suc, ◌+◌, ◌<◌, ◌≤◌, leb, ◌-◌, Bool, true, false, not, List, [], ◌∷◌, ◌++◌, length, take, drop, map, append_assoc, Option, Some, None, Result, Ok, Err, IfOk, OnOk, OnErr, refl, ap, sym, ◌∙◌, arith, subst, slice_get, slice_set, get_or}
+use Rattle.std.proofs.Common.{◌≡◌, ℕ, zero, suc, ◌+◌, ◌<◌, ◌≤◌, leb, ◌-◌, Bool, true, false, not, List, [], ◌∷◌, ◌++◌, length, take, drop, map, append_assoc, Option, Some, None, Result, Ok, Err, IfOk, refl, ap, sym, ◌∙◌, arith, subst, slice_get, slice_set, get_or}
 use mathlib.Core.Bool.{cond}
 use Rattle.hc_types.specs.Config.{Config}
 use Rattle.hc_types.specs.Limits.{pool_fits, all_fit, pools_fit, page_fits, regions_fit, queue_fits, is_within, wrong_behind, first_wrong}
@@ -10,17 +10,17 @@ use Rattle.hc_types.specs.declared.refusal.Refusal.TheVariants.{BadPool, BadPage
 use Rattle.hc_types.specs.Tally.{tally, count}
 use Rattle.hc_memory.specs.declared.usage.Usage.{Usage}
 use Rattle.hc_memory.specs.Item.{Item, Open, open_cost}
-use Rattle.hc_memory.specs.Pool.{Pool, item_at, used, unexpired, is_full, kept, dropped}
+use Rattle.hc_memory.specs.Pool.{Pool, item_at, is_full, kept, dropped}
 use Rattle.hc_memory.specs.Charges.{usage_of, charge_at, closed}
 use Rattle.std.proofs.lemmas.Bool.{and_parts}
-use Rattle.std.proofs.lemmas.List.{length-map, length-take-le, set-get_or, drop_more}
+use Rattle.std.proofs.lemmas.List.{length-map, length-take-le, drop_more}
 use Rattle.std.proofs.lemmas.Option.{slice_get_within, get_or_from_slice_get}
 use Rattle.hc_memory.proofs.Books.{tally-closed, closed-none}
 use Rattle.hc_memory.proofs.Homes.{home}
 use Rattle.hc_memory.proofs.Looking.{read-there}
 use Rattle.hc_memory.proofs.Sounds.{Shrinks, sound-shrinks, sound-charged}
 use Rattle.hc_memory.proofs.Keys.{get-set}
-use Rattle.hc_memory.proofs.Linking.{shrinks-drop, shrinks-used, same_items, sound-home}
+use Rattle.hc_memory.proofs.Linking.{shrinks-drop}
 use Rattle.hc_memory.specs.Memory.{Memory, empty_pool, change_home, home_of, linked_at, is_hopeless, victims_of, after_room}
 use Rattle.hc_memory.specs.Sound.{IsWithin, Sound, FlashFits, items_at}
 
@@ -153,26 +153,6 @@ evicted-sound pools charges made number i count there again new s same at read i
     let there' : again ≡ there = same-there pools number again there at (read ∙ ap (λ n. get_or pools n again) same) in
     let new' : new ≡ record there { items = drop count there.items } = is ∙ ap (λ (p : Pool). record p { items = drop count p.items }) there' in
     rw (same, new') (sound-shrinks pools charges made number there (record there { items = drop count there.items }) s at (shrinks-drop count there))
-
--- ---- an item that is used where it could be
-
-pub used-or-not : {T E : Type 0} (key : List ℕ) (now : ℕ) (pools : List Pool) (charges : List Open) (made i : ℕ) (there new : Pool) (r : Result T E) → Sound pools charges made → home_of key pools ≡ Some i → there ≡ get_or pools i there
-    → OnOk r (new ≡ record { size = there.size; items = used key (unexpired now (item_at key there.items)) there.items }) → OnErr r (new ≡ there) → Sound (slice_set pools i new) charges made
-used-or-not key now pools charges made i there new (Ok x) s e read items same =
-    let f : Pool → Pool = λ p. record p { items = used key (unexpired now (item_at key p.items)) p.items } in
-    let h = at-home key pools i there new f e read items in
-    rw h.set (sound-home key f pools charges made (λ p. shrinks-used key now p) s)
-used-or-not key now pools charges made i there new (Err x) s e read items same =
-    let f : Pool → Pool = λ p. p in
-    let h = at-home key pools i there new f e read same in
-    rw h.set (sound-home key f pools charges made same_items s)
-
--- a pool in its own place
-pub unchanged : (pools : List Pool) (i : ℕ) (there new : Pool) (key : List ℕ) → home_of key pools ≡ Some i → there ≡ get_or pools i there → new ≡ there → slice_set pools i new ≡ pools
-unchanged pools i there new key e read is =
-    let h = home key pools i e in
-    let same : there ≡ h.pool = same-there pools i there h.pool h.found read in
-    ap (λ p. slice_set pools i p) (is ∙ same) ∙ ap (slice_set pools i) (sym (get_or_from_slice_get pools i h.pool h.pool h.found)) ∙ set-get_or pools i h.pool
 
 -- ---- what goes, and what stays
 

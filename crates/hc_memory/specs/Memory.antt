@@ -1,5 +1,5 @@
 -- All pools, with what is open in them, and what each call does to them.
-use Rattle.std.specs.Prelude.{ℕ, ◌+◌, Bool, true, List, [], ◌∷◌, ◌++◌, length, replicate, Option, Some, None, is_some, slice_get, slice_set, if◌then◌else◌, option_map, map, suc}
+use Rattle.std.specs.Prelude.{ℕ, ◌+◌, ◌==◌, Bool, true, List, [], ◌∷◌, ◌++◌, length, replicate, Option, Some, None, is_some, slice_get, slice_set, if◌then◌else◌, option_map, map, suc}
 use Rattle.std.specs.Option.{option_map_or}
 use Rattle.hc_types.specs.Charge.{charge_of}
 use Rattle.hc_types.specs.Loss as loss
@@ -40,6 +40,11 @@ linked_at key (pool ∷ pools) = if has key pool then item_at key pool.items els
 abbrev pub home_of : List ℕ → List Pool → Option ℕ
 home_of key [] = None
 home_of key (pool ∷ pools) = if has key pool then Some 0 else option_map suc (home_of key pools)
+
+-- the number of a pool, if it's another one
+abbrev pub beside : ℕ → Option ℕ → Option ℕ
+beside own None = None
+beside own (Some number) = if number == own then None else Some number
 
 -- the pool with an item under this key changes
 abbrev pub change_home : List ℕ → (Pool → Pool) → List Pool → List Pool

@@ -6,13 +6,13 @@ ghost use Rattle.hc_memory.specs.Pool.{Pool as Order, bytes_of};
 ghost use Rattle.hc_memory.specs.Seen.{item_of};
 ghost use Rattle.hc_memory.specs.Charges.{is_open};
 ghost use Rattle.hc_memory.specs.Sound.{items_at};
-ghost use Rattle.hc_memory.specs.Memory.{home_of, linked_at, change_at, unlinked, after_link, after_free};
+ghost use Rattle.hc_memory.specs.Memory.{home_of, beside, linked_at, change_at, unlinked, after_link, after_free};
 
 use crate::answers::Unlinked;
 use crate::handles::{Blank, Sealed};
 use crate::item::Held;
 use crate::pool::Pool;
-use crate::pools::{Pools, home};
+use crate::pools::Pools;
 use hc_types::{Key, Refusal};
 use std::alloc::{AllocFailed, Allocator};
 
@@ -134,16 +134,23 @@ fn link_over<A: Allocator + Clone>(
     ensures err { OnErr result (pools.new.items ≡ pools.old.items) }
     ensures value_returned { IfErr result (λ failed. failed.value ≡ (key, held)) }
 {
-    match home(pools.as_slice(), &key) {
-        Some(at) => {
-            if at == own {
-                pools[own].link(key, held)
-            } else {
-                move_over(pools, own, at, key, held)
-            }
-        }
+    match home_beside(pools.as_slice(), own, &key) {
+        Some(at) => move_over(pools, own, at, key, held),
         None => pools[own].link(key, held),
     }
+}
+
+/// The number of the pool with an item under this key, if it's another one than `own`, which isn't looked into.
+fn home_beside<A: Allocator>(pools: &[Pool<A>], own: usize, key: &Key<A>) -> Option<usize>
+    requires { items_at key.now pools.now ≤ 1 }
+    ensures { result ≡ beside own (home_of key.now pools.now) }
+{
+    for (i, pool) in pools.iter().enumerate() {
+        if i != own && pool.has(key) {
+            return Some(i);
+        }
+    }
+    None
 }
 
 /// Links an item in its own pool, and takes the key's item out of another one, whose number is answered. On an error,

@@ -5,12 +5,11 @@ ghost use Rattle.lru.specs.LruCache.{lru_cache, last_entry};
 ghost use Rattle.hc_types.specs.Loss.{scope_of};
 ghost use Rattle.hc_types.specs.Tally.{count};
 ghost use Rattle.hc_memory.specs.Item.{cost as item_cost};
-ghost use Rattle.hc_memory.specs.Pool.{bytes_of, is_at, item_at, without, used, unexpired, unmarked_where, marked_keys, Grows, is_full, kept, dropped};
-ghost use Rattle.hc_memory.specs.Seen.{item_of, glance_of};
+ghost use Rattle.hc_memory.specs.Pool.{bytes_of, is_at, item_at, without, used, unmarked_where, marked_keys, Grows, is_full, kept, dropped};
+ghost use Rattle.hc_memory.specs.Seen.{item_of};
 
 use crate::item::{Held, Item, expired};
 use crate::usage::Usage;
-use bytes::Bytes;
 use hc_types::{FlashConfig, Key, PoolSize, Scope};
 use lru::{DefaultHasher, LruCache};
 use std::alloc::{AllocError, AllocFailed, Allocator, Global};
@@ -107,25 +106,19 @@ impl<A: Allocator> Pool<A> {
     }
 
     /// What is held under the key, expired or not. It isn't used.
-    fn held(&self, key: &Key<A>) -> Option<&Held<A>>
+    pub fn held(&self, key: &Key<A>) -> Option<&Held<A>>
         ensures { option_map (λ h. item_of (key.now, h.now)) result ≡ item_at key.now self.now.items }
     {
         let _len = self.cache.len();
         self.cache.peek(key)
     }
 
-    /// The number and the expiry of the item under the key, expired or not. It isn't used.
-    #[must_use]
-    pub fn peek(&self, key: &Key<A>) -> Option<Glance>
-        ensures { result ≡ option_map glance_of (item_at key.now self.now.items) }
+    /// The item under the key, if there is one, is now the one that was used last.
+    pub fn promote(&mut self, key: &Key<A>)
+        ensures { self.new ≡ record { size = self.old.size; items = used key.now (item_at key.now self.old.items) self.old.items } }
     {
-        match self.held(key) {
-            Some(held) => Some(Glance {
-                number: held.number,
-                expiry: held.expiry,
-            }),
-            None => None,
-        }
+        let _len = self.cache.len();
+        self.cache.promote(key);
     }
 
     /// Takes out the item under the key, and answers its number.
@@ -182,34 +175,6 @@ impl<A: Allocator> Pool<A> {
         if let Some(held) = self.cache.peek_mut(key) {
             held.clean = false;
         }
-    }
-
-    /// Another owner of the value under the key, where its item isn't expired at `now`, in seconds. The item is now
-    /// the one that was used last. An expired one stays where it is. On an error, for want of memory, nothing changed.
-    pub fn find(&mut self, key: &Key<A>, now: u64) -> Result<Option<Bytes<A>>, AllocError>
-        ensures value { IfOk result (λ found. found ≡ option_map (λ i. i.value) (unexpired now (item_at key.now self.old.items))) }
-        ensures items { OnOk result (self.new ≡ record { size = self.old.size; items = used key.now (unexpired now (item_at key.now self.old.items)) self.old.items }) }
-        ensures err { OnErr result (self.new ≡ self.old) }
-    {
-        let _len = self.cache.len();
-        let found = self.fresh(key, now)?;
-        if found.is_some() {
-            self.cache.promote(key);
-        }
-        Ok(found)
-    }
-
-    /// Another owner of the value under the key, where its item isn't expired at `now`, in seconds.
-    pub fn fresh(&self, key: &Key<A>, now: u64) -> Result<Option<Bytes<A>>, AllocError>
-        ensures value { IfOk result (λ found. found ≡ option_map (λ i. i.value) (unexpired now (item_at key.now self.now.items))) }
-    {
-        let Some(held) = self.held(key) else {
-            return Ok(None);
-        };
-        if expired(now, held.expiry) {
-            return Ok(None);
-        }
-        Ok(Some(held.value.clone()?))
     }
 
     /// Puts copies of the keys of the clean items that the scope covers after those of the list. On an error the list

@@ -1,17 +1,17 @@
 // All pools, with the charges that are open in them.
-ghost use Rattle.std.specs.Prelude.{◌≡◌, ◌+◌, ◌<◌, ◌≤◌, ◌⊎◌, [], true, false, length, take, drop, map, replicate, IfOk, IfErr, OnOk, OnErr, is_some, option_map, Some, None, vec_len, vec_capacity};
+ghost use Rattle.std.specs.Prelude.{◌≡◌, ◌+◌, ◌<◌, ◌≤◌, ◌⊎◌, [], true, false, length, take, drop, map, replicate, IfOk, IfErr, IfSome, OnOk, OnErr, is_some, option_map, Some, None, vec_len, vec_capacity};
 ghost use Rattle.hc_types.specs.Limits.{first_wrong};
 ghost use Rattle.hc_types.specs.Charge.{charge_of};
 ghost use Rattle.hc_memory.specs.Planned.{IsPlanned};
 ghost use Rattle.hc_memory.specs.Pool.{is_full, kept, dropped};
 ghost use Rattle.hc_memory.specs.Sound.{Sound, IsWithin};
-ghost use Rattle.hc_memory.specs.Seen.{glance_of};
+ghost use Rattle.hc_memory.specs.Seen.{item_of, glance_of};
 ghost use Rattle.hc_memory.specs.Charges.{charge_at, usage_of};
-ghost use Rattle.hc_memory.specs.Memory.{empty_pool, home_of, linked_at, value_at, is_hopeless, victims_of, blank_of, after_room, after_charge, after_unlink, after_free, after_find};
+ghost use Rattle.hc_memory.specs.Memory.{empty_pool, home_of, linked_at, value_at, is_hopeless, victims_of, blank_of, unlinked, after_room, after_charge, after_unlink, after_free, after_find};
 
 use crate::answers::{Charged, Uncharged};
 use crate::handles::{Blank, ReadHandle, zeros};
-use crate::item::Item;
+use crate::item::{Held, Item, expired};
 use crate::open::OpenCharges;
 use crate::pool::{Glance, Pool};
 use crate::usage::Usage;
@@ -82,8 +82,11 @@ impl<A: Allocator> Pools<A> {
     pub fn peek(&self, key: &Key<A>) -> Option<Glance>
         ensures { result ≡ option_map glance_of (linked_at key.now self.now.pools) }
     {
-        match home(self.pools.as_slice(), key) {
-            Some(at) => self.pools[at].peek(key),
+        match held_in(self.pools.as_slice(), key) {
+            Some((_, held)) => Some(Glance {
+                number: held.number,
+                expiry: held.expiry,
+            }),
             None => None,
         }
     }
@@ -93,9 +96,10 @@ impl<A: Allocator> Pools<A> {
     pub fn value(&self, key: &Key<A>, now: u64) -> Result<Option<Bytes<A>>, AllocError>
         ensures { IfOk result (λ found. found ≡ value_at now key.now self.now.pools) }
     {
-        match home(self.pools.as_slice(), key) {
-            Some(at) => self.pools[at].fresh(key, now),
-            None => Ok(None),
+        match fresh_in(self.pools.as_slice(), key, now) {
+            Ok(Some((_, value))) => Ok(Some(value)),
+            Ok(None) => Ok(None),
+            Err(no_memory) => Err(no_memory),
         }
     }
 
@@ -104,10 +108,7 @@ impl<A: Allocator> Pools<A> {
         ensures value { result ≡ option_map (λ item. item.number) (linked_at key.now self.old.pools) }
         ensures pools { self.new ≡ after_unlink self.old key.now }
     {
-        match home(self.pools.as_slice(), key) {
-            Some(at) => self.pools[at].unlink(key),
-            None => None,
-        }
+        unlink_from(&mut self.pools, key)
     }
 
     /// Frees the open charge with this number, and answers whether there was one.
@@ -125,9 +126,13 @@ impl<A: Allocator> Pools<A> {
         ensures pools { OnOk result (self.new ≡ after_find self.old now key.now) }
         ensures err { OnErr result (self.new ≡ self.old) }
     {
-        match home(self.pools.as_slice(), key) {
-            Some(at) => handed_out(self.pools[at].find(key, now)),
-            None => Ok(None),
+        match fresh_in(self.pools.as_slice(), key, now) {
+            Ok(Some((at, value))) => {
+                self.pools[at].promote(key);
+                Ok(Some(ReadHandle::new(value)))
+            }
+            Ok(None) => Ok(None),
+            Err(no_memory) => Err(no_memory),
         }
     }
 }
@@ -148,26 +153,47 @@ impl<A: Allocator + Copy> Pools<A> {
     }
 }
 
-/// A handle to the value that was found, if one was.
-fn handed_out<A: Allocator>(
-    found: Result<Option<Bytes<A>>, AllocError>,
-) -> Result<Option<ReadHandle<A>>, AllocError>
-    ensures { result ≡ found }
-{
-    match found {
-        Ok(Some(bytes)) => Ok(Some(ReadHandle::new(bytes))),
-        Ok(None) => Ok(None),
-        Err(refused) => Err(refused),
-    }
-}
-
-/// The number of the pool with an item under this key. It looks into each pool, of which there are few, once.
-pub(crate) fn home<A: Allocator>(pools: &[Pool<A>], key: &Key<A>) -> Option<usize>
-    ensures { result ≡ home_of key.now pools.now }
+/// What is held under this key, expired or not, and the number of its pool. It looks into one pool after the other, of
+/// which there are few, until one has it.
+fn held_in<'a, A: Allocator>(pools: &'a [Pool<A>], key: &Key<A>) -> Option<(usize, &'a Held<A>)>
+    ensures place { option_map (λ there. there.0) result ≡ home_of key.now pools.now }
+    ensures item { option_map (λ there. item_of (key.now, there.1.now)) result ≡ linked_at key.now pools.now }
 {
     for (i, pool) in pools.iter().enumerate() {
-        if pool.has(key) {
-            return Some(i);
+        if let Some(held) = pool.held(key) {
+            return Some((i, held));
+        }
+    }
+    None
+}
+
+/// Another owner of the value under this key, where its item isn't expired at `now` (seconds), and the number of its
+/// pool.
+fn fresh_in<A: Allocator>(
+    pools: &[Pool<A>],
+    key: &Key<A>,
+    now: u64,
+) -> Result<Option<(usize, Bytes<A>)>, AllocError>
+    ensures value { IfOk result (λ found. option_map (λ there. there.1) found ≡ value_at now key.now pools.now) }
+    ensures place { IfOk result (λ found. IfSome found (λ there. home_of key.now pools.now ≡ Some there.0)) }
+{
+    let Some((at, held)) = held_in(pools, key) else {
+        return Ok(None);
+    };
+    if expired(now, held.expiry) {
+        return Ok(None);
+    }
+    Ok(Some((at, held.value.clone()?)))
+}
+
+/// Takes the item under this key out of the pool that has it, and answers its number.
+fn unlink_from<A: Allocator>(pools: &mut Vec<Pool<A>, A>, key: &Key<A>) -> Option<u64>
+    ensures value { result ≡ option_map (λ item. item.number) (linked_at key.now pools.old.items) }
+    ensures pools { pools.new.items ≡ unlinked key.now pools.old.items }
+{
+    for i in 0..pools.len() {
+        if let Some(number) = pools[i].unlink(key) {
+            return Some(number);
         }
     }
     None

@@ -1,61 +1,47 @@
-use Rattle.std.proofs.Common.{◌≡◌, Option, length, IfOk, refl, sym, ◌∙◌, ap, arith, subst, slice_set}
-use Rattle.std.specs.Prelude.{option_map}
-use Rattle.std.proofs.lemmas.List.{length-set}
-use Rattle.std.proofs.lemmas.Result.{on_ok_weaker, on_err_weaker}
-use Rattle.hc_memory.specs.Item.{Item}
-use Rattle.hc_memory.specs.Pool.{Pool, item_at, used, unexpired}
-use Rattle.hc_memory.specs.Memory.{home_of, after_find}
-use Rattle.hc_memory.proofs.Homes.{away}
-use Rattle.hc_memory.proofs.Making.{at-home, home-within, used-or-not, unchanged}
+use Rattle.std.proofs.Common.{Some, refl, sym, ◌∙◌, ap, arith, length, length-set}
+use Rattle.hc_memory.specs.Memory.{home_of, value_at}
+use Rattle.hc_memory.proofs.Making.{home-within}
+use Rattle.hc_memory.proofs.Finding.{hit-value, miss-value, hit-place, found, missed}
 use Rattle.hc_memory.proofs.pools.Pools.find.Goals as goal
 
 pub index_mut-requires : goal.index_mut-requires
 index_mut-requires g c =
-    let e = sym (c.in-Some.ensures ∙ ap (home_of c.args.key.now) c.as_slice.ensures.value) in
-    let lt = home-within c.args.key.now c.self.inside.pools.items c.in-Some.at e in
+    let place = hit-place (home_of c.args.key.now c.as_slice.result.now) c.in-Ok-Some.field-0 c.in-Ok-Some.at c.in-Ok-Some.value c.in-Ok-Some.field-0-is c.in-Ok-Some.ensures.place in
+    let lt = home-within c.args.key.now c.self.inside.pools.items c.in-Ok-Some.at (sym (ap (home_of c.args.key.now) c.as_slice.ensures.value) ∙ place) in
     omega (arith, lt, c.as_slice.ensures.len, ap length c.as_slice.ensures.value)
 
 pub invariant_of-self : goal.invariant_of-self
 invariant_of-self g c =
     let i = c.self.invariant in
-    let e = sym (c.in-Some.ensures ∙ ap (home_of c.args.key.now) c.as_slice.ensures.value) in (
-      used-or-not c.args.key.now c.args.now c.self.inside.pools.items c.self.inside.charges.charges c.self.inside.made c.in-Some.at c.index_mut.result.now c.find.new.self c.find.result i.0 e c.index_mut.ensures.value c.find.ensures.items c.find.ensures.err,
-      i.1 ∙ sym (length-set c.self.inside.pools.items c.in-Some.at c.find.new.self),
-      i.2,
-    )
+    let place = hit-place (home_of c.args.key.now c.as_slice.result.now) c.in-Ok-Some.field-0 c.in-Ok-Some.at c.in-Ok-Some.value c.in-Ok-Some.field-0-is c.in-Ok-Some.ensures.place in
+    let value = hit-value c.in-Ok-Some.field-0 c.in-Ok-Some.at c.in-Ok-Some.value _ c.in-Ok-Some.field-0-is c.in-Ok-Some.ensures.value in
+    let f = found c.args.key.now c.args.now c.self.inside.pools.items c.self.inside.charges.charges c.self.inside.made c.in-Ok-Some.at c.index_mut.result.now c.promote.new.self c.in-Ok-Some.value i.0
+    (sym (ap (home_of c.args.key.now) c.as_slice.ensures.value) ∙ place) (value ∙ ap (value_at c.args.now c.args.key.now) c.as_slice.ensures.value) c.index_mut.ensures.value c.promote.ensures in
+    (f.sound, i.1 ∙ sym (length-set c.self.inside.pools.items c.in-Ok-Some.at c.promote.new.self), i.2)
 
-pub returns-in-Some-clause-value : goal.returns-in-Some-clause-value
-returns-in-Some-clause-value g c =
-    let use' : Pool → Pool = λ p. p in
-    let e = sym (c.in-Some.ensures ∙ ap (home_of c.args.key.now) c.as_slice.ensures.value) in
-    let h = at-home c.args.key.now c.self.inside.pools.items c.in-Some.at c.index_mut.result.now c.index_mut.result.now use' e c.index_mut.ensures.value refl in
-    rw (← c.self.view_is) (rw c.handed_out.ensures (subst (λ (o : Option Item). IfOk c.find.result (λ found. found ≡ option_map (λ (i : Item). i.value) (unexpired c.args.now o))) h.item c.find.ensures.value))
+pub returns-in-Ok-Some-clause-value : goal.returns-in-Ok-Some-clause-value
+returns-in-Ok-Some-clause-value g c =
+    let value = hit-value c.in-Ok-Some.field-0 c.in-Ok-Some.at c.in-Ok-Some.value _ c.in-Ok-Some.field-0-is c.in-Ok-Some.ensures.value in
+    rw (← c.self.view_is) (ap Some c.new.ensures ∙ value ∙ ap (value_at c.args.now c.args.key.now) c.as_slice.ensures.value)
 
-pub returns-in-Some-clause-pools : goal.returns-in-Some-clause-pools
-returns-in-Some-clause-pools g c =
-    let use' : Pool → Pool = λ p. record p { items = used c.args.key.now (unexpired c.args.now (item_at c.args.key.now p.items)) p.items } in
-    let e = sym (c.in-Some.ensures ∙ ap (home_of c.args.key.now) c.as_slice.ensures.value) in
-    let after : c.find.new.self ≡ record { size = c.index_mut.result.now.size; items = used c.args.key.now (unexpired c.args.now (item_at c.args.key.now c.index_mut.result.now.items)) c.index_mut.result.now.items } → record { flash = c.self.inside.flash; pools = slice_set c.self.inside.pools.items c.in-Some.at c.find.new.self; charges = c.self.inside.charges.charges; made = c.self.inside.made } ≡ after_find (record { flash = c.self.inside.flash; pools = c.self.inside.pools.items; charges = c.self.inside.charges.charges; made = c.self.inside.made }) c.args.now c.args.key.now =
-    λ is. let h = at-home c.args.key.now c.self.inside.pools.items c.in-Some.at c.index_mut.result.now c.find.new.self use' e c.index_mut.ensures.value is in
-    λ i. record { flash = c.self.inside.flash; pools = h.set i; charges = c.self.inside.charges.charges; made = c.self.inside.made } in
-    rw (← c.self.view_is) (rw c.handed_out.ensures (on_ok_weaker c.find.result after c.find.ensures.items))
+pub returns-in-Ok-Some-clause-pools : goal.returns-in-Ok-Some-clause-pools
+returns-in-Ok-Some-clause-pools g c =
+    let place = hit-place (home_of c.args.key.now c.as_slice.result.now) c.in-Ok-Some.field-0 c.in-Ok-Some.at c.in-Ok-Some.value c.in-Ok-Some.field-0-is c.in-Ok-Some.ensures.place in
+    let value = hit-value c.in-Ok-Some.field-0 c.in-Ok-Some.at c.in-Ok-Some.value _ c.in-Ok-Some.field-0-is c.in-Ok-Some.ensures.value in
+    let f = found c.args.key.now c.args.now c.self.inside.pools.items c.self.inside.charges.charges c.self.inside.made c.in-Ok-Some.at c.index_mut.result.now c.promote.new.self c.in-Ok-Some.value c.self.invariant.0
+    (sym (ap (home_of c.args.key.now) c.as_slice.ensures.value) ∙ place) (value ∙ ap (value_at c.args.now c.args.key.now) c.as_slice.ensures.value) c.index_mut.ensures.value c.promote.ensures in
+    rw (← c.self.view_is) (λ i. record { flash = c.self.inside.flash; pools = f.pools i; charges = c.self.inside.charges.charges; made = c.self.inside.made })
 
-pub returns-in-Some-clause-err : goal.returns-in-Some-clause-err
-returns-in-Some-clause-err g c =
-    let e = sym (c.in-Some.ensures ∙ ap (home_of c.args.key.now) c.as_slice.ensures.value) in
-    let after : c.find.new.self ≡ c.index_mut.result.now → record { flash = c.self.inside.flash; pools = slice_set c.self.inside.pools.items c.in-Some.at c.find.new.self; charges = c.self.inside.charges.charges; made = c.self.inside.made } ≡ record { flash = c.self.inside.flash; pools = c.self.inside.pools.items; charges = c.self.inside.charges.charges; made = c.self.inside.made } =
-    λ is. let same = unchanged c.self.inside.pools.items c.in-Some.at c.index_mut.result.now c.find.new.self c.args.key.now e c.index_mut.ensures.value is in
-    λ i. record { flash = c.self.inside.flash; pools = same i; charges = c.self.inside.charges.charges; made = c.self.inside.made } in
-    rw (← c.self.view_is) (rw c.handed_out.ensures (on_err_weaker c.find.result after c.find.ensures.err))
+pub returns-in-Ok-None-clause-value : goal.returns-in-Ok-None-clause-value
+returns-in-Ok-None-clause-value g c =
+    let value = miss-value c.in-Ok-None.field-0 _ c.in-Ok-None.field-0-is c.in-Ok-None.ensures.value in
+    rw (← c.self.view_is) (value ∙ ap (value_at c.args.now c.args.key.now) c.as_slice.ensures.value)
 
-pub returns-in-None-clause-value : goal.returns-in-None-clause-value
-returns-in-None-clause-value g c =
-    let e = sym (c.in-None.ensures ∙ ap (home_of c.args.key.now) c.as_slice.ensures.value) in
-    let none = (away c.args.key.now c.self.inside.pools.items e).linked in
-    rw (← c.self.view_is) (ap (λ (o : Option Item). option_map (λ (i : Item). i.value) (unexpired c.args.now o)) (sym none))
+pub returns-in-Ok-None-clause-pools : goal.returns-in-Ok-None-clause-pools
+returns-in-Ok-None-clause-pools g c =
+    let value = miss-value c.in-Ok-None.field-0 _ c.in-Ok-None.field-0-is c.in-Ok-None.ensures.value in
+    let same = missed c.args.key.now c.args.now c.self.inside.pools.items (value ∙ ap (value_at c.args.now c.args.key.now) c.as_slice.ensures.value) in
+    rw (← c.self.view_is) (λ i. record { flash = c.self.inside.flash; pools = sym same i; charges = c.self.inside.charges.charges; made = c.self.inside.made })
 
-pub returns-in-None-clause-pools : goal.returns-in-None-clause-pools
-returns-in-None-clause-pools g c =
-    let use' : Pool → Pool = λ p. record p { items = used c.args.key.now (unexpired c.args.now (item_at c.args.key.now p.items)) p.items } in
-    let e = sym (c.in-None.ensures ∙ ap (home_of c.args.key.now) c.as_slice.ensures.value) in
-    rw (← c.self.view_is) (λ i. record { flash = c.self.inside.flash; pools = sym ((away c.args.key.now c.self.inside.pools.items e).change use') i; charges = c.self.inside.charges.charges; made = c.self.inside.made })
+pub returns-in-Err-clause-err : goal.returns-in-Err-clause-err
+returns-in-Err-clause-err g c = rw (← c.self.view_is) refl

@@ -1,17 +1,20 @@
-use Rattle.std.proofs.Common.{sym, ◌∙◌, ap, Some}
+use Rattle.std.proofs.Common.{Some, sym, ◌∙◌, ap}
 use Rattle.hc_memory.specs.Seen.{item_of}
 use Rattle.hc_memory.proofs.Keyed.{value_then, value-fresh, value-stale}
-use Rattle.hc_memory.proofs.pool.Pool.fresh.Goals as goal
+use Rattle.hc_memory.proofs.pools.fresh_in.Goals as goal
 
 pub returns-in_default : goal.returns-in_default
-returns-in_default g c = record { value = ap (value_then c.args.now) c.in_default.ensures }
+returns-in_default g c = record { value = ap (value_then c.args.now) c.in_default.ensures.item; place = tt }
 
 pub returns-then-expired : goal.returns-then-expired
 returns-then-expired g c =
     let stale = value-stale c.args.now (item_of (c.args.key.now, c.in-Some.held.now)) (sym c.expired.ensures ∙ c.if-expired.true) in
-    record { value = sym stale ∙ ap (value_then c.args.now) c.in-Some.ensures }
+    record { value = sym stale ∙ ap (value_then c.args.now) c.in-Some.ensures.item; place = tt }
 
 pub returns : goal.returns
 returns g c =
     let fresh = value-fresh c.args.now (item_of (c.args.key.now, c.in-Some.held.now)) (sym c.expired.ensures ∙ c.if-expired.false) in
-    record { value = ap Some c.in_ok-clone.ensures.cases ∙ sym fresh ∙ ap (value_then c.args.now) c.in-Some.ensures }
+    record {
+      value = ap Some c.in_ok-clone.ensures.cases ∙ sym fresh ∙ ap (value_then c.args.now) c.in-Some.ensures.item;
+      place = sym c.in-Some.ensures.place;
+    }
