@@ -2,13 +2,14 @@
 use Rattle.std.proofs.Common.{◌≡◌, ℕ, zero, suc, ◌+◌, ◌<◌, ◌≤◌, ◌++◌, List, [], ◌∷◌, length, length-append, not, Bool, true, false, nat_lt, Option, Some, None, refl, sym, ap, ◌∙◌, arith, subst, map, slice_get, slice_set, max}
 use Rattle.std.specs.Option.{option_map_or}
 use mathlib.Core.Bool.{cond}
+use Rattle.hc_types.specs.Charge.{charge_of}
 use Rattle.hc_types.specs.Config.{Config}
 use Rattle.hc_types.specs.declared.config.PoolSize.{PoolSize}
 use Rattle.hc_memory.specs.Item.{Open, Handle, charge_by}
 use Rattle.hc_memory.specs.Pool.{Pool}
 use Rattle.hc_memory.specs.Charges.{charge_at, closed, is_open}
 use Rattle.hc_memory.specs.Memory as pools
-use Rattle.hc_memory.specs.Memory.{Memory, empty_pool, has, linked_at, value_at, change_at, change_home}
+use Rattle.hc_memory.specs.Memory.{Memory, empty_pool, has, is_hopeless, linked_at, value_at, change_at, change_home}
 use Rattle.hc_memory.specs.Sound.{Sound}
 use Rattle.hc_memory.proofs.Books.{tally-closed}
 use Rattle.hc_memory.proofs.Linking.{ones}
@@ -18,7 +19,7 @@ use Rattle.hc_history.specs.Lawful.{Lawful, past}
 use Rattle.hc_history.proofs.Appended.{Legal-append, past-append}
 use Rattle.hc_core.specs.Cache.{empty_memory}
 use Rattle.hc_types.specs.declared.refusal.Refusal.{Refusal}
-use Rattle.hc_types.specs.declared.refusal.Refusal.TheVariants.{NoPool}
+use Rattle.hc_types.specs.declared.refusal.Refusal.TheVariants.{NoPool, ValueTooLong, NoRoom}
 use Rattle.hc_core.specs.Refused.{refusal_of}
 use Rattle.hc_core.specs.Steps.{part_of_allocate, insert_notes, find_notes, remove_notes, tick_notes}
 use Rattle.hc_core.specs.Mirrors.{items_of, Mirrors, FitsConfig, FollowsLog, Follows}
@@ -201,3 +202,13 @@ there_step pool memory o false e h = absurd cc
 -- what isn't refused is for a pool that is there
 pub pool-there : (memory : Memory) (pool : ℕ) (key : List ℕ) (size : ℕ) → refusal_of memory pool key size ≡ None → pool < length memory.pools
 pool-there memory pool key size h = there_step pool memory _ (nat_lt pool (length memory.pools)) refl h
+
+may_step : (a b c : Bool) → cond (not a) (Some NoPool) (cond b (Some ValueTooLong) (cond c (Some NoRoom) None)) ≡ None → (b ≡ false) × (c ≡ false)
+may_step true false false h = (refl, refl)
+may_step true false true h = absurd cc
+may_step true true c h = absurd cc
+may_step false b c h = absurd cc
+
+-- and neither too long, nor without room
+pub may-be : (memory : Memory) (pool : ℕ) (key : List ℕ) (size : ℕ) → refusal_of memory pool key size ≡ None → (nat_lt 1048576 size ≡ false) × (is_hopeless memory pool (charge_of key size) ≡ false)
+may-be memory pool key size h = may_step (nat_lt pool (length memory.pools)) (nat_lt 1048576 size) (is_hopeless memory pool (charge_of key size)) h

@@ -233,14 +233,15 @@ impl<N: Notes<Note<A>>, A: Allocator + Clone> Core<N, A> {
         ensures why { IfErr result (λ e. (allocate_refusal self.old pool key size ≡ Some e.refusal) ⊎ ((allocate_refusal self.old pool key size ≡ None) × (e.refusal ≡ Refusal.NoMemory))) }
         ensures key_returned { IfErr result (λ e. e.key ≡ key) }
     {
-        let copy = match plans::allocate(&mut self.notes, &self.pools, pool, &key, size) {
-            Ok(copy) => copy,
+        let plan = plans::allocate(&mut self.notes, &self.pools, pool, &key, size);
+        let (count, copy) = match plan {
+            Ok(plan) => plan,
             Err(refusal) => return Err(Uncharged { refusal, key }),
         };
         let want = charge(&key, size);
         let _sound = self.pools.len();
         let expiry = expiry_after(self.clock, ttl);
-        let Charged { blank, victims } = match self.pools.charge(pool, key, size, expiry) {
+        let Charged { blank, victims } = match self.pools.charge(pool, key, size, expiry, count) {
             Ok(charged) => charged,
             Err(uncharged) => {
                 drop(copy);

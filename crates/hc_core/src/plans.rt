@@ -206,16 +206,18 @@ fn victims_for<A: Allocator>(
     pools.victims(pool, charge(key, size))
 }
 
-/// What an allocation needs before it changes anything: a copy of the key, where notes are kept, and room for its notes.
+/// What an allocation needs before it changes anything: how many items go to make room, and a copy of the key, where
+/// notes are kept. Room is made for its notes.
 pub fn allocate<A: Allocator, N: Notes<Note<A>>>(
     notes: &mut N,
     pools: &Pools<A>,
     pool: u8,
     key: &Key<A>,
     size: u64,
-) -> Result<Option<Key<A>>, Refusal>
+) -> Result<(usize, Option<Key<A>>), Refusal>
     ensures same { N.told notes.new ≡ N.told notes.old }
-    ensures copy { IfOk result (λ copy. copy ≡ where_kept (N.told notes.old) key.now) }
+    ensures count { IfOk result (λ plan. plan.0 ≡ length (victims_of pools.now pool (charge_of key.now size))) }
+    ensures copy { IfOk result (λ plan. plan.1 ≡ where_kept (N.told notes.old) key.now) }
     ensures room { OnOk result (2 * length (victims_of pools.now pool (charge_of key.now size)) + 2 + length pools.now.charges ≤ N.room notes.new) }
     ensures more { N.room notes.old ≤ N.room notes.new }
     ensures fits { OnOk result (refusal_of pools.now pool key.now size ≡ None) }
@@ -223,7 +225,8 @@ pub fn allocate<A: Allocator, N: Notes<Note<A>>>(
 {
     let count = victims_for(pools, pool, key, size)?;
     make_room(notes, pools, 2 * count + 2)?;
-    Ok(copy_of(notes, key)?)
+    let copy = copy_of(notes, key)?;
+    Ok((count, copy))
 }
 
 /// What an insert needs before it changes anything: its number, and the note with which it begins, where notes are

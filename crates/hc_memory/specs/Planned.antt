@@ -2,12 +2,11 @@
 use Rattle.std.specs.Prelude.{◌≡◌, ℕ, ◌≤◌, List, [], replicate, vec_len, vec_capacity}
 use Rattle.hc_memory.specs.declared.pools.Plan.{Plan}
 
--- planned for an item of this key and this many bytes, under the next number and with so many victims
+-- planned for an item of this key and this many bytes, under the next number, with room for so many victims
 pub record IsPlanned {A : Type 0} (next victims : ℕ) (key : List ℕ) (size : ℕ) (plan : Plan A) : Type 0 where
   pub number : plan.number ≡ next
-  pub count : plan.count ≡ victims
   pub bytes : plan.bytes.items ≡ replicate size 0
   pub copy : plan.copy ≡ key
   pub empty : plan.victims.items ≡ []
   pub len : vec_len plan.victims ≡ 0
-  pub room : plan.count ≤ vec_capacity plan.victims
+  pub room : victims ≤ vec_capacity plan.victims

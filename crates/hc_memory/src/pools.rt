@@ -1,5 +1,5 @@
 // All pools, with the charges that are open in them.
-ghost use Rattle.std.specs.Prelude.{◌≡◌, ◌+◌, ◌<◌, ◌≤◌, ◌⊎◌, [], true, false, length, take, drop, map, replicate, IfOk, IfErr, IfSome, OnOk, OnErr, is_some, option_map, Some, None, vec_len, vec_capacity};
+ghost use Rattle.std.specs.Prelude.{◌≡◌, ◌+◌, ◌<◌, ◌≤◌, [], true, false, length, take, drop, map, IfOk, IfErr, IfSome, OnOk, OnErr, is_some, option_map, Some, None, vec_len, vec_capacity};
 ghost use Rattle.hc_types.specs.Limits.{first_wrong};
 ghost use Rattle.hc_types.specs.Charge.{charge_of};
 ghost use Rattle.hc_memory.specs.Planned.{IsPlanned};
@@ -256,38 +256,31 @@ impl<A: Allocator> Pools<A> {
 }
 
 impl<A: Allocator + Clone> Pools<A> {
-    /// Makes room in the pool for `want` bytes and one more charge: the items that were used longest ago go, none
-    /// while there is room, and are answered in that order. Refused with `NoRoom` where the open charges alone leave
-    /// none. It costs what goes.
-    pub fn make_room(&mut self, pool: u8, want: u64) -> Result<Vec<Item<A>, A>, Refusal>
-        requires { pool < length self.old.pools }
+    /// Makes room in the pool for `want` bytes and one more charge: the `count` items that were used longest ago go,
+    /// as `victims` says how many, and are answered in that order. Refused only where memory lacks. It costs what goes.
+    pub fn make_room(
+        &mut self,
+        pool: u8,
+        want: u64,
+        count: usize,
+    ) -> Result<Vec<Item<A>, A>, AllocError>
+        requires pool { pool < length self.old.pools }
+        requires count { count ≡ length (victims_of self.old pool want) }
         ensures victims { IfOk result (λ victims. victims.items ≡ victims_of self.old pool want) }
         ensures pools { OnOk result (self.new ≡ after_room self.old pool want) }
-        ensures room { OnOk result (is_hopeless self.old pool want ≡ false) }
-        ensures why { IfErr result (λ refusal. ((refusal ≡ Refusal.NoRoom) × (is_hopeless self.old pool want ≡ true)) ⊎ ((refusal ≡ Refusal.NoMemory) × (is_hopeless self.old pool want ≡ false))) }
         ensures err { OnErr result (self.new ≡ self.old) }
     {
-        let usage = self.charges.usage(pool);
-        let at = usize::from(pool);
-        let count = match victims_of_pool(&self.pools[at], usage, want) {
-            Ok(count) => count,
-            Err(refusal) => return Err(refusal),
-        };
-        let mut victims = match room_for(self.pools.allocator(), count) {
-            Ok(victims) => victims,
-            Err(_) => return Err(Refusal::NoMemory),
-        };
-        self.pools[at].evict(count, &mut victims);
+        let mut victims = room_for(self.pools.allocator(), count)?;
+        self.pools[usize::from(pool)].evict(count, &mut victims);
         Ok(victims)
     }
 }
 
-/// What a charge needs before it changes anything: its number, how many items go and a list with room for them, the
-/// bytes of its item, and a copy of its key.
+/// What a charge needs before it changes anything: its number, a list with room for the items that go, the bytes of its
+/// item, and a copy of its key.
 #[derive(Drop)]
 pub struct Plan<A: Allocator> {
     pub number: u64,
-    pub count: usize,
     pub victims: Vec<Item<A>, A>,
     pub bytes: Vec<u8, A>,
     pub copy: Key<A>,
@@ -295,46 +288,42 @@ pub struct Plan<A: Allocator> {
 
 impl<A: Allocator + Clone> Pools<A> {
     /// Makes room in the pool for an item of this key and of `size` bytes, which expires at `expiry` (seconds; 0:
-    /// never), and charges it: the items that were used longest ago go, none while there is room. The item can't be
-    /// found until its handle is sealed and linked. Refused with `NoRoom` where the open charges alone leave none, and
-    /// with `NoMemory`; then the key comes back.
+    /// never), and charges it: the `count` items that were used longest ago go, as `victims` says how many. The item
+    /// can't be found until its handle is sealed and linked. Refused only with `NoMemory`; then the key comes back.
     pub fn charge(
         &mut self,
         pool: u8,
         key: Key<A>,
         size: u64,
         expiry: u64,
+        count: usize,
     ) -> Result<Charged<A>, Uncharged<A>>
         requires pool { pool < length self.old.pools }
         requires size { size ≤ VALUE_MAX }
+        requires count { count ≡ length (victims_of self.old pool (charge_of key size)) }
+        requires room { is_hopeless self.old pool (charge_of key size) ≡ false }
         ensures blank { IfOk result (λ charged. charged.blank ≡ blank_of self.old pool key size expiry) }
         ensures victims { IfOk result (λ charged. charged.victims.items ≡ victims_of self.old pool (charge_of key size)) }
         ensures pools { OnOk result (self.new ≡ after_charge self.old pool key size) }
-        ensures room { OnOk result (is_hopeless self.old pool (charge_of key size) ≡ false) }
-        ensures why { IfErr result (λ e. ((e.refusal ≡ Refusal.NoRoom) × (is_hopeless self.old pool (charge_of key size) ≡ true)) ⊎ ((e.refusal ≡ Refusal.NoMemory) × (is_hopeless self.old pool (charge_of key size) ≡ false))) }
+        ensures memory { IfErr result (λ e. e.refusal ≡ Refusal.NoMemory) }
         ensures err { OnErr result (self.new ≡ self.old) }
         ensures key_returned { IfErr result (λ e. e.key ≡ key) }
     {
-        let plan = match self.plan(pool, &key, size) {
+        let plan = match self.plan(&key, size, count) {
             Ok(plan) => plan,
-            Err(refusal) => return Err(Uncharged { refusal, key }),
+            Err(_) => return Err(no_memory_for(key)),
         };
         let Plan {
             number,
-            count,
             mut victims,
             bytes,
             copy,
         } = plan;
         match self.charges.begin(number, pool, copy, size) {
             Ok(()) => {}
-            Err(_) => {
-                return Err(Uncharged {
-                    refusal: Refusal::NoMemory,
-                    key,
-                });
-            }
+            Err(_) => return Err(no_memory_for(key)),
         }
+
         self.pools[usize::from(pool)].evict(count, &mut victims);
         self.made = number;
         Ok(Charged {
@@ -343,26 +332,8 @@ impl<A: Allocator + Clone> Pools<A> {
         })
     }
 
-    /// What a charge needs.
-    fn plan(&self, pool: u8, key: &Key<A>, size: u64) -> Result<Plan<A>, Refusal>
-        requires pool { pool < length self.now.pools }
-        requires size { size ≤ VALUE_MAX }
-        ensures plan { IfOk result (IsPlanned (self.now.made + 1) (length (victims_of self.now pool (charge_of key.now size))) key.now size) }
-        ensures room { OnOk result (is_hopeless self.now pool (charge_of key.now size) ≡ false) }
-        ensures why { IfErr result (λ refusal. ((refusal ≡ Refusal.NoRoom) × (is_hopeless self.now pool (charge_of key.now size) ≡ true)) ⊎ ((refusal ≡ Refusal.NoMemory) × (is_hopeless self.now pool (charge_of key.now size) ≡ false))) }
-    {
-        let count = match self.victims(pool, charge(key, size)) {
-            Ok(count) => count,
-            Err(refusal) => return Err(refusal),
-        };
-        match self.memory_for(count, key, size) {
-            Ok(plan) => Ok(plan),
-            Err(_) => Err(Refusal::NoMemory),
-        }
-    }
-
-    /// The memory that a charge takes, where so many items go.
-    fn memory_for(&self, count: usize, key: &Key<A>, size: u64) -> Result<Plan<A>, AllocError>
+    /// What a charge needs, where so many items go.
+    fn plan(&self, key: &Key<A>, size: u64, count: usize) -> Result<Plan<A>, AllocError>
         ensures { IfOk result (IsPlanned (self.now.made + 1) count key.now size) }
     {
         let alloc = self.pools.allocator();
@@ -375,10 +346,20 @@ impl<A: Allocator + Clone> Pools<A> {
         let copy = key.clone()?;
         Ok(Plan {
             number,
-            count,
             victims,
             bytes,
             copy,
         })
+    }
+}
+
+/// Why an item of this key isn't charged, where memory lacks.
+fn no_memory_for<A: Allocator>(key: Key<A>) -> Uncharged<A>
+    ensures refusal { result.refusal ≡ Refusal.NoMemory }
+    ensures key { result.key ≡ key }
+{
+    Uncharged {
+        refusal: Refusal::NoMemory,
+        key,
     }
 }

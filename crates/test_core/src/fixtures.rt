@@ -47,9 +47,12 @@ pub fn charge(
 ) -> Charged {
     let key = key(rt, alloc, text);
     assert!(rt; usize::from(pool) < pools.len() && size <= VALUE_MAX);
+    let count = pools
+        .victims(pool, hc_types::charge(&key, size))
+        .expect(rt, "there is room");
     pools
-        .charge(pool, key, size, 15)
-        .expect(rt, "there is room")
+        .charge(pool, key, size, 15, count)
+        .expect(rt, "there is memory")
 }
 
 /// The handle of an item that is being written.

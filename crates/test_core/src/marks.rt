@@ -16,8 +16,11 @@ fn marked(rt: &impl Abort, alloc: Global) -> Pools {
 // The one item that goes to make room.
 fn gone(rt: &impl Abort, pools: &mut Pools, want: u64) -> Item {
     assert!(rt; 0 < pools.len());
-    let mut gone = pools.make_room(0, want).expect(rt, "there is room");
-    assert!(rt; gone.len() == 1);
+    let count = pools.victims(0, want).expect(rt, "there is room");
+    assert!(rt; count == 1);
+    let mut gone = pools
+        .make_room(0, want, count)
+        .expect(rt, "there is memory");
     gone.pop().expect(rt, "one goes")
 }
 

@@ -4,7 +4,7 @@ use Rattle.hc_memory.specs.Memory.{after_charge, blank_of}
 use Rattle.hc_core.specs.Cache.{Cache}
 use Rattle.hc_core.specs.Mirrors.{FitsConfig}
 use Rattle.hc_core.specs.Steps.{expiry_of}
-use Rattle.hc_core.proofs.Keeps.{follows-as, follows-allocate, fits-allocate, length-as, length-opened, pool-there}
+use Rattle.hc_core.proofs.Keeps.{follows-as, follows-allocate, fits-allocate, length-as, length-opened, pool-there, may-be}
 use Rattle.hc_core.proofs.Made.{allocated-log}
 use Rattle.hc_core.proofs.cache.Core.allocate.Goals as goal
 
@@ -14,7 +14,7 @@ invariant_of-self-2 g c =
     let e = c.in-Ok.ensures in
     let ok = c.in-Ok-charge.ensures in
     let made = c.in-Ok-charge.charged in
-    let log = allocated-log (g.N.Notes.told f.notes) (g.N.Notes.told c.allocate.new.notes) (g.N.Notes.told c.evictions.new.notes) (g.N.Notes.told c.charged.new.notes) c.in-Ok.copy f.pools f.clock c.args.pool c.number.result c.charge-want.result c.args.key c.args.size made.victims.items
+    let log = allocated-log (g.N.Notes.told f.notes) (g.N.Notes.told c.allocate-plan.new.notes) (g.N.Notes.told c.evictions.new.notes) (g.N.Notes.told c.charged.new.notes) c.in-Ok.plan.1 f.pools f.clock c.args.pool c.number.result c.charge-want.result c.args.key c.args.size made.victims.items
     e.same c.charge-want.ensures (c.number.ensures ∙ ap (λ (h : Handle). h.number) ok.blank) ok.victims e.copy c.evictions.ensures.told c.charged.ensures.told in (
       subst (FitsConfig f.config) (sym ok.pools) (fits-allocate f.config f.pools c.args.pool c.args.key c.args.size c.self.invariant.0),
       follows-as f.config _ (g.N.Notes.told c.charged.new.notes) _ c.charge.new.self f.calls f.calls f.clock log ok.pools refl
@@ -28,7 +28,7 @@ returns-clause-ok g c =
     let e = c.in-Ok.ensures in
     let ok = c.in-Ok-charge.ensures in
     let made = c.in-Ok-charge.charged in
-    let log = allocated-log (g.N.Notes.told f.notes) (g.N.Notes.told c.allocate.new.notes) (g.N.Notes.told c.evictions.new.notes) (g.N.Notes.told c.charged.new.notes) c.in-Ok.copy f.pools f.clock c.args.pool c.number.result c.charge-want.result c.args.key c.args.size made.victims.items
+    let log = allocated-log (g.N.Notes.told f.notes) (g.N.Notes.told c.allocate-plan.new.notes) (g.N.Notes.told c.evictions.new.notes) (g.N.Notes.told c.charged.new.notes) c.in-Ok.plan.1 f.pools f.clock c.args.pool c.number.result c.charge-want.result c.args.key c.args.size made.victims.items
     e.same c.charge-want.ensures (c.number.ensures ∙ ap (λ (h : Handle). h.number) ok.blank) ok.victims e.copy c.evictions.ensures.told c.charged.ensures.told in
     rw (← c.self.view_is) (λ i. record {
       config = f.config;
@@ -37,6 +37,18 @@ returns-clause-ok g c =
       calls = f.calls;
       log = log i;
     })
+
+pub charge-requires-clause-pool : goal.charge-requires-clause-pool
+charge-requires-clause-pool g c = pool-there c.self.inside.pools c.args.pool c.args.key c.args.size c.in-Ok.ensures.fits
+
+pub charge-requires-clause-size : goal.charge-requires-clause-size
+charge-requires-clause-size g c = grind (arith, (may-be c.self.inside.pools c.args.pool c.args.key c.args.size c.in-Ok.ensures.fits).0)
+
+pub charge-requires-clause-count : goal.charge-requires-clause-count
+charge-requires-clause-count g c = c.in-Ok.ensures.count
+
+pub charge-requires-clause-room : goal.charge-requires-clause-room
+charge-requires-clause-room g c = (may-be c.self.inside.pools c.args.pool c.args.key c.args.size c.in-Ok.ensures.fits).1
 
 pub evictions-requires : goal.evictions-requires
 evictions-requires g c = omega (arith, c.in-Ok.ensures.room, ap length c.in-Ok-charge.ensures.victims)

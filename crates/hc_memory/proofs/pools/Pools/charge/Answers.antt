@@ -1,4 +1,4 @@
-use Rattle.std.proofs.Common.{◌≡◌, ◌+◌, ◌++◌, ◌∷◌, List, ℕ, [], inr, take, length, refl, sym, ◌∙◌, ap, arith, length-set}
+use Rattle.std.proofs.Common.{◌≡◌, ◌+◌, ◌++◌, ◌∷◌, List, ℕ, [], take, length, refl, sym, ◌∙◌, ap, arith, length-set}
 use Rattle.hc_types.specs.Charge.{charge_of}
 use Rattle.hc_types.proofs.Tallies.{find-none}
 use Rattle.hc_memory.specs.Item.{Item, Open}
@@ -11,15 +11,15 @@ use Rattle.hc_memory.proofs.pools.Pools.charge.Goals as goal
 
 pub begin-requires-clause-free : goal.begin-requires-clause-free
 begin-requires-clause-free g c =
-    let p = rw (← c.self.view_is) at c.in-Ok.ensures.plan in
+    let p = rw (← c.self.view_is) at c.in-Ok.ensures in
     let next = p.number in
     find-none (has_number c.in-Ok.plan.number) c.self.inside.charges.charges (c.self.invariant.0.fresh c.in-Ok.plan.number (omega (arith, next)))
 
 pub begin-requires-clause-bytes : goal.begin-requires-clause-bytes
 begin-requires-clause-bytes g c =
-    let p = rw (← c.self.view_is) at c.in-Ok.ensures.plan in
+    let p = rw (← c.self.view_is) at c.in-Ok.ensures in
     let lt = rw (← c.self.view_is) at c.requires.pool in
-    let room = rw (← c.self.view_is) at c.in-Ok.ensures.room in
+    let room = rw (← c.self.view_is) at c.requires.room in
     let view : Memory = record { flash = c.self.inside.flash; pools = c.self.inside.pools.items; charges = c.self.inside.charges.charges; made = c.self.inside.made } in
     let t = there-of c.self.inside.pools.items c.args.pool lt in
     let k = known view c.args.pool (charge_of c.args.key c.args.size) t.0 t.1 in
@@ -30,30 +30,30 @@ begin-requires-clause-bytes g c =
 
 pub evict-requires-clause-some : goal.evict-requires-clause-some
 evict-requires-clause-some g c =
-    let p = rw (← c.self.view_is) at c.in-Ok.ensures.plan in
+    let p = rw (← c.self.view_is) at c.in-Ok.ensures in
     let lt = rw (← c.self.view_is) at c.requires.pool in
     let view : Memory = record { flash = c.self.inside.flash; pools = c.self.inside.pools.items; charges = c.self.inside.charges.charges; made = c.self.inside.made } in
     let at = there-at c.self.inside.pools.items c.args.pool c.from.result c.index_mut.result.now lt c.from.ensures c.index_mut.ensures.value in
     let k = known view c.args.pool (charge_of c.args.key c.args.size) c.index_mut.result.now at in
     let few = dropped-few c.index_mut.result.now.size (usage_of c.args.pool c.self.inside.charges.charges) (charge_of c.args.key c.args.size) c.index_mut.result.now.items in
-    let counted = p.count in
+    let counted = rw (← c.self.view_is) at c.requires.count in
     let same = ap (λ (l : List Item). length l) k.victims in
     omega (arith, few, counted, same)
 
 pub invariant_of-self-2 : goal.invariant_of-self-2
 invariant_of-self-2 g c =
     let i = c.self.invariant in
-    let p = rw (← c.self.view_is) at c.in-Ok.ensures.plan in
+    let p = rw (← c.self.view_is) at c.in-Ok.ensures in
     let lt = rw (← c.self.view_is) at c.requires.pool in
-    let room = rw (← c.self.view_is) at c.in-Ok.ensures.room in
+    let room = rw (← c.self.view_is) at c.requires.room in
     let view : Memory = record { flash = c.self.inside.flash; pools = c.self.inside.pools.items; charges = c.self.inside.charges.charges; made = c.self.inside.made } in
     let usage = usage_of c.args.pool c.self.inside.charges.charges in
     let want = charge_of c.args.key c.args.size in
     let there = c.index_mut.result.now in
     let at = there-at c.self.inside.pools.items c.args.pool c.from.result c.index_mut.result.now lt c.from.ensures c.index_mut.ensures.value in
     let k = known view c.args.pool (charge_of c.args.key c.args.size) c.index_mut.result.now at in
-    let counted : c.in-Ok.plan.count ≡ length (dropped c.index_mut.result.now.size (usage_of c.args.pool c.self.inside.charges.charges) (charge_of c.args.key c.args.size) c.index_mut.result.now.items) = p.count ∙ ap (λ (l : List Item). length l) k.victims in
-    let r = roomy c.self.inside.pools.items c.from.result c.args.pool (charge_of c.args.key c.args.size) c.in-Ok.plan.count (usage_of c.args.pool c.self.inside.charges.charges) c.index_mut.result.now c.index_mut.result.now c.evict.new.self c.from.ensures at c.index_mut.ensures.value c.evict.ensures.items counted in
+    let counted : c.args.count ≡ length (dropped c.index_mut.result.now.size (usage_of c.args.pool c.self.inside.charges.charges) (charge_of c.args.key c.args.size) c.index_mut.result.now.items) = (rw (← c.self.view_is) at c.requires.count) ∙ ap (λ (l : List Item). length l) k.victims in
+    let r = roomy c.self.inside.pools.items c.from.result c.args.pool (charge_of c.args.key c.args.size) c.args.count (usage_of c.args.pool c.self.inside.charges.charges) c.index_mut.result.now c.index_mut.result.now c.evict.new.self c.from.ensures at c.index_mut.ensures.value c.evict.ensures.items counted in
     let opened : Open = record { number = c.self.inside.made + 1; pool = c.args.pool; key = c.in-Ok.plan.copy; size = c.args.size } in
     let s = charged-sound c.self.inside.pools.items c.self.inside.charges.charges c.self.inside.made c.args.pool (charge_of c.args.key c.args.size) c.index_mut.result.now opened i.0 at (sym k.hopeless ∙ room) refl refl (ap (λ (key : List ℕ). charge_of key c.args.size) p.copy) in (
       rw (r.set, c.in-Ok-begin.ensures.ok, p.number) s,
@@ -63,24 +63,24 @@ invariant_of-self-2 g c =
 
 pub returns-clause-victims : goal.returns-clause-victims
 returns-clause-victims g c =
-    let p = rw (← c.self.view_is) at c.in-Ok.ensures.plan in
+    let p = rw (← c.self.view_is) at c.in-Ok.ensures in
     let lt = rw (← c.self.view_is) at c.requires.pool in
     let view : Memory = record { flash = c.self.inside.flash; pools = c.self.inside.pools.items; charges = c.self.inside.charges.charges; made = c.self.inside.made } in
     let at = there-at c.self.inside.pools.items c.args.pool c.from.result c.index_mut.result.now lt c.from.ensures c.index_mut.ensures.value in
     let k = known view c.args.pool (charge_of c.args.key c.args.size) c.index_mut.result.now at in
-    let counted : c.in-Ok.plan.count ≡ length (dropped c.index_mut.result.now.size (usage_of c.args.pool c.self.inside.charges.charges) (charge_of c.args.key c.args.size) c.index_mut.result.now.items) = p.count ∙ ap (λ (l : List Item). length l) k.victims in
+    let counted : c.args.count ≡ length (dropped c.index_mut.result.now.size (usage_of c.args.pool c.self.inside.charges.charges) (charge_of c.args.key c.args.size) c.index_mut.result.now.items) = (rw (← c.self.view_is) at c.requires.count) ∙ ap (λ (l : List Item). length l) k.victims in
     let go = take-dropped c.index_mut.result.now.size (usage_of c.args.pool c.self.inside.charges.charges) (charge_of c.args.key c.args.size) c.index_mut.result.now.items in
-    rw (← c.self.view_is) (c.evict.ensures.victims ∙ ap (λ (vs : List Item). vs ++ take c.in-Ok.plan.count c.index_mut.result.now.items) p.empty ∙ ap (λ n. take n c.index_mut.result.now.items) counted ∙ go ∙ sym k.victims)
+    rw (← c.self.view_is) (c.evict.ensures.victims ∙ ap (λ (vs : List Item). vs ++ take c.args.count c.index_mut.result.now.items) p.empty ∙ ap (λ n. take n c.index_mut.result.now.items) counted ∙ go ∙ sym k.victims)
 
 pub returns-clause-pools : goal.returns-clause-pools
 returns-clause-pools g c =
-    let p = rw (← c.self.view_is) at c.in-Ok.ensures.plan in
+    let p = rw (← c.self.view_is) at c.in-Ok.ensures in
     let lt = rw (← c.self.view_is) at c.requires.pool in
     let view : Memory = record { flash = c.self.inside.flash; pools = c.self.inside.pools.items; charges = c.self.inside.charges.charges; made = c.self.inside.made } in
     let at = there-at c.self.inside.pools.items c.args.pool c.from.result c.index_mut.result.now lt c.from.ensures c.index_mut.ensures.value in
     let k = known view c.args.pool (charge_of c.args.key c.args.size) c.index_mut.result.now at in
-    let counted : c.in-Ok.plan.count ≡ length (dropped c.index_mut.result.now.size (usage_of c.args.pool c.self.inside.charges.charges) (charge_of c.args.key c.args.size) c.index_mut.result.now.items) = p.count ∙ ap (λ (l : List Item). length l) k.victims in
-    let r = roomy c.self.inside.pools.items c.from.result c.args.pool (charge_of c.args.key c.args.size) c.in-Ok.plan.count (usage_of c.args.pool c.self.inside.charges.charges) c.index_mut.result.now c.index_mut.result.now c.evict.new.self c.from.ensures at c.index_mut.ensures.value c.evict.ensures.items counted in
+    let counted : c.args.count ≡ length (dropped c.index_mut.result.now.size (usage_of c.args.pool c.self.inside.charges.charges) (charge_of c.args.key c.args.size) c.index_mut.result.now.items) = (rw (← c.self.view_is) at c.requires.count) ∙ ap (λ (l : List Item). length l) k.victims in
+    let r = roomy c.self.inside.pools.items c.from.result c.args.pool (charge_of c.args.key c.args.size) c.args.count (usage_of c.args.pool c.self.inside.charges.charges) c.index_mut.result.now c.index_mut.result.now c.evict.new.self c.from.ensures at c.index_mut.ensures.value c.evict.ensures.items counted in
     let rooms = r.set ∙ sym (ap (λ (m : Memory). m.pools) k.room) in
     let book : c.begin.new.self.charges ≡ c.self.inside.charges.charges ++ record { number = c.self.inside.made + 1; pool = c.args.pool; key = c.args.key; size = c.args.size } ∷ [] =
     ap (λ book. book.charges) c.in-Ok-begin.ensures.ok ∙ (λ i. c.self.inside.charges.charges ++ record { number = p.number i; pool = c.args.pool; key = p.copy i; size = c.args.size } ∷ []) in
@@ -94,24 +94,15 @@ begin-requires-clause-pool g c =
 pub invariant_of-self : goal.invariant_of-self
 invariant_of-self g c = rw c.in-Err-begin.ensures.err c.self.invariant
 
-pub returns-in-Err-clause-why : goal.returns-in-Err-clause-why
-returns-in-Err-clause-why g c = c.in-Err.ensures.why
-
-pub returns-in-Err-begin-clause-why : goal.returns-in-Err-begin-clause-why
-returns-in-Err-begin-clause-why g c = inr (refl, c.in-Ok.ensures.room)
-
 pub returns-in-Err-begin-clause-err : goal.returns-in-Err-begin-clause-err
 returns-in-Err-begin-clause-err g c = rw (← c.self.view_is) (λ i. record { flash = c.self.inside.flash; pools = c.self.inside.pools.items; charges = (c.in-Err-begin.ensures.err i).charges; made = c.self.inside.made })
 
 pub evict-requires-clause-room : goal.evict-requires-clause-room
 evict-requires-clause-room g c =
-    let p = c.in-Ok.ensures.plan in
+    let p = c.in-Ok.ensures in
     omega (arith, p.len, p.room)
-
-pub returns-clause-room : goal.returns-clause-room
-returns-clause-room g c = c.in-Ok.ensures.room
 
 pub returns-clause-blank : goal.returns-clause-blank
 returns-clause-blank g c =
-    let p = c.in-Ok.ensures.plan in
+    let p = c.in-Ok.ensures in
     c.new.ensures ∙ (λ i. record { number = p.number i; pool = c.args.pool; key = c.args.key; expiry = c.args.expiry; value = p.bytes i })

@@ -1,9 +1,12 @@
-use Rattle.std.proofs.Common.{ℕ, ◌+◌, length, ◌∙◌, ap, subst}
-use Rattle.hc_memory.specs.Memory.{victims_of}
-use Rattle.hc_memory.specs.Planned.{IsPlanned}
+use Rattle.std.proofs.Common.{ap, arith}
 use Rattle.hc_memory.proofs.pools.Pools.plan.Goals as goal
 
-pub returns-in-Ok-memory_for-clause-plan : goal.returns-in-Ok-memory_for-clause-plan
-returns-in-Ok-memory_for-clause-plan g c =
-    let count = c.in-Ok.ensures.count ∙ ap (λ want. length (victims_of c.args.self.now c.args.pool want)) c.charge.ensures in
-    subst (λ (n : ℕ). IsPlanned (c.args.self.now.made + 1) n c.args.key.now c.args.size c.in-Ok-memory_for.plan) count c.in-Ok-memory_for.ensures
+pub returns : goal.returns
+returns g c = record {
+  number = omega (arith, ap (λ m. m.made) c.self.view_is, c.in-Some.ensures);
+  bytes = c.in_ok-bytes.ensures;
+  copy = c.in_ok-copy.ensures.cases;
+  empty = c.in_ok-victims.ensures.empty;
+  len = c.in_ok-victims.ensures.len;
+  room = c.in_ok-victims.ensures.room;
+}
