@@ -1,9 +1,7 @@
 -- A test of what the code's entries say is a test of them.
-use Rattle.std.proofs.Common.{◌≡◌, ℕ, Bool, true, false, ◌==◌, not, ◌&&◌, List, [], ◌∷◌, ◌||◌, refl, ap, ◌∙◌, nat_eq}
+use Rattle.std.proofs.Common.{◌≡◌, Bool, not, ◌&&◌, List, [], ◌∷◌, ◌||◌, refl, ap, ◌∙◌, nat_eq}
 use Rattle.std.specs.List.{list_any}
-use Rattle.std.specs.Cmp.Lexicographic.{pointwise, same_text}
-use Rattle.std.proofs.lemmas.Bool.{eq-eqb}
-use Rattle.hc_types.specs.Fnv.{fnv_1a}
+use Rattle.std.specs.Cmp.Lexicographic.{pointwise}
 use Rattle.hc_types.specs.declared.entry.Entry.{Entry}
 use Rattle.hc_bighash.specs.Page.{PageEntry, entry_of, entries_of, distinct}
 use Rattle.hc_bighash.specs.Reading.{keys_differ}
@@ -17,11 +15,3 @@ distinct_of [] = refl
 distinct_of (e ∷ es) =
     ap (λ (b : Bool). not b && keys_differ es) (any_of (λ other. pointwise nat_eq other.key e.key) es)
     ∙ ap (λ (b : Bool). not (list_any (λ other. pointwise nat_eq other.key e.key) (entries_of es)) && b) (distinct_of es)
-
--- keys of another hash are other keys
-other_hash_at : (same : Bool) (a b : List ℕ) → same ≡ pointwise nat_eq a b → (fnv_1a a == fnv_1a b) ≡ false → same ≡ false
-other_hash_at true a b is differ = let hashes : (fnv_1a a == fnv_1a b) ≡ true = eq-eqb (fnv_1a a) (fnv_1a b) (ap fnv_1a (same_text a b is)) in absurd (cc)
-other_hash_at false a b is differ = refl
-
-pub other_hash : (a b : List ℕ) → (fnv_1a a == fnv_1a b) ≡ false → pointwise nat_eq a b ≡ false
-other_hash a b differ = other_hash_at (pointwise nat_eq a b) a b refl differ

@@ -7,7 +7,7 @@ use Rattle.std.proofs.lemmas.List.{nil_from_length, length-replicate}
 use Rattle.std.proofs.lemmas.Grind.{common_steps}
 use Rattle.std.proofs.lemmas.List.Concat.{flat_map-cons}
 use Rattle.hc_bighash.specs.Page.{PageEntry, entry_bytes, entries_bytes, page_bytes, IsSmall, Fits, IsPage, distinct}
-use Rattle.hc_bighash.specs.Reading.{◌>>=◌, byte_at, part_at, number_at, key_at, entry_at, entries_at, body_at, page_at}
+use Rattle.hc_bighash.specs.Reading.{◌>>=◌, byte_at, part_at, number_at, key_at, entry_at, entries_at, body_at, whole_at, content_at, page_at}
 use Rattle.hc_bighash.proofs.Numbers.{IsBytes, IsBytes-take, bind_some, guard_some, test_some, some_is, Takes, wide16, wide64, number_takes, number_again, byte_takes, part_takes, part_again}
 
 regroup : (a b key value rest : List ℕ) → a ++ (b ++ (key ++ (value ++ rest))) ≡ (a ++ (b ++ (key ++ value))) ++ rest
@@ -135,7 +135,7 @@ zeros_all zero = refl
 zeros_all (suc n) = zeros_all n
 
 pub page_takes : (size : ℕ) (bytes : List ℕ) (es : List PageEntry) → IsBytes bytes → page_at size bytes ≡ Some es → IsPage size es bytes
-unfolding page_at
+unfolding whole_at content_at page_at
 page_takes size bytes es fits e =
     let t = test_some (length bytes == size) _ es e in
     let len : length bytes ≡ size = eqb-true _ _ t.0 in
@@ -164,7 +164,7 @@ page_takes size bytes es fits e =
     subst (λ (v : List PageEntry). IsPage size v bytes) same (record { each = t3.2; distinct_keys = front.1; number = omega (arith, used_is, t1.1); room = omega (arith, total, len, body_len) }, whole)
 
 pub page_again : (size : ℕ) (es : List PageEntry) → Fits size es → page_at size (page_bytes size es) ≡ Some es
-unfolding page_at
+unfolding whole_at content_at page_at
 page_again size es h =
     let body : List ℕ = entries_bytes es in
     let zeros : List ℕ = replicate (size - (4 + length body)) 0 in

@@ -63,10 +63,18 @@ keys_differ (e ∷ es) = not (list_any (λ other. pointwise nat_eq other.key e.k
 unfoldable pub body_at : ℕ → List ℕ → Option (List ℕ × List ℕ)
 body_at used bytes = if nat_lt used 4 then None else part_at (used - 4) bytes
 
-unfoldable pub page_at : ℕ → List ℕ → Option (List PageEntry)
-page_at size bytes = if length bytes == size then (do
+-- so many entries, which are all that is used, and zeros behind it
+unfoldable pub whole_at : ℕ → List ℕ → List ℕ → Option (List PageEntry)
+whole_at count used unused = do
+  es ← entries_at count used
+  if length es.1 == 0 && list_all (λ b. b == 0) unused && distinct es.0 then Some es.0 else None
+
+unfoldable pub content_at : List ℕ → Option (List PageEntry)
+content_at bytes = do
   n ← number_at w16 bytes
   u ← number_at w16 n.1
   body ← body_at u.0 u.1
-  es ← entries_at n.0 body.0
-  if length es.1 == 0 && list_all (λ b. b == 0) body.1 && distinct es.0 then Some es.0 else None) else None
+  whole_at n.0 body.0 body.1
+
+unfoldable pub page_at : ℕ → List ℕ → Option (List PageEntry)
+page_at size bytes = if length bytes == size then content_at bytes else None

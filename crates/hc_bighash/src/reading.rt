@@ -3,12 +3,12 @@ ghost use Rattle.std.specs.Prelude.{◌≡◌, ◌==◌, ◌≤◌, ℕ, List, l
 ghost use Rattle.std.specs.List.{list_any, list_all};
 ghost use Rattle.std.specs.Cmp.Lexicographic.{pointwise};
 ghost use Rattle.hc_bighash.specs.Page.{PageEntry, entry_of, entries_of, distinct, IsPage};
-ghost use Rattle.hc_bighash.specs.Reading.{Gives, key_at, entry_at, entries_at, body_at, keys_differ, page_at};
+ghost use Rattle.hc_bighash.specs.Reading.{Gives, key_at, entry_at, entries_at, body_at, keys_differ, whole_at, content_at, page_at};
 
 use crate::fields::{take_part, take_u8, take_u16, take_u64};
 use crate::read_error::ReadError;
 use bytes::Bytes;
-use hc_types::{Entry, Key, hash};
+use hc_types::{Entry, Key};
 use std::alloc::{AllocError, Allocator};
 
 /// The fewest bytes of an entry.
@@ -80,15 +80,7 @@ fn keys_differ<A: Allocator>(entries: &[Entry<A>]) -> bool
 fn has_key<A: Allocator>(entries: &[Entry<A>], key: &Key<A>) -> bool
     ensures { result ≡ list_any (λ other. pointwise nat_eq other.key key.now) entries.now }
 {
-    entries.iter().any(|entry| is_same(&entry.key, key))
-}
-
-/// Whether two keys are the same. Their hashes tell most of them apart.
-#[tactic(auto, using(crate::proofs::Distinct::other_hash))]
-fn is_same<A: Allocator>(one: &Key<A>, other: &Key<A>) -> bool
-    ensures { result ≡ pointwise nat_eq one.now other.now }
-{
-    hash(one) == hash(other) && one == other
+    entries.iter().any(|entry| entry.key == *key)
 }
 
 fn is_zero(bytes: &[u8]) -> bool
@@ -112,6 +104,35 @@ fn take_body<A: Allocator>(rest: &mut Bytes<A>, used: u16) -> Result<Bytes<A>, R
     take_part(rest, (used - 4) as usize)
 }
 
+/// As many entries as the page counts, which are all that is used of it.
+#[tactic(auto, unfolding(crate::specs::Reading::whole_at))]
+fn read_whole<A: Allocator>(
+    alloc: A,
+    count: u16,
+    used: &mut Bytes<A>,
+    unused: &[u8],
+) -> Result<Vec<Entry<A>, A>, ReadError>
+    ensures { Gives (λ entries. entries_of entries.items) result (whole_at count used.old unused.now) }
+{
+    let entries = take_entries(alloc, count, used)?;
+    if used.is_empty() && is_zero(unused) && is_distinct(&entries) {
+        Ok(entries)
+    } else {
+        Err(ReadError::NoPage)
+    }
+}
+
+/// The entries of a page of whatever size.
+#[tactic(auto, unfolding(crate::specs::Reading::content_at))]
+fn read_content<A: Allocator>(alloc: A, rest: &mut Bytes<A>) -> Result<Vec<Entry<A>, A>, ReadError>
+    ensures { Gives (λ entries. entries_of entries.items) result (content_at rest.old) }
+{
+    let count = take_u16(rest)?;
+    let used = take_u16(rest)?;
+    let mut body = take_body(rest, used)?;
+    read_whole(alloc, count, &mut body, rest.as_slice())
+}
+
 #[tactic(auto, unfolding(crate::specs::Reading::page_at))]
 fn read_page<A: Allocator>(
     alloc: A,
@@ -124,15 +145,7 @@ fn read_page<A: Allocator>(
         return Err(ReadError::NoPage);
     }
     let mut rest = page.clone()?;
-    let count = take_u16(&mut rest)?;
-    let used = take_u16(&mut rest)?;
-    let mut body = take_body(&mut rest, used)?;
-    let entries = take_entries(alloc, count, &mut body)?;
-    if body.is_empty() && is_zero(rest.as_slice()) && is_distinct(&entries) {
-        Ok(entries)
-    } else {
-        Err(ReadError::NoPage)
-    }
+    read_content(alloc, &mut rest)
 }
 
 /// The entries of this page, the oldest first, or `None` where these bytes are no page of this size. The entries share
