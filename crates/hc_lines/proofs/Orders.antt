@@ -1,9 +1,7 @@
 -- What the words of a line and its fields ask for.
-use Rattle.std.proofs.Common.{◌≡◌, ◌≢◌, ◌⊎◌, inl, inr, ℕ, List, [], ◌∷◌, ◌++◌, length, take, drop, ◌^◌, Bool, true, false, ◌==◌, Option, None, Some, MatchOption, option_map, if◌then◌else◌, refl, sym, ◌∙◌, ap, append_assoc}
+use Rattle.std.proofs.Common.{◌≡◌, ◌≢◌, ◌⊎◌, inl, inr, ℕ, zero, suc, ◌+◌, ◌<◌, nat_lt, List, [], ◌∷◌, ◌++◌, ◌^◌, length, take, drop, get_or, take_all, arith, Bool, ◌&&◌, true, false, ◌==◌, Option, None, Some, option_map, if◌then◌else◌, refl, sym, ◌∙◌, ap, append_assoc}
 use Rattle.std.proofs.lemmas.Bool.{eqb-true}
 use Rattle.std.proofs.lemmas.Slice.Eq.{bytes_eq-Decides}
-use Rattle.std.proofs.lemmas.List.{take-append-drop}
-use Rattle.std.proofs.Math.Seq.{take-append_seam}
 use Rattle.std.specs.Char.{is_ascii_digit}
 use Rattle.std.specs.List.{list_all}
 use Rattle.std.specs.Str.{bytes_eq, all_ascii_digits}
@@ -13,7 +11,7 @@ use Rattle.hc_lines.specs.Numbers.{is_visible, is_key, number_of, below, number_
 use Rattle.hc_lines.specs.Steps.{Get, Del, Now}
 use Rattle.hc_lines.specs.Grammar.{Order, Do, pool_with, pool_order, item_with, item_of, get_order, del_order, now_order, noflash_order, order_of}
 use Rattle.hc_lines.proofs.Decimals.{both, true-is-not-false, number-digits}
-use Rattle.hc_lines.proofs.Parts.{Some-fields, fields-some, fields-one}
+use Rattle.hc_lines.proofs.Parts.{Some-fields, fields-some, fields-one, fields-ended, around, not-true}
 
 -- there are two fields or more: a first, and those of the bytes behind its space
 pub record Parted (line : List ℕ) : Type 0 where
@@ -121,10 +119,53 @@ item-from pool key value text (inr p) =
 pub item-is : (pool key value text : List ℕ) → item_of (pool ∷ key ∷ value ∷ fields_of text) ≡ item_of (pool ∷ key ∷ value ∷ text ∷ [])
 item-is pool key value text = item-from pool key value text (one-or-more text)
 
+-- ---- a key in front
+
+-- the first field has a byte that isn't visible
+record Unseen (fields : List (List ℕ)) : Type 0 where
+  first : List ℕ
+  rest : List (List ℕ)
+  is : fields ≡ first ∷ rest
+  not : list_all is_visible first ≡ false
+
+and-false : (a b : Bool) → b ≡ false → (a && b) ≡ false
+and-false true b e = e
+and-false false b e = refl
+
+onto-unseen : (b : ℕ) (fields : List (List ℕ)) → is_visible b ≡ false → Unseen (onto_first b fields)
+onto-unseen b [] e = record { first = b ∷ []; rest = []; is = refl; not = rw e refl }
+onto-unseen b (field ∷ fields) e = record { first = b ∷ field; rest = fields; is = refl; not = rw e refl }
+
+unseen : (text : List ℕ) (n : ℕ) → n < length text → list_all is_visible (take n text) ≡ true → is_visible (get_or text n 0) ≡ false → (get_or text n 0 == 32) ≡ false → Unseen (fields_of text)
+unseen [] n h seen bad space = absurd (omega (arith, h))
+unseen (b ∷ text) zero h seen bad space = rw space (onto-unseen b (fields_of text) bad)
+unseen (b ∷ text) (suc n) h seen bad space =
+    let t = both (is_visible b) (list_all is_visible (take n text)) seen in
+    let u = unseen text n (omega (arith, h)) t.1 bad space in
+    rw (apart is_visible b refl t.0 (b == 32) refl) (record { first = b ∷ u.first; rest = u.rest; is = ap (onto_first b) u.is; not = and-false (is_visible b) _ u.not })
+
+unseen-item : (pool first : List ℕ) (rest : List (List ℕ)) → list_all is_visible first ≡ false → item_of (pool ∷ first ∷ rest) ≡ None
+unseen-item pool first [] e = refl
+unseen-item pool first (value ∷ []) e = refl
+unseen-item pool first (value ∷ ttl ∷ []) e = rw (and-false (nat_lt 0 (length first)) _ e) refl
+unseen-item pool first (value ∷ ttl ∷ more ∷ rest) e = refl
+
+pub no-key : (text : List ℕ) (n : ℕ) → n < length text → list_all is_visible (take n text) ≡ true → is_visible (get_or text n 0) ≡ false → (get_or text n 0 ≡ 32 → ⊥) → (pool : List ℕ) → item_of (pool ∷ fields_of text) ≡ None
+no-key text n h seen bad space =
+    λ pool.
+    let u = unseen text n h seen bad (not-true (get_or text n 0 == 32) (λ e. space (eqb-true (get_or text n 0) 32 e))) in
+    ap (λ z. item_of (pool ∷ z)) u.is ∙ unseen-item pool u.first u.rest u.not
+
+pub key-alone : (text : List ℕ) → list_all is_visible (take (length text) text) ≡ true → (pool : List ℕ) → item_of (pool ∷ fields_of text) ≡ None
+key-alone text seen = λ pool. ap (λ z. item_of (pool ∷ z)) (fields-one text (visible-lacks text (rw (take_all (length text) text (omega arith)) at seen)))
+
+pub key-ended : (text : List ℕ) (n : ℕ) → n < length text → list_all is_visible (take n text) ≡ true → get_or text n 0 ≡ 32 → fields_of text ≡ take n text ∷ fields_of (drop (n + 1) text)
+key-ended text n h seen space = ap fields_of (around 32 text n h (rw space refl)) ∙ fields-ended (take n text) (drop (n + 1) text) (visible-lacks (take n text) seen)
+
 -- ---- no word of those that there are
 
 -- the line doesn't begin with these bytes
-abbrev pub Not : List ℕ → List ℕ → Type 0
+abbrev Not : List ℕ → List ℕ → Type 0
 Not line word = (rest : List ℕ) → line ≢ word ++ rest
 
 not-word : (line word : List ℕ) (p : Parted line) → Not line (word ++ 32 ∷ []) → (b : Bool) → bytes_eq p.first word ≡ b → b ≡ false
@@ -161,16 +202,3 @@ none-from line (inr p) g s a d n o f = ap order_of p.fields ∙ parted-none line
 pub none-of : (line : List ℕ) → Not line (codes "get ") → Not line (codes "set ") → Not line (codes "add ") → Not line (codes "del ") → Not line (codes "now ") → Not line (codes "pool ")
     → bytes_eq line (codes "noflash") ≡ false → order_of (fields_of line) ≡ None
 none-of line g s a d n o f = none-from line (one-or-more line) g s a d n o f
-
--- ---- the bytes behind a beginning
-
-pub map-match : {A : Type 0} {none none' : Type 0} {some some' : A → Type 0} (r : Option A) → (none → none') → ((x : A) → some x → some' x) → MatchOption r none some → MatchOption r none' some'
-map-match None f g h = f h
-map-match (Some x) f g h = g x h
-
-pub not-behind : (line word : List ℕ) → bytes_eq (take (length word) line) word ≡ false → Not line word
-not-behind line word h = λ rest e. true-is-not-false (sym ((bytes_eq-Decides (take (length word) line) word).1 (ap (take (length word)) e ∙ take-append_seam word rest)) ∙ h)
-
-pub is-behind : (line word rest : List ℕ) → bytes_eq (take (length word) line) word ≡ true → rest ≡ drop (length word) line → line ≡ word ++ rest
-is-behind line word rest h e =
-    sym (take-append-drop (length word) line) ∙ (λ i. (bytes_eq-Decides (take (length word) line) word).0 h i ++ sym e i)

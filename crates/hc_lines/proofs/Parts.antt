@@ -8,7 +8,7 @@ pub lacks-append : (c : ℕ) (a b : List ℕ) → Lacks c a → Lacks c b → La
 lacks-append c [] b h k = k
 lacks-append c (x ∷ xs) b h k = (h.0, lacks-append c xs b h.1 k)
 
-not-true : (b : Bool) → (b ≡ true → ⊥) → b ≡ false
+pub not-true : (b : Bool) → (b ≡ true → ⊥) → b ≡ false
 not-true true h = absurd (h refl)
 not-true false h = refl
 

@@ -1,14 +1,15 @@
 // What a line of a trace says.
-ghost use Rattle.std.specs.Prelude.{◌≡◌, ◌≢◌, ◌^◌, ◌∷◌, ◌++◌, [], List, ℕ, Some, None, MatchOption, option_map, if◌then◌else◌};
+ghost use Rattle.std.specs.Prelude.{◌≡◌, ◌≢◌, ◌^◌, ◌∷◌, ◌++◌, [], true, List, ℕ, Some, None, MatchOption, option_map, if◌then◌else◌};
+ghost use Rattle.std.specs.List.{list_all};
 ghost use Rattle.hc_lines.specs.Lines.{fields_of};
 ghost use Rattle.hc_lines.specs.Grammar as spec;
 ghost use Rattle.hc_lines.specs.Grammar.{pool_order, item_of, set_order, add_order, get_order, del_order, now_order, order_of, line_of};
-ghost use Rattle.hc_lines.specs.Numbers.{number_of, number_below};
+ghost use Rattle.hc_lines.specs.Numbers.{is_visible, number_of, number_below};
 ghost use Rattle.hc_lines.specs.Steps.{Get, Del};
 ghost use Rattle.hc_lines.specs.Seen.{item_seen, order_seen, line_seen};
 
 use crate::number::number;
-use crate::value::{Value, is_key, value_in};
+use crate::value::{Value, is_key, value_in, visible_front};
 use memchr::memchr;
 
 /// The most bytes of a line.
@@ -130,9 +131,10 @@ fn seconds(text: &[u8]) -> Option<u32>
 
 // The item of these four fields.
 fn item_with<'a>(pool: &[u8], key: &'a [u8], value: &'a [u8], ttl: &[u8]) -> Option<NewItem<'a>>
+    requires { list_all is_visible key.now ≡ true }
     ensures { option_map item_seen result ≡ item_of (pool.now ∷ key.now ∷ value.now ∷ ttl.now ∷ []) }
 {
-    if !is_key(key) {
+    if key.is_empty() {
         return None;
     }
     let pool = pool_number(pool)?;
@@ -146,12 +148,26 @@ fn item_with<'a>(pool: &[u8], key: &'a [u8], value: &'a [u8], ttl: &[u8]) -> Opt
     })
 }
 
+// The key in front, and the bytes behind its space. None where no key is in front, or nothing is behind it.
+fn first_key(fields: &[u8]) -> Option<(&[u8], &[u8])>
+    ensures { MatchOption result ((pool : List ℕ) → item_of (pool ∷ fields_of fields.now) ≡ None) (λ p. (list_all is_visible p.0.now ≡ true) × (fields_of fields.now ≡ p.0.now ∷ fields_of p.1.now)) }
+{
+    let end = visible_front(fields);
+    if end == fields.len() {
+        return None;
+    }
+    if fields[end] != b' ' {
+        return None;
+    }
+    Some((&fields[..end], &fields[end + 1..]))
+}
+
 // The fields behind `set` and `add`.
 fn item_in(fields: &[u8]) -> Option<NewItem<'_>>
     ensures { option_map item_seen result ≡ item_of (fields_of fields.now) }
 {
     let (pool, fields) = first_field(fields)?;
-    let (key, fields) = first_field(fields)?;
+    let (key, fields) = first_key(fields)?;
     let (value, ttl) = first_field(fields)?;
     item_with(pool, key, value, ttl)
 }
@@ -178,11 +194,20 @@ fn now_in(fields: &[u8]) -> Option<Order<'_>>
     Some(Order::Do(Step::Now(moment)))
 }
 
-// The bytes behind these, where the line begins with them.
+// The bytes behind these, where the line begins with them. A byte after another, so that the first byte of a line tells its
+// word at one jump.
 fn behind<'a>(line: &'a [u8], word: &[u8]) -> Option<&'a [u8]>
     ensures { MatchOption result ((rest : List ℕ) → line.now ≢ word.now ++ rest) (λ rest. line.now ≡ word.now ++ rest.now) }
 {
-    line.strip_prefix(word)
+    if line.len() < word.len() {
+        return None;
+    }
+    'word: for at in 0..word.len() {
+        if line[at] != word[at] {
+            return None;
+        }
+    }
+    Some(&line[word.len()..])
 }
 
 // What the fields of a line ask for.

@@ -1,5 +1,5 @@
 // Keys and values as a trace writes them.
-ghost use Rattle.std.specs.Prelude.{◌≡◌, replicate, option_map, IfOk};
+ghost use Rattle.std.specs.Prelude.{◌≡◌, ◌<◌, ◌≤◌, true, false, length, take, slice_index, replicate, option_map, IfOk};
 ghost use Rattle.std.specs.List.{list_all};
 ghost use Rattle.hc_lines.specs.Numbers as spec;
 ghost use Rattle.hc_lines.specs.Numbers.{value_of, repeated_of, times};
@@ -34,6 +34,20 @@ fn all_visible(text: &[u8]) -> bool
         seen &= is_visible(*c);
     }
     seen
+}
+
+/// How many visible bytes stand in front.
+pub fn visible_front(text: &[u8]) -> usize
+    ensures within { result ≤ length text.now }
+    ensures seen { list_all spec.is_visible (take result text.now) ≡ true }
+    ensures next { result < length text.now → spec.is_visible (slice_index text.now result) ≡ false }
+{
+    'text: for at in 0..text.len() {
+        if !is_visible(text[at]) {
+            return at;
+        }
+    }
+    text.len()
 }
 
 /// Whether it is a key: one visible byte or more.

@@ -9,7 +9,7 @@ use crate::machine::{end, turn};
 use crate::state::{Sizes, State};
 use hc_lines::LONGEST;
 use memchr::memchr;
-use std::alloc::Global;
+use std::alloc::{AllocError, Global};
 use std::io;
 use std::io::{Read, Write};
 
@@ -54,7 +54,7 @@ fn take_line(
     out: &mut Vec<u8>,
     line: &[u8],
     taken: u64,
-) -> io::Result<bool>
+) -> Result<bool, AllocError>
     requires { taken < 2 ^ 63 }
     ensures state { OnOk result (state.new ≡ (turn_of taken state.old line.now).state) }
     ensures text { OnOk result (out.new.items ≡ out.old.items ++ (turn_of taken state.old line.now).text) }
@@ -65,7 +65,7 @@ fn take_line(
         Ok(goes) => Ok(goes),
         Err(error) => {
             out.truncate(whole);
-            Err(io::Error::from(error))
+            Err(error)
         }
     }
 }
