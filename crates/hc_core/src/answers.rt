@@ -1,7 +1,8 @@
 // What the calls of the core answer.
 use hc_memory::{ReadHandle, Sealed};
-use hc_types::{Key, Refusal};
+use hc_types::Refusal;
 use std::alloc::{Allocator, Global};
+use std::fmt;
 
 /// What a find answers.
 #[derive(Drop)]
@@ -18,4 +19,21 @@ pub enum Removed {
     FoundInMemory,
     /// None was.
     NotInMemory,
+}
+
+/// An item that wasn't inserted, with its handle.
+pub struct Unlinked<A: Allocator = Global> {
+    pub refusal: Refusal,
+    pub sealed: Sealed<A>,
+}
+
+impl<A: Allocator> fmt::Display for Unlinked<A> {
+    ghost use Rattle.std.specs.Prelude.{Some};
+    ghost use Rattle.hc_types.specs.Refusals.{refusal_text};
+
+    ghost output = { λ e. Some (refusal_text e.refusal) };
+
+    fn fmt<W: fmt::Write>(&self, f: &mut fmt::Formatter<W>) -> fmt::Result {
+        fmt::Display::fmt(&self.refusal, f)
+    }
 }

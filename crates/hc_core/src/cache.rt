@@ -11,11 +11,11 @@ ghost use Rattle.hc_core.specs.Cache.{new_cache};
 ghost use Rattle.hc_core.specs.Refused.{allocate_refusal, handle_refusal, insert_refusal, map_has};
 ghost use Rattle.hc_core.specs.Steps.{expiry_of, after_allocate, after_discard, after_insert, after_find, after_remove, removed_of, after_tick};
 
-use crate::answers::{Found, Removed};
+use crate::answers::{Found, Removed, Unlinked};
 use crate::plans::{expiry_after, has_unexpired};
 use crate::{plans, tells};
 use hc_history::{Counting, Kept, Note, Notes, Said};
-use hc_memory::{Blank, Charged, Pools, Sealed, Uncharged, Unlinked};
+use hc_memory::{Blank, Charged, Pools, Sealed, Uncharged};
 use hc_types::{Config, Key, Refusal, VALUE_MAX, charge};
 use std::alloc::{Allocator, Global};
 use std::marker::Model;
@@ -264,6 +264,15 @@ impl<N: Notes<Note<A>>, A: Allocator + Clone> Core<N, A> {
         ensures why { IfErr result (λ e. (handle_refusal self.old sealed ≡ Some e.refusal) ⊎ ((handle_refusal self.old sealed ≡ None) × (e.refusal ≡ Refusal.NoMemory))) }
         ensures sealed_returned { IfErr result (λ e. e.sealed ≡ sealed) }
     {
+        let place = match self.pools.place_of(&sealed) {
+            Some(place) => place,
+            None => {
+                return Err(Unlinked {
+                    refusal: Refusal::ForeignHandle,
+                    sealed,
+                });
+            }
+        };
         let plan = plans::insert(&mut self.notes, &self.pools, self.calls, client, &sealed);
         let (call, begin) = match plan {
             Ok(plan) => plan,
@@ -271,11 +280,14 @@ impl<N: Notes<Note<A>>, A: Allocator + Clone> Core<N, A> {
         };
         let charge = sealed.number();
         let _sound = self.pools.len();
-        let old = match self.pools.link(sealed, false) {
+        let old = match self.pools.link(place, sealed, false) {
             Ok(old) => old,
-            Err(unlinked) => {
+            Err(sealed) => {
                 drop(begin);
-                return Err(unlinked);
+                return Err(Unlinked {
+                    refusal: Refusal::NoMemory,
+                    sealed,
+                });
             }
         };
 

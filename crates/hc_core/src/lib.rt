@@ -8,7 +8,7 @@ mod opens;
 mod plans;
 mod tells;
 
-pub use answers::{Found, Removed};
+pub use answers::{Found, Removed, Unlinked};
 pub use cache::Core;
 pub use laws::steps_are_legal;
 pub use opens::{give_up, give_up_blank, open};

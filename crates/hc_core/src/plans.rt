@@ -4,9 +4,7 @@ ghost use Rattle.hc_types.specs.Charge.{charge_of};
 ghost use Rattle.hc_history.specs.Note.{Begin, Did, Insert, Find, Remove};
 ghost use Rattle.hc_history.specs.Told.{where_kept, kind_of, Hears};
 ghost use Rattle.hc_history.specs.Seen.{reply_of};
-ghost use Rattle.hc_memory.specs.Item.{charge_by};
 ghost use Rattle.hc_memory.specs.Pool.{unexpired};
-ghost use Rattle.hc_memory.specs.Charges.{is_open};
 ghost use Rattle.hc_memory.specs.Memory.{linked_at, value_at, victims_of};
 ghost use Rattle.hc_core.specs.Answers.{found_value};
 ghost use Rattle.hc_core.specs.Refused.{refusal_of};
@@ -243,12 +241,8 @@ pub fn insert<A: Allocator, N: Notes<Note<A>>>(
     ensures begin { IfOk result (λ plan. plan.1 ≡ where_kept (N.told notes.old) (Begin plan.0 client (Insert sealed.now.key sealed.now.value sealed.now.expiry))) }
     ensures room { OnOk result (5 + length pools.now.charges ≤ N.room notes.new) }
     ensures more { N.room notes.old ≤ N.room notes.new }
-    ensures mine { OnOk result (is_open (charge_by sealed.now) pools.now.charges ≡ true) }
-    ensures err { IfErr result (λ refusal. ((is_open (charge_by sealed.now) pools.now.charges ≡ false) × (refusal ≡ Refusal.ForeignHandle)) ⊎ ((is_open (charge_by sealed.now) pools.now.charges ≡ true) × (refusal ≡ Refusal.NoMemory))) }
+    ensures err { IfErr result (λ refusal. refusal ≡ Refusal.NoMemory) }
 {
-    if !pools.knows(sealed) {
-        return Err(Refusal::ForeignHandle);
-    }
     let call = number_after(calls)?;
     make_room(notes, pools, 5)?;
     let begin = begin_insert(notes, call, client, sealed)?;

@@ -38,7 +38,7 @@ count-length test (x ∷ xs) = omega (arith, count_step (test x) (count test xs)
 
 -- ---- what takes the first that passes out takes its term out
 
-found_position : {X : Type 0} (p : X → Bool) (xs : List X) (x : X) → find p xs ≡ Some x → position p xs ≡ Some (position_or_len p xs)
+pub found_position : {X : Type 0} (p : X → Bool) (xs : List X) (x : X) → find p xs ≡ Some x → position p xs ≡ Some (position_or_len p xs)
 found_position p xs x found = ap (λ b. cond b (Some (position_or_len p xs)) None) (lt-ltb _ _ (slice_get_within xs (position_or_len p xs) x (sym (find_at p xs) ∙ found)))
 
 pub tally-swap_removed : {X : Type 0} (f : X → ℕ) (p : X → Bool) (xs : List X) (x : X) → find p xs ≡ Some x → tally f (swap_remove_by p xs) + f x ≡ tally f xs
@@ -171,7 +171,7 @@ place_entries : {A : Type 0} (number : ℕ) (es : List (ℕ × OpenCharge A)) �
 place_entries number [] = refl
 place_entries number (e ∷ es) = ap (λ n. cond (not (number == e.0)) (1 + n) 0) (place_entries number es)
 
-position_entries : {A : Type 0} (number : ℕ) (es : List (ℕ × OpenCharge A)) → position (has_number number) (map open_of es) ≡ position (nat_eq number) (keys_of es)
+pub position_entries : {A : Type 0} (number : ℕ) (es : List (ℕ × OpenCharge A)) → position (has_number number) (map open_of es) ≡ position (nat_eq number) (keys_of es)
 position_entries number es = λ i. cond (nat_lt (place_entries number es i) ((length-map es open_of ∙ sym (length-map es (λ e. e.0))) i)) (Some (place_entries number es i)) None
 
 -- and goes with it

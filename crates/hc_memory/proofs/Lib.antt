@@ -1,5 +1,6 @@
 -- Items in their order, the charges that are open, and what changes of the pools keep.
 pub mod Books
+pub mod Places
 pub mod Keyed
 pub mod Orders
 pub mod Rooms

@@ -1,5 +1,5 @@
 -- The charges that are open.
-use Rattle.std.specs.Prelude.{◌≡◌, ℕ, ◌==◌, ◌<◌, nat_lt, Bool, false, not, ◌&&◌, ◌||◌, List, length, Option, Some, None, find, slice_get, if◌then◌else◌}
+use Rattle.std.specs.Prelude.{◌≡◌, ℕ, ◌==◌, ◌<◌, nat_lt, Bool, false, not, ◌&&◌, ◌||◌, List, length, Option, Some, None, find, position, slice_get, if◌then◌else◌}
 use Rattle.std.specs.Str.{bytes_eq}
 use Rattle.indexmap.specs.IndexMap.{swap_remove_by}
 use Rattle.hc_types.specs.Tally.{tally, count}
@@ -36,6 +36,10 @@ is_same_as a (Some b) = is_same a b
 -- this charge is among the open ones
 abbrev pub is_open : Open → List Open → Bool
 is_open charge charges = is_same_as charge (charge_at charge.number charges)
+
+-- the place of this charge among the open ones, if it's one of them
+abbrev pub open_at : Open → List Open → Option ℕ
+open_at charge charges = if is_open charge charges then position (has_number charge.number) charges else None
 
 -- ---- all pools
 

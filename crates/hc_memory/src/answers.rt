@@ -1,5 +1,5 @@
 // What the calls of the pools answer.
-use crate::handles::{Blank, Sealed};
+use crate::handles::Blank;
 use crate::item::Item;
 use hc_types::{Key, Refusal};
 use std::alloc::{Allocator, Global};
@@ -20,12 +20,6 @@ pub struct Uncharged<A: Allocator = Global> {
     pub key: Key<A>,
 }
 
-/// An item that wasn't linked, with its handle.
-pub struct Unlinked<A: Allocator = Global> {
-    pub refusal: Refusal,
-    pub sealed: Sealed<A>,
-}
-
 impl<A: Allocator> fmt::Display for Uncharged<A> {
     ghost use Rattle.std.specs.Prelude.{Some};
     ghost use Rattle.hc_types.specs.Refusals.{refusal_text};
@@ -44,14 +38,3 @@ impl<A: Allocator> fmt::Debug for Uncharged<A> {
 }
 
 impl<A: Allocator> Error for Uncharged<A> {}
-
-impl<A: Allocator> fmt::Display for Unlinked<A> {
-    ghost use Rattle.std.specs.Prelude.{Some};
-    ghost use Rattle.hc_types.specs.Refusals.{refusal_text};
-
-    ghost output = { λ e. Some (refusal_text e.refusal) };
-
-    fn fmt<W: fmt::Write>(&self, f: &mut fmt::Formatter<W>) -> fmt::Result {
-        fmt::Display::fmt(&self.refusal, f)
-    }
-}

@@ -12,7 +12,7 @@ mod pools;
 mod unmark;
 mod usage;
 
-pub use answers::{Charged, Uncharged, Unlinked};
+pub use answers::{Charged, Uncharged};
 pub use handles::{Blank, ReadHandle, Sealed, each_byte};
 pub use item::Item;
 pub use pool::Glance;

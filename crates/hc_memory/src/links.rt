@@ -1,28 +1,27 @@
 // Handles that are spent: an item is linked, or given up.
-ghost use Rattle.std.specs.Prelude.{◌≡◌, ◌≢◌, ◌+◌, ◌<◌, ◌≤◌, ◌^◌, ◌⊎◌, ◌++◌, ◌∷◌, [], true, false, length, slice_get, option_map, Some, IfOk, IfErr, OnOk, OnErr};
-ghost use Rattle.hc_types.specs.declared.refusal.Refusal.{Refusal};
-ghost use Rattle.hc_memory.specs.Item.{Item as Meaning, charge_by, cost};
+ghost use Rattle.std.specs.Prelude.{◌≡◌, ◌≢◌, ◌+◌, ◌<◌, ◌≤◌, ◌^◌, ◌++◌, ◌∷◌, [], true, false, length, slice_get, swap_remove, option_map, Some, IfOk, IfErr, OnOk, OnErr};
+ghost use Rattle.hc_memory.specs.Item.{Item as Meaning, Open, charge_by, cost};
 ghost use Rattle.hc_memory.specs.Pool.{Pool as Order, bytes_of};
 ghost use Rattle.hc_memory.specs.Seen.{item_of};
-ghost use Rattle.hc_memory.specs.Charges.{is_open};
+ghost use Rattle.hc_memory.specs.Charges.{is_open, open_at};
 ghost use Rattle.hc_memory.specs.Sound.{items_at};
 ghost use Rattle.hc_memory.specs.Memory.{home_of, beside, linked_at, change_at, unlinked, after_link, after_free};
 
-use crate::answers::Unlinked;
 use crate::handles::{Blank, Sealed};
 use crate::item::Held;
 use crate::pool::Pool;
 use crate::pools::Pools;
-use hc_types::{Key, Refusal};
+use hc_types::Key;
 use std::alloc::{AllocFailed, Allocator};
 
 impl<A: Allocator> Pools<A> {
-    /// Whether the handle is one of this cache's: its charge is open here, with its pool, key and length.
+    /// The place of the handle's open charge, where the handle is one of this cache's: a charge is open here with its
+    /// number, pool, key and length.
     #[must_use]
-    pub fn knows(&self, sealed: &Sealed<A>) -> bool
-        ensures { result ≡ is_open (charge_by sealed.now) self.now.charges }
+    pub fn place_of(&self, sealed: &Sealed<A>) -> Option<usize>
+        ensures { result ≡ open_at (charge_by sealed.now) self.now.charges }
     {
-        self.charges.is_open(
+        self.charges.place_of(
             sealed.number(),
             sealed.pool(),
             sealed.key(),
@@ -30,16 +29,24 @@ impl<A: Allocator> Pools<A> {
         )
     }
 
-    /// Whether the handle, which is being written, is one of this cache's.
-    fn knows_blank(&self, blank: &Blank<A>) -> bool
-        ensures { result ≡ is_open (charge_by blank.now) self.now.charges }
+    /// The place of the open charge of a handle that is being written, where the handle is one of this cache's.
+    fn place_of_blank(&self, blank: &Blank<A>) -> Option<usize>
+        ensures { result ≡ open_at (charge_by blank.now) self.now.charges }
     {
-        self.charges.is_open(
+        self.charges.place_of(
             blank.number(),
             blank.pool(),
             blank.key(),
             blank.len() as u64,
         )
+    }
+
+    /// Frees the open charge at this place.
+    fn free_at(&mut self, place: usize)
+        requires { place < length self.old.charges }
+        ensures { (charge : Open) → slice_get self.old.charges place ≡ Some charge → self.new ≡ record self.old { charges = swap_remove self.old.charges place charge } }
+    {
+        self.charges.end_at(place);
     }
 
     /// Gives the item of the handle up, and answers the number of its charge, which is free. Refused where the handle
@@ -50,12 +57,12 @@ impl<A: Allocator> Pools<A> {
         ensures err { OnErr result ((is_open (charge_by sealed) self.old.charges ≡ false) × (self.new ≡ self.old)) }
         ensures sealed_returned { IfErr result (λ back. back ≡ sealed) }
     {
-        if self.knows(&sealed) {
-            let number = sealed.discard();
-            self.free(number);
-            Ok(number)
-        } else {
-            Err(sealed)
+        match self.place_of(&sealed) {
+            Some(place) => {
+                self.free_at(place);
+                Ok(sealed.discard())
+            }
+            None => Err(sealed),
         }
     }
 
@@ -67,55 +74,45 @@ impl<A: Allocator> Pools<A> {
         ensures err { OnErr result ((is_open (charge_by blank) self.old.charges ≡ false) × (self.new ≡ self.old)) }
         ensures blank_returned { IfErr result (λ back. back ≡ blank) }
     {
-        if self.knows_blank(&blank) {
-            let number = blank.discard();
-            self.free(number);
-            Ok(number)
-        } else {
-            Err(blank)
+        match self.place_of_blank(&blank) {
+            Some(place) => {
+                self.free_at(place);
+                Ok(blank.discard())
+            }
+            None => Err(blank),
         }
     }
 }
 
 impl<A: Allocator + Clone> Pools<A> {
-    /// Links the item of the handle under its key, as the one that was used last in its pool, in place of the key's
-    /// item in whichever pool, whose charge number is answered. `clean` says whether a copy of it stands on flash.
-    /// Refused with `ForeignHandle` where the handle isn't one of this cache's; then, and where memory lacks, it comes
-    /// back.
-    pub fn link(&mut self, sealed: Sealed<A>, clean: bool) -> Result<Option<u64>, Unlinked<A>>
+    /// Links the item of the handle, whose open charge is at this place, under its key, as the one that was used last in
+    /// its pool, in place of the key's item in whichever pool, whose charge number is answered. `clean` says whether a
+    /// copy of it stands on flash. Refused only where memory lacks, and then the handle comes back.
+    pub fn link(
+        &mut self,
+        place: usize,
+        sealed: Sealed<A>,
+        clean: bool,
+    ) -> Result<Option<u64>, Sealed<A>>
+        requires { open_at (charge_by sealed) self.old.charges ≡ Some place }
         ensures old { IfOk result (λ old. old ≡ option_map (λ (item : Meaning). item.number) (linked_at sealed.key self.old.pools)) }
         ensures pools { OnOk result (self.new ≡ after_link self.old clean sealed) }
-        ensures mine { OnOk result (is_open (charge_by sealed) self.old.charges ≡ true) }
-        ensures why { IfErr result (λ e. ((e.refusal ≡ Refusal.ForeignHandle) × (is_open (charge_by sealed) self.old.charges ≡ false)) ⊎ ((e.refusal ≡ Refusal.NoMemory) × (is_open (charge_by sealed) self.old.charges ≡ true))) }
         ensures err { OnErr result (self.new ≡ self.old) }
-        ensures sealed_returned { IfErr result (λ e. e.sealed ≡ sealed) }
+        ensures sealed_returned { IfErr result (λ back. back ≡ sealed) }
     {
-        let known = self.knows(&sealed);
-        if !known {
-            return Err(refused(Refusal::ForeignHandle, sealed));
-        }
-        let number = sealed.number();
         let own = usize::from(sealed.pool());
         let (key, held) = sealed.into_parts(clean);
         match link_over(&mut self.pools, own, key, held) {
             Ok(old) => {
-                self.charges.end(number);
+                self.charges.end_at(place);
                 Ok(old)
             }
             Err(failed) => {
                 let (key, held) = failed.value;
-                Err(refused(Refusal::NoMemory, Sealed::from_parts(key, held)))
+                Err(Sealed::from_parts(key, held))
             }
         }
     }
-}
-
-/// An item that isn't linked, for this reason.
-fn refused<A: Allocator>(refusal: Refusal, sealed: Sealed<A>) -> Unlinked<A>
-    ensures refusal { result.refusal ≡ refusal }
-    ensures sealed { result.sealed ≡ sealed }
-{
-    Unlinked { refusal, sealed }
 }
 
 /// Links an item in its own pool, in place of the key's item in whichever pool, whose number is answered. On an error,

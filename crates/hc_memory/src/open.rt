@@ -1,8 +1,9 @@
 // The charges that are open, and what each pool is charged for them.
-ghost use Rattle.std.specs.Prelude.{◌≡◌, ◌==◌, ◌+◌, ◌-◌, ◌<◌, ◌≤◌, ◌^◌, ◌&&◌, ◌↔◌, ◌++◌, [], ◌∷◌, length, IsTrue, IfOk, OnOk, OnErr, is_some, Some, None};
+ghost use Rattle.std.specs.Prelude.{◌≡◌, ◌==◌, ◌+◌, ◌-◌, ◌<◌, ◌≤◌, ◌^◌, ◌&&◌, ◌↔◌, ◌++◌, [], ◌∷◌, length, slice_get, swap_remove, IfOk, OnOk, OnErr, IsSome, is_some, Some, None};
 ghost use Rattle.std.specs.Str.{bytes_eq};
 ghost use Rattle.hc_types.specs.Charge.{charge_of};
-ghost use Rattle.hc_memory.specs.Charges.{charge_at, closed, usage_of, is_open};
+ghost use Rattle.hc_memory.specs.Item.{Open};
+ghost use Rattle.hc_memory.specs.Charges.{charge_at, closed, usage_of, open_at};
 
 use crate::usage::Usage;
 use hc_types::{Key, VALUE_MAX, charge};
@@ -70,14 +71,20 @@ impl<A: Allocator> OpenCharges<A> {
         self.usage[usize::from(pool)]
     }
 
-    /// Whether this charge is open.
-    pub fn is_open(&self, number: u64, pool: u8, key: &Key<A>, size: u64) -> bool
-        ensures value { result ≡ is_open (record { number = number; pool = pool; key = key.now; size = size }) self.now.charges }
-        ensures exact { IsTrue result ↔ (charge_at number self.now.charges ≡ Some (record { number = number; pool = pool; key = key.now; size = size })) }
+    /// The place of this charge, if it is open.
+    pub fn place_of(&self, number: u64, pool: u8, key: &Key<A>, size: u64) -> Option<usize>
+        ensures value { result ≡ open_at (record { number = number; pool = pool; key = key.now; size = size }) self.now.charges }
+        ensures exact { IsSome result ↔ (charge_at number self.now.charges ≡ Some (record { number = number; pool = pool; key = key.now; size = size })) }
     {
-        match self.charges.get(&number) {
-            Some(open) => open.is_of(pool, key, size),
-            None => false,
+        match self.charges.get_full(&number) {
+            Some((place, _, open)) => {
+                if open.is_of(pool, key, size) {
+                    Some(place)
+                } else {
+                    None
+                }
+            }
+            None => None,
         }
     }
 
@@ -103,14 +110,27 @@ impl<A: Allocator> OpenCharges<A> {
         ensures found { result ≡ is_some (charge_at number self.old.charges) }
         ensures closed { self.new ≡ record self.old { charges = closed number self.old.charges } }
     {
-        match self.charges.swap_remove(&number) {
-            Some(open) => {
-                let (pool, cost) = open.into_cost();
-                let at = usize::from(pool);
-                self.usage[at] = without_charge(self.usage[at], cost);
+        match self.charges.get_index_of(&number) {
+            Some(place) => {
+                self.end_at(place);
                 true
             }
             None => false,
+        }
+    }
+
+    /// Closes the charge at this place, which the last one takes.
+    pub fn end_at(&mut self, place: usize)
+        requires { place < length self.old.charges }
+        ensures { (charge : Open) → slice_get self.old.charges place ≡ Some charge → self.new ≡ record self.old { charges = swap_remove self.old.charges place charge } }
+    {
+        match self.charges.swap_remove_index(place) {
+            Some((_, open)) => {
+                let (pool, cost) = open.into_cost();
+                let at = usize::from(pool);
+                self.usage[at] = without_charge(self.usage[at], cost);
+            }
+            None => unreachable!(),
         }
     }
 }

@@ -15,9 +15,9 @@ ghost use Rattle.hc_run.specs.World.{Open, Put, PutNew, Discard, Find, Remove, T
 use crate::slots::{Content, Slot, empty_slots, fill, take, take_sealed};
 use crate::steps::{Answer, Outcome, Request, Step};
 use bytes::Bytes;
-use hc_core::{Core, Found, Removed, give_up, give_up_blank, open};
+use hc_core::{Core, Found, Removed, Unlinked, give_up, give_up_blank, open};
 use hc_history::{Kept, Reply};
-use hc_memory::{Uncharged, Unlinked};
+use hc_memory::Uncharged;
 use hc_types::{Config, Key, Refusal};
 use std::alloc::{AllocError, Allocator, Global};
 use std::marker::Model;

@@ -9,12 +9,12 @@ ghost use Rattle.hc_memory.specs.Charges.{is_open};
 ghost use Rattle.hc_lines.specs.Texts.{line_text, answer_text};
 ghost use Rattle.hc_trace.specs.Machine.{next, told_text};
 
-use hc_core::{Core, Found, Removed, give_up, give_up_blank, open};
+use hc_core::{Core, Found, Removed, Unlinked, give_up, give_up_blank, open};
 use hc_history::Counting;
 use hc_lines::{
     NewItem, Step, Value, add_hit, add_losses, add_moment, add_refusal, add_word, repeat,
 };
-use hc_memory::{Sealed, Uncharged, Unlinked};
+use hc_memory::{Sealed, Uncharged};
 use hc_types::{Key, Refusal};
 use std::alloc::{AllocError, Global};
 

@@ -93,9 +93,12 @@ pub fn written(
 
 /// Links the item of the handle, a copy of which stands on flash. Answers the number of the item that it replaces.
 pub fn link(rt: &impl Abort, pools: &mut Pools, sealed: Sealed) -> Option<u64> {
-    match pools.link(sealed, true) {
+    let place = pools
+        .place_of(&sealed)
+        .expect(rt, "the handle is of these pools");
+    match pools.link(place, sealed, true) {
         Ok(old) => old,
-        Err(_) => panic!(rt; "the handle is of these pools"),
+        Err(_) => panic!(rt; "there is memory"),
     }
 }
 

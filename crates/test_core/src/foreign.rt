@@ -1,7 +1,7 @@
 // Handles that another cache made.
-use hc_core::Core;
+use hc_core::{Core, Unlinked};
 use hc_history::Kept;
-use hc_memory::{Blank, Sealed, Unlinked};
+use hc_memory::{Blank, Sealed};
 use hc_types::{Config, Key, PoolSize, Refusal};
 use std::alloc::Global;
 use std::process::Abort;

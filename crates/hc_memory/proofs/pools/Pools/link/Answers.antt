@@ -1,35 +1,37 @@
-use Rattle.std.proofs.Common.{◌≡◌, true, inr, sym, ◌∙◌, ap, arith}
+use Rattle.std.proofs.Common.{sym, ◌∙◌, ap, arith}
 use Rattle.std.specs.Prelude.{option_map}
 use Rattle.hc_memory.specs.Item.{Item, charge_by}
 use Rattle.hc_memory.specs.Seen.{item_of}
-use Rattle.hc_memory.specs.Charges.{is_open, closed}
 use Rattle.hc_memory.specs.Memory.{linked_at}
 use Rattle.hc_memory.proofs.Handing.{known-place, link-small, length-linked, linked-sound, linked-is}
+use Rattle.hc_memory.proofs.Places.{at-place}
 use Rattle.hc_memory.proofs.pools.Pools.link.Goals as goal
 
 pub link_over-requires-clause-place : goal.link_over-requires-clause-place
 link_over-requires-clause-place g c =
-    let ours = rw (← c.self.view_is) at c.knows-known.ensures in
-    let mine : is_open (charge_by c.args.sealed) c.self.inside.charges.charges ≡ true = sym ours ∙ c.if-not-known.false in
+    let placed = rw (← c.self.view_is) at c.requires in
+    let mine = (at-place (charge_by c.args.sealed) c.self.inside.charges.charges c.args.place placed).mine in
     let lt = known-place c.self.inside.pools.items c.self.inside.charges.charges c.self.inside.made c.args.sealed c.self.invariant.0 mine in
     omega (arith, lt, c.from-own.ensures, c.pool.ensures)
 
 pub link_over-requires-clause-bytes : goal.link_over-requires-clause-bytes
 link_over-requires-clause-bytes g c =
-    let ours = rw (← c.self.view_is) at c.knows-known.ensures in
-    let mine : is_open (charge_by c.args.sealed) c.self.inside.charges.charges ≡ true = sym ours ∙ c.if-not-known.false in
+    let placed = rw (← c.self.view_is) at c.requires in
+    let mine = (at-place (charge_by c.args.sealed) c.self.inside.charges.charges c.args.place placed).mine in
     let item : Item = item_of c.into_parts-key.result in
     link-small c.self.inside.pools.items c.self.inside.charges.charges c.self.inside.made c.from-own.result c.args.sealed c.args.clean item c.self.invariant.0 mine (c.from-own.ensures ∙ c.pool.ensures) c.into_parts-key.ensures.item
 
 pub invariant_of-self : goal.invariant_of-self
 invariant_of-self g c =
-    let ours = rw (← c.self.view_is) at c.knows-known.ensures in
-    let mine : is_open (charge_by c.args.sealed) c.self.inside.charges.charges ≡ true = sym ours ∙ c.if-not-known.false in
+    let placed = rw (← c.self.view_is) at c.requires in
+    let mine = (at-place (charge_by c.args.sealed) c.self.inside.charges.charges c.args.place placed).mine in
     let item : Item = item_of c.into_parts-key.result in
     let i = c.self.invariant in
     let is = linked-is c.self.inside.pools.items c.link_over.new.pools.items c.from-own.result c.into_parts-key.result.0 item c.args.sealed c.args.clean c.in-Ok.ensures.pools (c.from-own.ensures ∙ c.pool.ensures) c.into_parts-key.ensures.key c.into_parts-key.ensures.item in
     let sound = linked-sound c.self.inside.pools.items c.self.inside.charges.charges c.self.inside.made c.args.sealed c.args.clean i.0 mine in
-    rw (c.end.ensures.closed, c.number-number.ensures, is) (sound, i.1 ∙ sym (length-linked c.args.sealed.key c.args.sealed.pool _ c.self.inside.pools.items), i.2)
+    let place = at-place (charge_by c.args.sealed) c.self.inside.charges.charges c.args.place placed in
+    let ended = c.end_at.ensures (charge_by c.args.sealed) place.there ∙ (λ j. record { charges = sym place.closes j; pools = c.self.inside.charges.pools }) in
+    rw (ended, is) (sound, i.1 ∙ sym (length-linked c.args.sealed.key c.args.sealed.pool _ c.self.inside.pools.items), i.2)
 
 pub returns-in-Ok-clause-old : goal.returns-in-Ok-clause-old
 returns-in-Ok-clause-old g c = rw (← c.self.view_is) (c.in-Ok.ensures.old ∙ ap (λ key. option_map (λ (i : Item). i.number) (linked_at key c.self.inside.pools.items)) c.into_parts-key.ensures.key)
@@ -38,14 +40,15 @@ pub returns-in-Ok-clause-pools : goal.returns-in-Ok-clause-pools
 returns-in-Ok-clause-pools g c =
     let item : Item = item_of c.into_parts-key.result in
     let is = linked-is c.self.inside.pools.items c.link_over.new.pools.items c.from-own.result c.into_parts-key.result.0 item c.args.sealed c.args.clean c.in-Ok.ensures.pools (c.from-own.ensures ∙ c.pool.ensures) c.into_parts-key.ensures.key c.into_parts-key.ensures.item in
-    let charges = ap (λ book. book.charges) c.end.ensures.closed ∙ ap (λ number. closed number c.self.inside.charges.charges) c.number-number.ensures in
+    let placed = rw (← c.self.view_is) at c.requires in
+    let place = at-place (charge_by c.args.sealed) c.self.inside.charges.charges c.args.place placed in
+    let charges = ap (λ book. book.charges) (c.end_at.ensures (charge_by c.args.sealed) place.there) ∙ sym place.closes in
     rw (← c.self.view_is) (λ i. record { flash = c.self.inside.flash; pools = is i; charges = charges i; made = c.self.inside.made })
 
-pub returns-in-Ok-clause-mine : goal.returns-in-Ok-clause-mine
-returns-in-Ok-clause-mine g c = sym c.knows-known.ensures ∙ c.if-not-known.false
-
-pub returns-in-Err-clause-why : goal.returns-in-Err-clause-why
-returns-in-Err-clause-why g c = inr (c.refused-in-Err.ensures.refusal, sym c.knows-known.ensures ∙ c.if-not-known.false)
+pub end_at-requires : goal.end_at-requires
+end_at-requires g c =
+    let placed = rw (← c.self.view_is) at c.requires in
+    (at-place (charge_by c.args.sealed) c.self.inside.charges.charges c.args.place placed).within
 
 pub returns-in-Err-clause-err : goal.returns-in-Err-clause-err
 returns-in-Err-clause-err g c = rw (← c.self.view_is) (λ i. record { flash = c.self.inside.flash; pools = c.in-Err.ensures.err i; charges = c.self.inside.charges.charges; made = c.self.inside.made })
@@ -54,7 +57,6 @@ pub returns-in-Err-clause-sealed_returned : goal.returns-in-Err-clause-sealed_re
 returns-in-Err-clause-sealed_returned g c =
     let parts = c.in-Err.ensures.value_returned in
     let item = c.into_parts-key.ensures.item in
-    c.refused-in-Err.ensures.sealed
-    ∙ c.from_parts.ensures
+    c.from_parts.ensures
     ∙ (λ i. record { number = (parts i).1.number; pool = (parts i).1.pool; key = (parts i).0; expiry = (parts i).1.expiry; value = (parts i).1.value })
     ∙ (λ i. record { number = (item i).number; pool = (item i).pool; key = c.into_parts-key.ensures.key i; expiry = (item i).expiry; value = (item i).value })
