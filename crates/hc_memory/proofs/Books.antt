@@ -174,19 +174,6 @@ place_entries number (e ∷ es) = ap (λ n. cond (not (number == e.0)) (1 + n) 0
 pub position_entries : {A : Type 0} (number : ℕ) (es : List (ℕ × OpenCharge A)) → position (has_number number) (map open_of es) ≡ position (nat_eq number) (keys_of es)
 position_entries number es = λ i. cond (nat_lt (place_entries number es i) ((length-map es open_of ∙ sym (length-map es (λ e. e.0))) i)) (Some (place_entries number es i)) None
 
--- and goes with it
-pub closed-entries : {A : Type 0} (number : ℕ) (es : List (ℕ × OpenCharge A)) → map open_of (swap_remove_entry (nat_eq number) es) ≡ closed number (map open_of es)
-closed-entries number [] = refl
-closed-entries number (e ∷ es) = by (position (nat_eq number) (keys_of (e ∷ es))) refl
-  where
-    by : (r : Option ℕ) → position (nat_eq number) (keys_of (e ∷ es)) ≡ r → map open_of (swap_remove_entry (nat_eq number) (e ∷ es)) ≡ closed number (map open_of (e ∷ es))
-    by None h =
-        ap (λ o. map open_of (option_map_or (λ i. swap_remove (e ∷ es) i e) o (e ∷ es))) h
-        ∙ sym (ap (λ o. option_map_or (λ i. swap_remove (map open_of (e ∷ es)) i (open_of e)) o (map open_of (e ∷ es))) (position_entries number (e ∷ es) ∙ h))
-    by (Some i) h =
-        ap (λ o. map open_of (option_map_or (λ n. swap_remove (e ∷ es) n e) o (e ∷ es))) h ∙ map-swap_remove open_of (e ∷ es) i e (omega arith)
-        ∙ sym (ap (λ o. option_map_or (λ n. swap_remove (map open_of (e ∷ es)) n (open_of e)) o (map open_of (e ∷ es))) (position_entries number (e ∷ es) ∙ h))
-
 -- ---- no charge is stray
 
 stray_step : (x y : Bool) → ◌≡◌ {A = ℕ} (cond (not x || y) 1 0) 0 → (x ≡ true) × (y ≡ false)
@@ -198,10 +185,6 @@ pub within-none : (pools : ℕ) (charge : Open) → ◌≡◌ {A = ℕ} (cond (i
 within-none pools charge h =
     let parts = stray_step (nat_lt charge.pool pools) (nat_lt 1048576 charge.size) h in
     (ltb-true charge.pool pools parts.0, ltb-false 1048576 charge.size parts.1)
-
--- the charge with a number is of one of the pools, and of a value that may be
-pub found-within : (pools number : ℕ) (charges : List Open) (charge : Open) → charge_at number charges ≡ Some charge → count (is_stray pools) charges ≡ 0 → (charge.pool < pools) × (charge.size ≤ 1048576)
-found-within pools number charges charge found none = within-none pools charge (omega (arith, count-closed (is_stray pools) number charges charge found, none))
 
 none_stray : (x y : Bool) → x ≡ true → y ≡ false → ◌≡◌ {A = ℕ} (cond (not x || y) 1 0) 0
 none_stray x y p q = λ i. cond (not (p i) || q i) 1 0
@@ -231,28 +214,9 @@ stray-begun pools charges new charge is pool size none =
     let zero : f charge ≡ 0 = none_stray (nat_lt charge.pool pools) (nat_lt 1048576 charge.size) (lt-ltb charge.pool pools pool) (le-ltb 1048576 charge.size size) in
     omega (arith, ap (tally f) is, tally-push f charges charge, zero, none)
 
-pub stray-closed : (pools number : ℕ) (charges new : List Open) (charge : Open) → charge_at number charges ≡ Some charge → new ≡ closed number charges → count (is_stray pools) charges ≡ 0 → count (is_stray pools) new ≡ 0
-stray-closed pools number charges new charge found is none =
-    let f : Open → ℕ = λ c. cond (is_stray pools c) 1 0 in
-    omega (arith, ap (tally f) is, tally-closed f number charges charge found, none)
-
 -- fewer are of a pool than there are
 pub number-below : (pool : ℕ) (charges new : List Open) (charge : Open) → new ≡ charges ++ charge ∷ [] → (usage_of pool charges).number + 1 ≤ length new
 number-below pool charges new charge is = omega (arith, count-length (λ (c : Open). c.pool == pool) charges, ap length is, length-append charges (charge ∷ []))
-
--- ---- what ends
-
-pub found-entries : {A : Type 0} (number : ℕ) (es : List (ℕ × OpenCharge A)) (c : OpenCharge A) → Some c ≡ lookup (nat_eq number) es → charge_at number (map open_of es) ≡ Some (open_of (number, c))
-found-entries number es c found = charge_at-entries number es ∙ sym (ap (option_map (λ c. open_of (number, c))) found)
-
-pub none-entries : {A : Type 0} (number : ℕ) (es : List (ℕ × OpenCharge A)) → None ≡ lookup (nat_eq number) es → charge_at number (map open_of es) ≡ None
-none-entries number es none = charge_at-entries number es ∙ sym (ap (option_map (λ c. open_of (number, c))) none)
-
-pub ended-entries : {A : Type 0} (number : ℕ) (es new : List (ℕ × OpenCharge A)) → new ≡ swap_remove_entry (nat_eq number) es → map open_of new ≡ closed number (map open_of es)
-ended-entries number es new is = ap (map open_of) is ∙ closed-entries number es
-
-pub closed-grown : (number : ℕ) (more less : List Open) (charge : Open) → charge_at number more ≡ Some charge → less ≡ closed number more → (f : Open → ℕ) → tally f more ≡ tally f less + f charge
-closed-grown number more less charge found is f = sym (tally-closed f number more charge found) ∙ ap (λ xs. tally f xs + f charge) (sym is)
 
 -- ---- none yet
 

@@ -24,16 +24,16 @@ same_removed xs i d e some =
     let last : length xs - 1 < length xs = omega (arith, some) in
     ap (λ x. take (length xs - 1) (slice_set xs i x)) (sym (get_or_from_slice_get xs (length xs - 1) (get_or xs (length xs - 1) d) e (slice_get-get_or xs (length xs - 1) d last)))
 
-position_step : (i n at : ℕ) (b : Bool) → nat_lt i n ≡ b → cond b (Some i) None ≡ Some at → (i ≡ at) × (at < n)
-position_step i n at true e h = let same : i ≡ at = cc in (same, omega (arith, same, ltb-true i n e))
-position_step i n at false e h = absurd cc
+position_step : (i at : ℕ) (b : Bool) → cond b (Some i) None ≡ Some at → i ≡ at
+position_step i at true h = cc
+position_step i at false h = absurd cc
 
-position-is : {X : Type 0} (p : X → Bool) (xs : List X) (at : ℕ) → position p xs ≡ Some at → (position_or_len p xs ≡ at) × (at < length xs)
-position-is p xs at h = position_step (position_or_len p xs) (length xs) at (nat_lt (position_or_len p xs) (length xs)) refl h
+position-is : {X : Type 0} (p : X → Bool) (xs : List X) (at : ℕ) → position p xs ≡ Some at → position_or_len p xs ≡ at
+position-is p xs at h = position_step (position_or_len p xs) at (nat_lt (position_or_len p xs) (length xs)) h
 
 -- what stands at the place is what is found
 pub position-found : {X : Type 0} (p : X → Bool) (xs : List X) (at : ℕ) → position p xs ≡ Some at → slice_get xs at ≡ find p xs
-position-found p xs at h = sym (find_at p xs ∙ ap (slice_get xs) (position-is p xs at h).0)
+position-found p xs at h = sym (find_at p xs ∙ ap (slice_get xs) (position-is p xs at h))
 
 pub position-removed : {X : Type 0} (p : X → Bool) (xs : List X) (at : ℕ) (x : X) → position p xs ≡ Some at → slice_get xs at ≡ Some x → swap_remove_by p xs ≡ swap_remove xs at x
 position-removed p [] at x h there = absurd cc
@@ -127,29 +127,3 @@ ends {A} es new at entry read is =
 -- no charge is stray once one has gone
 pub stray-removed : (pools : ℕ) (charges new : List Open) (charge : Open) → ((f : Open → ℕ) → tally f charges ≡ tally f new + f charge) → count (is_stray pools) charges ≡ 0 → count (is_stray pools) new ≡ 0
 stray-removed pools charges new charge grown none = omega (arith, grown (λ (c : Open). cond (is_stray pools c) 1 0), none)
-
--- ---- the one with a number
-
-pub record Numbered (number : ℕ) (charges : List Open) (at : ℕ) : Type 0 where
-  pub charge : Open
-  pub found : charge_at number charges ≡ Some charge
-  pub there : slice_get charges at ≡ Some charge
-  pub within : at < length charges
-  pub closes : closed number charges ≡ swap_remove charges at charge
-
-pub numbered : {A : Type 0} (number : ℕ) (es : List (ℕ × OpenCharge A)) (at : ℕ) → Some at ≡ position (nat_eq number) (keys_of es) → Numbered number (map open_of es) at
-numbered number es at place =
-    let h : position (has_number number) (map open_of es) ≡ Some at = position_entries number es ∙ sym place in
-    let within = (position-is (has_number number) (map open_of es) at h).1 in
-    let x = there-at (map open_of es) at within in
-    record { charge = x.0; found = sym (position-found (has_number number) (map open_of es) at h) ∙ x.1; there = x.1; within = within; closes = position-removed (has_number number) (map open_of es) at x.0 h x.1 }
-
-none_step : {X : Type 0} (xs : List X) (i : ℕ) (b : Bool) → nat_lt i (length xs) ≡ b → cond b (Some i) None ≡ None → slice_get xs i ≡ None
-none_step xs i true e h = absurd cc
-none_step xs i false e h = slice_get_past xs i (ltb-false i (length xs) e)
-
-pub unnumbered : {A : Type 0} (number : ℕ) (es : List (ℕ × OpenCharge A)) → None ≡ position (nat_eq number) (keys_of es) → charge_at number (map open_of es) ≡ None
-unnumbered number es none =
-    let p = has_number number in
-    let xs = map open_of es in
-    find_at p xs ∙ none_step xs (position_or_len p xs) (nat_lt (position_or_len p xs) (length xs)) refl (position_entries number es ∙ sym none)

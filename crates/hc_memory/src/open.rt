@@ -1,9 +1,9 @@
 // The charges that are open, and what each pool is charged for them.
-ghost use Rattle.std.specs.Prelude.{◌≡◌, ◌==◌, ◌+◌, ◌-◌, ◌<◌, ◌≤◌, ◌^◌, ◌&&◌, ◌↔◌, ◌++◌, [], ◌∷◌, length, slice_get, swap_remove, IfOk, OnOk, OnErr, IsSome, is_some, Some, None};
+ghost use Rattle.std.specs.Prelude.{◌≡◌, ◌==◌, ◌+◌, ◌-◌, ◌<◌, ◌≤◌, ◌^◌, ◌&&◌, ◌↔◌, ◌++◌, [], ◌∷◌, length, slice_get, swap_remove, IfOk, OnOk, OnErr, IsSome, Some, None};
 ghost use Rattle.std.specs.Str.{bytes_eq};
 ghost use Rattle.hc_types.specs.Charge.{charge_of};
 ghost use Rattle.hc_memory.specs.Item.{Open};
-ghost use Rattle.hc_memory.specs.Charges.{charge_at, closed, usage_of, open_at};
+ghost use Rattle.hc_memory.specs.Charges.{charge_at, usage_of, open_at};
 
 use crate::usage::Usage;
 use hc_types::{Key, VALUE_MAX, charge};
@@ -103,20 +103,6 @@ impl<A: Allocator> OpenCharges<A> {
         let _count = self.charges.len();
         self.usage[at] = with_charge(self.usage[at], cost);
         Ok(())
-    }
-
-    /// Closes the charge with this number, and answers whether it was open.
-    pub fn end(&mut self, number: u64) -> bool
-        ensures found { result ≡ is_some (charge_at number self.old.charges) }
-        ensures closed { self.new ≡ record self.old { charges = closed number self.old.charges } }
-    {
-        match self.charges.get_index_of(&number) {
-            Some(place) => {
-                self.end_at(place);
-                true
-            }
-            None => false,
-        }
     }
 
     /// Closes the charge at this place, which the last one takes.

@@ -1,13 +1,13 @@
 // All pools, with the charges that are open in them.
-ghost use Rattle.std.specs.Prelude.{◌≡◌, ◌+◌, ◌<◌, ◌≤◌, [], true, false, length, take, drop, map, IfOk, IfErr, IfSome, OnOk, OnErr, is_some, option_map, Some, None, vec_len, vec_capacity};
+ghost use Rattle.std.specs.Prelude.{◌≡◌, ◌+◌, ◌<◌, ◌≤◌, [], true, false, length, take, drop, map, IfOk, IfErr, IfSome, OnOk, OnErr, option_map, Some, None, vec_len, vec_capacity};
 ghost use Rattle.hc_types.specs.Limits.{first_wrong};
 ghost use Rattle.hc_types.specs.Charge.{charge_of};
 ghost use Rattle.hc_memory.specs.Planned.{IsPlanned};
 ghost use Rattle.hc_memory.specs.Pool.{is_full, kept, dropped};
 ghost use Rattle.hc_memory.specs.Sound.{Sound, IsWithin};
 ghost use Rattle.hc_memory.specs.Seen.{item_of, glance_of};
-ghost use Rattle.hc_memory.specs.Charges.{charge_at, usage_of};
-ghost use Rattle.hc_memory.specs.Memory.{empty_pool, home_of, linked_at, value_at, is_hopeless, victims_of, blank_of, unlinked, after_room, after_charge, after_unlink, after_free, after_find};
+ghost use Rattle.hc_memory.specs.Charges.{usage_of};
+ghost use Rattle.hc_memory.specs.Memory.{empty_pool, home_of, linked_at, value_at, is_hopeless, victims_of, blank_of, unlinked, after_room, after_charge, after_unlink, after_find};
 
 use crate::answers::{Charged, Uncharged};
 use crate::handles::{Blank, ReadHandle, zeros};
@@ -109,14 +109,6 @@ impl<A: Allocator> Pools<A> {
         ensures pools { self.new ≡ after_unlink self.old key.now }
     {
         unlink_from(&mut self.pools, key)
-    }
-
-    /// Frees the open charge with this number, and answers whether there was one.
-    pub fn free(&mut self, number: u64) -> bool
-        ensures value { result ≡ is_some (charge_at number self.old.charges) }
-        ensures charges { self.new ≡ after_free self.old number }
-    {
-        self.charges.end(number)
     }
 
     /// Finds the value under this key, where its item isn't expired at `now` (seconds). That item is now the one that
