@@ -1,14 +1,12 @@
 -- Each pure step leads from one cache to the next.
-use Rattle.std.proofs.Common.{◌≡◌, ℕ, ◌+◌, Bool, true, false, not, List, [], ◌∷◌, ◌++◌, length, None, Some, refl, sym, ap, ◌∙◌, subst, nat_lt}
-use mathlib.Core.Bool.{cond}
+use Rattle.std.proofs.Common.{◌≡◌, ℕ, ◌+◌, true, false, List, [], ◌∷◌, ◌++◌, None, refl, sym, ap, ◌∙◌, subst}
 use Rattle.hc_types.specs.Config.{Config}
 use Rattle.hc_types.specs.Charge.{charge_of}
 use Rattle.hc_types.specs.Limits.{first_wrong}
-use Rattle.hc_types.specs.declared.refusal.Refusal.TheVariants.{NoPool, ValueTooLong, NoRoom}
 use Rattle.hc_memory.specs.Item.{Open, Handle, charge_by}
 use Rattle.hc_memory.specs.Pool.{Pool, item_at, without, used, unexpired}
 use Rattle.hc_memory.specs.Charges.{is_open}
-use Rattle.hc_memory.specs.Memory.{Memory, is_hopeless, linked_at, value_at}
+use Rattle.hc_memory.specs.Memory.{Memory, linked_at, value_at}
 use Rattle.hc_memory.specs.Sound.{Sound}
 use Rattle.hc_memory.proofs.Books.{is_open-found}
 use Rattle.hc_memory.proofs.Sounds.{sound-fewer}
@@ -21,18 +19,12 @@ use Rattle.hc_core.specs.Cache.{Cache, empty_memory, new_cache}
 use Rattle.hc_core.specs.Refused.{allocate_refusal}
 use Rattle.hc_core.specs.Steps.{part_of_allocate, after_allocate, after_discard, insert_notes, after_insert, find_notes, after_find, remove_notes, after_remove, tick_notes, after_tick}
 use Rattle.hc_core.specs.Legality.{Led, StepsAreLegal}
-use Rattle.hc_core.proofs.Keeps.{follows-allocate, follows-discard, follows-insert, follows-find, follows-remove, follows-tick, fits-allocate, fits-discard, fits-insert, fits-find, fits-remove, pool-there, new-holds}
+use Rattle.hc_core.proofs.Keeps.{follows-allocate, follows-discard, follows-insert, follows-find, follows-remove, follows-tick, fits-allocate, fits-discard, fits-insert, fits-find, fits-remove, pool-there, may-be, new-holds}
 
 led_new : (config : Config) (heard : Heard) → config.flash ≡ None → first_wrong config ≡ None → Led [] (new_cache config heard)
 led_new config heard flash fits =
     let new = new-holds config (Log []) (empty_memory config) 0 flash refl refl in
     record { fits = new.0; sound = (sound-new config fits).0; follows = new.1 }
-
-hopeful : (a b c : Bool) → cond (not a) (Some NoPool) (cond b (Some ValueTooLong) (cond c (Some NoRoom) None)) ≡ None → c ≡ false
-hopeful false b c h = absurd cc
-hopeful true true c h = absurd cc
-hopeful true false true h = absurd cc
-hopeful true false false h = refl
 
 led_allocate : (log : List Note) (cache : Cache) (pool : ℕ) (key : List ℕ) (size : ℕ) → Led log cache → allocate_refusal cache pool key size ≡ None
     → Led (log ++ part_of_allocate cache.memory cache.now pool key size) (after_allocate cache pool key size)
@@ -42,7 +34,7 @@ led_allocate log cache pool key size led free =
     let lt = pool-there memory pool key size free in
     let there = there-of memory.pools pool lt in
     let k = known memory pool want there.0 there.1 in
-    let hope = hopeful (nat_lt pool (length memory.pools)) (nat_lt 1048576 size) (is_hopeless memory pool want) free in
+    let hope = (may-be memory pool key size free).1 in
     let opened : Open = record { number = memory.made + 1; pool = pool; key = key; size = size } in
     let s = charged-sound memory.pools memory.charges memory.made pool want there.0 opened led.sound there.1 (sym k.hopeless ∙ hope) refl refl refl in
     record {

@@ -1,7 +1,6 @@
--- A charge that is made is open, and what is written over a whole item is its value.
-use Rattle.std.proofs.Common.{◌≡◌, ℕ, ◌+◌, ◌-◌, ◌++◌, true, List, [], ◌∷◌, Some, None, find, length, drop, replicate, refl, ap, ◌∙◌, arith, eq-eqb, append-nil}
+-- A charge that is made is open.
+use Rattle.std.proofs.Common.{◌≡◌, ℕ, ◌+◌, ◌++◌, true, List, [], ◌∷◌, Some, None, find, length, refl, ap, ◌∙◌, arith, eq-eqb}
 use Rattle.std.specs.Option.{option_or}
-use Rattle.std.proofs.lemmas.List.{drop-replicate}
 use Rattle.std.proofs.lemmas.List.Folds.{find-append}
 use mathlib.Core.Bool.{cond}
 use Rattle.hc_types.specs.Tally.{count}
@@ -9,17 +8,9 @@ use Rattle.hc_types.proofs.Tallies.{find-none}
 use Rattle.hc_memory.specs.Item.{Open, charge_by}
 use Rattle.hc_memory.specs.Charges.{has_number, is_open}
 use Rattle.hc_memory.specs.Sound.{Sound}
-use Rattle.hc_memory.specs.Writes.{written}
 use Rattle.hc_memory.proofs.Books.{found-is_open}
 use Rattle.hc_core.specs.Cache.{Cache}
 use Rattle.hc_core.specs.Steps.{opened, after_allocate}
-
--- what is written over a whole item is its value
-pub written-whole : (size : ℕ) (value : List ℕ) → size ≡ length value → written (replicate size 0) 0 value ≡ value
-written-whole size value is =
-    let none : size - (0 + length value) ≡ 0 = omega (arith, is) in
-    let rest : drop (0 + length value) (replicate {A = ℕ} size 0) ≡ [] = drop-replicate (0 + length value) size 0 ∙ ap (λ n. replicate {A = ℕ} n 0) none in
-    ap (λ xs. value ++ xs) rest ∙ append-nil value
 
 pub pushed-open : (charge : Open) (charges : List Open) → count (has_number charge.number) charges ≡ 0 → is_open charge (charges ++ charge ∷ []) ≡ true
 pushed-open charge charges none =

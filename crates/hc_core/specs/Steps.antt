@@ -1,5 +1,5 @@
 -- What each call leaves, and the part of the log that it tells.
-use Rattle.std.specs.Prelude.{ℕ, ◌+◌, ◌-◌, ◌^◌, ◌==◌, nat_lt, min, max, false, List, [], ◌∷◌, ◌++◌, length, Option, Some, None, if◌then◌else◌}
+use Rattle.std.specs.Prelude.{ℕ, ◌+◌, ◌-◌, ◌^◌, ◌==◌, nat_lt, min, max, false, List, [], ◌∷◌, ◌++◌, Option, Some, None, if◌then◌else◌}
 use Rattle.hc_types.specs.Charge.{charge_of}
 use Rattle.hc_types.specs.Loss as loss
 use Rattle.hc_types.specs.Loss.{Cause, Evicted, Expired}
@@ -41,9 +41,9 @@ after_allocate cache pool key size = record cache {
   log = told_more cache.log (part_of_allocate cache.memory cache.now pool key size);
 }
 
--- the handle of an item that is allocated and written
+-- the handle of an item that is allocated and begins as these bytes
 abbrev pub opened : Cache → ℕ → List ℕ → List ℕ → ℕ → Handle
-opened cache pool key value ttl = record (pools.blank_of cache.memory pool key (length value) (expiry_of cache.now ttl)) { value = value }
+opened cache pool key value ttl = pools.handle_for cache.memory pool key value (expiry_of cache.now ttl)
 
 -- an item that was charged is given up
 abbrev pub after_discard : Cache → ℕ → Cache

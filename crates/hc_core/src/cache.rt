@@ -6,17 +6,18 @@ ghost use Rattle.hc_history.specs.Told.{Log, IfLog, Hears, losses_taken};
 ghost use Rattle.hc_memory.specs.Item.{charge_by};
 ghost use Rattle.hc_memory.specs.Charges.{is_open};
 ghost use Rattle.hc_memory.specs.Memory.{linked_at, value_at, blank_of};
+ghost use Rattle.hc_memory.specs.Seen.{filled};
 ghost use Rattle.hc_core.specs.Answers.{found_value};
 ghost use Rattle.hc_core.specs.Cache.{new_cache};
 ghost use Rattle.hc_core.specs.Refused.{allocate_refusal, handle_refusal, insert_refusal, map_has};
-ghost use Rattle.hc_core.specs.Steps.{expiry_of, after_allocate, after_discard, after_insert, after_find, after_remove, removed_of, after_tick};
+ghost use Rattle.hc_core.specs.Steps.{expiry_of, opened, after_allocate, after_discard, after_insert, after_find, after_remove, removed_of, after_tick};
 
 use crate::answers::{Found, Removed, Unlinked};
 use crate::plans::{expiry_after, has_unexpired};
 use crate::{plans, tells};
 use hc_history::{Counting, Kept, Note, Notes, Said};
-use hc_memory::{Blank, Charged, Pools, Sealed, Uncharged};
-use hc_types::{Config, Key, Refusal, VALUE_MAX, charge};
+use hc_memory::{Blank, Charged, Fill, Pools, Sealed, Uncharged};
+use hc_types::{Config, Key, Refusal, charge};
 use std::alloc::{Allocator, Global};
 use std::marker::Model;
 
@@ -233,15 +234,34 @@ impl<N: Notes<Note<A>>, A: Allocator + Clone> Core<N, A> {
         ensures why { IfErr result (λ e. (allocate_refusal self.old pool key size ≡ Some e.refusal) ⊎ ((allocate_refusal self.old pool key size ≡ None) × (e.refusal ≡ Refusal.NoMemory))) }
         ensures key_returned { IfErr result (λ e. e.key ≡ key) }
     {
-        let plan = plans::allocate(&mut self.notes, &self.pools, pool, &key, size);
+        self.allocate_with(pool, key, Fill::Repeated(size, 0), ttl)
+    }
+
+    /// Allocates an item that begins as `fill`, as `allocate` does one that begins as zeros.
+    pub fn allocate_with(
+        &mut self,
+        pool: u8,
+        key: Key<A>,
+        fill: Fill<'_>,
+        ttl: u32,
+    ) -> Result<Blank<A>, Uncharged<A>>
+        ensures ok { OnOk result (self.new ≡ after_allocate self.old pool key (length (filled fill.entry))) }
+        ensures blank { IfOk result (λ blank. blank ≡ opened self.old pool key (filled fill.entry) ttl) }
+        ensures mine { IfOk result (λ blank. is_open (charge_by blank) self.new.memory.charges ≡ true) }
+        ensures fits { OnOk result (allocate_refusal self.old pool key (length (filled fill.entry)) ≡ None) }
+        ensures err { OnErr result (self.new ≡ self.old) }
+        ensures why { IfErr result (λ e. (allocate_refusal self.old pool key (length (filled fill.entry)) ≡ Some e.refusal) ⊎ ((allocate_refusal self.old pool key (length (filled fill.entry)) ≡ None) × (e.refusal ≡ Refusal.NoMemory))) }
+        ensures key_returned { IfErr result (λ e. e.key ≡ key) }
+    {
+        let plan = plans::allocate(&mut self.notes, &self.pools, pool, &key, fill);
         let (count, copy) = match plan {
             Ok(plan) => plan,
             Err(refusal) => return Err(Uncharged { refusal, key }),
         };
-        let want = charge(&key, size);
+        let want = charge(&key, fill.len());
         let _sound = self.pools.len();
         let expiry = expiry_after(self.clock, ttl);
-        let Charged { blank, victims } = match self.pools.charge(pool, key, size, expiry, count) {
+        let Charged { blank, victims } = match self.pools.charge(pool, key, fill, expiry, count) {
             Ok(charged) => charged,
             Err(uncharged) => {
                 drop(copy);

@@ -3,12 +3,12 @@
 
 mod answers;
 mod cache;
+mod giving_up;
 mod laws;
-mod opens;
 mod plans;
 mod tells;
 
 pub use answers::{Found, Removed, Unlinked};
 pub use cache::Core;
+pub use giving_up::{give_up, give_up_blank};
 pub use laws::steps_are_legal;
-pub use opens::{give_up, give_up_blank, open};

@@ -6,13 +6,14 @@ ghost use Rattle.hc_history.specs.Told.{where_kept, kind_of, Hears};
 ghost use Rattle.hc_history.specs.Seen.{reply_of};
 ghost use Rattle.hc_memory.specs.Pool.{unexpired};
 ghost use Rattle.hc_memory.specs.Memory.{linked_at, value_at, victims_of};
+ghost use Rattle.hc_memory.specs.Seen.{filled};
 ghost use Rattle.hc_core.specs.Answers.{found_value};
 ghost use Rattle.hc_core.specs.Refused.{refusal_of};
 ghost use Rattle.hc_core.specs.Steps.{find_reply, expiry_of};
 
 use crate::answers::Found;
 use hc_history::{Kind, Note, Notes, Op, Reply, Said};
-use hc_memory::{Pools, ReadHandle, Sealed};
+use hc_memory::{Fill, Pools, ReadHandle, Sealed};
 use hc_types::{Key, Refusal, VALUE_MAX, charge};
 use std::alloc::{AllocError, Allocator};
 
@@ -182,19 +183,20 @@ pub fn make_room<A: Allocator, N: Notes<Note<A>>>(
     notes.reserve(count + pools.open_charges())
 }
 
-/// Why an item of this key and of `size` bytes isn't allocated: `NoPool`, `ValueTooLong` or `NoRoom`, the first that
+/// Why an item of this key that begins as `fill` isn't allocated: `NoPool`, `ValueTooLong` or `NoRoom`, the first that
 /// holds. Otherwise how many items go to make room for it.
 fn victims_for<A: Allocator>(
     pools: &Pools<A>,
     pool: u8,
     key: &Key<A>,
-    size: u64,
+    fill: Fill<'_>,
 ) -> Result<usize, Refusal>
-    ensures count { IfOk result (λ count. count ≡ length (victims_of pools.now pool (charge_of key.now size))) }
+    ensures count { IfOk result (λ count. count ≡ length (victims_of pools.now pool (charge_of key.now (length (filled fill.entry))))) }
     ensures most { IfOk result (λ count. count ≤ 1048576) }
-    ensures fits { OnOk result (refusal_of pools.now pool key.now size ≡ None) }
-    ensures err { IfErr result (λ refusal. refusal_of pools.now pool key.now size ≡ Some refusal) }
+    ensures fits { OnOk result (refusal_of pools.now pool key.now (length (filled fill.entry)) ≡ None) }
+    ensures err { IfErr result (λ refusal. refusal_of pools.now pool key.now (length (filled fill.entry)) ≡ Some refusal) }
 {
+    let size = fill.len();
     if usize::from(pool) >= pools.len() {
         return Err(Refusal::NoPool);
     }
@@ -211,17 +213,17 @@ pub fn allocate<A: Allocator, N: Notes<Note<A>>>(
     pools: &Pools<A>,
     pool: u8,
     key: &Key<A>,
-    size: u64,
+    fill: Fill<'_>,
 ) -> Result<(usize, Option<Key<A>>), Refusal>
     ensures same { N.told notes.new ≡ N.told notes.old }
-    ensures count { IfOk result (λ plan. plan.0 ≡ length (victims_of pools.now pool (charge_of key.now size))) }
+    ensures count { IfOk result (λ plan. plan.0 ≡ length (victims_of pools.now pool (charge_of key.now (length (filled fill.entry))))) }
     ensures copy { IfOk result (λ plan. plan.1 ≡ where_kept (N.told notes.old) key.now) }
-    ensures room { OnOk result (2 * length (victims_of pools.now pool (charge_of key.now size)) + 2 + length pools.now.charges ≤ N.room notes.new) }
+    ensures room { OnOk result (2 * length (victims_of pools.now pool (charge_of key.now (length (filled fill.entry)))) + 2 + length pools.now.charges ≤ N.room notes.new) }
     ensures more { N.room notes.old ≤ N.room notes.new }
-    ensures fits { OnOk result (refusal_of pools.now pool key.now size ≡ None) }
-    ensures err { IfErr result (λ refusal. (refusal_of pools.now pool key.now size ≡ Some refusal) ⊎ ((refusal_of pools.now pool key.now size ≡ None) × (refusal ≡ Refusal.NoMemory))) }
+    ensures fits { OnOk result (refusal_of pools.now pool key.now (length (filled fill.entry)) ≡ None) }
+    ensures err { IfErr result (λ refusal. (refusal_of pools.now pool key.now (length (filled fill.entry)) ≡ Some refusal) ⊎ ((refusal_of pools.now pool key.now (length (filled fill.entry)) ≡ None) × (refusal ≡ Refusal.NoMemory))) }
 {
-    let count = victims_for(pools, pool, key, size)?;
+    let count = victims_for(pools, pool, key, fill)?;
     make_room(notes, pools, 2 * count + 2)?;
     let copy = copy_of(notes, key)?;
     Ok((count, copy))

@@ -68,9 +68,13 @@ after_room memory number want = record memory {
 
 -- ---- charges and links
 
--- the handle of a charge that is made
+-- the handle of a charge that is made, for an item that begins as these bytes
+abbrev pub handle_for : Memory → ℕ → List ℕ → List ℕ → ℕ → Handle
+handle_for memory number key value expiry = record { number = memory.made + 1; pool = number; key = key; expiry = expiry; value = value }
+
+-- that of an item of so many bytes, which is still to be written
 abbrev pub blank_of : Memory → ℕ → List ℕ → ℕ → ℕ → Handle
-blank_of memory number key size expiry = record { number = memory.made + 1; pool = number; key = key; expiry = expiry; value = replicate size 0 }
+blank_of memory number key size expiry = handle_for memory number key (replicate size 0) expiry
 
 -- room is made, and a charge is open
 abbrev pub after_charge : Memory → ℕ → List ℕ → ℕ → Memory

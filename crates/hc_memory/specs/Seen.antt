@@ -1,6 +1,8 @@
 -- How the code's types are seen.
-use Rattle.std.specs.Prelude.{ℕ, List, [], ◌∷◌, ◌++◌}
+use Rattle.std.specs.Prelude.{ℕ, List, [], ◌∷◌, ◌++◌, replicate}
 use Rattle.hc_memory.specs.Item.{Item}
+use Rattle.hc_memory.specs.declared.fill.Fill.{Fill}
+use Rattle.hc_memory.specs.declared.fill.Fill.TheVariants.{Copied, Repeated}
 use Rattle.hc_memory.specs.declared.item.Held.{Held}
 use Rattle.hc_memory.specs.declared.pool.Glance.{Glance}
 
@@ -16,3 +18,8 @@ items_of (entry ∷ entries) = items_of entries ++ item_of entry ∷ []
 -- what a glance at an item shows
 abbrev pub glance_of : Item → Glance
 glance_of item = record { number = item.number; expiry = item.expiry }
+
+-- what an item begins as
+abbrev pub filled : Fill → List ℕ
+filled (Copied bytes) = bytes.now
+filled (Repeated count byte) = replicate count byte

@@ -1,5 +1,5 @@
 // Write handles, each of which must be spent, and read handles.
-ghost use Rattle.std.specs.Prelude.{◌≡◌, ◌==◌, ◌+◌, ◌≤◌, ◌↔◌, ℕ, List, length, replicate, IsOk, IfOk, IfErr, OnOk, OnErr};
+ghost use Rattle.std.specs.Prelude.{◌≡◌, ◌==◌, ◌+◌, ◌≤◌, ◌↔◌, ℕ, List, length, IsOk, IfOk, IfErr, OnOk, OnErr};
 ghost use Rattle.hc_memory.specs.Item.{item_by};
 ghost use Rattle.hc_memory.specs.Seen.{item_of};
 ghost use Rattle.hc_memory.specs.Writes.{written, EachByte};
@@ -66,17 +66,8 @@ impl<A: Allocator> Model for ReadHandle<A> {
     ghost view = { λ h. h.bytes };
 }
 
-// So many bytes, each of them 0.
-pub(crate) fn zeros<A: Allocator>(alloc: A, size: usize) -> Result<Vec<u8, A>, AllocError>
-    ensures { IfOk result (λ bytes. bytes.items ≡ replicate size 0) }
-{
-    let mut bytes = Vec::with_capacity(alloc, size)?;
-    bytes.resize(size, 0)?;
-    Ok(bytes)
-}
-
 impl<A: Allocator> Blank<A> {
-    /// A handle to these bytes, which are to be written over.
+    /// A handle to these bytes, which may be written over.
     pub(crate) fn new(
         number: u64,
         pool: u8,

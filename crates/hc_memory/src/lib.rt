@@ -3,6 +3,7 @@
 #![tactic(auto)]
 
 mod answers;
+mod fill;
 mod handles;
 mod item;
 mod links;
@@ -13,6 +14,7 @@ mod unmark;
 mod usage;
 
 pub use answers::{Charged, Uncharged};
+pub use fill::Fill;
 pub use handles::{Blank, ReadHandle, Sealed, each_byte};
 pub use item::Item;
 pub use pool::Glance;

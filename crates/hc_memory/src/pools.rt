@@ -5,12 +5,13 @@ ghost use Rattle.hc_types.specs.Charge.{charge_of};
 ghost use Rattle.hc_memory.specs.Planned.{IsPlanned};
 ghost use Rattle.hc_memory.specs.Pool.{is_full, kept, dropped};
 ghost use Rattle.hc_memory.specs.Sound.{Sound, IsWithin};
-ghost use Rattle.hc_memory.specs.Seen.{item_of, glance_of};
+ghost use Rattle.hc_memory.specs.Seen.{item_of, filled, glance_of};
 ghost use Rattle.hc_memory.specs.Charges.{usage_of};
-ghost use Rattle.hc_memory.specs.Memory.{empty_pool, home_of, linked_at, value_at, is_hopeless, victims_of, blank_of, unlinked, after_room, after_charge, after_unlink, after_find};
+ghost use Rattle.hc_memory.specs.Memory.{empty_pool, home_of, linked_at, value_at, is_hopeless, victims_of, handle_for, unlinked, after_room, after_charge, after_unlink, after_find};
 
 use crate::answers::{Charged, Uncharged};
-use crate::handles::{Blank, ReadHandle, zeros};
+use crate::fill::Fill;
+use crate::handles::{Blank, ReadHandle};
 use crate::item::{Held, Item, expired};
 use crate::open::OpenCharges;
 use crate::pool::{Glance, Pool};
@@ -279,29 +280,29 @@ pub struct Plan<A: Allocator> {
 }
 
 impl<A: Allocator + Clone> Pools<A> {
-    /// Makes room in the pool for an item of this key and of `size` bytes, which expires at `expiry` (seconds; 0:
+    /// Makes room in the pool for an item of this key, which begins as `fill` and expires at `expiry` (seconds; 0:
     /// never), and charges it: the `count` items that were used longest ago go, as `victims` says how many. The item
     /// can't be found until its handle is sealed and linked. Refused only with `NoMemory`; then the key comes back.
     pub fn charge(
         &mut self,
         pool: u8,
         key: Key<A>,
-        size: u64,
+        fill: Fill<'_>,
         expiry: u64,
         count: usize,
     ) -> Result<Charged<A>, Uncharged<A>>
         requires pool { pool < length self.old.pools }
-        requires size { size ≤ VALUE_MAX }
-        requires count { count ≡ length (victims_of self.old pool (charge_of key size)) }
-        requires room { is_hopeless self.old pool (charge_of key size) ≡ false }
-        ensures blank { IfOk result (λ charged. charged.blank ≡ blank_of self.old pool key size expiry) }
-        ensures victims { IfOk result (λ charged. charged.victims.items ≡ victims_of self.old pool (charge_of key size)) }
-        ensures pools { OnOk result (self.new ≡ after_charge self.old pool key size) }
+        requires size { length (filled fill) ≤ VALUE_MAX }
+        requires count { count ≡ length (victims_of self.old pool (charge_of key (length (filled fill)))) }
+        requires room { is_hopeless self.old pool (charge_of key (length (filled fill))) ≡ false }
+        ensures blank { IfOk result (λ charged. charged.blank ≡ handle_for self.old pool key (filled fill.entry) expiry) }
+        ensures victims { IfOk result (λ charged. charged.victims.items ≡ victims_of self.old pool (charge_of key (length (filled fill.entry)))) }
+        ensures pools { OnOk result (self.new ≡ after_charge self.old pool key (length (filled fill.entry))) }
         ensures memory { IfErr result (λ e. e.refusal ≡ Refusal.NoMemory) }
         ensures err { OnErr result (self.new ≡ self.old) }
         ensures key_returned { IfErr result (λ e. e.key ≡ key) }
     {
-        let plan = match self.plan(&key, size, count) {
+        let plan = match self.plan(&key, fill, count) {
             Ok(plan) => plan,
             Err(_) => return Err(no_memory_for(key)),
         };
@@ -311,7 +312,7 @@ impl<A: Allocator + Clone> Pools<A> {
             bytes,
             copy,
         } = plan;
-        match self.charges.begin(number, pool, copy, size) {
+        match self.charges.begin(number, pool, copy, fill.len()) {
             Ok(()) => {}
             Err(_) => return Err(no_memory_for(key)),
         }
@@ -325,8 +326,8 @@ impl<A: Allocator + Clone> Pools<A> {
     }
 
     /// What a charge needs, where so many items go.
-    fn plan(&self, key: &Key<A>, size: u64, count: usize) -> Result<Plan<A>, AllocError>
-        ensures { IfOk result (IsPlanned (self.now.made + 1) count key.now size) }
+    fn plan(&self, key: &Key<A>, fill: Fill<'_>, count: usize) -> Result<Plan<A>, AllocError>
+        ensures { IfOk result (IsPlanned (self.now.made + 1) count key.now (filled fill.entry)) }
     {
         let alloc = self.pools.allocator();
         let number = match self.made.checked_add(1) {
@@ -334,7 +335,7 @@ impl<A: Allocator + Clone> Pools<A> {
             None => return Err(AllocError),
         };
         let victims = room_for(alloc, count)?;
-        let bytes = zeros(alloc.clone()?, size as usize)?;
+        let bytes = fill.to_vec(alloc.clone()?)?;
         let copy = key.clone()?;
         Ok(Plan {
             number,

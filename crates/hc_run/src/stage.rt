@@ -15,9 +15,9 @@ ghost use Rattle.hc_run.specs.World.{Open, Put, PutNew, Discard, Find, Remove, T
 use crate::slots::{Content, Slot, empty_slots, fill, take, take_sealed};
 use crate::steps::{Answer, Outcome, Request, Step};
 use bytes::Bytes;
-use hc_core::{Core, Found, Removed, Unlinked, give_up, give_up_blank, open};
+use hc_core::{Core, Found, Removed, Unlinked, give_up, give_up_blank};
 use hc_history::{Kept, Reply};
-use hc_memory::Uncharged;
+use hc_memory::{Fill, Uncharged};
 use hc_types::{Config, Key, Refusal};
 use std::alloc::{AllocError, Allocator, Global};
 use std::marker::Model;
@@ -141,7 +141,8 @@ impl<A: Allocator + Clone> Stage<A> {
             return Ok(Outcome::NoSlot);
         }
         let key = key.clone()?;
-        match open(&mut self.core, pool, key, value.as_slice(), ttl) {
+        let value = Fill::Copied(value.as_slice());
+        match self.core.allocate_with(pool, key, value, ttl) {
             Ok(blank) => {
                 fill(&mut self.slots, slot, Content::Written(blank));
                 Ok(Outcome::Filled)

@@ -1,20 +1,19 @@
 // The steps of a trace, and their answers.
 ghost use Rattle.std.specs.Prelude.{◌≡◌, ◌≢◌, ◌++◌, [], true, false, OnOk, IfOk, None, Some, MatchResult};
 ghost use Rattle.hc_types.specs.Refusals.{refusal_text};
-ghost use Rattle.hc_lines.specs.Seen.{item_seen, step_seen};
+ghost use Rattle.hc_lines.specs.Seen.{bytes_of, item_seen, step_seen};
 ghost use Rattle.hc_lines.specs.Steps.{Get, Del, Now};
 ghost use Rattle.hc_trace.specs.Moves.{unless, key_refusal, finished, stored, get_moved, del_moved, move};
 ghost use Rattle.hc_memory.specs.Item.{charge_by};
 ghost use Rattle.hc_memory.specs.Charges.{is_open};
+ghost use Rattle.hc_memory.specs.Seen.{filled};
 ghost use Rattle.hc_lines.specs.Texts.{line_text, answer_text};
 ghost use Rattle.hc_trace.specs.Machine.{next, told_text};
 
-use hc_core::{Core, Found, Removed, Unlinked, give_up, give_up_blank, open};
+use hc_core::{Core, Found, Removed, Unlinked, give_up, give_up_blank};
 use hc_history::Counting;
-use hc_lines::{
-    NewItem, Step, Value, add_hit, add_losses, add_moment, add_refusal, add_word, repeat,
-};
-use hc_memory::{Sealed, Uncharged};
+use hc_lines::{NewItem, Step, Value, add_hit, add_losses, add_moment, add_refusal, add_word};
+use hc_memory::{Fill, Sealed, Uncharged};
 use hc_types::{Key, Refusal};
 use std::alloc::{AllocError, Global};
 
@@ -69,20 +68,21 @@ fn link_new(core: &mut Core<Counting>, out: &mut Vec<u8>, sealed: Sealed) -> Res
     }
 }
 
-// Stores a value under a key, and answers. `replaces` says whether an unexpired item of the key is replaced.
+// Stores an item that begins as `fill` under a key, and answers. `replaces` says whether an unexpired item of the key is
+// replaced.
 fn store(
     core: &mut Core<Counting>,
     out: &mut Vec<u8>,
     pool: u8,
     key: Key,
-    value: &[u8],
+    fill: Fill<'_>,
     ttl: u32,
     replaces: bool,
 ) -> Result<(), AllocError>
-    ensures cache { OnOk result (core.new ≡ (stored replaces (record { pool = pool; key = key; value = value.now; ttl = ttl }) core.old).cache) }
-    ensures text { OnOk result (out.new.items ≡ out.old.items ++ line_text (answer_text (stored replaces (record { pool = pool; key = key; value = value.now; ttl = ttl }) core.old).answer)) }
+    ensures cache { OnOk result (core.new ≡ (stored replaces (record { pool = pool; key = key; value = filled fill.entry; ttl = ttl }) core.old).cache) }
+    ensures text { OnOk result (out.new.items ≡ out.old.items ++ line_text (answer_text (stored replaces (record { pool = pool; key = key; value = filled fill.entry; ttl = ttl }) core.old).answer)) }
 {
-    let blank = match open(core, pool, key, value, ttl) {
+    let blank = match core.allocate_with(pool, key, fill, ttl) {
         Ok(blank) => blank,
         Err(Uncharged { refusal, key }) => {
             drop(key);
@@ -99,6 +99,16 @@ fn store(
     }
 }
 
+// As what an item of this value begins.
+fn fill_with(value: Value<'_>) -> Fill<'_>
+    ensures { filled result ≡ bytes_of value.entry }
+{
+    match value {
+        Value::Plain(bytes) => Fill::Copied(bytes),
+        Value::Repeated(count, c) => Fill::Repeated(count, c),
+    }
+}
+
 // Stores an item, and answers. `replaces` says whether an unexpired item of the key is replaced.
 fn put(
     alloc: Global,
@@ -110,24 +120,10 @@ fn put(
     ensures cache { OnOk result (core.new ≡ (unless (key_refusal item.entry.key.now) core.old (stored replaces (item_seen item.entry) core.old)).cache) }
     ensures text { OnOk result (out.new.items ≡ out.old.items ++ line_text (answer_text (unless (key_refusal item.entry.key.now) core.old (stored replaces (item_seen item.entry) core.old)).answer)) }
 {
-    let key = match key_in(alloc, item.key)? {
-        Ok(key) => key,
-        Err(refusal) => return add_refusal(out, refusal),
-    };
-    match item.value {
-        Value::Plain(bytes) => store(core, out, item.pool, key, bytes, item.ttl, replaces),
-        Value::Repeated(count, c) => {
-            let bytes = repeat(alloc, count, c)?;
-            store(
-                core,
-                out,
-                item.pool,
-                key,
-                bytes.as_slice(),
-                item.ttl,
-                replaces,
-            )
-        }
+    let fill = fill_with(item.value);
+    match key_in(alloc, item.key)? {
+        Ok(key) => store(core, out, item.pool, key, fill, item.ttl, replaces),
+        Err(refusal) => add_refusal(out, refusal),
     }
 }
 

@@ -1,9 +1,9 @@
 // A core answers the same whether its log is kept or not heard.
 ghost use Rattle.std.specs.Prelude.{◌≡◌, None};
 
-use hc_core::{Core, Found, Removed, open};
+use hc_core::{Core, Found, Removed};
 use hc_history::{Kept, Note, Notes, Silent, Stats};
-use hc_memory::{Blank, Sealed};
+use hc_memory::{Blank, Fill, Sealed};
 use hc_types::{Config, Key, PoolSize};
 use std::alloc::Global;
 use std::process::Abort;
@@ -31,7 +31,10 @@ fn seal(rt: &impl Abort, blank: Blank) -> Sealed {
 
 // Stores a value for five seconds.
 fn store<N: Notes<Note>>(rt: &impl Abort, alloc: Global, core: &mut Core<N>) {
-    let blank = open(core, 0, key(rt, alloc), b"value", 5).expect(rt, "there is room");
+    let fill = Fill::Copied(b"value");
+    let blank = core
+        .allocate_with(0, key(rt, alloc), fill, 5)
+        .expect(rt, "there is room");
     match core.insert(0, seal(rt, blank)) {
         Ok(()) => {}
         Err(_) => panic!(rt; "the handle is this cache's"),

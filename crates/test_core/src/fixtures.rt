@@ -1,5 +1,5 @@
 // The pools, keys and handles that the tests stand on. Each item expires at second 15.
-use hc_memory::{Blank, Charged, Pools, Sealed};
+use hc_memory::{Blank, Charged, Fill, Pools, Sealed};
 use hc_types::{Config, FlashConfig, Key, PoolSize, VALUE_MAX};
 use std::alloc::Global;
 use std::process::Abort;
@@ -51,7 +51,7 @@ pub fn charge(
         .victims(pool, hc_types::charge(&key, size))
         .expect(rt, "there is room");
     pools
-        .charge(pool, key, size, 15, count)
+        .charge(pool, key, Fill::Repeated(size, 0), 15, count)
         .expect(rt, "there is memory")
 }
 

@@ -1,6 +1,7 @@
 // What calls take of memory: a heap of its own, of which little is left, says so.
-use hc_core::{Core, Found, open};
+use hc_core::{Core, Found};
 use hc_history::Counting;
+use hc_memory::Fill;
 use hc_types::{Config, Key, PoolSize};
 use linked_list_allocator::LocalHeap;
 use std::alloc::Global;
@@ -26,7 +27,10 @@ fn store<'a>(
     heap: &'a LocalHeap,
     core: &mut Core<Counting<&'a LocalHeap>, &'a LocalHeap>,
 ) {
-    let blank = open(core, 0, key(rt, heap), VALUE.as_slice(), 0).expect(rt, "there is room");
+    let fill = Fill::Copied(VALUE.as_slice());
+    let blank = core
+        .allocate_with(0, key(rt, heap), fill, 0)
+        .expect(rt, "there is room");
     let sealed = match blank.seal() {
         Ok(sealed) => sealed,
         Err(_) => panic!(rt; "there is memory"),

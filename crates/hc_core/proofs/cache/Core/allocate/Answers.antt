@@ -1,64 +1,19 @@
-use Rattle.std.proofs.Common.{length, refl, sym, ap, ◌∙◌, arith, subst}
-use Rattle.hc_memory.specs.Item.{Handle}
-use Rattle.hc_memory.specs.Memory.{after_charge, blank_of}
-use Rattle.hc_core.specs.Cache.{Cache}
-use Rattle.hc_core.specs.Mirrors.{FitsConfig}
-use Rattle.hc_core.specs.Steps.{expiry_of}
-use Rattle.hc_core.proofs.Keeps.{follows-as, follows-allocate, fits-allocate, length-as, length-opened, pool-there, may-be}
-use Rattle.hc_core.proofs.Made.{allocated-log}
+use Rattle.std.proofs.Common.{◌≡◌, ◌⊎◌, ℕ, Some, None, OnOk, IfErr, subst}
+use Rattle.std.proofs.lemmas.List.{length-replicate}
+use Rattle.hc_types.specs.declared.refusal.Refusal.TheVariants.{NoMemory}
+use Rattle.hc_core.specs.Refused.{allocate_refusal}
+use Rattle.hc_core.specs.Steps.{after_allocate}
 use Rattle.hc_core.proofs.cache.Core.allocate.Goals as goal
-
-pub invariant_of-self-2 : goal.invariant_of-self-2
-invariant_of-self-2 g c =
-    let f = c.self.inside in
-    let e = c.in-Ok.ensures in
-    let ok = c.in-Ok-charge.ensures in
-    let made = c.in-Ok-charge.charged in
-    let log = allocated-log (g.N.Notes.told f.notes) (g.N.Notes.told c.allocate-plan.new.notes) (g.N.Notes.told c.evictions.new.notes) (g.N.Notes.told c.charged.new.notes) c.in-Ok.plan.1 f.pools f.clock c.args.pool c.number.result c.charge-want.result c.args.key c.args.size made.victims.items
-    e.same c.charge-want.ensures (c.number.ensures ∙ ap (λ (h : Handle). h.number) ok.blank) ok.victims e.copy c.evictions.ensures.told c.charged.ensures.told in (
-      subst (FitsConfig f.config) (sym ok.pools) (fits-allocate f.config f.pools c.args.pool c.args.key c.args.size c.self.invariant.0),
-      follows-as f.config _ (g.N.Notes.told c.charged.new.notes) _ c.charge.new.self f.calls f.calls f.clock log ok.pools refl
-          (follows-allocate f.config (g.N.Notes.told f.notes) f.pools c.args.pool c.args.key c.args.size f.calls f.clock c.self.invariant.0 c.len-sound.ensures.sound (pool-there f.pools c.args.pool c.args.key c.args.size e.fits) c.self.invariant.1),
-      omega (arith, length-as (after_charge f.pools c.args.pool c.args.key c.args.size) c.charge.new.self ok.pools, length-opened f.pools c.args.pool c.args.key c.args.size, e.room, ap length ok.victims, c.evictions.ensures.room, c.charged.ensures.room),
-    )
 
 pub returns-clause-ok : goal.returns-clause-ok
 returns-clause-ok g c =
-    let f = c.self.inside in
-    let e = c.in-Ok.ensures in
-    let ok = c.in-Ok-charge.ensures in
-    let made = c.in-Ok-charge.charged in
-    let log = allocated-log (g.N.Notes.told f.notes) (g.N.Notes.told c.allocate-plan.new.notes) (g.N.Notes.told c.evictions.new.notes) (g.N.Notes.told c.charged.new.notes) c.in-Ok.plan.1 f.pools f.clock c.args.pool c.number.result c.charge-want.result c.args.key c.args.size made.victims.items
-    e.same c.charge-want.ensures (c.number.ensures ∙ ap (λ (h : Handle). h.number) ok.blank) ok.victims e.copy c.evictions.ensures.told c.charged.ensures.told in
-    rw (← c.self.view_is) (λ i. record {
-      config = f.config;
-      memory = ok.pools i;
-      now = f.clock;
-      calls = f.calls;
-      log = log i;
-    })
+    subst (λ (n : ℕ). OnOk c.allocate_with.result (c.allocate_with.new.self ≡ after_allocate c.args.self.now c.args.pool c.args.key n))
+    (length-replicate c.args.size 0) c.allocate_with.ensures.ok
 
-pub charge-requires-clause-pool : goal.charge-requires-clause-pool
-charge-requires-clause-pool g c = pool-there c.self.inside.pools c.args.pool c.args.key c.args.size c.in-Ok.ensures.fits
+pub returns-clause-fits : goal.returns-clause-fits
+returns-clause-fits g c = subst (λ (n : ℕ). OnOk c.allocate_with.result (allocate_refusal c.args.self.now c.args.pool c.args.key n ≡ None)) (length-replicate c.args.size 0) c.allocate_with.ensures.fits
 
-pub charge-requires-clause-size : goal.charge-requires-clause-size
-charge-requires-clause-size g c = grind (arith, (may-be c.self.inside.pools c.args.pool c.args.key c.args.size c.in-Ok.ensures.fits).0)
-
-pub charge-requires-clause-count : goal.charge-requires-clause-count
-charge-requires-clause-count g c = c.in-Ok.ensures.count
-
-pub charge-requires-clause-room : goal.charge-requires-clause-room
-charge-requires-clause-room g c = (may-be c.self.inside.pools c.args.pool c.args.key c.args.size c.in-Ok.ensures.fits).1
-
-pub evictions-requires : goal.evictions-requires
-evictions-requires g c = omega (arith, c.in-Ok.ensures.room, ap length c.in-Ok-charge.ensures.victims)
-
-pub charged-requires : goal.charged-requires
-charged-requires g c = omega (arith, c.in-Ok.ensures.room, ap length c.in-Ok-charge.ensures.victims, c.evictions.ensures.room)
-
-pub returns-clause-blank : goal.returns-clause-blank
-returns-clause-blank g c =
-    let f = c.self.inside in
-    c.in-Ok-charge.ensures.blank
-    ∙ (λ i. blank_of f.pools c.args.pool c.args.key c.args.size (c.expiry_after-expiry.ensures i))
-    ∙ ap (λ (k : Cache). blank_of k.memory c.args.pool c.args.key c.args.size (expiry_of k.now c.args.ttl)) c.self.view_is
+pub returns-clause-why : goal.returns-clause-why
+returns-clause-why g c =
+    subst (λ (n : ℕ). IfErr c.allocate_with.result (λ e. (allocate_refusal c.args.self.now c.args.pool c.args.key n ≡ Some e.refusal) ⊎ ((allocate_refusal c.args.self.now c.args.pool c.args.key n ≡ None) × (e.refusal ≡ NoMemory))))
+    (length-replicate c.args.size 0) c.allocate_with.ensures.why

@@ -1,10 +1,11 @@
-use Rattle.std.proofs.Common.{◌≡◌, ◌+◌, ◌++◌, ◌∷◌, List, ℕ, [], take, length, refl, sym, ◌∙◌, ap, arith, length-set}
+use Rattle.std.proofs.Common.{◌≡◌, ◌+◌, ◌++◌, ◌∷◌, List, [], take, length, refl, sym, ◌∙◌, ap, arith, length-set}
 use Rattle.hc_types.specs.Charge.{charge_of}
 use Rattle.hc_types.proofs.Tallies.{find-none}
 use Rattle.hc_memory.specs.Item.{Item, Open}
 use Rattle.hc_memory.specs.Pool.{dropped}
 use Rattle.hc_memory.specs.Charges.{usage_of, has_number}
 use Rattle.hc_memory.specs.Memory.{Memory}
+use Rattle.hc_memory.specs.Seen.{filled}
 use Rattle.hc_memory.proofs.Rooms.{want-fits}
 use Rattle.hc_memory.proofs.Making.{there-of, there-at, known, roomy, charged-sound, take-dropped, dropped-few, size-bound}
 use Rattle.hc_memory.proofs.pools.Pools.charge.Goals as goal
@@ -22,11 +23,11 @@ begin-requires-clause-bytes g c =
     let room = rw (← c.self.view_is) at c.requires.room in
     let view : Memory = record { flash = c.self.inside.flash; pools = c.self.inside.pools.items; charges = c.self.inside.charges.charges; made = c.self.inside.made } in
     let t = there-of c.self.inside.pools.items c.args.pool lt in
-    let k = known view c.args.pool (charge_of c.args.key c.args.size) t.0 t.1 in
-    let fits = want-fits t.0.size (usage_of c.args.pool c.self.inside.charges.charges) (charge_of c.args.key c.args.size) (sym k.hopeless ∙ room) in
+    let k = known view c.args.pool (charge_of c.args.key (length (filled c.args.fill))) t.0 t.1 in
+    let fits = want-fits t.0.size (usage_of c.args.pool c.self.inside.charges.charges) (charge_of c.args.key (length (filled c.args.fill))) (sym k.hopeless ∙ room) in
     let bound = size-bound t.0.size (c.self.invariant.0.within c.args.pool t.0 t.1).size in
-    let copy = ap (λ (key : List ℕ). charge_of key c.args.size) p.copy in
-    omega (arith, fits, bound, copy)
+    let cost : charge_of c.in-Ok.plan.copy c.len.result ≡ charge_of c.args.key (length (filled c.args.fill)) = λ i. charge_of (p.copy i) (c.len.ensures i) in
+    omega (arith, fits, bound, cost)
 
 pub evict-requires-clause-some : goal.evict-requires-clause-some
 evict-requires-clause-some g c =
@@ -34,8 +35,8 @@ evict-requires-clause-some g c =
     let lt = rw (← c.self.view_is) at c.requires.pool in
     let view : Memory = record { flash = c.self.inside.flash; pools = c.self.inside.pools.items; charges = c.self.inside.charges.charges; made = c.self.inside.made } in
     let at = there-at c.self.inside.pools.items c.args.pool c.from.result c.index_mut.result.now lt c.from.ensures c.index_mut.ensures.value in
-    let k = known view c.args.pool (charge_of c.args.key c.args.size) c.index_mut.result.now at in
-    let few = dropped-few c.index_mut.result.now.size (usage_of c.args.pool c.self.inside.charges.charges) (charge_of c.args.key c.args.size) c.index_mut.result.now.items in
+    let k = known view c.args.pool (charge_of c.args.key (length (filled c.args.fill))) c.index_mut.result.now at in
+    let few = dropped-few c.index_mut.result.now.size (usage_of c.args.pool c.self.inside.charges.charges) (charge_of c.args.key (length (filled c.args.fill))) c.index_mut.result.now.items in
     let counted = rw (← c.self.view_is) at c.requires.count in
     let same = ap (λ (l : List Item). length l) k.victims in
     omega (arith, few, counted, same)
@@ -48,14 +49,14 @@ invariant_of-self-2 g c =
     let room = rw (← c.self.view_is) at c.requires.room in
     let view : Memory = record { flash = c.self.inside.flash; pools = c.self.inside.pools.items; charges = c.self.inside.charges.charges; made = c.self.inside.made } in
     let usage = usage_of c.args.pool c.self.inside.charges.charges in
-    let want = charge_of c.args.key c.args.size in
+    let want = charge_of c.args.key (length (filled c.args.fill)) in
     let there = c.index_mut.result.now in
     let at = there-at c.self.inside.pools.items c.args.pool c.from.result c.index_mut.result.now lt c.from.ensures c.index_mut.ensures.value in
-    let k = known view c.args.pool (charge_of c.args.key c.args.size) c.index_mut.result.now at in
-    let counted : c.args.count ≡ length (dropped c.index_mut.result.now.size (usage_of c.args.pool c.self.inside.charges.charges) (charge_of c.args.key c.args.size) c.index_mut.result.now.items) = (rw (← c.self.view_is) at c.requires.count) ∙ ap (λ (l : List Item). length l) k.victims in
-    let r = roomy c.self.inside.pools.items c.from.result c.args.pool (charge_of c.args.key c.args.size) c.args.count (usage_of c.args.pool c.self.inside.charges.charges) c.index_mut.result.now c.index_mut.result.now c.evict.new.self c.from.ensures at c.index_mut.ensures.value c.evict.ensures.items counted in
-    let opened : Open = record { number = c.self.inside.made + 1; pool = c.args.pool; key = c.in-Ok.plan.copy; size = c.args.size } in
-    let s = charged-sound c.self.inside.pools.items c.self.inside.charges.charges c.self.inside.made c.args.pool (charge_of c.args.key c.args.size) c.index_mut.result.now opened i.0 at (sym k.hopeless ∙ room) refl refl (ap (λ (key : List ℕ). charge_of key c.args.size) p.copy) in (
+    let k = known view c.args.pool (charge_of c.args.key (length (filled c.args.fill))) c.index_mut.result.now at in
+    let counted : c.args.count ≡ length (dropped c.index_mut.result.now.size (usage_of c.args.pool c.self.inside.charges.charges) (charge_of c.args.key (length (filled c.args.fill))) c.index_mut.result.now.items) = (rw (← c.self.view_is) at c.requires.count) ∙ ap (λ (l : List Item). length l) k.victims in
+    let r = roomy c.self.inside.pools.items c.from.result c.args.pool (charge_of c.args.key (length (filled c.args.fill))) c.args.count (usage_of c.args.pool c.self.inside.charges.charges) c.index_mut.result.now c.index_mut.result.now c.evict.new.self c.from.ensures at c.index_mut.ensures.value c.evict.ensures.items counted in
+    let opened : Open = record { number = c.self.inside.made + 1; pool = c.args.pool; key = c.in-Ok.plan.copy; size = c.len.result } in
+    let s = charged-sound c.self.inside.pools.items c.self.inside.charges.charges c.self.inside.made c.args.pool (charge_of c.args.key (length (filled c.args.fill))) c.index_mut.result.now opened i.0 at (sym k.hopeless ∙ room) refl refl (λ j. charge_of (p.copy j) (c.len.ensures j)) in (
       rw (r.set, c.in-Ok-begin.ensures.ok, p.number) s,
       ap (λ book. book.pools) c.in-Ok-begin.ensures.ok ∙ i.1 ∙ sym (length-set c.self.inside.pools.items c.from.result c.evict.new.self),
       i.2,
@@ -67,9 +68,9 @@ returns-clause-victims g c =
     let lt = rw (← c.self.view_is) at c.requires.pool in
     let view : Memory = record { flash = c.self.inside.flash; pools = c.self.inside.pools.items; charges = c.self.inside.charges.charges; made = c.self.inside.made } in
     let at = there-at c.self.inside.pools.items c.args.pool c.from.result c.index_mut.result.now lt c.from.ensures c.index_mut.ensures.value in
-    let k = known view c.args.pool (charge_of c.args.key c.args.size) c.index_mut.result.now at in
-    let counted : c.args.count ≡ length (dropped c.index_mut.result.now.size (usage_of c.args.pool c.self.inside.charges.charges) (charge_of c.args.key c.args.size) c.index_mut.result.now.items) = (rw (← c.self.view_is) at c.requires.count) ∙ ap (λ (l : List Item). length l) k.victims in
-    let go = take-dropped c.index_mut.result.now.size (usage_of c.args.pool c.self.inside.charges.charges) (charge_of c.args.key c.args.size) c.index_mut.result.now.items in
+    let k = known view c.args.pool (charge_of c.args.key (length (filled c.args.fill))) c.index_mut.result.now at in
+    let counted : c.args.count ≡ length (dropped c.index_mut.result.now.size (usage_of c.args.pool c.self.inside.charges.charges) (charge_of c.args.key (length (filled c.args.fill))) c.index_mut.result.now.items) = (rw (← c.self.view_is) at c.requires.count) ∙ ap (λ (l : List Item). length l) k.victims in
+    let go = take-dropped c.index_mut.result.now.size (usage_of c.args.pool c.self.inside.charges.charges) (charge_of c.args.key (length (filled c.args.fill))) c.index_mut.result.now.items in
     rw (← c.self.view_is) (c.evict.ensures.victims ∙ ap (λ (vs : List Item). vs ++ take c.args.count c.index_mut.result.now.items) p.empty ∙ ap (λ n. take n c.index_mut.result.now.items) counted ∙ go ∙ sym k.victims)
 
 pub returns-clause-pools : goal.returns-clause-pools
@@ -78,12 +79,12 @@ returns-clause-pools g c =
     let lt = rw (← c.self.view_is) at c.requires.pool in
     let view : Memory = record { flash = c.self.inside.flash; pools = c.self.inside.pools.items; charges = c.self.inside.charges.charges; made = c.self.inside.made } in
     let at = there-at c.self.inside.pools.items c.args.pool c.from.result c.index_mut.result.now lt c.from.ensures c.index_mut.ensures.value in
-    let k = known view c.args.pool (charge_of c.args.key c.args.size) c.index_mut.result.now at in
-    let counted : c.args.count ≡ length (dropped c.index_mut.result.now.size (usage_of c.args.pool c.self.inside.charges.charges) (charge_of c.args.key c.args.size) c.index_mut.result.now.items) = (rw (← c.self.view_is) at c.requires.count) ∙ ap (λ (l : List Item). length l) k.victims in
-    let r = roomy c.self.inside.pools.items c.from.result c.args.pool (charge_of c.args.key c.args.size) c.args.count (usage_of c.args.pool c.self.inside.charges.charges) c.index_mut.result.now c.index_mut.result.now c.evict.new.self c.from.ensures at c.index_mut.ensures.value c.evict.ensures.items counted in
+    let k = known view c.args.pool (charge_of c.args.key (length (filled c.args.fill))) c.index_mut.result.now at in
+    let counted : c.args.count ≡ length (dropped c.index_mut.result.now.size (usage_of c.args.pool c.self.inside.charges.charges) (charge_of c.args.key (length (filled c.args.fill))) c.index_mut.result.now.items) = (rw (← c.self.view_is) at c.requires.count) ∙ ap (λ (l : List Item). length l) k.victims in
+    let r = roomy c.self.inside.pools.items c.from.result c.args.pool (charge_of c.args.key (length (filled c.args.fill))) c.args.count (usage_of c.args.pool c.self.inside.charges.charges) c.index_mut.result.now c.index_mut.result.now c.evict.new.self c.from.ensures at c.index_mut.ensures.value c.evict.ensures.items counted in
     let rooms = r.set ∙ sym (ap (λ (m : Memory). m.pools) k.room) in
-    let book : c.begin.new.self.charges ≡ c.self.inside.charges.charges ++ record { number = c.self.inside.made + 1; pool = c.args.pool; key = c.args.key; size = c.args.size } ∷ [] =
-    ap (λ book. book.charges) c.in-Ok-begin.ensures.ok ∙ (λ i. c.self.inside.charges.charges ++ record { number = p.number i; pool = c.args.pool; key = p.copy i; size = c.args.size } ∷ []) in
+    let book : c.begin.new.self.charges ≡ c.self.inside.charges.charges ++ record { number = c.self.inside.made + 1; pool = c.args.pool; key = c.args.key; size = length (filled c.args.fill) } ∷ [] =
+    ap (λ book. book.charges) c.in-Ok-begin.ensures.ok ∙ (λ i. c.self.inside.charges.charges ++ record { number = p.number i; pool = c.args.pool; key = p.copy i; size = c.len.ensures i } ∷ []) in
     rw (← c.self.view_is) (λ i. record { flash = c.self.inside.flash; pools = rooms i; charges = book i; made = p.number i })
 
 pub begin-requires-clause-pool : goal.begin-requires-clause-pool
@@ -106,3 +107,6 @@ pub returns-clause-blank : goal.returns-clause-blank
 returns-clause-blank g c =
     let p = c.in-Ok.ensures in
     c.new.ensures ∙ (λ i. record { number = p.number i; pool = c.args.pool; key = c.args.key; expiry = c.args.expiry; value = p.bytes i })
+
+pub begin-requires-clause-size : goal.begin-requires-clause-size
+begin-requires-clause-size g c = omega (arith, c.len.ensures, c.requires.size)

@@ -15,4 +15,4 @@ invariant_of-self g c =
     let f = c.self.inside in
     let within : c.args.slot < length f.slots.items = omega (arith, c.self.invariant.0) in
     let empty = read-is f.slots.items c.from.result c.args.slot c.index.result.now false c.is_filled.result c.from.ensures within c.index.ensures c.is_filled.ensures c.if-is_filled.false in
-    opened-kept f.core c.open.new.core f.slots.items c.fill.new.slots.items c.args.slot c.args.pool c.in_ok-key.key c.as_slice.result.now c.args.ttl c.in-Ok.blank c.self.invariant within empty c.in-Ok.ensures.ok c.in-Ok.ensures.blank c.fill.ensures
+    opened-kept f.core c.allocate_with.new.self f.slots.items c.fill.new.slots.items c.args.slot c.args.pool c.in_ok-key.key c.as_slice.result.now c.args.ttl c.in-Ok.blank c.self.invariant within empty c.in-Ok.ensures.ok c.in-Ok.ensures.blank c.fill.ensures
