@@ -11,4 +11,4 @@ pub use grammar::{LONGEST, Line, NewItem, Order, Step, line_in};
 pub use texts::{
     add_fault, add_hit, add_losses, add_moment, add_refusal, add_stats, add_verdict, add_word,
 };
-pub use value::{Value, repeat};
+pub use value::Value;

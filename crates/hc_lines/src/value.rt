@@ -1,12 +1,11 @@
 // Keys and values as a trace writes them.
-ghost use Rattle.std.specs.Prelude.{◌≡◌, ◌<◌, ◌≤◌, true, false, length, take, slice_index, replicate, option_map, IfOk};
+ghost use Rattle.std.specs.Prelude.{◌≡◌, ◌<◌, ◌≤◌, true, false, length, take, slice_index, option_map};
 ghost use Rattle.std.specs.List.{list_all};
 ghost use Rattle.hc_lines.specs.Numbers as spec;
 ghost use Rattle.hc_lines.specs.Numbers.{value_of, repeated_of, times};
 ghost use Rattle.hc_lines.specs.Seen.{bytes_of};
 
 use crate::number::number;
-use std::alloc::{AllocError, Global};
 
 /// The most times that a value repeats a byte.
 const TIMES_MAX: u64 = 2_097_152;
@@ -95,11 +94,4 @@ pub fn value_in(text: &[u8]) -> Option<Value<'_>>
         return repeated_in(text);
     }
     None
-}
-
-/// So many times the byte.
-pub fn repeat(alloc: Global, count: u64, c: u8) -> Result<Vec<u8>, AllocError>
-    ensures { IfOk result (λ bytes. bytes.items ≡ replicate count c) }
-{
-    vec![in alloc; c; count as usize]
 }
