@@ -162,8 +162,7 @@ impl<A: Allocator> PartialEq for Key<A> {
     ghost laws = { partial_equiv_from_equiv nat_list_eq_equiv };
 
     fn eq(&self, other: &Self) -> bool {
-        // (unequal hashes spare the bytes)
-        self.hash == other.hash && self.bytes.as_slice() == other.bytes.as_slice()
+        self.bytes.as_slice() == other.bytes.as_slice()
     }
 }
 
