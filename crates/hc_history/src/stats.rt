@@ -1,5 +1,5 @@
 // What a log comes to in numbers.
-ghost use Rattle.std.specs.Prelude.{◌≡◌, ◌≤◌, ◌<◌, ◌^◌, ◌+◌, ◌∷◌, [], ℕ, true, MatchOption};
+ghost use Rattle.std.specs.Prelude.{◌≡◌, ◌≤◌, ◌<◌, ◌^◌, ◌+◌, ◌∷◌, [], ℕ, nat_le, MatchOption};
 ghost use Rattle.hc_history.specs.Told.{total, left_to_count, counts_more, counts_one, kind_of};
 ghost use Rattle.hc_history.specs.Note.{Did};
 ghost use Rattle.hc_history.specs.Seen.{reply_of};
@@ -96,11 +96,11 @@ impl Stats {
 
     /// Whether so many notes more can be counted.
     pub fn can_count(self, n: u64) -> bool
-        ensures { result ≡ true → n ≤ left_to_count self }
+        ensures { result ≡ nat_le n (left_to_count self) }
     {
         match self.total() {
             Some(total) => n <= u64::MAX - total,
-            None => false,
+            None => n == 0,
         }
     }
 }
