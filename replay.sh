@@ -7,19 +7,22 @@ set -euo pipefail
 shopt -s globstar nullglob dotglob lastpipe
 
 # What a first build took, as measured.
-first_time="10 minutes and 21 seconds on four processors that did nothing else"
+first_time="10 minutes and 45 seconds on four processors that did nothing else"
 
 usage="usage: ./replay.sh [TRACE | -]
 
 Replays a trace on a cache and prints its answers: that of the file TRACE, of standard input for -, of traces/first.trace where none is named.
-docs/FORMATS.md says what a trace is, what is answered, and what the status says. The status is 2 also where the trace can't be read or the
-command line is wrong, and 1 also where the program can't be built.
+docs/FORMATS.md says what a trace is, what is answered, and what the status says. Where a line of the trace is at fault, or the configuration
+is refused, that line and its right form are shown on standard error. The status is 2 also where the trace can't be read or the command line
+is wrong, and 1 also where the program can't be built.
 
 The program is built first where it has to be, which proves what has changed of the crates that it stands on. The first time took
 $first_time."
 
 top="$(dirname -- "$(realpath -- "$0")")"
+default="$top/traces/first.trace"
 program="$top/crates/hc_replay/out/hc_replay"
+kept_bytes=16777216         # so much of a trace that comes through a pipe is kept until its end
 kept_lines="$program.lines" # the lines of crates.txt with which the program was built last
 crates=()                   # the crates that the program stands on, lowest first, and itself
 lines=""                    # their lines of crates.txt
@@ -128,6 +131,43 @@ build() {
     rm -f "$log"
 }
 
+# Says on standard error which line of the trace in this file is at fault, and why.
+explain() {
+    local last
+    last="$("$program" < "$1" 2> /dev/null | tail -n 1)" || true
+    case "$last" in
+        "fault line "*) "$top/traces/explain-fault" "$1" "${last##* }" ;;
+        "refused "*) "$top/traces/explain-fault" "$1" ;;
+    esac | sed 's/^/replay.sh: /' >&2
+    echo 'replay.sh: docs/FORMATS.md has a section "When it says fault"' >&2
+}
+
+# Replays standard input, which is this file, where one is named.
+replay_file() {
+    local status=0
+    "$program" || status=$?
+    [ "$status" != 1 ] || explain "$1"
+    exit "$status"
+}
+
+# Replays standard input, which is a pipe: its first bytes are kept, to show a faulty line of.
+replay_pipe() {
+    local status=0 keep keeper
+    copy="$(mktemp)"
+    trap 'rm -f "$copy"' EXIT
+    exec {keep}> >(head -c "$kept_bytes" > "$copy"; cat > /dev/null)
+    keeper=$!
+    tee "/dev/fd/$keep" | { exec {keep}>&-; "$program"; } || status="${PIPESTATUS[1]}"
+    exec {keep}>&-
+    wait "$keeper" || true
+    if [ "$status" = 1 ] && [ "$(wc -c < "$copy")" -lt "$kept_bytes" ]; then
+        explain "$copy"
+    elif [ "$status" = 1 ]; then
+        echo "replay.sh: the faulty line isn't shown, since only the first $kept_bytes bytes of a pipe are kept: name a file" >&2
+    fi
+    exit "$status"
+}
+
 case "${1:-}" in
     -h | --help)
         printf '%s\n' "$usage"
@@ -136,10 +176,17 @@ case "${1:-}" in
     -?*) refuse "$usage" ;;
 esac
 [ $# -le 1 ] || refuse "$usage"
-open_trace "${1-$top/traces/first.trace}"
+open_trace "${1-$default}"
 read_crates
 add_crate hc_replay
 if is_old; then
     build
 fi
-exec "$program"
+trace="${1-$default}"
+if [ -f "$trace" ]; then
+    replay_file "$trace"
+elif [ -t 0 ]; then
+    exec "$program"
+else
+    replay_pipe
+fi
