@@ -3,5 +3,6 @@ pub mod Note
 pub mod Seen
 pub mod Told
 pub mod Stats
+pub mod Counts
 pub mod Books
 pub mod Lawful

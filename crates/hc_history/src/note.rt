@@ -6,6 +6,7 @@ ghost use Rattle.hc_history.specs.Note.{Note as Meaning};
 use bytes::Bytes;
 use hc_types::{Cause, Key, Scope};
 use std::alloc::{Allocator, Global};
+use std::fmt;
 use std::marker::Model;
 
 /// What a call asks for.
@@ -28,7 +29,7 @@ pub enum Reply<A: Allocator = Global> {
 }
 
 /// What a note says. Calls and charges are numbered from 1.
-#[derive(Drop)]
+#[derive(Debug, Drop)]
 pub enum Said<A: Allocator = Global> {
     /// A client's call begins.
     Begin {
@@ -72,7 +73,7 @@ pub enum Said<A: Allocator = Global> {
 }
 
 /// A note of the log, which contracts see as what it says.
-#[derive(Drop)]
+#[derive(Debug, Drop)]
 pub struct Note<A: Allocator = Global> {
     pub said: Said<A>,
 }
@@ -103,5 +104,31 @@ impl<A: Allocator> Note<A> {
         ensures { result ≡ note_of said }
     {
         Note { said }
+    }
+}
+
+/// A value by its length.
+impl<A: Allocator> fmt::Debug for Op<A> {
+    fn fmt<W: fmt::Write>(&self, f: &mut fmt::Formatter<W>) -> fmt::Result {
+        match self {
+            Op::Insert(key, value, expiry) => {
+                write!(f, "Insert({key:?}, {} bytes, {expiry})", value.len())
+            }
+            Op::Find(key) => write!(f, "Find({key:?})"),
+            Op::Remove(key) => write!(f, "Remove({key:?})"),
+        }
+    }
+}
+
+/// A value by its length.
+impl<A: Allocator> fmt::Debug for Reply<A> {
+    fn fmt<W: fmt::Write>(&self, f: &mut fmt::Formatter<W>) -> fmt::Result {
+        match self {
+            Reply::Stored => f.write_str("Stored"),
+            Reply::Hit(value) => write!(f, "Hit({} bytes)", value.len()),
+            Reply::Miss => f.write_str("Miss"),
+            Reply::FoundInMemory => f.write_str("FoundInMemory"),
+            Reply::NotInMemory => f.write_str("NotInMemory"),
+        }
     }
 }

@@ -9,8 +9,9 @@ ghost use Rattle.hc_history.specs.Stats.{counts_of};
 use crate::note::{Note, Reply, Said};
 use crate::notes::Kept;
 use std::alloc::Allocator;
+use std::fmt;
 
-/// Counts over a log. A call that isn't answered is in none of them.
+/// Counts over a log. A call that isn't answered is in none of them. It shows each with its name.
 #[derive(Clone, Copy, Debug, Default, PartialEq, Eq)]
 pub struct Stats {
     /// Answered inserts.
@@ -27,6 +28,30 @@ pub struct Stats {
     pub reads: u64,
     /// Results of page writes. There is no flash yet, and so none.
     pub writes: u64,
+}
+
+impl fmt::Display for Stats {
+    ghost use Rattle.std.specs.Prelude.{Some};
+    ghost use Rattle.hc_history.specs.Counts.{counts_text};
+
+    ghost output = { λ counts. Some (counts_text counts) };
+
+    fn fmt<W: fmt::Write>(&self, f: &mut fmt::Formatter<W>) -> fmt::Result {
+        let Stats {
+            stored,
+            hits,
+            misses,
+            removes,
+            losses,
+            reads,
+            writes,
+        } = self;
+        write!(
+            f,
+            "stored {stored} hits {hits} misses {misses} removes {removes}"
+        )?;
+        write!(f, " losses {losses} reads {reads} writes {writes}")
+    }
 }
 
 /// What is counted of a log: a kind for each of the seven counts.

@@ -3,13 +3,15 @@ ghost use Rattle.std.specs.Prelude.{◌≡◌, ◌^◌, ◌<◌, ◌∷◌, ◌+
 ghost use Rattle.std.specs.List.{list_all};
 ghost use Rattle.std.specs.Fmt.{decimal};
 ghost use Rattle.hc_types.specs.Loss.{scope_of, cause_of};
+ghost use Rattle.hc_types.specs.Losses.{but_text, scope_text, cause_text};
 ghost use Rattle.hc_types.specs.Refusals.{refusal_text};
+ghost use Rattle.hc_history.specs.Counts.{finds_text, calls_text, others_text};
 ghost use Rattle.hc_lines.specs.Texts as spec;
-ghost use Rattle.hc_lines.specs.Texts.{value_text, ReadsBack, line_text, but_text, scope_text, why_text, cause_text, lose_text, losses_text, finds_text, calls_text, others_text, stats_text, verdict_text, fault_text};
+ghost use Rattle.hc_lines.specs.Texts.{value_text, ReadsBack, line_text, lose_text, losses_text, stats_text, verdict_text, fault_text};
 ghost use Rattle.hc_lines.specs.Steps.{Hit, Moment};
 
 use hc_history::{Note, Said, Stats};
-use hc_types::{Cause, Key, Refusal, Scope, Why};
+use hc_types::{Cause, Key, Refusal, Scope};
 use itoa::Buffer;
 use std::alloc::AllocError;
 
@@ -118,25 +120,12 @@ fn add_scope(out: &mut Vec<u8>, scope: &Scope) -> Result<(), AllocError>
     ensures { OnOk result (out.new.items ≡ out.old.items ++ scope_text (scope_of scope.now)) }
 {
     match scope {
-        Scope::Key(key) => add_key(out, b"lose key ", key),
-        Scope::Bucket(bucket) => add_count(out, b"lose bucket ", u64::from(*bucket)),
+        Scope::Key(key) => add_key(out, b"key ", key),
+        Scope::Bucket(bucket) => add_count(out, b"bucket ", u64::from(*bucket)),
         Scope::Hash { kept, but } => {
-            add_count(out, b"lose hash ", *kept)?;
+            add_count(out, b"hash ", *kept)?;
             add_but(out, but)
         }
-    }
-}
-
-// Why an evicted item isn't kept elsewhere.
-fn why_words(why: Why) -> &'static str
-    ensures { result.now ≡ why_text why }
-{
-    match why {
-        Why::NoFlash => "evicted noflash",
-        Why::Tombstone => "evicted tombstone",
-        Why::NotAdmitted => "evicted notadmitted",
-        Why::TooLarge => "evicted toolarge",
-        Why::QueueFull => "evicted queuefull",
     }
 }
 
@@ -145,7 +134,7 @@ fn add_cause(out: &mut Vec<u8>, cause: &Cause) -> Result<(), AllocError>
     ensures { OnOk result (out.new.items ≡ out.old.items ++ cause_text (cause_of cause.now)) }
 {
     match cause {
-        Cause::Evicted { why, .. } => out.extend_from_slice(why_words(*why).as_bytes()),
+        Cause::Evicted { why, .. } => out.extend_from_slice(why.text().as_bytes()),
         Cause::BucketFull => out.extend_from_slice(b"bucketfull"),
         Cause::Reclaimed(region) => add_count(out, b"reclaimed ", u64::from(*region)),
         Cause::NoCleanRegion => out.extend_from_slice(b"nocleanregion"),
@@ -160,6 +149,7 @@ fn add_cause(out: &mut Vec<u8>, cause: &Cause) -> Result<(), AllocError>
 fn add_lose(out: &mut Vec<u8>, scope: &Scope, cause: &Cause) -> Result<(), AllocError>
     ensures { OnOk result (out.new.items ≡ out.old.items ++ lose_text (scope_of scope.now) (cause_of cause.now)) }
 {
+    out.extend_from_slice(b"lose ")?;
     add_scope(out, scope)?;
     out.push(b' ')?;
     add_cause(out, cause)
@@ -208,7 +198,7 @@ fn add_finds(out: &mut Vec<u8>, counts: &Stats) -> Result<(), AllocError>
 fn add_calls(out: &mut Vec<u8>, counts: &Stats) -> Result<(), AllocError>
     ensures { OnOk result (out.new.items ≡ out.old.items ++ calls_text counts.now) }
 {
-    add_count(out, b"stats stored ", counts.stored)?;
+    add_count(out, b"stored ", counts.stored)?;
     add_finds(out, counts)?;
     add_count(out, b" removes ", counts.removes)
 }
@@ -226,6 +216,7 @@ fn add_others(out: &mut Vec<u8>, counts: &Stats) -> Result<(), AllocError>
 pub fn add_stats(out: &mut Vec<u8>, counts: &Stats) -> Result<(), AllocError>
     ensures { OnOk result (out.new.items ≡ out.old.items ++ line_text (stats_text counts.now)) }
 {
+    out.extend_from_slice(b"stats ")?;
     add_calls(out, counts)?;
     add_others(out, counts)?;
     out.extend_from_slice(b"\n")

@@ -8,4 +8,5 @@ pub mod Limits
 pub mod Places
 pub mod Refusals
 pub mod Loss
+pub mod Losses
 pub mod KeyBytes

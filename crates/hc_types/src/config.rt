@@ -1,5 +1,5 @@
 // How large the cache is, in memory and on flash.
-ghost use Rattle.std.specs.Prelude.{◌≡◌, ◌↔◌, Some, None, IsOk, IfErr};
+ghost use Rattle.std.specs.Prelude.{◌≡◌, ◌↔◌, Some, None, IsOk, IfOk, IfErr};
 ghost use Rattle.hc_types.specs.Limits.{pool_fits, all_fit, regions_fit as all_regions_fit, first_wrong, flash_wrong};
 
 use crate::refusal::Refusal;
@@ -61,6 +61,15 @@ impl<A: Allocator> Config<A> {
         ensures { result ≡ record { pools = pools.items; flash = flash } }
     {
         Config { pools, flash }
+    }
+
+    /// The configuration with pools of these sizes, which are copied, and no flash. It isn't checked. Refused only where
+    /// memory lacks.
+    pub fn in_memory(alloc: A, pools: &[PoolSize]) -> Result<Config<A>, AllocError>
+        ensures { IfOk result (λ config. config ≡ record { pools = pools.now; flash = None }) }
+    {
+        let pools = Vec::from_slice(alloc, pools)?;
+        Ok(Config { pools, flash: None })
     }
 
     /// Whether each number is within its limits. Refused for the first that isn't, in the order of the refusals'

@@ -8,6 +8,7 @@ mod key;
 mod key_bytes;
 mod loss;
 mod refusal;
+mod shown;
 
 pub use config::{Config, FlashConfig, PoolSize};
 pub use entry::{Entry, VALUE_MAX, charge, is_small};

@@ -7,8 +7,8 @@ use crate::entry::is_small;
 use crate::key::{Key, bucket_of, kept};
 use std::alloc::{Allocator, Global};
 
-/// The keys that a loss covers.
-#[derive(Drop)]
+/// The keys that a loss covers. It shows as `key K`, `bucket B`, `hash H` or `hash H but K`.
+#[derive(Debug, Drop)]
 pub enum Scope<A: Allocator = Global> {
     /// This key.
     Key(Key<A>),
@@ -33,8 +33,8 @@ pub enum Why {
     QueueFull,
 }
 
-/// Why something is forgotten.
-#[derive(Drop)]
+/// Why something is forgotten. It shows in the words of a trace's answers, as `evicted noflash`.
+#[derive(Debug, Drop)]
 pub enum Cause<A: Allocator = Global> {
     /// Its item was evicted from this pool, to make room for so many bytes.
     Evicted { pool: u8, want: u64, why: Why },
