@@ -5,3 +5,4 @@ pub mod Refused
 pub mod Answers
 pub mod Steps
 pub mod Legality
+pub mod World

@@ -9,7 +9,7 @@ use Rattle.hc_types.proofs.Tallies.{tally-mono, tally-push, tally-set, tally-get
 use Rattle.hc_memory.specs.Item.{Open, Handle, charge_by}
 use Rattle.hc_memory.specs.Charges.{has_number, charge_at, closed, is_same, is_open}
 use Rattle.hc_memory.proofs.Books.{same-is, same-refl, tally-closed, is_open-found, found-is_open}
-use Rattle.hc_run.specs.World.{handle_in, slot_sum, SlotsHold}
+use Rattle.hc_core.specs.World.{handle_in, slot_sum, SlotsHold}
 
 -- ---- slots
 

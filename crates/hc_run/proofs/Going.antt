@@ -4,7 +4,7 @@ use Rattle.std.proofs.lemmas.List.{take_more}
 use Rattle.hc_types.specs.Config.{Config}
 use Rattle.hc_history.specs.Note.{Note}
 use Rattle.hc_history.specs.Told.{Log, told_more}
-use Rattle.hc_run.specs.World.{Step, Open, Put, PutNew, Discard, Find, Remove, Tick, Answer, Answered, Refused, NoSlot, Filled, Discarded, Moment, Stage, Idle, World, Run, joined, ends_from, log_length, new_stage, Goes, IsRun}
+use Rattle.hc_core.specs.World.{Step, Open, Put, PutNew, Discard, Find, Remove, Tick, Answer, Answered, Refused, NoSlot, Filled, Discarded, Moment, Stage, Idle, World, Run, joined, ends_from, log_length, new_stage, Goes, IsRun}
 use Rattle.hc_history.proofs.Telling.{told-nothing}
 
 run_more : (old : Stage) (steps : List Step) (answers : List Answer) (parts : List (List Note)) (mid : Stage) (step : Step) (answer : Answer) (part : List Note) (new : Stage)

@@ -15,7 +15,7 @@ use Rattle.hc_history.proofs.Telling.{told-twice, told-nothing}
 use Rattle.hc_core.specs.Cache.{Cache}
 use Rattle.hc_core.specs.Refused.{handle_refusal, insert_refusal}
 use Rattle.hc_core.specs.Steps.{opened, after_allocate, after_insert, insert_notes}
-use Rattle.hc_run.specs.World.{Step, Put, PutNew, Discard, Answer, Answered, Refused, Discarded, Stage, handle_in, slot_sum, SlotsHold, May, after_give_up, left_notes}
+use Rattle.hc_core.specs.World.{Step, Put, PutNew, Discard, Answer, Answered, Refused, Discarded, Stage, handle_in, slot_sum, SlotsHold, May, after_give_up, left_notes}
 use Rattle.hc_run.proofs.Filled.{set-none, filled-open, held-filled, held-emptied}
 
 some-held : (held : Option Handle) → is_some held ≡ true → (handle : Handle) × (held ≡ Some handle)

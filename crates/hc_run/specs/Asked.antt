@@ -2,7 +2,7 @@
 use Rattle.std.specs.Prelude.{Option, Some, None}
 use Rattle.hc_memory.specs.Item.{Handle}
 use Rattle.hc_history.specs.Seen.{reply_of}
-use Rattle.hc_run.specs.World.{Step, Open, Put, PutNew, Discard, Find, Remove, Tick, Answer, Answered, Refused, NoSlot, Filled, Discarded, Moment}
+use Rattle.hc_core.specs.World.{Step, Open, Put, PutNew, Discard, Find, Remove, Tick, Answer, Answered, Refused, NoSlot, Filled, Discarded, Moment}
 use Rattle.hc_run.specs.declared.steps.Request.{Request}
 use Rattle.hc_run.specs.declared.steps.Request.TheVariants as requests
 use Rattle.hc_run.specs.declared.steps.Outcome.{Outcome}

@@ -1,3 +1,2 @@
--- What runs of the core do.
-pub mod World
+-- How runs of the core are seen.
 pub mod Asked

@@ -2,7 +2,7 @@
 ghost use Rattle.std.specs.Prelude.{◌≡◌, ◌⊎◌, None, length, take, IfOk, IfErr, IfSome, OnOk, OnErr};
 ghost use Rattle.hc_types.specs.Limits.{first_wrong};
 ghost use Rattle.hc_history.specs.Lawful.{Legal};
-ghost use Rattle.hc_run.specs.World.{Goes, IsRunOf};
+ghost use Rattle.hc_core.specs.World.{Goes, IsRunOf};
 
 use crate::stage::Stage;
 use crate::steps::{Answer, Step};

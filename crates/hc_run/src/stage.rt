@@ -10,7 +10,7 @@ ghost use Rattle.hc_memory.specs.Charges.{is_open};
 ghost use Rattle.hc_core.specs.Answers.{found_value, reply_of_removed};
 ghost use Rattle.hc_run.specs.Asked.{answer_of, handle_of, step_of};
 ghost use Rattle.hc_core.specs.Steps.{find_reply};
-ghost use Rattle.hc_run.specs.World.{Open, Put, PutNew, Discard, Find, Remove, Tick, May, SlotsHold, new_stage, after_give_up, left_notes, log_length};
+ghost use Rattle.hc_core.specs.World.{Open, Put, PutNew, Discard, Find, Remove, Tick, May, SlotsHold, new_stage, after_give_up, left_notes, log_length};
 
 use crate::slots::{Content, Slot, empty_slots, fill, take, take_sealed};
 use crate::steps::{Answer, Outcome, Request, Step};
@@ -32,7 +32,7 @@ pub struct Stage<A: Allocator = Global> {
 
 impl<A: Allocator> Model for Stage<A> {
     ghost use Rattle.std.specs.Prelude.{◌≡◌, length};
-    ghost use Rattle.hc_run.specs.World.{Stage as Meaning, SlotsHold};
+    ghost use Rattle.hc_core.specs.World.{Stage as Meaning, SlotsHold};
 
     ghost Value = { Meaning };
 

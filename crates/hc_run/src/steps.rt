@@ -53,7 +53,7 @@ pub struct Step<A: Allocator = Global> {
 }
 
 impl<A: Allocator> Model for Step<A> {
-    ghost use Rattle.hc_run.specs.World.{Step as Meaning};
+    ghost use Rattle.hc_core.specs.World.{Step as Meaning};
 
     ghost Value = { Meaning };
 
@@ -86,7 +86,7 @@ pub struct Answer<A: Allocator = Global> {
 }
 
 impl<A: Allocator> Model for Answer<A> {
-    ghost use Rattle.hc_run.specs.World.{Answer as Meaning};
+    ghost use Rattle.hc_core.specs.World.{Answer as Meaning};
 
     ghost Value = { Meaning };
 

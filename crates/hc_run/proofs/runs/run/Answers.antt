@@ -1,7 +1,7 @@
 use Rattle.std.proofs.Common.{[], length, take, ap, sym, subst, ◌∙◌}
 use Rattle.hc_types.specs.Config.{Config}
 use Rattle.hc_history.specs.Lawful.{Legal}
-use Rattle.hc_run.specs.World.{Stage, IsRun}
+use Rattle.hc_core.specs.World.{Stage, IsRun}
 use Rattle.hc_run.proofs.Going.{IsRun-none, run_turn}
 use Rattle.hc_run.proofs.runs.run.Goals as goal
 

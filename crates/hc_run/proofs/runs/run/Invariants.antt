@@ -1,5 +1,5 @@
 use Rattle.std.proofs.Common.{◌≡◌, take, length}
-use Rattle.hc_run.specs.World.{IsRun}
+use Rattle.hc_core.specs.World.{IsRun}
 use Rattle.hc_run.proofs.runs.run.Given as goal
 
 -- the steps so far are a run

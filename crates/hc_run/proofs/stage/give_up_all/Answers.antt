@@ -3,7 +3,7 @@ use Rattle.std.specs.Vec.Iter.{into_iter_items}
 use Rattle.hc_history.specs.Told.{told_more}
 use Rattle.hc_run.specs.Asked.{handle_of}
 use Rattle.hc_core.specs.Cache.{Cache}
-use Rattle.hc_run.specs.World.{SlotsHold, left_notes}
+use Rattle.hc_core.specs.World.{SlotsHold, left_notes}
 use Rattle.hc_run.proofs.Staging.{first-open, first-held, first-told, given-config, nothing-left}
 use Rattle.hc_run.proofs.stage.give_up_all.Goals as goal
 

@@ -1,7 +1,7 @@
 use Rattle.std.proofs.Common.{◌≡◌, length}
 use Rattle.std.specs.Vec.Iter.{into_iter_items, into_iter_len}
 use Rattle.hc_history.specs.Told.{told_more}
-use Rattle.hc_run.specs.World.{SlotsHold, left_notes}
+use Rattle.hc_core.specs.World.{SlotsHold, left_notes}
 use Rattle.hc_run.proofs.stage.give_up_all.Given as goal
 
 -- the rest is given up after the log, and no other charge is open

@@ -1,6 +1,6 @@
 use Rattle.std.proofs.Common.{◌<◌, true, length, sym, arith}
 use Rattle.hc_run.specs.Asked.{handle_of}
-use Rattle.hc_run.specs.World.{Stage}
+use Rattle.hc_core.specs.World.{Stage}
 use Rattle.hc_run.proofs.Staging.{read-is, given-open, given-kept, discarded}
 use Rattle.hc_run.proofs.stage.Stage.discard.Goals as goal
 

@@ -2,7 +2,7 @@ use Rattle.std.proofs.Common.{◌≡◌, ℕ, zero, suc, List, [], Option, None,
 use Rattle.hc_types.specs.Tally.{tally}
 use Rattle.hc_memory.specs.Item.{Open, Handle}
 use Rattle.hc_core.specs.Cache.{Cache, new_cache}
-use Rattle.hc_run.specs.World.{slot_sum, SlotsHold}
+use Rattle.hc_core.specs.World.{slot_sum, SlotsHold}
 use Rattle.hc_history.specs.Told.{Log}
 use Rattle.hc_run.proofs.stage.Stage.new.Goals as goal
 

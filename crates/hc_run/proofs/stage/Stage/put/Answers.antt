@@ -1,5 +1,5 @@
 use Rattle.std.proofs.Common.{◌<◌, length, sym, ◌∙◌, arith}
-use Rattle.hc_run.specs.World.{Stage}
+use Rattle.hc_core.specs.World.{Stage}
 use Rattle.hc_run.proofs.Filled.{put-back, filled-open}
 use Rattle.hc_run.proofs.Staging.{inserted-kept, back-kept, back-is, taken-open, memory-only, inserted}
 use Rattle.hc_run.proofs.stage.Stage.put.Goals as goal

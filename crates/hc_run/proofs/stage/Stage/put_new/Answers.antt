@@ -1,7 +1,7 @@
 use Rattle.std.proofs.Common.{◌≡◌, ◌<◌, Some, None, length, ap, sym, ◌∙◌, arith}
 use Rattle.std.proofs.lemmas.Result.{err_from_is_err_and}
 use Rattle.hc_core.specs.Refused.{insert_refusal}
-use Rattle.hc_run.specs.World.{Stage}
+use Rattle.hc_core.specs.World.{Stage}
 use Rattle.hc_run.proofs.Filled.{put-back}
 use Rattle.hc_run.proofs.Staging.{inserted-kept, back-kept, back-is, new-open, but-memory, inserted-new, refused-new}
 use Rattle.hc_run.proofs.stage.Stage.put_new.Goals as goal
