@@ -1,5 +1,5 @@
 // A list of steps, and the log that they leave.
-ghost use Rattle.std.specs.Prelude.{◌≡◌, ◌⊎◌, None, length, take, IfOk, IfErr, IfSome, OnOk, OnErr};
+ghost use Rattle.std.specs.Prelude.{◌≡◌, ◌<◌, ◌⊎◌, None, Some, length, take, IfOk, IfErr, IfSome, OnOk, OnErr};
 ghost use Rattle.hc_types.specs.Limits.{first_wrong};
 ghost use Rattle.hc_history.specs.Lawful.{Legal};
 ghost use Rattle.hc_core.specs.World.{Goes, IsRunOf};
@@ -10,8 +10,8 @@ use hc_history::Kept;
 use hc_types::{Config, Refusal};
 use std::alloc::{AllocError, Allocator, Global};
 
-/// A run: its log, where each step's part ends in it, and the answers. It stops before the first step that wants memory
-/// in vain, whose place is `stopped`. At the end of the log, what still fills a slot is given up.
+/// A run: its log, where each step's part ends in it, and the answers. Where memory lacked for a step, the run stopped
+/// before it, and `stopped` is its place. At the end of the log, what still fills a slot is given up.
 #[derive(Drop)]
 pub struct Ran<A: Allocator = Global> {
     pub log: Kept<A>,
@@ -38,9 +38,9 @@ fn go_on<A: Allocator + Clone>(
     Ok(())
 }
 
-/// The log of any list of steps on a new cache. It is legal, and it is that of a run of the steps, up to the one at which
-/// memory was wanted. Refused for the first number of the configuration that is outside its limits, and with `NoMemory`
-/// where the configuration can't be copied.
+/// The log of any list of steps on a new cache. It is legal, and it is that of a run of the steps, up to the one for which
+/// memory lacked. Refused for the first number of the configuration that is outside its limits, and with `NoMemory` where
+/// memory lacks for the cache or its slots.
 pub fn run<A: Allocator + Copy>(
     alloc: A,
     config: &Config<A>,
@@ -50,9 +50,9 @@ pub fn run<A: Allocator + Copy>(
     ensures legal { IfOk result (λ ran. Legal config.now ran.log.notes.items) }
     ensures follows { IfOk result (λ ran. IsRunOf config.now (take (length ran.answers.items) steps.now) ran.answers.items ran.ends.items ran.log.notes.items) }
     ensures all { IfOk result (λ ran. ran.stopped ≡ None → length ran.answers.items ≡ length steps.now) }
-    ensures stopped { IfOk result (λ ran. IfSome ran.stopped (λ place. length ran.answers.items ≡ place)) }
+    ensures stopped { IfOk result (λ ran. IfSome ran.stopped (λ place. (place < length steps.now) × (length ran.answers.items ≡ place))) }
     ensures fits { OnOk result (first_wrong config.now ≡ None) }
-    ensures err { IfErr result (λ refusal. (first_wrong config.now ≡ Some refusal) ⊎ (refusal ≡ Refusal.NoMemory)) }
+    ensures err { IfErr result (λ refusal. (first_wrong config.now ≡ Some refusal) ⊎ ((first_wrong config.now ≡ None) × (refusal ≡ Refusal.NoMemory))) }
 {
     let mut stage = Stage::new(alloc, config)?;
     let mut answers = Vec::new(alloc);

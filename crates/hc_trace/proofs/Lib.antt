@@ -2,3 +2,4 @@ pub mod Logs
 pub mod Same
 pub mod Streams
 pub mod Legality
+pub mod Running

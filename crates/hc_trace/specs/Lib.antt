@@ -2,3 +2,4 @@
 pub mod Moves
 pub mod Trace
 pub mod Machine
+pub mod Runs

@@ -3,6 +3,7 @@ ghost use Rattle.std.specs.Prelude.{◌≡◌, ◌≢◌, ◌<◌, ◌≤◌, �
 ghost use Rattle.std.specs.Io.KnownBytes.{Appends, Consumes, IsAtEnd, append_known};
 ghost use Rattle.hc_lines.specs.Lines.{Lacks};
 ghost use Rattle.hc_trace.specs.Trace.{Answers, LogsAreLegal};
+ghost use Rattle.hc_trace.specs.Runs.{RunsAreOfTheWorld};
 ghost use Rattle.hc_trace.specs.Machine.{begun, turn_of, output_from, Leads, Ends};
 
 use crate::machine::{end, turn};
@@ -257,6 +258,7 @@ pub fn replay<R: Read, W: Write>(
     requires { clients ≡ None }
     ensures answers { result ≢ 4 → Answers (R.remaining reader.old) (W.contents writer.old) (W.contents writer.new) result }
     ensures log { LogsAreLegal }
+    ensures runs { RunsAreOfTheWorld }
 {
     let mut out = Vec::new(alloc);
     let status = match run(alloc, reader, writer, &mut out) {

@@ -51,4 +51,4 @@ returns-in-Err-clause-legal g c =
     subst (λ (k : Config). Legal k c.into_log.result.notes.items) (ap (λ (s : Stage). s.cache.config) c.in-Err.ensures.err.0 ∙ c.loop-i.invariant.config) c.into_log.ensures.legal
 
 pub returns-in-Err-clause-stopped : goal.returns-in-Err-clause-stopped
-returns-in-Err-clause-stopped g c = ap length c.in-Err.ensures.err.1 ∙ c.loop-i.invariant.made
+returns-in-Err-clause-stopped g c = (c.loop-i-test.true, ap length c.in-Err.ensures.err.1 ∙ c.loop-i.invariant.made)
