@@ -1,6 +1,6 @@
 -- What each step does to a cache and its slots.
 use Rattle.std.proofs.Common.{◌≡◌, ℕ, ◌+◌, ◌<◌, ◌≤◌, ◌⊎◌, Bool, true, false, List, [], ◌∷◌, Option, Some, None, length, get_or, slice_set, length-set, refl, ap, sym, ◌∙◌, arith, subst, ⊎_elim}
-use Rattle.std.specs.Prelude.{is_some, IfSome}
+use Rattle.std.specs.Prelude.{is_some, IfSome, IfOk, OnErr, Result, Ok, Err}
 use Rattle.std.proofs.lemmas.List.{get_or_read}
 use mathlib.Core.Bool.{cond}
 use Rattle.hc_types.specs.Tally.{tally, count}
@@ -13,9 +13,11 @@ use Rattle.hc_history.specs.Note.{Note, Stored, Freed}
 use Rattle.hc_history.specs.Told.{Heard, told_more}
 use Rattle.hc_history.proofs.Telling.{told-twice, told-nothing}
 use Rattle.hc_core.specs.Cache.{Cache}
-use Rattle.hc_core.specs.Refused.{handle_refusal, insert_refusal}
-use Rattle.hc_core.specs.Steps.{opened, after_allocate, after_insert, insert_notes}
-use Rattle.hc_core.specs.World.{Step, Put, PutNew, Discard, Answer, Answered, Refused, Discarded, Stage, handle_in, slot_sum, SlotsHold, May, after_give_up, left_notes}
+use Rattle.hc_core.specs.Refused.{allocate_refusal, handle_refusal, insert_refusal}
+use Rattle.hc_core.specs.Steps.{opened, part_of_allocate, after_allocate, after_insert, insert_notes}
+use Rattle.hc_core.specs.World.{Step, Open as Opening, Put, PutNew, Discard, Answer, Answered, Refused, Filled, Discarded, Stage, handle_in, slot_sum, SlotsHold, May, after_give_up, left_notes}
+use Rattle.hc_run.specs.Asked.{answer_of}
+use Rattle.hc_run.specs.declared.steps.Outcome.{Outcome}
 use Rattle.hc_run.proofs.Filled.{set-none, filled-open, held-filled, held-emptied}
 
 some-held : (held : Option Handle) → is_some held ≡ true → (handle : Handle) × (held ≡ Some handle)
@@ -136,6 +138,35 @@ pub refused-new : (old : Stage) (cache : Cache) (slots : List (Option Handle)) (
     → insert_refusal cache handle ≡ Some refusal → new ≡ old → May old (PutNew client slot) (Refused refusal) new
 refused-new old cache slots client slot handle refusal new view is why after =
     subst (λ s. new ≡ s → May s (PutNew client slot) (Refused refusal) new) view (λ same. ([], (handle, (is, why, (refl, same))))) after
+
+-- ---- what is refused
+
+pub on-err : {T E P : Type 0} (result : Result T E) → P → OnErr result P
+on-err (Ok x) p = tt
+on-err (Err e) p = p
+
+-- a step that may be refused so, where it isn't for want of memory
+pub refused-may : {A E : Type 0} (result : Result (Outcome A) E) (old : Stage) (step : Step) (new : Stage) (refusal : Refusal) → IfOk result (λ outcome. (answer_of outcome ≡ Refused refusal) × (refusal ≡ NoMemory → ⊥))
+    → ((refusal ≡ NoMemory → ⊥) → May old step (Refused refusal) new) → IfOk result (λ outcome. May old step (answer_of outcome) new)
+refused-may (Ok outcome) old step new refusal is may = subst (λ a. May old step a new) (sym is.0) (may is.1)
+refused-may (Err e) old step new refusal is may = tt
+
+-- the step of an open, whose key and value are copies
+copied : (old : Stage) (slot pool : ℕ) (key key' value value' : List ℕ) (ttl : ℕ) (answer : Answer) (new : Stage) → key' ≡ key → value' ≡ value → May old (Opening slot pool key' value' ttl) answer new → May old (Opening slot pool key value ttl) answer new
+copied old slot pool key key' value value' ttl answer new k v may = subst (λ v. May old (Opening slot pool key v ttl) answer new) v (subst (λ k. May old (Opening slot pool k value' ttl) answer new) k may)
+
+module _ (old : Stage) (cache : Cache) (slots : List (Option Handle)) (slot pool : ℕ) (key key' value value' : List ℕ) (ttl : ℕ) (view : record { cache = cache; slots = slots } ≡ old) (empty : is_some (handle_in slot slots) ≡ false)
+    (same_key : key' ≡ key) (same_value : value' ≡ value) where
+  pub refused-open : (refusal : Refusal) (new : Stage) → allocate_refusal cache pool key' (length value') ≡ Some refusal → new ≡ old → May old (Opening slot pool key value ttl) (Refused refusal) new
+  refused-open refusal new why after =
+      copied old slot pool key key' value value' ttl (Refused refusal) new same_key same_value
+      (subst (λ s. new ≡ s → May s (Opening slot pool key' value' ttl) (Refused refusal) new) view (λ same. ([], (none-held (handle_in slot slots) empty, why, (refl, same)))) after)
+
+  pub opened-may : (new : Stage) → allocate_refusal cache pool key' (length value') ≡ None
+      → new ≡ record { cache = after_allocate cache pool key' (length value'); slots = slice_set slots slot (Some (opened cache pool key' value' ttl)) } → May old (Opening slot pool key value ttl) Filled new
+  opened-may new fits after =
+      copied old slot pool key key' value value' ttl Filled new same_key same_value
+      (subst (λ s. May s (Opening slot pool key' value' ttl) Filled new) view (part_of_allocate cache.memory cache.now pool key' (length value'), (none-held (handle_in slot slots) empty, fits, refl, after)))
 
 -- ---- what is left in the slots is given up, one after another
 

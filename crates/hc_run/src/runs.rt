@@ -32,10 +32,14 @@ fn go_on<A: Allocator + Clone>(
 {
     answers.reserve(1)?;
     ends.reserve(1)?;
-    let answer = stage.step(step)?;
-    let _ = answers.push(answer);
-    let _ = ends.push(stage.log_len());
-    Ok(())
+    match stage.step(step) {
+        Ok(answer) => {
+            answers.push_reserved(answer);
+            ends.push_reserved(stage.log_len());
+            Ok(())
+        }
+        Err(no_memory) => Err(no_memory),
+    }
 }
 
 /// The log of any list of steps on a new cache. It is legal, and it is that of a run of the steps, up to the one for which

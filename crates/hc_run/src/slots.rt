@@ -1,5 +1,5 @@
 // Slots, in which write handles wait.
-ghost use Rattle.std.specs.Prelude.{◌≡◌, None, length, replicate, slice_set, is_some, IfOk, OnOk, OnErr};
+ghost use Rattle.std.specs.Prelude.{◌≡◌, ◌≤◌, [], None, length, replicate, slice_set, is_some, vec_len, vec_capacity, IfOk, OnOk, OnErr};
 ghost use Rattle.hc_run.specs.Asked.{handle_of};
 ghost use Rattle.hc_core.specs.World.{handle_in};
 
@@ -61,15 +61,15 @@ impl<A: Allocator> Slot<A> {
     }
 }
 
-/// So many slots, which are empty.
-pub fn empty_slots<A: Allocator>(alloc: A, count: usize) -> Result<Vec<Slot<A>, A>, AllocError>
-    ensures { IfOk result (λ slots. slots.items ≡ replicate count None) }
+/// So many slots, which are empty. There is room for them.
+pub fn empty_slots<A: Allocator>(slots: &mut Vec<Slot<A>, A>, count: usize)
+    requires none { (slots.old.items ≡ []) × (vec_len slots.old ≡ 0) }
+    requires room { count ≤ vec_capacity slots.old }
+    ensures { slots.new.items ≡ replicate count None }
 {
-    let mut slots = Vec::with_capacity(alloc, count)?;
     for _ in 0..count {
         slots.push_reserved(Slot::new(Content::Empty));
     }
-    Ok(slots)
 }
 
 /// Fills an empty slot.

@@ -10,7 +10,7 @@ ghost use Rattle.hc_memory.specs.Charges.{is_open};
 ghost use Rattle.hc_core.specs.Answers.{found_value, reply_of_removed};
 ghost use Rattle.hc_run.specs.Asked.{answer_of, handle_of, step_of};
 ghost use Rattle.hc_core.specs.Steps.{find_reply};
-ghost use Rattle.hc_core.specs.World.{Open, Put, PutNew, Discard, Find, Remove, Tick, May, SlotsHold, new_stage, after_give_up, left_notes, log_length};
+ghost use Rattle.hc_core.specs.World.{Open, Put, PutNew, Discard, Find, Remove, Tick, Refused, May, SlotsHold, new_stage, after_give_up, left_notes, log_length};
 
 use crate::slots::{Content, Slot, empty_slots, fill, take, take_sealed};
 use crate::steps::{Answer, Outcome, Request, Step};
@@ -49,9 +49,19 @@ impl<A: Allocator + Copy> Stage<A> {
         ensures fits { OnOk result (first_wrong config.now ≡ None) }
         ensures err { IfErr result (λ refusal. (first_wrong config.now ≡ Some refusal) ⊎ ((first_wrong config.now ≡ None) × (refusal ≡ Refusal.NoMemory))) }
     {
-        let core = Core::new(alloc, config, Kept::new(alloc))?;
-        let slots = empty_slots(alloc, 256)?;
-        Ok(Stage { core, slots })
+        let Ok(mut slots) = Vec::with_capacity(alloc, 256) else {
+            return Err(without_memory(config));
+        };
+        match Core::new(alloc, config, Kept::new(alloc)) {
+            Ok(core) => {
+                empty_slots(&mut slots, 256);
+                Ok(Stage { core, slots })
+            }
+            Err(refusal) => {
+                slots.destroy_empty();
+                Err(refusal)
+            }
+        }
     }
 }
 
@@ -149,7 +159,7 @@ impl<A: Allocator + Clone> Stage<A> {
             }
             Err(Uncharged { refusal, key }) => {
                 drop(key);
-                Ok(Outcome::Refused(but_memory(refusal)?))
+                refused(refusal)
             }
         }
     }
@@ -188,7 +198,7 @@ impl<A: Allocator + Clone> Stage<A> {
             Ok(()) => Ok(Outcome::Replied(Reply::Stored)),
             Err(Unlinked { refusal, sealed }) => {
                 fill(&mut self.slots, slot, Content::Ready(sealed));
-                Ok(Outcome::Refused(but_memory(refusal)?))
+                refused(refusal)
             }
         }
     }
@@ -225,15 +235,23 @@ impl<A: Allocator + Clone> Stage<A> {
     }
 }
 
-/// Why a step is refused, where it isn't for want of memory.
-fn but_memory(refusal: Refusal) -> Result<Refusal, AllocError>
-    ensures ok { IfOk result (λ same. same ≡ refusal) }
-    ensures other { OnOk result (refusal ≢ Refusal.NoMemory) }
-    ensures err { OnErr result (refusal ≡ Refusal.NoMemory) }
+/// Why there is no stage of this configuration where memory lacks: a wrong number is named first.
+fn without_memory<A: Allocator>(config: &Config<A>) -> Refusal
+    ensures { (first_wrong config.now ≡ Some result) ⊎ ((first_wrong config.now ≡ None) × (result ≡ Refusal.NoMemory)) }
+{
+    match config.check() {
+        Ok(()) => Refusal::NoMemory,
+        Err(refusal) => refusal,
+    }
+}
+
+/// A step is refused, where it isn't for want of memory.
+fn refused<A: Allocator>(refusal: Refusal) -> Result<Outcome<A>, AllocError>
+    ensures { IfOk result (λ outcome. (answer_of outcome ≡ Refused refusal) × (refusal ≢ Refusal.NoMemory)) }
 {
     match refusal {
         Refusal::NoMemory => Err(AllocError),
-        _ => Ok(refusal),
+        _ => Ok(Outcome::Refused(refusal)),
     }
 }
 

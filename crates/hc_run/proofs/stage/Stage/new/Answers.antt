@@ -15,12 +15,12 @@ empty-held charges slots n none empty = rw (none, empty) (λ f. nothing-summed f
 
 pub invariant_of-result : goal.invariant_of-result
 invariant_of-result g c = (
-  ap length c.in_ok-slots.ensures,
-  empty-held _ _ 256 (ap (λ (k : Cache). k.memory.charges) c.in_ok-core.ensures.ok) c.in_ok-slots.ensures,
+  ap length c.empty_slots.ensures,
+  empty-held _ _ 256 (ap (λ (k : Cache). k.memory.charges) c.in-Ok-new.ensures.ok) c.empty_slots.ensures,
 )
 
-pub returns-clause-ok : goal.returns-clause-ok
-returns-clause-ok g c = λ i. record {
-  cache = (c.in_ok-core.ensures.ok ∙ ap (λ log. new_cache c.args.config.now (Log log)) c.new.ensures) i;
-  slots = c.in_ok-slots.ensures i;
+pub returns-in-Ok-new-clause-ok : goal.returns-in-Ok-new-clause-ok
+returns-in-Ok-new-clause-ok g c = λ i. record {
+  cache = (c.in-Ok-new.ensures.ok ∙ ap (λ log. new_cache c.args.config.now (Log log)) c.new.ensures) i;
+  slots = c.empty_slots.ensures i;
 }

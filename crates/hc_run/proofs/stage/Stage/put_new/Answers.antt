@@ -1,9 +1,8 @@
-use Rattle.std.proofs.Common.{◌≡◌, ◌<◌, Some, None, length, ap, sym, ◌∙◌, arith}
-use Rattle.std.proofs.lemmas.Result.{err_from_is_err_and}
+use Rattle.std.proofs.Common.{◌≡◌, ◌<◌, Some, None, length, sym, ◌∙◌, arith}
 use Rattle.hc_core.specs.Refused.{insert_refusal}
-use Rattle.hc_core.specs.World.{Stage}
+use Rattle.hc_core.specs.World.{Stage, PutNew}
 use Rattle.hc_run.proofs.Filled.{put-back}
-use Rattle.hc_run.proofs.Staging.{inserted-kept, back-kept, back-is, new-open, but-memory, inserted-new, refused-new}
+use Rattle.hc_run.proofs.Staging.{inserted-kept, back-kept, back-is, new-open, but-memory, inserted-new, refused-new, refused-may, on-err}
 use Rattle.hc_run.proofs.stage.Stage.put_new.Goals as goal
 
 pub invariant_of-self-in-Ok : goal.invariant_of-self-in-Ok
@@ -27,28 +26,20 @@ invariant_of-self-in-Err g c =
     let back = put-back f.slots.items c.take_sealed.new.slots.items c.fill.new.slots.items c.args.slot c.in-Some.sealed c.in-Err.field-0.sealed is c.in_ok-sealed.ensures.slots c.in-Err.ensures.sealed_returned c.fill.ensures in
     back-kept f.core c.insert.new.self f.slots.items c.fill.new.slots.items c.self.invariant c.in-Err.ensures.err back
 
-pub invariant_of-self-in_err-but_memory-in-Err : goal.invariant_of-self-in_err-but_memory-in-Err
-invariant_of-self-in_err-but_memory-in-Err g c =
-    let f = c.self.inside in
-    let is = sym c.in_ok-sealed.ensures.ok ∙ c.in-Some.is in
-    let back = put-back f.slots.items c.take_sealed.new.slots.items c.fill.new.slots.items c.args.slot c.in-Some.sealed c.in-Err.field-0.sealed is c.in_ok-sealed.ensures.slots c.in-Err.ensures.sealed_returned c.fill.ensures in
-    back-kept f.core c.insert.new.self f.slots.items c.fill.new.slots.items c.self.invariant c.in-Err.ensures.err back
-
-pub returns-in_err-but_memory-in-Err-clause-err : goal.returns-in_err-but_memory-in-Err-clause-err
-returns-in_err-but_memory-in-Err-clause-err g c =
-    let f = c.self.inside in
-    let is = sym c.in_ok-sealed.ensures.ok ∙ c.in-Some.is in
-    let back = put-back f.slots.items c.take_sealed.new.slots.items c.fill.new.slots.items c.args.slot c.in-Some.sealed c.in-Err.field-0.sealed is c.in_ok-sealed.ensures.slots c.in-Err.ensures.sealed_returned c.fill.ensures in
-    let out = c.from_residual-in_err-but_memory-in-Err in
-    let p = err_from_is_err_and out.result out.ensures.1 in
-    rw p.1 (back-is c.args.self.now f.core c.insert.new.self f.slots.items c.fill.new.slots.items c.self.view_is c.in-Err.ensures.err back)
-
-pub returns-in_ok-but_memory-in-Err-clause-ok : goal.returns-in_ok-but_memory-in-Err-clause-ok
-returns-in_ok-but_memory-in-Err-clause-ok g c =
+pub returns-in-Err-clause-ok : goal.returns-in-Err-clause-ok
+returns-in-Err-clause-ok g c =
     let f = c.self.inside in
     let is = sym c.in_ok-sealed.ensures.ok ∙ c.in-Some.is in
     let back = put-back f.slots.items c.take_sealed.new.slots.items c.fill.new.slots.items c.args.slot c.in-Some.sealed c.in-Err.field-0.sealed is c.in_ok-sealed.ensures.slots c.in-Err.ensures.sealed_returned c.fill.ensures in
     let new : Stage = record { cache = c.insert.new.self; slots = c.fill.new.slots.items } in
     let same = back-is c.args.self.now f.core c.insert.new.self f.slots.items c.fill.new.slots.items c.self.view_is c.in-Err.ensures.err back in
-    let why = but-memory (insert_refusal f.core c.in-Some.sealed ≡ Some c.in-Err.field-0.refusal) (insert_refusal f.core c.in-Some.sealed ≡ None) c.in-Err.field-0.refusal c.in_ok-but_memory-in-Err.ensures.other c.in-Err.ensures.why in
-    refused-new c.args.self.now f.core f.slots.items c.args.client c.args.slot c.in-Some.sealed c.in_ok-but_memory-in-Err.field-0 new c.self.view_is is (why ∙ ap Some (sym c.in_ok-but_memory-in-Err.ensures.ok)) same
+    refused-may c.refused.result c.args.self.now (PutNew c.args.client c.args.slot) new c.in-Err.field-0.refusal c.refused.ensures (λ other.
+    refused-new c.args.self.now f.core f.slots.items c.args.client c.args.slot c.in-Some.sealed c.in-Err.field-0.refusal new c.self.view_is is
+    (but-memory (insert_refusal f.core c.in-Some.sealed ≡ Some c.in-Err.field-0.refusal) (insert_refusal f.core c.in-Some.sealed ≡ None) c.in-Err.field-0.refusal other c.in-Err.ensures.why) same)
+
+pub returns-in-Err-clause-err : goal.returns-in-Err-clause-err
+returns-in-Err-clause-err g c =
+    let f = c.self.inside in
+    let is = sym c.in_ok-sealed.ensures.ok ∙ c.in-Some.is in
+    let back = put-back f.slots.items c.take_sealed.new.slots.items c.fill.new.slots.items c.args.slot c.in-Some.sealed c.in-Err.field-0.sealed is c.in_ok-sealed.ensures.slots c.in-Err.ensures.sealed_returned c.fill.ensures in
+    on-err c.refused.result (back-is c.args.self.now f.core c.insert.new.self f.slots.items c.fill.new.slots.items c.self.view_is c.in-Err.ensures.err back)
