@@ -11,4 +11,5 @@ pub mod Keeps
 pub mod Made
 pub mod Standing
 pub mod Opening
+pub mod Refusing
 pub mod Leading

@@ -4,5 +4,6 @@ pub mod Mirrors
 pub mod Refused
 pub mod Answers
 pub mod Steps
+pub mod Plain
 pub mod Legality
 pub mod World

@@ -26,9 +26,13 @@ allocate_refusal cache pool key size = refusal_of cache.memory pool key size
 abbrev pub handle_refusal : Cache → Handle → Option Refusal
 handle_refusal cache handle = if is_open (charge_by handle) cache.memory.charges then None else Some ForeignHandle
 
+-- the key has an unexpired item
+abbrev pub is_taken : List ℕ → Cache → Bool
+is_taken key cache = is_some (unexpired cache.now (linked_at key cache.memory.pools))
+
 -- why an item isn't inserted where none may be replaced: the key has an unexpired item, or its handle is refused
 abbrev pub insert_refusal : Cache → Handle → Option Refusal
-insert_refusal cache handle = if is_some (unexpired cache.now (linked_at handle.key cache.memory.pools)) then Some Exists else handle_refusal cache handle
+insert_refusal cache handle = if is_taken handle.key cache then Some Exists else handle_refusal cache handle
 
 -- after this log, the map has an unexpired value for the key
 abbrev pub map_has : List Note → List ℕ → Bool

@@ -12,6 +12,16 @@ pub enum Found<A: Allocator = Global> {
     Miss,
 }
 
+impl<A: Allocator> fmt::Debug for Found<A> {
+    /// A hit shows as the number of the value's bytes.
+    fn fmt<W: fmt::Write>(&self, f: &mut fmt::Formatter<W>) -> fmt::Result {
+        match self {
+            Found::Hit(value) => write!(f, "Hit({})", value.len()),
+            Found::Miss => f.write_str("Miss"),
+        }
+    }
+}
+
 /// What a remove answers.
 #[derive(Clone, Copy, Debug, PartialEq, Eq)]
 pub enum Removed {
@@ -21,7 +31,8 @@ pub enum Removed {
     NotInMemory,
 }
 
-/// An item that wasn't inserted, with its handle.
+/// An item that wasn't inserted, with its handle. It doesn't become a `Refusal` by itself, since the handle must be spent
+/// first: `give_up` the one, and answer the other.
 pub struct Unlinked<A: Allocator = Global> {
     pub refusal: Refusal,
     pub sealed: Sealed<A>,

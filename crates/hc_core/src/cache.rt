@@ -9,6 +9,7 @@ ghost use Rattle.hc_memory.specs.Memory.{linked_at, value_at, blank_of};
 ghost use Rattle.hc_memory.specs.Seen.{filled};
 ghost use Rattle.hc_core.specs.Answers.{found_value};
 ghost use Rattle.hc_core.specs.Cache.{new_cache};
+ghost use Rattle.hc_core.specs.Mirrors.{Follows};
 ghost use Rattle.hc_core.specs.Refused.{allocate_refusal, handle_refusal, insert_refusal, map_has};
 ghost use Rattle.hc_core.specs.Steps.{expiry_of, opened, after_allocate, after_discard, after_insert, after_find, after_remove, removed_of, after_tick};
 
@@ -57,7 +58,7 @@ impl<N: Notes<Note<A>>, A: Allocator> Model for Core<N, A> {
 impl<N: Notes<Note<A>>, A: Allocator + Copy> Core<N, A> {
     /// An empty cache, which tells `notes` what it does. Its items are allocated by `alloc`, and it keeps a copy of the
     /// configuration, which has no flash: that comes later. Refused for the first number of the configuration that is
-    /// outside its limits, as `Config::check` is, and with `NoMemory`.
+    /// outside its limits, as `Config::check` is, and with `NoMemory`; then `notes` are dropped.
     pub fn new(alloc: A, config: &Config<A>, notes: N) -> Result<Core<N, A>, Refusal>
         requires log { IfLog (N.told notes) (λ log. log ≡ []) }
         requires flash { config.now.flash ≡ None }
@@ -111,16 +112,20 @@ impl<N: Notes<Note<A>>, A: Allocator> Core<N, A> {
         &self.pools
     }
 
-    /// Who was told the notes. A log that is kept is legal.
+    /// Who was told the notes. A log that is kept is legal, and its books are the cache's: its charges are those of the
+    /// pools, its map has what their items have, and its clock and calls are the cache's own.
     #[must_use]
     pub fn notes(&self) -> &N
         ensures log { N.told result.now ≡ self.now.log }
         ensures legal { IfLog self.now.log (Legal self.now.config) }
+        ensures books { Follows self.now.log self.now.config self.now.memory self.now.calls self.now.now }
     {
         &self.notes
     }
 
-    /// Moves the clock on to `moment` (seconds) and answers the moment that holds then: an earlier one is ignored.
+    /// Moves the clock on to `moment` (seconds) and answers the moment that holds then: an earlier one is ignored. The
+    /// clock begins at 0, and an item's time to live counts from the moment that holds. So tick to the day's seconds
+    /// before the first item is stored: an item with a time to live that was stored before expires at that tick.
     /// Refused with `NoMemory`, only where notes are kept.
     pub fn tick(&mut self, moment: u64) -> Result<u64, Refusal>
         ensures ok { OnOk result (self.new ≡ after_tick self.old moment) }
@@ -218,7 +223,7 @@ impl<N: Notes<Note<A>>, A: Allocator> Core<N, A> {
 impl<N: Notes<Note<A>>, A: Allocator + Clone> Core<N, A> {
     /// Makes room in the pool for an item of this key and of `size` bytes that expires `ttl` seconds from now (0: never),
     /// and charges it: the items that were used longest ago are evicted, none while there is room. The item can't be
-    /// found until its handle is sealed and inserted. Refused with `NoPool`, `ValueTooLong` and `NoRoom`, the first that
+    /// found until its handle is sealed and inserted. Tick before the first one, as `tick` says. Refused with `NoPool`, `ValueTooLong` and `NoRoom`, the first that
     /// holds, and with `NoMemory`; then the key comes back.
     pub fn allocate(
         &mut self,
@@ -229,6 +234,7 @@ impl<N: Notes<Note<A>>, A: Allocator + Clone> Core<N, A> {
     ) -> Result<Blank<A>, Uncharged<A>>
         ensures ok { OnOk result (self.new ≡ after_allocate self.old pool key size) }
         ensures blank { IfOk result (λ blank. blank ≡ blank_of self.old.memory pool key size (expiry_of self.old.now ttl)) }
+        ensures mine { IfOk result (λ blank. is_open (charge_by blank) self.new.memory.charges ≡ true) }
         ensures fits { OnOk result (allocate_refusal self.old pool key size ≡ None) }
         ensures err { OnErr result (self.new ≡ self.old) }
         ensures why { IfErr result (λ e. (allocate_refusal self.old pool key size ≡ Some e.refusal) ⊎ ((allocate_refusal self.old pool key size ≡ None) × (e.refusal ≡ Refusal.NoMemory))) }

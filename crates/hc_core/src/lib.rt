@@ -5,6 +5,7 @@ mod answers;
 mod cache;
 mod giving_up;
 mod laws;
+mod plain;
 mod plans;
 mod tells;
 
@@ -12,3 +13,8 @@ pub use answers::{Found, Removed, Unlinked};
 pub use cache::Core;
 pub use giving_up::{give_up, give_up_blank};
 pub use laws::steps_are_legal;
+
+// The types of the calls' signatures, so that a caller needs no other crate.
+pub use hc_history::{Counting, Kept, Kind, Note, Notes, Op, Reply, Said, Says, Silent, Stats};
+pub use hc_memory::{Blank, Fill, Pools, ReadHandle, Sealed, Uncharged, Usage};
+pub use hc_types::{Cause, Config, FlashConfig, Key, PoolSize, Refusal, Scope, Why};

@@ -2,6 +2,7 @@
 use Rattle.std.proofs.Common.{◌≡◌, ◌+◌, Bool, true, false, not, ◌&&◌, List, [], ◌∷◌, ◌++◌, length, Option, None, Some, refl, sym, ◌∙◌, subst, append_assoc, append-nil}
 use mathlib.Core.Bool.{cond}
 use Rattle.hc_types.specs.Config.{Config}
+use Rattle.hc_types.specs.Limits.{key_refusal}
 use Rattle.hc_types.specs.declared.refusal.Refusal.{Refusal}
 use Rattle.hc_memory.specs.Item.{Handle, charge_by}
 use Rattle.hc_memory.specs.Charges.{is_open}
@@ -10,13 +11,13 @@ use Rattle.hc_history.specs.Note.{Note, Freed}
 use Rattle.hc_history.specs.Told.{Nothing}
 use Rattle.hc_history.specs.Lawful.{Legal}
 use Rattle.hc_core.specs.Cache.{Cache}
-use Rattle.hc_core.specs.Refused.{allocate_refusal}
+use Rattle.hc_core.specs.Refused.{allocate_refusal, is_taken}
 use Rattle.hc_core.specs.Steps.{after_discard, insert_notes, after_insert}
 use Rattle.hc_core.specs.Legality.{Led}
 use Rattle.hc_core.proofs.Opening.{opened-mine}
 use Rattle.hc_core.proofs.Leading.{steps-are-legal}
 use Rattle.hc_lines.specs.Steps.{NewItem, Step, Set, Add, Get, Del, Now}
-use Rattle.hc_trace.specs.Moves.{Moved, unless, key_refusal, handle_of, after_open, open_notes, inserted, given_up, is_taken, finished, stored, move}
+use Rattle.hc_trace.specs.Moves.{Moved, unless, handle_of, after_open, open_notes, inserted, given_up, finished, stored, move}
 use Rattle.hc_trace.specs.Trace.{empty_cache, notes_of, LogsAreLegal}
 
 -- the step leads on from a cache whose log is this

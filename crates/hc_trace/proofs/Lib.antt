@@ -3,3 +3,4 @@ pub mod Same
 pub mod Streams
 pub mod Legality
 pub mod Running
+pub mod Puts

@@ -1,5 +1,6 @@
 -- What a step tells.
 use Rattle.std.proofs.Common.{◌≡◌, ◌+◌, Bool, true, false, not, ◌&&◌, if◌then◌else◌, List, [], ◌∷◌, ◌++◌, length, Option, None, Some, refl, sym, ◌∙◌, ap}
+use Rattle.hc_types.specs.Limits.{key_refusal}
 use Rattle.hc_types.specs.declared.refusal.Refusal.{Refusal}
 use Rattle.hc_memory.specs.Item.{Handle}
 use Rattle.hc_memory.specs.Memory.{linked_at}
@@ -8,11 +9,11 @@ use Rattle.hc_history.specs.Told.{Heard, Nothing, Counts, told_more, counts_more
 use Rattle.hc_history.specs.declared.stats.Stats.{Stats}
 use Rattle.hc_history.proofs.Telling.{told-nothing, told-twice}
 use Rattle.hc_core.specs.Cache.{Cache}
-use Rattle.hc_core.specs.Refused.{allocate_refusal}
+use Rattle.hc_core.specs.Refused.{allocate_refusal, is_taken}
 use Rattle.hc_core.specs.Steps.{insert_notes}
 use Rattle.hc_lines.specs.Steps as steps
 use Rattle.hc_lines.specs.Steps.{NewItem, Step, Set, Add, Get, Del}
-use Rattle.hc_trace.specs.Moves.{Moved, unless, key_refusal, handle_of, after_open, open_notes, inserted, given_up, is_taken, finished, stored, move}
+use Rattle.hc_trace.specs.Moves.{Moved, unless, handle_of, after_open, open_notes, inserted, given_up, finished, stored, move}
 use Rattle.hc_lines.specs.Texts.{line_text, answer_text, losses_text, loss_text}
 use Rattle.hc_trace.specs.Trace.{step_text}
 use Rattle.hc_trace.specs.Machine.{losses_in, told_text}

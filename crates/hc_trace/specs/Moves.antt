@@ -1,13 +1,13 @@
 -- What a step of a trace does to the cache.
-use Rattle.std.specs.Prelude.{ℕ, ◌+◌, ◌==◌, nat_lt, max, Bool, true, false, not, ◌&&◌, is_some, List, [], ◌∷◌, ◌++◌, length, Option, Some, None, if◌then◌else◌}
+use Rattle.std.specs.Prelude.{ℕ, ◌+◌, max, Bool, true, false, not, ◌&&◌, List, [], ◌∷◌, ◌++◌, length, Option, Some, None, if◌then◌else◌}
+use Rattle.hc_types.specs.Limits.{key_refusal}
 use Rattle.hc_types.specs.declared.refusal.Refusal.{Refusal}
-use Rattle.hc_types.specs.declared.refusal.Refusal.TheVariants.{KeyEmpty, KeyTooLong, Exists}
+use Rattle.hc_types.specs.declared.refusal.Refusal.TheVariants.{Exists}
 use Rattle.hc_memory.specs.Item.{Item, Handle}
-use Rattle.hc_memory.specs.Pool.{unexpired}
 use Rattle.hc_memory.specs.Memory.{linked_at, value_at}
 use Rattle.hc_history.specs.Note.{Note, Freed}
 use Rattle.hc_core.specs.Cache.{Cache}
-use Rattle.hc_core.specs.Refused.{allocate_refusal}
+use Rattle.hc_core.specs.Refused.{allocate_refusal, is_taken}
 use Rattle.hc_core.specs.Steps.{opened, part_of_allocate, after_allocate, after_discard, insert_notes, after_insert, find_notes, after_find, remove_notes, after_remove, tick_notes, after_tick}
 use Rattle.hc_lines.specs.Steps.{NewItem, Step, Set, Add, Get, Del, Now, Answer, Stored, Refused, Hit, Miss, Found, Absent, Moment}
 
@@ -21,9 +21,6 @@ pub record Moved : Type 0 where
 abbrev pub unless : Option Refusal → Cache → Moved → Moved
 unless None cache moved = moved
 unless (Some refusal) cache moved = record { cache = cache; answer = Refused refusal; notes = [] }
-
-abbrev pub key_refusal : List ℕ → Option Refusal
-key_refusal key = if length key == 0 then Some KeyEmpty else (if nat_lt 255 (length key) then Some KeyTooLong else None)
 
 -- ---- an item that is to be stored
 
@@ -53,10 +50,6 @@ given_up handle cache part = record {
   answer = Refused Exists;
   notes = part ++ Freed handle.number ∷ [];
 }
-
--- the key has an unexpired item
-abbrev pub is_taken : List ℕ → Cache → Bool
-is_taken key cache = is_some (unexpired cache.now (linked_at key cache.memory.pools))
 
 -- Where the key's item may be replaced, it is. Otherwise an unexpired one stays.
 abbrev pub finished : Bool → Handle → Cache → List Note → Moved

@@ -9,10 +9,8 @@ ghost use Rattle.hc_lines.specs.Texts.{fault_text};
 
 use crate::state::State;
 use crate::steps::take_step;
-use hc_core::Core;
-use hc_history::Counting;
+use hc_core::{Config, Core, Counting, PoolSize, Refusal};
 use hc_lines::{Line, Order, add_fault, add_refusal, add_stats, add_verdict, line_in};
-use hc_types::{Config, PoolSize, Refusal};
 use std::alloc::{AllocError, Global};
 
 // The fault at the line after so many. The trace stops.
@@ -116,7 +114,7 @@ fn obey(
         Order::NoFlash => end_configuration(alloc, state, out, taken),
         Order::Do(step) => {
             if let State::Running(core) = state {
-                take_step(alloc, core, out, step)?;
+                take_step(core, out, step)?;
                 return Ok(true);
             }
             fault(out, taken)

@@ -2,9 +2,7 @@
 ghost use Rattle.std.specs.Prelude.{◌≡◌, ◌++◌, ◌∷◌, [], OnOk};
 ghost use Rattle.hc_trace.specs.Trace.{config_of};
 
-use hc_core::Core;
-use hc_history::Counting;
-use hc_types::{Config, PoolSize};
+use hc_core::{Config, Core, Counting, PoolSize};
 use std::alloc::{AllocError, Global};
 use std::marker::Model;
 

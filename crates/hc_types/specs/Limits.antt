@@ -1,14 +1,18 @@
--- The limits of a configuration.
+-- The limits of keys and of a configuration.
 use Rattle.std.specs.Prelude.{ℕ, ◌-◌, ◌==◌, nat_lt, nat_le, Bool, true, not, ◌&&◌, ◌||◌, List, [], ◌∷◌, length, Option, Some, None, if◌then◌else◌}
 use Rattle.hc_types.specs.declared.config.PoolSize.{PoolSize}
 use Rattle.hc_types.specs.declared.config.FlashConfig.{FlashConfig}
 use Rattle.hc_types.specs.declared.refusal.Refusal.{Refusal}
-use Rattle.hc_types.specs.declared.refusal.Refusal.TheVariants.{BadPool, BadPage, BadBuckets, BadRegions, BadSmallMax, BadQueue, BadBits}
+use Rattle.hc_types.specs.declared.refusal.Refusal.TheVariants.{KeyEmpty, KeyTooLong, BadPool, BadPage, BadBuckets, BadRegions, BadSmallMax, BadQueue, BadBits}
 use Rattle.hc_types.specs.Config.{Config}
 
 -- the number lies between these two, which it may be
 abbrev pub is_within : ℕ → ℕ → ℕ → Bool
 is_within least most n = nat_le least n && nat_le n most
+
+-- why these bytes are no key
+abbrev pub key_refusal : List ℕ → Option Refusal
+key_refusal key = if length key == 0 then Some KeyEmpty else (if nat_lt 255 (length key) then Some KeyTooLong else None)
 
 abbrev pub pool_fits : PoolSize → Bool
 pool_fits pool = is_within 64 4294967296 pool.bytes && is_within 1 1048576 pool.items

@@ -1,5 +1,5 @@
 //! Tests of what only code can say of the core: cores whose notes are kept, counted or silent, handles that another cache
-//! made, writes past an item's end, values that are read when their item is gone, clean marks, and runs with slots.
+//! made, plain calls, writes past an item's end, values that are read when their item is gone, clean marks, and runs with slots.
 #![tactic(auto)]
 
 #[cfg(test)]
@@ -12,6 +12,8 @@ mod foreign;
 mod marks;
 #[cfg(test)]
 mod memory;
+#[cfg(test)]
+mod plain;
 #[cfg(test)]
 mod reads;
 #[cfg(test)]
