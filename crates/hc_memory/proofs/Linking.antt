@@ -144,6 +144,7 @@ sound-linked pools charges rest made c pool item s at is costs sum none =
     let next : Pool = record pool { items = pool.items ++ item ∷ [] } in
     let less : (f : Open → ℕ) → tally f rest ≤ tally f charges = λ f. omega (arith, sum f) in
     record {
+      some = omega (arith, s.some, length-set pools c.pool next);
       few = omega (arith, s.few, length-set pools c.pool next);
       within = λ j there found. ⊎_elim
           (λ (both : (j ≡ c.pool) × (there ≡ next)). subst (λ (p : Pool). IsWithin (usage_of j rest) p) (sym both.1) (subst (λ (n : ℕ). IsWithin (usage_of n rest) next) (sym both.0) (linked_in charges rest c pool item costs sum (s.within c.pool pool at))))

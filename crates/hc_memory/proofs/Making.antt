@@ -35,8 +35,9 @@ none_at_all : (key : List ℕ) (sizes : List PoolSize) → items_at key (map emp
 none_at_all key [] = refl
 none_at_all key (size ∷ sizes) = omega (arith, none_at_all key sizes)
 
-sound_of : (sizes : List PoolSize) → length sizes ≤ 16 → all_fit sizes ≡ true → Sound (map empty_pool sizes) [] 0
-sound_of sizes few fit = record {
+sound_of : (sizes : List PoolSize) → 1 ≤ length sizes → length sizes ≤ 16 → all_fit sizes ≡ true → Sound (map empty_pool sizes) [] 0
+sound_of sizes some few fit = record {
+  some = omega (arith, some, length-map sizes empty_pool);
   few = omega (arith, few, length-map sizes empty_pool);
   within = λ i pool at. let m = made_of sizes i pool fit at in record {
     size = m.0;
@@ -89,7 +90,8 @@ pub sound-new : (config : Config) → first_wrong config ≡ None → Sound (map
 sound-new config h =
     let s = size_step config.pools (wrong_behind config.flash) (pools_fit config.pools) refl h in
     let two = and_parts (is_within 1 16 (length config.pools)) (all_fit config.pools) s.0 in
-    (sound_of config.pools (within_of 1 16 (length config.pools) two.0).1 two.1, flash_of config.flash s.1)
+    let many = within_of 1 16 (length config.pools) two.0 in
+    (sound_of config.pools many.0 many.1 two.1, flash_of config.flash s.1)
 
 -- ---- room in a pool that is there
 

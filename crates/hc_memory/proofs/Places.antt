@@ -1,12 +1,12 @@
 -- The place of an open charge, and what its end leaves.
-use Rattle.std.proofs.Common.{◌≡◌, ℕ, zero, suc, ◌+◌, ◌-◌, ◌<◌, ◌≤◌, ◌==◌, nat_eq, nat_lt, Bool, true, false, cond, ◌&&◌, List, [], ◌∷◌, map, length, Option, Some, None, find, position, take, slice_get, slice_set, get_or, swap_remove, option_map, IsSome, refl, sym, ap, ◌∙◌, arith, bytes_eq, ltb-true, ltb-false}
+use Rattle.std.proofs.Common.{◌≡◌, ℕ, zero, suc, ◌+◌, ◌-◌, ◌<◌, ◌≤◌, ◌==◌, nat_eq, nat_lt, Bool, true, false, cond, ◌&&◌, List, [], ◌∷◌, map, length, Option, Some, None, find, position, take, slice_get, slice_set, get_or, swap_remove, option_map, IsSome, refl, sym, ap, ◌∙◌, arith, bytes_eq}
 use Rattle.std.specs.List.{position_or_len}
 use Rattle.std.specs.Option.{option_map_or}
 use Rattle.std.specs.Map.{lookup, keys_of}
 use Rattle.std.proofs.lemmas.List.{length-map}
 use Rattle.std.proofs.lemmas.List.Folds.{find_at}
 use Rattle.std.proofs.lemmas.List.Sums.{sum_by-swap_remove}
-use Rattle.std.proofs.lemmas.Option.{slice_get_within, slice_get-get_or, get_or_from_slice_get, slice_get-map, slice_get_past}
+use Rattle.std.proofs.lemmas.Option.{slice_get_within, slice_get-get_or, get_or_from_slice_get, slice_get-map}
 use Rattle.indexmap.specs.IndexMap.{swap_remove_by}
 use Rattle.indexmap.proofs.SetLemmas.{map-swap_remove}
 use Rattle.hc_types.specs.Tally.{tally, count}

@@ -38,6 +38,7 @@ within-less usage old new less w = record {
 
 pub sound-shrinks : (pools : List Pool) (charges : List Open) (made i : ℕ) (old new : Pool) → Sound pools charges made → slice_get pools i ≡ Some old → Shrinks old new → Sound (slice_set pools i new) charges made
 sound-shrinks pools charges made i old new s at less = record {
+  some = omega (arith, s.some, length-set pools i new);
   few = omega (arith, s.few, length-set pools i new);
   within = λ j pool found. ⊎_elim
       (λ (both : (j ≡ i) × (pool ≡ new)). subst (λ (p : Pool). IsWithin (usage_of j charges) p) (sym both.1) (subst (λ (n : ℕ). IsWithin (usage_of n charges) new) (sym both.0) (within-less (usage_of i charges) old new less (s.within i old at))))
@@ -57,6 +58,7 @@ sound-shrinks pools charges made i old new s at less = record {
 
 pub sound-fewer : (pools : List Pool) (charges rest : List Open) (made : ℕ) → Sound pools charges made → ((f : Open → ℕ) → tally f rest ≤ tally f charges) → Sound pools rest made
 sound-fewer pools charges rest made s less = record {
+  some = s.some;
   few = s.few;
   within = λ i pool found. let w = s.within i pool found in record {
     size = w.size;
@@ -118,6 +120,7 @@ placed_step charges c n false e lt z = absurd (grind (arith, e, lt))
 -- a new charge in a pool with room for it
 pub sound-charged : (pools : List Pool) (charges : List Open) (made : ℕ) (c : Open) (pool : Pool) → Sound pools charges made → slice_get pools c.pool ≡ Some pool → c.number ≡ made + 1 → is_full pool.size (usage_of c.pool charges) (open_cost c) pool.items ≡ false → Sound pools (charges ++ c ∷ []) (made + 1)
 sound-charged pools charges made c pool s at number room = record {
+  some = s.some;
   few = s.few;
   within = λ i other found. charge_step charges c i other pool (c.pool == i) refl
       (λ e. same_pool pools c.pool i pool other at found (eqb-true c.pool i e))

@@ -149,6 +149,7 @@ fewer_at key f less (p ∷ pools) = omega (arith, (less p).keys key, fewer_at ke
 -- each pool has no more than before
 pub sound-all : (f : Pool → Pool) (pools : List Pool) (charges : List Open) (made : ℕ) → Sound pools charges made → ((pool : Pool) → Shrinks pool (f pool)) → Sound (map f pools) charges made
 sound-all f pools charges made s less = record {
+  some = omega (arith, s.some, length-map pools f);
   few = omega (arith, s.few, length-map pools f);
   within = λ i pool found. let b = before f pools i pool found in subst (λ (p : Pool). IsWithin (usage_of i charges) p) (sym b.2) (within-less (usage_of i charges) b.0 (f b.0) (less b.0) (s.within i b.0 b.1));
   own = λ i pool found. let b = before f pools i pool found in subst (λ (p : Pool). count (λ (item : Item). not (item.pool == i)) p.items ≡ 0) (sym b.2) (omega (arith, (less b.0).strays i, s.own i b.0 b.1));

@@ -6,8 +6,9 @@ use Rattle.hc_types.specs.Loss as loss
 use Rattle.hc_types.specs.Loss.{covers}
 use Rattle.hc_types.specs.declared.config.FlashConfig.{FlashConfig}
 use Rattle.hc_types.specs.declared.config.PoolSize.{PoolSize}
+use Rattle.hc_memory.specs.declared.usage.PoolUsage.{PoolUsage}
 use Rattle.hc_memory.specs.Item.{Item, Open, Handle, item_by}
-use Rattle.hc_memory.specs.Pool.{Pool, item_at, without, used, is_full, kept, dropped, unexpired, unmarked_where}
+use Rattle.hc_memory.specs.Pool.{Pool, linked_usage, item_at, without, used, is_full, kept, dropped, unexpired, unmarked_where}
 use Rattle.hc_memory.specs.Charges.{usage_of, closed}
 
 -- The pools, the one with the number 0 first; the charges that are open; how many charges were made; and the flash
@@ -52,6 +53,10 @@ change_home key f [] = []
 change_home key f (pool ∷ pools) = if has key pool then f pool ∷ pools else pool ∷ change_home key f pools
 
 -- ---- room
+
+-- the limits of a pool, and what is linked and open in it
+abbrev pub pool_usage : Memory → ℕ → Option PoolUsage
+pool_usage memory number = option_map (λ (pool : Pool). record { limits = pool.size; linked = linked_usage pool.items; open_charges = usage_of number memory.charges }) (slice_get memory.pools number)
 
 -- however much were evicted, there would be no room in the pool for so many bytes, or for one more charge
 abbrev pub is_hopeless : Memory → ℕ → ℕ → Bool

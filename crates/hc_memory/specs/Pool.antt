@@ -20,6 +20,10 @@ is_at key item = bytes_eq key item.key
 abbrev pub bytes_of : List Item → ℕ
 bytes_of items = tally cost items
 
+-- what they are charged, and how many they are
+abbrev pub linked_usage : List Item → Usage
+linked_usage items = record { bytes = bytes_of items; number = length items }
+
 -- the item under a key
 abbrev pub item_at : List ℕ → List Item → Option Item
 item_at key [] = None

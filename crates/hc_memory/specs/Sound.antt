@@ -19,6 +19,7 @@ abbrev pub items_at : List ℕ → List Pool → ℕ
 items_at key pools = tally (λ (pool : Pool). count (is_at key) pool.items) pools
 
 pub record Sound (pools : List Pool) (charges : List Open) (made : ℕ) : Type 0 where
+  pub some : 1 ≤ length pools
   pub few : length pools ≤ 16
   -- each pool is within its limits
   pub within : (i : ℕ) (pool : Pool) → slice_get pools i ≡ Some pool → IsWithin (usage_of i charges) pool

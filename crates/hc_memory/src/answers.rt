@@ -8,6 +8,7 @@ use std::fmt;
 
 /// A charge that was made: the handle of its item, and the items that went to make room for it, the one that was used
 /// longest ago first.
+#[derive(Debug)]
 pub struct Charged<A: Allocator = Global> {
     pub blank: Blank<A>,
     pub victims: Vec<Item<A>, A>,
@@ -18,6 +19,17 @@ pub struct Charged<A: Allocator = Global> {
 pub struct Uncharged<A: Allocator = Global> {
     pub refusal: Refusal,
     pub key: Key<A>,
+}
+
+impl<A: Allocator> From<Uncharged<A>> for Refusal {
+    ghost use Rattle.std.specs.Prelude.{◌≡◌};
+
+    ghost from_gives = { λ uncharged refusal. refusal ≡ uncharged.refusal };
+
+    // The key is dropped.
+    fn from(uncharged: Uncharged<A>) -> Refusal {
+        uncharged.refusal
+    }
 }
 
 impl<A: Allocator> fmt::Display for Uncharged<A> {

@@ -25,9 +25,10 @@ impl Fill<'_> {
     }
 
     // The bytes, in memory of their own.
-    pub(crate) fn to_vec<A: Allocator>(self, alloc: A) -> Result<Vec<u8, A>, AllocError>
+    pub(crate) fn to_vec<A: Allocator + Clone>(self, alloc: &A) -> Result<Vec<u8, A>, AllocError>
         ensures { IfOk result (λ bytes. bytes.items ≡ filled self.entry) }
     {
+        let alloc = alloc.clone()?;
         match self {
             Fill::Copied(bytes) => Vec::from_slice(alloc, bytes),
             Fill::Repeated(count, byte) => repeated(alloc, count, byte),

@@ -1,6 +1,6 @@
 // Write handles, each of which must be spent, and read handles.
 ghost use Rattle.std.specs.Prelude.{◌≡◌, ◌==◌, ◌+◌, ◌≤◌, ◌↔◌, ℕ, List, length, IsOk, IfOk, IfErr, OnOk, OnErr};
-ghost use Rattle.hc_memory.specs.Item.{item_by};
+ghost use Rattle.hc_memory.specs.Item.{item_by, charge_by};
 ghost use Rattle.hc_memory.specs.Seen.{item_of};
 ghost use Rattle.hc_memory.specs.Writes.{written, EachByte};
 
@@ -12,7 +12,7 @@ use std::marker::Model;
 
 /// An item that is being written: the first half of CacheLib's write handle. Contracts see it as a `Handle`.
 ///
-/// It isn't `Drop`, so a handle that is forgotten doesn't compile: it must be sealed or discarded.
+/// It isn't `Drop`, so a handle that is forgotten doesn't compile: it must be sealed, discarded or abandoned.
 #[must_use]
 pub struct Blank<A: Allocator = Global> {
     bytes: Vec<u8, A>,
@@ -32,7 +32,7 @@ impl<A: Allocator> Model for Blank<A> {
 
 /// An item that was written: the second half of CacheLib's write handle. Contracts see it as a `Handle`.
 ///
-/// It isn't `Drop`, so a handle that is forgotten doesn't compile: it must be inserted or discarded.
+/// It isn't `Drop`, so a handle that is forgotten doesn't compile: it must be inserted, discarded or abandoned.
 #[must_use]
 pub struct Sealed<A: Allocator = Global> {
     value: Bytes<A>,
@@ -93,6 +93,7 @@ impl<A: Allocator> Blank<A> {
         ensures ok { OnOk result (self.new ≡ record self.old { value = written self.old.value at bytes.now }) }
         ensures refusal { IfErr result (λ refusal. refusal ≡ Refusal.OutOfItem) }
         ensures err { OnErr result (self.new ≡ self.old) }
+        ensures charge { charge_by self.new ≡ charge_by self.old }
     {
         let size = self.len();
         if at > size || bytes.len() > size - at {
@@ -126,24 +127,29 @@ impl<A: Allocator> Blank<A> {
     }
 
     /// Its key.
-    pub(crate) fn key(&self) -> &Key<A>
+    pub fn key(&self) -> &Key<A>
         ensures { result.now ≡ self.now.key }
     {
         &self.key
     }
 
-    /// Gives the handle up, with what was written. Answers the number of its charge.
-    pub(crate) fn discard(self) -> u64
-        ensures { result ≡ self.number }
+    /// The second at which it expires (0: never).
+    pub fn expiry(&self) -> u64
+        ensures { result ≡ self.now.expiry }
     {
+        self.expiry
+    }
+
+    /// Ends a handle whose cache is gone, with what was written. Where the cache lives its charge stays open there for
+    /// good, and takes the room: discard the handle there instead.
+    pub fn abandon(self) {
         let Blank {
             bytes: _,
-            number,
+            number: _,
             pool: _,
             key: _,
             expiry: _,
         } = self;
-        number
     }
 }
 
@@ -259,18 +265,16 @@ impl<A: Allocator> Sealed<A> {
         }
     }
 
-    /// Gives the handle up, with what was written. Answers the number of its charge.
-    pub(crate) fn discard(self) -> u64
-        ensures { result ≡ self.number }
-    {
+    /// Ends a handle whose cache is gone, with what was written. Where the cache lives its charge stays open there for
+    /// good, and takes the room: discard the handle there instead.
+    pub fn abandon(self) {
         let Sealed {
             value: _,
-            number,
+            number: _,
             pool: _,
             key: _,
             expiry: _,
         } = self;
-        number
     }
 }
 

@@ -10,6 +10,7 @@ mod links;
 mod open;
 mod pool;
 mod pools;
+mod shown;
 mod unmark;
 mod usage;
 
@@ -19,4 +20,4 @@ pub use handles::{Blank, ReadHandle, Sealed, each_byte};
 pub use item::Item;
 pub use pool::Glance;
 pub use pools::Pools;
-pub use usage::Usage;
+pub use usage::{PoolUsage, Usage};

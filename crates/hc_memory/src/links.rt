@@ -59,8 +59,10 @@ impl<A: Allocator> Pools<A> {
     {
         match self.place_of(&sealed) {
             Some(place) => {
+                let number = sealed.number();
                 self.free_at(place);
-                Ok(sealed.discard())
+                sealed.abandon();
+                Ok(number)
             }
             None => Err(sealed),
         }
@@ -76,8 +78,10 @@ impl<A: Allocator> Pools<A> {
     {
         match self.place_of_blank(&blank) {
             Some(place) => {
+                let number = blank.number();
                 self.free_at(place);
-                Ok(blank.discard())
+                blank.abandon();
+                Ok(number)
             }
             None => Err(blank),
         }

@@ -5,7 +5,7 @@ ghost use Rattle.lru.specs.LruCache.{lru_cache, last_entry};
 ghost use Rattle.hc_types.specs.Loss.{scope_of};
 ghost use Rattle.hc_types.specs.Tally.{count};
 ghost use Rattle.hc_memory.specs.Item.{cost as item_cost};
-ghost use Rattle.hc_memory.specs.Pool.{bytes_of, is_at, item_at, without, used, unmarked_where, marked_keys, Grows, is_full, kept, dropped};
+ghost use Rattle.hc_memory.specs.Pool.{bytes_of, linked_usage, is_at, item_at, without, used, unmarked_where, marked_keys, Grows, is_full, kept, dropped};
 ghost use Rattle.hc_memory.specs.Seen.{item_of};
 
 use crate::item::{Held, Item, expired};
@@ -78,23 +78,15 @@ impl<A: Allocator> Pool<A> {
         self.size
     }
 
-    /// How many items it has. No key has two.
+    /// What its items are charged.
     #[must_use]
-    #[allow(clippy::len_without_is_empty)]
-    pub fn len(&self) -> usize
-        ensures value { result ≡ length self.now.items }
-        ensures fits { result < 2 ^ 63 }
-        ensures unique { (key : List ℕ) → count (is_at key) self.now.items ≤ 1 }
+    pub fn usage(&self) -> Usage
+        ensures { result ≡ linked_usage self.now.items }
     {
-        self.cache.len()
-    }
-
-    /// What its items are charged, in bytes.
-    #[must_use]
-    pub fn bytes(&self) -> u64
-        ensures { result ≡ bytes_of self.now.items }
-    {
-        self.bytes
+        Usage {
+            bytes: self.bytes,
+            number: self.cache.len() as u64,
+        }
     }
 
     /// Whether an item can be found under the key, expired or not. It isn't used.
@@ -127,9 +119,9 @@ impl<A: Allocator> Pool<A> {
         ensures items { self.new ≡ record { size = self.old.size; items = without key.now self.old.items } }
     {
         let _len = self.cache.len();
-        let held = self.cache.pop(key);
-        self.bytes -= freed(key.len() as u64, &held);
-        number_of(&held)
+        let (number, freed) = taken(key.len() as u64, self.cache.pop(key));
+        self.bytes -= freed;
+        number
     }
 
     /// Takes out the item that was used longest ago.
@@ -249,8 +241,9 @@ impl<A: Allocator + Clone> Pool<A> {
             Ok(old) => old,
             Err(failed) => return Err(failed),
         };
-        self.bytes = self.bytes - freed(key_len, &old) + cost;
-        Ok(number_of(&old))
+        let (number, freed) = taken(key_len, old);
+        self.bytes = self.bytes - freed + cost;
+        Ok(number)
     }
 }
 
@@ -264,24 +257,15 @@ fn pop_oldest<A: Allocator>(
     cache.pop_lru()
 }
 
-/// The number of the item that was there, if one was.
-fn number_of<A: Allocator>(held: &Option<Held<A>>) -> Option<u64>
-    ensures { result ≡ option_map (λ h. h.number) held.now }
+/// The number of the item that was there under a key of `key_len` bytes, if one was, and what it was charged, in bytes.
+fn taken<A: Allocator>(key_len: u64, held: Option<Held<A>>) -> (Option<u64>, u64)
+    requires { option_map_or (λ h. 32 + key_len + length h.value) held 0 < 2 ^ 64 }
+    ensures number { result.0 ≡ option_map (λ h. h.number) held }
+    ensures freed { result.1 ≡ option_map_or (λ h. 32 + key_len + length h.value) held 0 }
 {
     match held {
-        Some(held) => Some(held.number),
-        None => None,
-    }
-}
-
-/// What the item that was there under a key of `key_len` bytes was charged, if one was, in bytes.
-fn freed<A: Allocator>(key_len: u64, held: &Option<Held<A>>) -> u64
-    requires { option_map_or (λ h. 32 + key_len + length h.value) held.now 0 < 2 ^ 64 }
-    ensures { result ≡ option_map_or (λ h. 32 + key_len + length h.value) held.now 0 }
-{
-    match held {
-        Some(held) => 32 + key_len + held.value.len() as u64,
-        None => 0,
+        Some(held) => (Some(held.number), 32 + key_len + held.value.len() as u64),
+        None => (None, 0),
     }
 }
 

@@ -6,8 +6,7 @@ ghost use Rattle.hc_memory.specs.Planned.{IsPlanned};
 ghost use Rattle.hc_memory.specs.Pool.{is_full, kept, dropped};
 ghost use Rattle.hc_memory.specs.Sound.{Sound, IsWithin};
 ghost use Rattle.hc_memory.specs.Seen.{item_of, filled, glance_of};
-ghost use Rattle.hc_memory.specs.Charges.{usage_of};
-ghost use Rattle.hc_memory.specs.Memory.{empty_pool, home_of, linked_at, value_at, is_hopeless, victims_of, handle_for, unlinked, after_room, after_charge, after_unlink, after_find};
+ghost use Rattle.hc_memory.specs.Memory.{empty_pool, pool_usage, home_of, linked_at, value_at, is_hopeless, victims_of, handle_for, unlinked, after_room, after_charge, after_unlink, after_find};
 
 use crate::answers::{Charged, Uncharged};
 use crate::fill::Fill;
@@ -15,7 +14,7 @@ use crate::handles::{Blank, ReadHandle};
 use crate::item::{Held, Item, expired};
 use crate::open::OpenCharges;
 use crate::pool::{Glance, Pool};
-use crate::usage::Usage;
+use crate::usage::{PoolUsage, Usage};
 use bytes::Bytes;
 use hc_types::{Config, FlashConfig, Key, PoolSize, Refusal, VALUE_MAX, charge};
 use std::alloc::{AllocError, Allocator, Global};
@@ -53,19 +52,25 @@ impl<A: Allocator> Pools<A> {
     #[allow(clippy::len_without_is_empty)]
     pub fn len(&self) -> usize
         ensures value { result ≡ length self.now.pools }
+        ensures least { 1 ≤ result }
         ensures most { result ≤ 16 }
         ensures sound { Sound self.now.pools self.now.charges self.now.made }
     {
         self.pools.len()
     }
 
-    /// What the open charges of the pool with this number come to: their bytes, and how many they are.
+    /// The limits of the pool with this number, and what is linked and open in it. It costs no walk over its items.
     #[must_use]
-    pub fn open_usage(&self, number: u8) -> Usage
+    pub fn usage(&self, number: u8) -> PoolUsage
         requires { number < length self.now.pools }
-        ensures { result ≡ usage_of number self.now.charges }
+        ensures { Some result ≡ pool_usage self.now number }
     {
-        self.charges.usage(number)
+        let pool = &self.pools[usize::from(number)];
+        PoolUsage {
+            limits: pool.size(),
+            linked: pool.usage(),
+            open_charges: self.charges.usage(number),
+        }
     }
 
     /// How many charges are open: as many items are being written, or wait to be linked. At most as many as items fit
@@ -335,7 +340,7 @@ impl<A: Allocator + Clone> Pools<A> {
             None => return Err(AllocError),
         };
         let victims = room_for(alloc, count)?;
-        let bytes = fill.to_vec(alloc.clone()?)?;
+        let bytes = fill.to_vec(alloc)?;
         let copy = key.clone()?;
         Ok(Plan {
             number,

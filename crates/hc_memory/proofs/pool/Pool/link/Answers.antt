@@ -14,8 +14,8 @@ returns-in-Err-clause-succeeds g c =
     let one = unique es c.len-len.ensures.valid.0 c.args.key in
     rw (← c.self.view_is) (λ some. let ok = subst IsOk c.in-Err.is (c.put.ensures.succeeds (sym (is_some-held c.args.key es one) ∙ some)) in absurd (cc))
 
-pub freed-requires : goal.freed-requires
-freed-requires g c =
+pub taken-number-requires : goal.taken-number-requires
+taken-number-requires g c =
     let es = c.self.inside.cache.entries in
     let one = unique es c.len-len.ensures.valid.0 c.args.key in
     let sum = bytes-without c.args.key c.len-key_len.result es c.in-Ok.old one c.len-key_len.ensures.value c.in-Ok.ensures.old in
@@ -28,7 +28,7 @@ overflow_sub-self g c =
     let one = unique es c.len-len.ensures.valid.0 c.args.key in
     let sum = bytes-without c.args.key c.len-key_len.result es c.in-Ok.old one c.len-key_len.ensures.value c.in-Ok.ensures.old in
     let inv = c.self.invariant.0 in
-    omega (arith, sum, inv, c.freed.ensures)
+    omega (arith, sum, inv, c.taken-number.ensures.freed)
 
 pub invariant_of-self-2 : goal.invariant_of-self-2
 invariant_of-self-2 g c =
@@ -39,13 +39,13 @@ invariant_of-self-2 g c =
     let cap = c.self.invariant.1 in
     let put = items_of-put es c.self.inside.cache.cap c.args.key c.args.held one (omega (arith, cap, c.len-len.ensures.fits, c.len-len.ensures.len)) in
     let new = ap bytes_of put ∙ tally-push cost (without c.args.key (items_of es)) (item_of (c.args.key, c.args.held)) in
-    rw c.in-Ok.ensures.entries (omega (arith, sum, inv, new, c.freed.ensures, c.cost-cost.ensures), cap)
+    rw c.in-Ok.ensures.entries (omega (arith, sum, inv, new, c.taken-number.ensures.freed, c.cost-cost.ensures), cap)
 
 pub returns-clause-old : goal.returns-clause-old
 returns-clause-old g c =
     let es = c.self.inside.cache.entries in
     let one = unique es c.len-len.ensures.valid.0 c.args.key in
-    rw (← c.self.view_is) (c.number_of.ensures ∙ ap (option_map (λ (h : Held g.row.A.Denot). h.number)) c.in-Ok.ensures.old ∙ sym (seen-held (λ i. i.number) (λ (h : Held g.row.A.Denot). h.number) (λ e. refl) c.args.key es one))
+    rw (← c.self.view_is) (c.taken-number.ensures.number ∙ ap (option_map (λ (h : Held g.row.A.Denot). h.number)) c.in-Ok.ensures.old ∙ sym (seen-held (λ i. i.number) (λ (h : Held g.row.A.Denot). h.number) (λ e. refl) c.args.key es one))
 
 pub returns-clause-items : goal.returns-clause-items
 returns-clause-items g c =
