@@ -148,8 +148,9 @@ fn read_page<A: Allocator>(
     read_content(alloc, &mut rest)
 }
 
-/// The entries of this page, the oldest first, or `None` where these bytes are no page of this size. The entries share
-/// the page: no key and no value is copied, and the page stays in memory as long as one of them does.
+/// The entries of this page, the oldest first, or `None` where these bytes are no page of this size. Values and keys of
+/// more than 46 bytes share the page, which stays in memory as long as one of them does; a shorter key is copied into
+/// its place.
 pub fn decode_shared<A: Allocator>(
     alloc: A,
     page: &Bytes<A>,
@@ -163,7 +164,7 @@ pub fn decode_shared<A: Allocator>(
 }
 
 /// The entries of this page, the oldest first, or `None` where these bytes are no page of this size. The page is
-/// copied once, and the entries share the copy.
+/// copied once, and the entries share the copy as they share the page of `decode_shared`.
 pub fn decode_page<A: Allocator + Clone>(
     alloc: A,
     page: &[u8],

@@ -79,6 +79,7 @@ impl<F: Flash<A>, A: Allocator> Flash<A> for FailAt<F, A> {
         ensures count_is_full { F.failed self.old.inner + self.old.own ≡ u64.MAX → IsErrOf result FlashError.NoMemory }
         ensures next { self.new.fails_in ≡ self.old.fails_in - 1 }
         ensures fails { self.old.fails_in ≡ 1 → F.failed self.old.inner + self.old.own < u64.MAX → IsErrOf result FlashError.Device }
+        ensures unreached { self.old.fails_in ≡ 1 → self.new.inner ≡ self.old.inner }
         ensures passes { ¬ (self.old.fails_in ≡ 1) → self.new.own ≡ self.old.own }
     {
         match self.pass() {
@@ -96,6 +97,7 @@ impl<F: Flash<A>, A: Allocator> Flash<A> for FailAt<F, A> {
         ensures count_is_full { F.failed self.old.inner + self.old.own ≡ u64.MAX → IsErrOf result FlashError.NoMemory }
         ensures next { self.new.fails_in ≡ self.old.fails_in - 1 }
         ensures fails { self.old.fails_in ≡ 1 → F.failed self.old.inner + self.old.own < u64.MAX → IsErrOf result FlashError.Device }
+        ensures unreached { self.old.fails_in ≡ 1 → self.new.inner ≡ self.old.inner }
         ensures passes { ¬ (self.old.fails_in ≡ 1) → self.new.own ≡ self.old.own }
     {
         match self.pass() {
