@@ -79,6 +79,12 @@ fn back(rt: &impl Abort, core: &mut Core<Kept>, blank: Blank) -> Sealed {
     sealed_back(rt, core, seal(rt, blank))
 }
 
+// That the other cache's handle comes back from this one, and is taken by its own.
+fn assert_back(rt: &impl Abort, core: &mut Core<Kept>, other: &mut Core<Kept>, blank: Blank) {
+    let sealed = back(rt, core, blank);
+    give_up_sealed(rt, other, sealed);
+}
+
 // That a handle of such an item of another cache comes back, and is taken by its own. An item of `a` with three bytes
 // is open in the first pool of the cache that refuses it.
 fn assert_foreign(rt: &impl Abort, alloc: Global, pool: u8, text: &[u8], size: u64) {
@@ -86,8 +92,7 @@ fn assert_foreign(rt: &impl Abort, alloc: Global, pool: u8, text: &[u8], size: u
     let mut other = cache(rt, alloc);
     let own = blank(rt, alloc, &mut core, 0, b"a", 3);
     let foreign = blank(rt, alloc, &mut other, pool, text, size);
-    let foreign = back(rt, &mut core, foreign);
-    give_up_sealed(rt, &mut other, foreign);
+    assert_back(rt, &mut core, &mut other, foreign);
     give_up(rt, &mut core, own);
 }
 

@@ -41,50 +41,106 @@ fn store<'a>(
     }
 }
 
+// A core with the value stored.
+fn stored_core<'a>(
+    rt: &impl Abort,
+    heap: &'a LocalHeap,
+) -> Core<Counting<&'a LocalHeap>, &'a LocalHeap> {
+    let mut core = core(rt, heap);
+    store(rt, heap, &mut core);
+    core
+}
+
+// That the value is found.
+fn assert_hit<'a>(
+    rt: &impl Abort,
+    heap: &'a LocalHeap,
+    core: &mut Core<Counting<&'a LocalHeap>, &'a LocalHeap>,
+) {
+    let key = key(rt, heap);
+    match core.find(0, &key) {
+        Ok(Found::Hit(handle)) => assert!(rt; handle.bytes() == VALUE.as_slice()),
+        _ => panic!(rt; "the item is there, and no memory is wanted"),
+    }
+}
+
 // A block of the heap.
 fn block<'a>(rt: &impl Abort, heap: &'a LocalHeap, size: usize) -> Vec<u8, &'a LocalHeap> {
     Vec::with_capacity(heap, size).expect(rt, "there is memory")
 }
 
-// Takes what is left of the heap, in the smallest blocks.
-fn rest<'a>(rt: &impl Abort, alloc: Global, heap: &'a LocalHeap) -> Vec<Vec<u8, &'a LocalHeap>> {
-    let mut blocks = Vec::new(alloc);
+// Takes what is left of the heap, in the smallest blocks, which go behind these.
+fn take_rest<'a>(rt: &impl Abort, heap: &'a LocalHeap, blocks: &mut Vec<Vec<u8, &'a LocalHeap>>) {
     for _ in 0..heap.size() {
         match Vec::with_capacity(heap, 1) {
             Ok(block) => blocks.push(block).expect(rt, "there is memory"),
-            Err(_) => return blocks,
+            Err(_) => return,
         }
     }
+}
+
+// All that is left of the heap.
+fn rest<'a>(rt: &impl Abort, alloc: Global, heap: &'a LocalHeap) -> Vec<Vec<u8, &'a LocalHeap>> {
+    let mut blocks = Vec::new(alloc);
+    take_rest(rt, heap, &mut blocks);
+    assert!(rt; heap.free() == 0);
     blocks
+}
+
+fn heap(rt: &impl Abort, alloc: Global) -> LocalHeap {
+    LocalHeap::new(alloc, 16_384).expect(rt, "there is memory")
+}
+
+fn assert_found_on_a_full_heap(rt: &impl Abort, alloc: Global, heap: &LocalHeap) {
+    let mut core = stored_core(rt, heap);
+    let blocks = rest(rt, alloc, heap);
+    assert_hit(rt, heap, &mut core);
+    drop(blocks);
 }
 
 #[test]
 fn a_find_that_hits_takes_no_memory(rt: HostRuntime) {
-    let heap = LocalHeap::new(rt.alloc(), 16_384).expect(&rt, "there is memory");
-    let mut core = core(&rt, &heap);
-    store(&rt, &heap, &mut core);
-    let blocks = rest(&rt, rt.alloc(), &heap);
-    assert!(rt; heap.free() == 0);
-    match core.find(0, &key(&rt, &heap)) {
-        Ok(Found::Hit(handle)) => assert!(rt; handle.bytes() == VALUE.as_slice()),
-        _ => panic!(rt; "the item is there, and no memory is wanted"),
+    assert_found_on_a_full_heap(&rt, rt.alloc(), &heap(&rt, rt.alloc()));
+}
+
+// Three blocks of 48 bytes. Behind each is a smallest block, which goes behind these.
+fn gaps<'a>(
+    rt: &impl Abort,
+    alloc: Global,
+    heap: &'a LocalHeap,
+    walls: &mut Vec<Vec<u8, &'a LocalHeap>>,
+) -> Vec<Vec<u8, &'a LocalHeap>> {
+    let mut gaps = Vec::new(alloc);
+    for _ in 0..3 {
+        gaps.push(block(rt, heap, 48)).expect(rt, "there is memory");
+        walls.push(block(rt, heap, 1)).expect(rt, "there is memory");
     }
+    gaps
+}
+
+// All of the heap but three blocks of 48 bytes, none beside another.
+fn all_but_gaps<'a>(
+    rt: &impl Abort,
+    alloc: Global,
+    heap: &'a LocalHeap,
+) -> Vec<Vec<u8, &'a LocalHeap>> {
+    let mut blocks = Vec::new(alloc);
+    let gaps = gaps(rt, alloc, heap, &mut blocks);
+    take_rest(rt, heap, &mut blocks);
+    drop(gaps);
+    assert!(rt; heap.free() == 144);
+    blocks
+}
+
+// A growth that takes more than half of a block of 48 bytes leaves none for a second.
+fn assert_replaced_with_three_blocks(rt: &impl Abort, alloc: Global, heap: &LocalHeap) {
+    let mut core = stored_core(rt, heap);
+    let blocks = all_but_gaps(rt, alloc, heap);
+    store(rt, heap, &mut core);
     drop(blocks);
 }
 
-// Leaves three blocks of 48 bytes of the heap, none beside another. A growth that takes more than half of one leaves
-// none for a second.
 #[test]
 fn a_value_is_replaced_with_three_growths(rt: HostRuntime) {
-    let heap = LocalHeap::new(rt.alloc(), 16_384).expect(&rt, "there is memory");
-    let mut core = core(&rt, &heap);
-    store(&rt, &heap, &mut core);
-    let (one, wall) = (block(&rt, &heap, 48), block(&rt, &heap, 1));
-    let (two, other) = (block(&rt, &heap, 48), block(&rt, &heap, 1));
-    let three = block(&rt, &heap, 48);
-    let blocks = rest(&rt, rt.alloc(), &heap);
-    drop((one, two, three));
-    assert!(rt; heap.free() == 144);
-    store(&rt, &heap, &mut core);
-    drop((wall, other, blocks));
+    assert_replaced_with_three_blocks(&rt, rt.alloc(), &heap(&rt, rt.alloc()));
 }

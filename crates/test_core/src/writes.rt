@@ -41,22 +41,32 @@ fn write(rt: &impl Abort, blank: &mut Blank, at: usize, bytes: &[u8]) {
     blank.write_at(at, bytes).expect(rt, "it fits");
 }
 
+// What passes the end of four bytes.
+fn assert_past_four(rt: &impl Abort, blank: &mut Blank) {
+    assert_refused(rt, blank, 3, b"xy");
+    assert_refused(rt, blank, 4, b"x");
+    assert_refused(rt, blank, 5, b"");
+    assert_refused(rt, blank, usize::MAX, b"xy");
+}
+
 #[test]
 fn what_passes_the_end_is_refused_and_writes_nothing(rt: HostRuntime) {
     let (mut pools, mut blank) = handle(&rt, rt.alloc(), 4);
-    assert_refused(&rt, &mut blank, 3, b"xy");
-    assert_refused(&rt, &mut blank, 4, b"x");
-    assert_refused(&rt, &mut blank, 5, b"");
-    assert_refused(&rt, &mut blank, usize::MAX, b"xy");
+    assert_past_four(&rt, &mut blank);
     assert_bytes(&rt, &mut pools, blank, b"\0\0\0\0");
+}
+
+// One write over another, and none of any byte.
+fn write_over(rt: &impl Abort, blank: &mut Blank) {
+    write(rt, blank, 1, b"abc");
+    write(rt, blank, 2, b"x");
+    write(rt, blank, 5, b"");
 }
 
 #[test]
 fn what_was_written_last_is_read_and_else_0(rt: HostRuntime) {
     let (mut pools, mut blank) = handle(&rt, rt.alloc(), 5);
-    write(&rt, &mut blank, 1, b"abc");
-    write(&rt, &mut blank, 2, b"x");
-    write(&rt, &mut blank, 5, b"");
+    write_over(&rt, &mut blank);
     assert_bytes(&rt, &mut pools, blank, b"\0axc\0");
 }
 

@@ -109,22 +109,48 @@ fn fill(rt: &impl Abort, entries: &[Entry; 2], size: usize)
     assert!(rt; !fits(entries, size - 1), "one byte more than {size}");
 }
 
-/// A page that two entries fill to its end. `high` is the high byte of its size and of what it uses, and `long` that
-/// of the second value's length.
-fn is_filled(rt: &impl Abort, alloc: Global, size: usize, high: u8, long: u8) -> Result<(), Fail>
+/// What `FILLED` begins: a page of this size. `high` is the high byte of its size and of what it uses, and `long` that of
+/// the second value's length.
+fn wanted(
+    rt: &impl Abort,
+    alloc: Global,
+    size: usize,
+    high: u8,
+    long: u8,
+) -> Result<Vec<u8>, Fail> {
+    let mut page = page_of(alloc, FILLED, 9, size)?;
+    change(rt, &mut page, 2, high);
+    change(rt, &mut page, 21, long);
+    Ok(page)
+}
+
+/// The page of this size that two entries fill to its end.
+fn written(rt: &impl Abort, alloc: Global, size: usize) -> Result<Vec<u8>, Fail>
     requires { (32 ≤ size) × (size ≤ 4096) }
 {
     let entries = filling(alloc, size)?;
     fill(rt, &entries, size);
     assert!(rt; fits(&entries, size), "{size} of {size} bytes");
-    let page = encode_page(alloc, &entries, size)?;
-    let mut want = page_of(alloc, FILLED, 9, size)?;
-    change(rt, &mut want, 2, high);
-    change(rt, &mut want, 21, long);
-    assert!(rt; page == want);
-    assert!(rt; is_page(rt, alloc, &page, size)?);
-    assert!(rt; !is_page(rt, alloc, &page, size - 1)?);
+    Ok(encode_page(alloc, &entries, size)?)
+}
+
+/// These bytes are a page of this size, and of no byte less.
+fn is_of_size(rt: &impl Abort, alloc: Global, page: &[u8], size: usize) -> Result<(), Fail>
+    requires { 1 ≤ size }
+{
+    assert!(rt; is_page(rt, alloc, page, size)?);
+    assert!(rt; !is_page(rt, alloc, page, size - 1)?);
     Ok(())
+}
+
+/// Two entries fill a page of this size to its end, as `wanted` has it.
+fn is_filled(rt: &impl Abort, alloc: Global, size: usize, high: u8, long: u8) -> Result<(), Fail>
+    requires { (32 ≤ size) × (size ≤ 4096) }
+{
+    let page = written(rt, alloc, size)?;
+    let want = wanted(rt, alloc, size, high, long)?;
+    assert!(rt; page == want);
+    is_of_size(rt, alloc, &page, size)
 }
 
 #[test]
