@@ -16,5 +16,5 @@ pub use laws::steps_are_legal;
 
 // The types of the calls' signatures, so that a caller needs no other crate.
 pub use hc_history::{Counting, Kept, Kind, Note, Notes, Op, Reply, Said, Says, Silent, Stats};
-pub use hc_memory::{Blank, Fill, Pools, ReadHandle, Sealed, Uncharged, Usage};
+pub use hc_memory::{Blank, Fill, PoolUsage, Pools, ReadHandle, Sealed, Uncharged, Usage};
 pub use hc_types::{Cause, Config, FlashConfig, Key, PoolSize, Refusal, Scope, Why};

@@ -12,25 +12,42 @@ use crate::judging::{Verdict, judge};
 use std::process::ExitCode;
 use std::{env, io};
 
-// Replays a trace of the folder, and prints a line. Whether it is as wanted.
-fn check_trace(rt: &HostRuntime, folder: &str, name: &str, status: u8) -> io::Result<bool> {
+// Replays a trace of the folder, which is to end with this status.
+fn judged(rt: &HostRuntime, folder: &str, name: &str, status: u8) -> io::Result<Verdict> {
     let trace = trace_of(rt, folder, name)?;
     let answers = answers_of(rt, folder, name)?;
-    match judge(rt.alloc(), &trace, &answers, status) {
+    Ok(judge(rt.alloc(), &trace, &answers, status))
+}
+
+// Says in which line the answers differ first.
+fn tell_line(rt: &HostRuntime, folder: &str, name: &str, line: usize) -> io::Result<bool> {
+    println!(rt; "{folder}/{name}: line {line} differs")?;
+    eprintln!(rt; "{folder}/{name}.answers: line {line} is not what is printed")?;
+    Ok(false)
+}
+
+// Says that the status is another.
+fn tell_status(
+    rt: &HostRuntime,
+    folder: &str,
+    name: &str,
+    ended: u8,
+    status: u8,
+) -> io::Result<bool> {
+    println!(rt; "{folder}/{name}: status {ended}")?;
+    eprintln!(rt; "{folder}/{name}.trace: status {ended}, and not {status}")?;
+    Ok(false)
+}
+
+// Replays a trace of the folder, and prints a line. Whether it is as wanted.
+fn check_trace(rt: &HostRuntime, folder: &str, name: &str, status: u8) -> io::Result<bool> {
+    match judged(rt, folder, name, status)? {
         Verdict::Same => {
             println!(rt; "{folder}/{name}: ok")?;
             Ok(true)
         }
-        Verdict::Line(line) => {
-            println!(rt; "{folder}/{name}: line {line} differs")?;
-            eprintln!(rt; "{folder}/{name}.answers: line {line} is not what is printed")?;
-            Ok(false)
-        }
-        Verdict::Status(ended) => {
-            println!(rt; "{folder}/{name}: status {ended}")?;
-            eprintln!(rt; "{folder}/{name}.trace: status {ended}, and not {status}")?;
-            Ok(false)
-        }
+        Verdict::Line(line) => tell_line(rt, folder, name, line),
+        Verdict::Status(ended) => tell_status(rt, folder, name, ended, status),
     }
 }
 

@@ -3,6 +3,7 @@ use hc_trace::replay;
 use std::alloc::Global;
 use std::io;
 use std::io::{ErrorKind, Read, Write};
+use std::process::Abort;
 
 // A reader that hands out one byte at a time, and fails after so many.
 #[derive(Drop)]
@@ -70,35 +71,43 @@ fn answers_within(alloc: Global, trace: &[u8], reads: usize, writes: usize) -> (
     (status, written)
 }
 
+// That they are these for the short trace.
+fn assert_within(
+    rt: &impl Abort,
+    alloc: Global,
+    reads: usize,
+    writes: usize,
+    want: u8,
+    text: &[u8],
+) {
+    let (status, written) = answers_within(alloc, SHORT, reads, writes);
+    assert_eq!(rt; status, want);
+    assert_eq!(rt; written.as_slice(), text);
+}
+
 #[test]
 fn a_byte_at_a_time(rt: HostRuntime) {
-    let (status, written) = answers_within(rt.alloc(), SHORT, 1000, 1000);
-    assert_eq!(rt; status, 0);
-    assert_eq!(rt; written.as_slice(), SHORT_TEXT);
+    assert_within(&rt, rt.alloc(), 1000, 1000, 0, SHORT_TEXT);
 }
 
 #[test]
 fn a_read_that_fails_in_mid_line(rt: HostRuntime) {
-    let (status, written) = answers_within(rt.alloc(), SHORT, 44, 1000);
-    assert_eq!(rt; status, 4);
-    assert_eq!(rt; written.as_slice(), b"stored\nhit =v\n".as_slice());
+    assert_within(&rt, rt.alloc(), 44, 1000, 4, b"stored\nhit =v\n");
 }
 
 #[test]
 fn a_write_that_fails_at_each_line(rt: HostRuntime) {
-    let texts = [
-        b"".as_slice(),
-        b"stored\n".as_slice(),
-        b"stored\nhit =v\n".as_slice(),
-        b"stored\nhit =v\nfound\n".as_slice(),
-        b"stored\nhit =v\nfound\nmiss\n".as_slice(),
-    ];
-    for (writes, text) in texts.iter().enumerate() {
-        let (status, written) = answers_within(rt.alloc(), SHORT, 1000, writes);
-        assert_eq!(rt; status, 4);
-        assert_eq!(rt; written.as_slice(), *text);
-    }
-    let (status, written) = answers_within(rt.alloc(), SHORT, 1000, 5);
-    assert_eq!(rt; status, 0);
-    assert_eq!(rt; written.as_slice(), SHORT_TEXT);
+    assert_within(&rt, rt.alloc(), 1000, 0, 4, b"");
+    assert_within(&rt, rt.alloc(), 1000, 1, 4, b"stored\n");
+    assert_within(&rt, rt.alloc(), 1000, 2, 4, b"stored\nhit =v\n");
+    assert_within(&rt, rt.alloc(), 1000, 3, 4, b"stored\nhit =v\nfound\n");
+    assert_within(
+        &rt,
+        rt.alloc(),
+        1000,
+        4,
+        4,
+        b"stored\nhit =v\nfound\nmiss\n",
+    );
+    assert_within(&rt, rt.alloc(), 1000, 5, 0, SHORT_TEXT);
 }

@@ -2,6 +2,7 @@
 // have it in the repository.
 use hc_trace::replay;
 use std::alloc::{AllocError, Global};
+use std::process::Abort;
 use std::test::Fail;
 
 const CONFIGURATION: &[u8] = b"pool 4294967296 9\nnoflash\n";
@@ -29,14 +30,18 @@ fn answers(
     Ok((status, writer))
 }
 
+// That the longest line may be a comment with this behind it.
+fn assert_comment(rt: &impl Abort, alloc: Global, end: &[u8]) -> Result<(), Fail> {
+    let (status, text) = answers(alloc, b"#", 2_097_151, end)?;
+    assert_eq!(rt; status, 0);
+    assert_eq!(rt; text.as_slice(), NOTHING);
+    Ok(())
+}
+
 #[test]
 fn a_comment_may_fill_the_longest_line(rt: HostRuntime) -> Result<(), Fail> {
-    for end in [b"".as_slice(), END] {
-        let (status, text) = answers(rt.alloc(), b"#", 2_097_151, end)?;
-        assert_eq!(rt; status, 0);
-        assert_eq!(rt; text.as_slice(), NOTHING);
-    }
-    Ok(())
+    assert_comment(&rt, rt.alloc(), b"")?;
+    assert_comment(&rt, rt.alloc(), END)
 }
 
 #[test]
@@ -47,14 +52,19 @@ fn a_line_follows_the_longest(rt: HostRuntime) -> Result<(), Fail> {
     Ok(())
 }
 
+// That a longer line with this behind it is a fault.
+fn assert_fault(rt: &impl Abort, alloc: Global, end: &[u8]) -> Result<(), Fail> {
+    let (status, text) = answers(alloc, b"get k\n#", 2_097_152, end)?;
+    assert_eq!(rt; status, 1);
+    assert_eq!(rt; text.as_slice(), b"miss\nfault line 4\n".as_slice());
+    Ok(())
+}
+
 #[test]
 fn a_longer_line_is_a_fault(rt: HostRuntime) -> Result<(), Fail> {
-    for end in [b"".as_slice(), END, b"\nget k\n".as_slice()] {
-        let (status, text) = answers(rt.alloc(), b"get k\n#", 2_097_152, end)?;
-        assert_eq!(rt; status, 1);
-        assert_eq!(rt; text.as_slice(), b"miss\nfault line 4\n".as_slice());
-    }
-    Ok(())
+    assert_fault(&rt, rt.alloc(), b"")?;
+    assert_fault(&rt, rt.alloc(), END)?;
+    assert_fault(&rt, rt.alloc(), b"\nget k\n")
 }
 
 #[test]
