@@ -1,5 +1,5 @@
 -- One pool: its items in the order of their use, and who goes where room is made.
-use Rattle.std.specs.Prelude.{◌≡◌, ℕ, ◌+◌, ◌==◌, nat_lt, Bool, false, not, ◌&&◌, ◌||◌, List, [], ◌∷◌, ◌++◌, map, filter, length, Option, Some, None, if◌then◌else◌}
+use Rattle.std.specs.Prelude.{ℕ, ◌+◌, ◌==◌, nat_lt, Bool, false, not, ◌&&◌, ◌||◌, List, [], ◌∷◌, ◌++◌, map, filter, length, Option, Some, None, if◌then◌else◌}
 use Rattle.std.specs.Str.{bytes_eq}
 use Rattle.hc_types.specs.Tally.{tally}
 use Rattle.hc_types.specs.Loss.{Scope, covers}
@@ -79,7 +79,3 @@ is_marked flash scope item = item.clean && covers flash scope item.key (length i
 -- the keys of the clean items that the scope covers
 abbrev pub marked_keys : Option FlashConfig → Scope → List Item → List (List ℕ)
 marked_keys flash scope items = map (λ (item : Item). item.key) (filter (is_marked flash scope) items)
-
--- the new list is the old one, and what was put after it
-abbrev pub Grows : {X : Type 0} → List X → List X → Type 0
-Grows {X} old new = (more : List X) × (new ≡ old ++ more)

@@ -5,7 +5,7 @@ ghost use Rattle.lru.specs.LruCache.{lru_cache, last_entry};
 ghost use Rattle.hc_types.specs.Loss.{scope_of};
 ghost use Rattle.hc_types.specs.Tally.{count};
 ghost use Rattle.hc_memory.specs.Item.{cost as item_cost};
-ghost use Rattle.hc_memory.specs.Pool.{bytes_of, linked_usage, is_at, item_at, without, used, unmarked_where, marked_keys, Grows, is_full, kept, dropped};
+ghost use Rattle.hc_memory.specs.Pool.{bytes_of, linked_usage, is_at, item_at, without, used, unmarked_where, marked_keys, is_full, kept, dropped};
 ghost use Rattle.hc_memory.specs.Seen.{item_of};
 
 use crate::item::{Held, Item, expired};
@@ -16,7 +16,7 @@ use std::alloc::{AllocError, AllocFailed, Allocator, Global};
 use std::marker::Model;
 
 /// The number of an item's charge, and the second at which it expires (0: never).
-#[derive(Clone, Copy, Debug, PartialEq, Eq)]
+#[derive(Clone, Copy, Debug)]
 pub struct Glance {
     pub number: u64,
     pub expiry: u64,
@@ -169,26 +169,6 @@ impl<A: Allocator> Pool<A> {
         }
     }
 
-    /// Puts copies of the keys of the clean items that the scope covers after those of the list. On an error the list
-    /// may have grown, and nothing else changed.
-    pub fn marked(
-        &self,
-        flash: &Option<FlashConfig>,
-        scope: &Scope<A>,
-        keys: &mut Vec<Key<A>, A>,
-    ) -> Result<(), AllocError>
-        requires lengths { All (λ i. length i.value < 2 ^ 63) self.now.items }
-        requires bits { IfSome flash.now (λ f. f.bits ≤ 64) }
-        requires buckets { IfSome flash.now (λ f. 1 ≤ f.buckets) }
-        ensures ok { OnOk result (keys.new.items ≡ keys.old.items ++ marked_keys flash.now (scope_of scope.now) self.now.items) }
-        ensures err { OnErr result (Grows keys.old.items keys.new.items) }
-    {
-        for (key, held) in self.cache.iter().rev() {
-            add_marked(flash, scope, key, held, keys)?;
-        }
-        Ok(())
-    }
-
     /// How many items go, from the one that was used longest ago on, to make room for `want` bytes and one more
     /// charge beside the open charges: none goes while there is room.
     #[must_use]
@@ -219,6 +199,25 @@ impl<A: Allocator> Pool<A> {
 }
 
 impl<A: Allocator + Clone> Pool<A> {
+    /// Copies of the keys of the clean items that the scope covers. Refused only where memory lacks.
+    pub fn marked(
+        &self,
+        alloc: &A,
+        flash: &Option<FlashConfig>,
+        scope: &Scope<A>,
+    ) -> Result<Vec<Key<A>, A>, AllocError>
+        requires lengths { All (λ i. length i.value < 2 ^ 63) self.now.items }
+        requires bits { IfSome flash.now (λ f. f.bits ≤ 64) }
+        requires buckets { IfSome flash.now (λ f. 1 ≤ f.buckets) }
+        ensures { IfOk result (λ keys. keys.items ≡ marked_keys flash.now (scope_of scope.now) self.now.items) }
+    {
+        let mut keys = Vec::new(alloc.clone()?);
+        for (key, held) in self.cache.iter().rev() {
+            add_marked(flash, scope, key, held, &mut keys)?;
+        }
+        Ok(keys)
+    }
+
     /// Links an item under its key, as the one that was used last, and answers the number of the item that it
     /// replaces. On an error, for want of memory, nothing changed, and the item comes back. Where it replaces one there
     /// is none.

@@ -38,26 +38,9 @@ fn gather<A: Allocator + Clone>(
 {
     let mut lists = Vec::with_capacity(alloc.clone()?, pools.len())?;
     for pool in pools {
-        lists.push_reserved(marked_in(alloc, flash, scope, pool)?);
+        lists.push_reserved(pool.marked(alloc, flash, scope)?);
     }
     Ok(lists)
-}
-
-/// The keys of the pool's clean items that the scope covers.
-fn marked_in<A: Allocator + Clone>(
-    alloc: &A,
-    flash: &Option<FlashConfig>,
-    scope: &Scope<A>,
-    pool: &Pool<A>,
-) -> Result<Vec<Key<A>, A>, AllocError>
-    requires bytes { bytes_of pool.now.items < 2 ^ 63 }
-    requires bits { IfSome flash.now (λ f. f.bits ≤ 64) }
-    requires buckets { IfSome flash.now (λ f. 1 ≤ f.buckets) }
-    ensures { IfOk result (λ keys. keys.items ≡ marked_keys flash.now (scope_of scope.now) pool.now.items) }
-{
-    let mut keys = Vec::new(alloc.clone()?);
-    pool.marked(flash, scope, &mut keys)?;
-    Ok(keys)
 }
 
 /// Takes the clean marks from each pool's items under the keys of its own list.

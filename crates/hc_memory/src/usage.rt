@@ -10,7 +10,7 @@ pub struct Usage {
 
 /// The limits of a pool, what its items are charged that can be found (`linked`), and what those are that are being
 /// written or wait to be linked (`open_charges`). Both together are within the limits.
-#[derive(Clone, Copy, Debug, PartialEq, Eq)]
+#[derive(Clone, Copy, Debug)]
 pub struct PoolUsage {
     pub limits: PoolSize,
     pub linked: Usage,

@@ -4,7 +4,7 @@ use Rattle.hc_types.specs.Loss.{scope_of}
 use Rattle.hc_memory.specs.Item.{Item}
 use Rattle.hc_memory.specs.Pool.{Pool, marked_keys}
 use Rattle.hc_memory.specs.Seen.{item_of, items_of}
-use Rattle.hc_memory.proofs.Marks.{marked-cons, Grows-more}
+use Rattle.hc_memory.proofs.Marks.{marked-cons}
 use Rattle.hc_memory.proofs.Orders.{items_of-push}
 use Rattle.hc_memory.proofs.pool.Pool.marked.Goals as goal
 
@@ -16,8 +16,7 @@ loop-key-init g c =
       can = tt;
       finite = tt;
       short = subst (All (λ (i : Item). length i.value < 2 ^ 63)) (sym items) c.requires.lengths;
-      keys = ap (λ xs. c.args.keys.now.items ++ marked_keys c.args.flash.now (scope_of c.args.scope.now) xs) items;
-      grown = ([], sym (append-nil c.args.keys.now.items));
+      keys = ap (λ ks. ks ++ marked_keys c.args.flash.now (scope_of c.args.scope.now) (items_of c.into_iter-key-iterator.result.iter)) c.new-keys.ensures.items ∙ ap (marked_keys c.args.flash.now (scope_of c.args.scope.now)) items;
     }
 
 pub add_marked-requires-clause-len : goal.add_marked-requires-clause-len
@@ -40,14 +39,10 @@ loop-key-preserved g c =
       finite = tt;
       short = All-tail (λ (i : Item). length i.value < 2 ^ 63) x more (subst (All (λ (i : Item). length i.value < 2 ^ 63)) rest inv.short);
       keys = ap (λ ks. ks ++ marked_keys flash scope more) c.in_ok-add_marked.ensures.ok ∙ append_assoc c.loop-key.keys.items this (marked_keys flash scope more) ∙ ap (λ ks. c.loop-key.keys.items ++ ks) (sym next) ∙ inv.keys;
-      grown = Grows-more c.args.keys.now.items c.loop-key.keys.items this c.add_marked.new.keys.items inv.grown c.in_ok-add_marked.ensures.ok;
     }
 
-pub returns-clause-ok : goal.returns-clause-ok
-returns-clause-ok g c =
+pub returns : goal.returns
+returns g c =
     let inv = c.loop-key.invariant in
     let none = ap (λ es. c.loop-key.keys.items ++ marked_keys c.args.flash.now (scope_of c.args.scope.now) (items_of es)) c.in-None.ensures.steps.0 in
     sym (append-nil c.loop-key.keys.items) ∙ sym none ∙ inv.keys
-
-pub returns-clause-err : goal.returns-clause-err
-returns-clause-err g c = tt

@@ -1,6 +1,6 @@
 use Rattle.std.proofs.Common.{◌≡◌, ◌<◌, ◌^◌, ◌++◌, length, All}
 use Rattle.hc_types.specs.Loss.{scope_of}
-use Rattle.hc_memory.specs.Pool.{marked_keys, Grows}
+use Rattle.hc_memory.specs.Pool.{marked_keys}
 use Rattle.hc_memory.specs.Seen.{items_of}
 use Rattle.hc_memory.proofs.pool.Pool.marked.Given as goal
 
@@ -10,6 +10,5 @@ invariant-loop-key g l = record {
   can : (goal.iterator-loop-key g).can_next l.key-iterator;
   finite : (goal.iterator-loop-key g).is_finite l.key-iterator;
   short : All (λ i. length i.value < 2 ^ 63) (items_of l.key-iterator.iter);
-  keys : l.keys.items ++ marked_keys l.flash (scope_of l.scope) (items_of l.key-iterator.iter) ≡ l.initial.keys.items ++ marked_keys l.flash (scope_of l.scope) l.self.items;
-  grown : Grows l.initial.keys.items l.keys.items;
+  keys : l.keys.items ++ marked_keys l.flash (scope_of l.scope) (items_of l.key-iterator.iter) ≡ marked_keys l.flash (scope_of l.scope) l.self.items;
 }
