@@ -5,6 +5,8 @@ ghost use Rattle.hc_history.specs.Told.{Heard, Nothing, Log, Counts, told_more, 
 use crate::note::{Note, Says};
 use crate::stats::{Kind, Stats, is_loss};
 use std::alloc::{AllocError, Allocator, Global};
+use std::fmt;
+use std::marker::PhantomData;
 
 /// Whom the core tells its notes. Room is made first; then telling a note can't fail.
 pub trait Notes<T: Says>: Drop {
@@ -78,10 +80,32 @@ impl<A: Allocator> Notes<Note<A>> for Kept<A> {
 }
 
 /// Keeps nothing, takes no memory and refuses nothing.
-#[derive(Clone, Copy, Debug, Default)]
-pub struct Silent;
+#[derive(Clone, Copy)]
+pub struct Silent<A: Allocator = Global> {
+    note: PhantomData<Note<A>>,
+}
 
-impl<T: Says + Drop> Notes<T> for Silent {
+impl<A: Allocator> Silent<A> {
+    /// Whom nothing is told.
+    #[must_use]
+    pub const fn new() -> Silent<A> {
+        Silent { note: PhantomData }
+    }
+}
+
+impl<A: Allocator> Default for Silent<A> {
+    fn default() -> Silent<A> {
+        Silent::new()
+    }
+}
+
+impl<A: Allocator> fmt::Debug for Silent<A> {
+    fn fmt<W: fmt::Write>(&self, f: &mut fmt::Formatter<W>) -> fmt::Result {
+        f.write_str("Silent")
+    }
+}
+
+impl<A: Allocator> Notes<Note<A>> for Silent<A> {
     ghost told = { λ _. Nothing };
 
     ghost room = { λ _. 2 ^ 64 };
@@ -94,7 +118,7 @@ impl<T: Says + Drop> Notes<T> for Silent {
         Ok(())
     }
 
-    fn note(&mut self, _note: T) {}
+    fn note(&mut self, _note: Note<A>) {}
 
     fn count(&mut self, _kind: Kind) {}
 }

@@ -85,14 +85,27 @@ fn use_it<N: Notes<Note>>(rt: &impl Abort, alloc: Global, core: &mut Core<N>) {
     assert!(rt; core.calls() == 4);
 }
 
+// A service on a core that tells nobody.
+#[derive(Drop)]
+struct Service {
+    core: Core<Silent>,
+}
+
+fn silent_service(rt: &impl Abort, alloc: Global) -> Service {
+    let config = config(rt, alloc);
+    let core = Core::new(alloc, &config, Silent::new()).expect(rt, "the pool fits");
+    Service { core }
+}
+
+fn serve(rt: &impl Abort, alloc: Global, core: &mut Core<Silent>) {
+    use_it(rt, alloc, core);
+}
+
 #[test]
 fn a_core_whose_notes_are_silent_answers(rt: HostRuntime) {
-    let config = config(&rt, rt.alloc());
-    let mut core: Core<Silent> = Core::new(rt.alloc(), &config, Silent).expect(
-        &rt,
-        "the pool fits",
-    );
-    use_it(&rt, rt.alloc(), &mut core);
+    let mut service = silent_service(&rt, rt.alloc());
+    serve(&rt, rt.alloc(), &mut service.core);
+    assert!(rt; !service.core.notes().keeps());
 }
 
 // A core whose log is kept.
