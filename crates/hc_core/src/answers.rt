@@ -12,11 +12,11 @@ pub enum Found<A: Allocator = Global> {
     Miss,
 }
 
+/// A hit by the length of its value.
 impl<A: Allocator> fmt::Debug for Found<A> {
-    /// A hit shows as the number of the value's bytes.
     fn fmt<W: fmt::Write>(&self, f: &mut fmt::Formatter<W>) -> fmt::Result {
         match self {
-            Found::Hit(value) => write!(f, "Hit({})", value.len()),
+            Found::Hit(value) => write!(f, "Hit({} bytes)", value.len()),
             Found::Miss => f.write_str("Miss"),
         }
     }

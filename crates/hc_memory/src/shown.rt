@@ -1,77 +1,53 @@
-// How handles and items print themselves: keys and values by their lengths, never by their bytes.
-use crate::{handles, item};
+// How handles and items show themselves: values by their lengths, never by their bytes.
+use crate::handles::{Blank, ReadHandle, Sealed};
+use crate::item::Item;
 use std::alloc::Allocator;
 use std::fmt;
 
-#[derive(Clone, Copy, Debug)]
-struct Blank {
-    number: u64,
-    pool: u8,
-    key_len: usize,
-    len: usize,
-    expiry: u64,
-}
-
-#[derive(Clone, Copy, Debug)]
-struct Sealed {
-    number: u64,
-    pool: u8,
-    key_len: usize,
-    len: usize,
-    expiry: u64,
-}
-
-#[derive(Clone, Copy, Debug)]
-struct Item {
-    number: u64,
-    pool: u8,
-    key_len: usize,
-    len: usize,
-    expiry: u64,
-    clean: bool,
-}
-
-impl<A: Allocator> fmt::Debug for handles::Blank<A> {
+impl<A: Allocator> fmt::Debug for Blank<A> {
     fn fmt<W: fmt::Write>(&self, f: &mut fmt::Formatter<W>) -> fmt::Result {
-        let shown = Blank {
-            number: self.number(),
-            pool: self.pool(),
-            key_len: self.key().len(),
-            len: self.len(),
-            expiry: self.expiry(),
-        };
-        fmt::Debug::fmt(&shown, f)
+        write!(
+            f,
+            "Blank {{ number: {}, pool: {}, key: {:?}, value: {} bytes, expiry: {} }}",
+            self.number(),
+            self.pool(),
+            self.key(),
+            self.len(),
+            self.expiry(),
+        )
     }
 }
 
-impl<A: Allocator> fmt::Debug for handles::Sealed<A> {
+impl<A: Allocator> fmt::Debug for Sealed<A> {
     fn fmt<W: fmt::Write>(&self, f: &mut fmt::Formatter<W>) -> fmt::Result {
-        let shown = Sealed {
-            number: self.number(),
-            pool: self.pool(),
-            key_len: self.key().len(),
-            len: self.len(),
-            expiry: self.expiry(),
-        };
-        fmt::Debug::fmt(&shown, f)
+        write!(
+            f,
+            "Sealed {{ number: {}, pool: {}, key: {:?}, value: {} bytes, expiry: {} }}",
+            self.number(),
+            self.pool(),
+            self.key(),
+            self.len(),
+            self.expiry(),
+        )
     }
 }
 
-impl<A: Allocator> fmt::Debug for item::Item<A> {
+impl<A: Allocator> fmt::Debug for Item<A> {
     fn fmt<W: fmt::Write>(&self, f: &mut fmt::Formatter<W>) -> fmt::Result {
-        let shown = Item {
-            number: self.number,
-            pool: self.pool,
-            key_len: self.key.len(),
-            len: self.value.len(),
-            expiry: self.expiry,
-            clean: self.clean,
-        };
-        fmt::Debug::fmt(&shown, f)
+        write!(
+            f,
+            "Item {{ number: {}, pool: {}, key: {:?}, value: {} bytes, expiry: {}, clean: {} }}",
+            self.number,
+            self.pool,
+            self.key,
+            self.value.len(),
+            self.expiry,
+            self.clean,
+        )
     }
 }
 
-impl<A: Allocator> fmt::Debug for handles::ReadHandle<A> {
+impl<A: Allocator> fmt::Debug for ReadHandle<A> {
     fn fmt<W: fmt::Write>(&self, f: &mut fmt::Formatter<W>) -> fmt::Result {
         write!(f, "ReadHandle({} bytes)", self.len())
     }

@@ -1,5 +1,5 @@
 //! Tests of what only code can say of the core: cores whose notes are kept, counted or silent, handles that another cache
-//! made, plain calls, writes past an item's end, values that are read when their item is gone, clean marks, and runs with slots.
+//! made, plain calls, writes past an item's end, values that are read when their item is gone, clean marks, runs with slots, and what is printed of types.
 #![tactic(auto)]
 
 #[cfg(test)]
@@ -22,5 +22,7 @@ mod run_answers;
 mod run_ends;
 #[cfg(test)]
 mod run_steps;
+#[cfg(test)]
+mod shown;
 #[cfg(test)]
 mod writes;
