@@ -174,7 +174,7 @@ impl<N: Notes<Note<A>>, A: Allocator + Copy> Core<N, A> {
         ensures why { IfErr result (λ refusal. (key_refusal key.now ≡ Some refusal) ⊎ ((key_refusal key.now ≡ None) × (refusal ≡ Refusal.NoMemory))) }
     {
         let key = key_of(self.config(), key)?;
-        // named as a constant: else what a find needs is copied at each `?` of its plan, which costs 300 instructions
+        // the one refusal of a find, as a constant: handed on as a value, it makes LLVM copy the notes of each find
         match self.find(0, &key) {
             Ok(found) => Ok(found),
             Err(_) => Err(Refusal::NoMemory),

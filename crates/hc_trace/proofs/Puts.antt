@@ -1,5 +1,5 @@
 -- What is stored, and why it isn't.
-use Rattle.std.proofs.Common.{◌≡◌, ◌≢◌, ◌⊎◌, inl, inr, ℕ, ◌+◌, Bool, true, false, List, length, Option, None, Some, Result, Ok, Err, OnOk, refl, sym, ap, ◌∙◌}
+use Rattle.std.proofs.Common.{◌≡◌, ◌≢◌, ◌⊎◌, inl, inr, Bool, true, false, length, Option, None, Some, Result, Ok, Err, OnOk, refl, sym, ap, ◌∙◌}
 use Rattle.std.specs.Option.{option_or}
 use mathlib.Core.Bool.{cond}
 use Rattle.hc_types.specs.Limits.{key_refusal}
@@ -8,7 +8,7 @@ use Rattle.hc_types.specs.declared.refusal.Refusal.TheVariants.{Exists, NoMemory
 use Rattle.hc_core.specs.Cache.{Cache}
 use Rattle.hc_core.specs.Refused.{allocate_refusal, is_taken}
 use Rattle.hc_core.specs.Plain.{set_refusal, add_refusal, after_set, after_giving_up}
-use Rattle.hc_lines.specs.Steps.{NewItem, Answer, Set, Add, Refused}
+use Rattle.hc_lines.specs.Steps.{NewItem, Set, Add, Refused}
 use Rattle.hc_trace.specs.Moves.{Moved, unless, handle_of, after_open, open_notes, inserted, given_up, move}
 
 pub on-ok : {T E P : Type 0} (r : Result T E) → P → OnOk r P
