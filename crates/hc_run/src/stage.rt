@@ -190,7 +190,6 @@ impl<A: Allocator + Clone> Stage<A> {
         ensures ok { IfOk result (λ outcome. May self.old (PutNew client slot) (answer_of outcome) self.new) }
         ensures err { OnErr result (self.new ≡ self.old) }
     {
-        let _sound = self.core.pools().len();
         let Some(sealed) = take_sealed(&mut self.slots, slot)? else {
             return Ok(Outcome::NoSlot);
         };
