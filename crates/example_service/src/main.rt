@@ -6,65 +6,67 @@ mod profiles;
 mod shared;
 
 use crate::database::Database;
-use crate::profiles::Profiles;
+use crate::profiles::{change, open, print_counts, print_losses, profile};
 use crate::shared::rush_hour;
-use hc_core::Refusal;
+use hc_core::{Core, Counting, Refusal};
+use std::alloc::Global;
 use std::io;
+use std::sync::{Mutex, Wait};
+use std::thread::Threads;
 
 // Nine o'clock, in seconds of the day.
 const NINE: u64 = 32_400;
 
 // Serves a user's profile.
-fn serve(rt: &impl Print, profiles: &mut Profiles, user: &str) -> io::Result<()> {
-    match profiles.get(user) {
+fn serve(
+    rt: &(impl Print + AllocGlobal),
+    cache: &mut Core<Counting>,
+    database: &Database,
+    user: &str,
+) -> io::Result<()> {
+    match profile(rt.alloc(), cache, database, user) {
         Ok(profile) => println!(rt; "{profile}"),
         Err(_) => println!(rt; "{user}: try again later"),
     }
 }
 
-// Prints why a call was refused, if it was.
-fn report(rt: &impl Print, done: Result<(), Refusal>) -> io::Result<()> {
-    match done {
-        Ok(()) => Ok(()),
-        Err(refusal) => println!(rt; "{refusal}"),
+// Changes a user's profile, and an hour passes.
+fn change_and_wait(cache: &mut Core<Counting>, database: &mut Database) -> Result<(), Refusal> {
+    change(cache, database, "ada")?;
+    cache.tick(NINE + 3600)?;
+    Ok(())
+}
+
+// From the first request on: a miss, a hit, a changed profile, and more users than there is room for.
+fn day(
+    rt: &(impl Print + AllocGlobal),
+    cache: &mut Core<Counting>,
+    database: &mut Database,
+) -> io::Result<()> {
+    serve(rt, cache, database, "ada")?;
+    serve(rt, cache, database, "ada")?;
+    if let Err(refusal) = change_and_wait(cache, database) {
+        println!(rt; "{refusal}")?;
     }
-}
-
-fn morning(rt: &impl Print, profiles: &mut Profiles) -> io::Result<()> {
-    serve(rt, profiles, "ada")?;
-    serve(rt, profiles, "ada")?;
-    report(rt, profiles.change("ada"))?;
-    serve(rt, profiles, "ada")?;
-    report(rt, profiles.tick(NINE + 3600))?;
-    serve(rt, profiles, "ada")
-}
-
-fn noon(rt: &impl Print, profiles: &mut Profiles) -> io::Result<()> {
-    for user in ["bob", "cleo", "dora", "emil"] {
-        serve(rt, profiles, user)?;
+    for user in ["ada", "bob", "cleo", "dora", "emil"] {
+        serve(rt, cache, database, user)?;
     }
-    profiles.print_losses(rt)?;
-    profiles.print_usage(rt)
+    print_losses(rt, cache)
 }
 
-fn evening(rt: &impl Print, profiles: &Profiles) -> io::Result<()> {
-    let (queries, counts) = profiles.counts();
-    println!(rt; "{queries} queries; {counts}")
-}
-
-// From the first request to the last, when the cache is dropped.
-fn day(rt: &HostRuntime, mut profiles: Profiles) -> io::Result<()> {
-    morning(rt, &mut profiles)?;
-    noon(rt, &mut profiles)?;
-    let mut profiles = rush_hour(rt, profiles);
-    profiles.print_losses(rt)?;
-    evening(rt, &profiles)
+// The whole day, until the cache is dropped.
+fn run<R: Print + AllocGlobal + Threads + Wait + Sync>(
+    rt: &R,
+    cache: &Mutex<Core<Counting>>,
+) -> io::Result<()> {
+    day(rt, &mut cache.lock(rt), &mut Database::default())?;
+    rush_hour(rt, cache);
+    print_counts(rt, &cache.lock(rt))
 }
 
 fn main(rt: HostRuntime) -> io::Result<()> {
-    let database = Database::new(rt.alloc());
-    match Profiles::open(rt.alloc(), database, NINE) {
-        Ok(profiles) => day(&rt, profiles),
+    match open(rt.alloc(), NINE) {
+        Ok(cache) => run(&rt, &Mutex::new(cache)),
         Err(refusal) => eprintln!(rt; "no cache: {refusal}"),
     }
 }

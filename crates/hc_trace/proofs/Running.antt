@@ -10,14 +10,15 @@ use Rattle.hc_memory.specs.Memory.{linked_at, value_at}
 use Rattle.hc_history.specs.Note as note
 use Rattle.hc_history.specs.Note.{Note, Freed}
 use Rattle.hc_history.specs.Told.{Log}
+use Rattle.hc_types.specs.Limits.{key_refusal}
 use Rattle.hc_core.specs.Cache.{Cache}
-use Rattle.hc_core.specs.Refused.{allocate_refusal}
+use Rattle.hc_core.specs.Refused.{allocate_refusal, is_taken}
 use Rattle.hc_core.specs.Steps.{after_discard, insert_notes, after_insert, find_reply, remove_reply}
 use Rattle.hc_core.specs.World as world
 use Rattle.hc_core.specs.World.{Stage, Run, joined, new_stage}
 use Rattle.hc_core.proofs.Opening.{pushed-open}
 use Rattle.hc_lines.specs.Steps.{NewItem, Step, Set, Add, Get, Del, Now, Answer}
-use Rattle.hc_trace.specs.Moves.{Moved, unless, key_refusal, handle_of, after_open, open_notes, inserted, given_up, is_taken, finished, get_moved, found_answer, del_moved, removed_answer, move}
+use Rattle.hc_trace.specs.Moves.{Moved, unless, handle_of, after_open, open_notes, inserted, given_up, finished, get_moved, found_answer, del_moved, removed_answer, move}
 use Rattle.hc_trace.specs.Trace.{empty_cache, step_text, steps_text, notes_of}
 use Rattle.hc_trace.specs.Runs.{line_answer, key_of, IsKey, Bars, IsServed, IsBarred, Lines, lines_text, RunsAreOfTheWorld}
 

@@ -35,13 +35,20 @@ fn scopes_show_what_they_cover(rt: HostRuntime) {
     let all: Scope = Scope::Hash { kept: 9, but: None };
     assert_shown(&rt, rt.alloc(), &all, "hash 9");
     let named = Some(key(&rt, rt.alloc(), b"k"));
-    let most: Scope = Scope::Hash { kept: 9, but: named };
+    let most: Scope = Scope::Hash {
+        kept: 9,
+        but: named,
+    };
     assert_shown(&rt, rt.alloc(), &most, "hash 9 but k");
 }
 
 #[test]
 fn causes_show_in_the_words_of_answers(rt: HostRuntime) {
-    let evicted: Cause = Cause::Evicted { pool: 0, want: 53, why: Why::NoFlash };
+    let evicted: Cause = Cause::Evicted {
+        pool: 0,
+        want: 53,
+        why: Why::NoFlash,
+    };
     assert_shown(&rt, rt.alloc(), &evicted, "evicted noflash");
     let reclaimed: Cause = Cause::Reclaimed(2);
     assert_shown(&rt, rt.alloc(), &reclaimed, "reclaimed 2");
@@ -50,9 +57,13 @@ fn causes_show_in_the_words_of_answers(rt: HostRuntime) {
 
 // A note of an insert of five bytes.
 fn inserted(rt: &impl Abort, alloc: Global) -> Note {
-    let value = Bytes::from_slice(alloc, b"value").expect(rt, "there is memory");
+    let value = Bytes::copy_from_slice(alloc, b"value").expect(rt, "there is memory");
     let op = Op::Insert(key(rt, alloc, b"k"), value, 15);
-    Note::new(Said::Begin { call: 1, client: 0, op })
+    Note::new(Said::Begin {
+        call: 1,
+        client: 0,
+        op,
+    })
 }
 
 #[test]
@@ -66,7 +77,15 @@ fn notes_show_no_value(rt: HostRuntime) {
 
 #[test]
 fn counts_show_with_their_names(rt: HostRuntime) {
-    let counts = Stats { stored: 1, hits: 2, misses: 3, removes: 4, losses: 5, reads: 0, writes: 0 };
+    let counts = Stats {
+        stored: 1,
+        hits: 2,
+        misses: 3,
+        removes: 4,
+        losses: 5,
+        reads: 0,
+        writes: 0,
+    };
     let text = "stored 1 hits 2 misses 3 removes 4 losses 5 reads 0 writes 0";
     assert_shown(&rt, rt.alloc(), &counts, text);
 }
