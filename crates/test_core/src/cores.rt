@@ -1,10 +1,9 @@
-// A core answers the same whether its log is kept or not heard.
+// A core answers the same whether its log is kept, counted or not heard.
 ghost use Rattle.std.specs.Prelude.{◌≡◌, None};
 
-use hc_core::{Core, Found, Removed};
-use hc_history::{Kept, Note, Notes, Silent, Stats};
-use hc_memory::{Blank, Fill, Sealed};
-use hc_types::{Config, Key, PoolSize};
+use hc_core::{
+    Config, Core, Counting, Found, Kept, Note, Notes, PoolSize, Refusal, Removed, Silent, Stats,
+};
 use std::alloc::Global;
 use std::process::Abort;
 
@@ -13,32 +12,8 @@ fn config(rt: &impl Abort, alloc: Global) -> Config
     ensures { result.flash ≡ None }
 {
     let (bytes, items) = (1000, 10);
-    let sizes = Vec::from_slice(alloc, [PoolSize { bytes, items }].as_slice());
-    Config::new(sizes.expect(rt, "there is memory"), None)
-}
-
-fn key(rt: &impl Abort, alloc: Global) -> Key {
-    Key::new(alloc, b"k").expect(rt, "the key fits")
-}
-
-// The handle, sealed.
-fn seal(rt: &impl Abort, blank: Blank) -> Sealed {
-    match blank.seal() {
-        Ok(sealed) => sealed,
-        Err(_) => panic!(rt; "there is memory"),
-    }
-}
-
-// Stores a value for five seconds.
-fn store<N: Notes<Note>>(rt: &impl Abort, alloc: Global, core: &mut Core<N>) {
-    let fill = Fill::Copied(b"value");
-    let blank = core
-        .allocate_with(0, key(rt, alloc), fill, 5)
-        .expect(rt, "there is room");
-    match core.insert(0, seal(rt, blank)) {
-        Ok(()) => {}
-        Err(_) => panic!(rt; "the handle is this cache's"),
-    }
+    let config = Config::in_memory(alloc, [PoolSize { bytes, items }].as_slice());
+    config.expect(rt, "there is memory")
 }
 
 fn is_value(found: &Found) -> bool {
@@ -49,20 +24,25 @@ fn is_value(found: &Found) -> bool {
 }
 
 // Whether the value is found.
-fn hits<N: Notes<Note>>(rt: &impl Abort, alloc: Global, core: &mut Core<N>) -> bool {
-    let key = key(rt, alloc);
-    let found = core.find(0, &key).expect(rt, "there is memory");
+fn hits<N: Notes<Note>>(rt: &impl Abort, core: &mut Core<N>) -> bool {
+    let found = core.get(b"k").expect(rt, "there is memory");
     is_value(&found)
 }
 
+// Stores the value for five seconds, and no other over it.
+fn store<N: Notes<Note>>(rt: &impl Abort, core: &mut Core<N>) {
+    let stored = core.add(0, b"k", b"value", 5);
+    assert!(rt; stored == Ok(()));
+    let refused = core.add(0, b"k", b"other", 5);
+    assert!(rt; refused == Err(Refusal::Exists));
+}
+
 // Moves the clock on to a second at which the value is expired, and takes it out.
-fn clear<N: Notes<Note>>(rt: &impl Abort, alloc: Global, core: &mut Core<N>) -> bool {
-    let now = core.tick(5).expect(rt, "there is memory");
-    assert!(rt; now == 5);
-    let removed = core
-        .remove(0, &key(rt, alloc))
-        .expect(rt, "there is memory");
-    removed == Removed::FoundInMemory
+fn clear<N: Notes<Note>>(rt: &impl Abort, core: &mut Core<N>) {
+    let now = core.tick(5);
+    assert!(rt; now == Ok(5));
+    let removed = core.delete(b"k");
+    assert!(rt; removed == Ok(Removed::FoundInMemory));
 }
 
 // What these calls count.
@@ -77,11 +57,11 @@ const COUNTS: Stats = Stats {
 };
 
 // Three calls that succeed, and a find that misses.
-fn use_it<N: Notes<Note>>(rt: &impl Abort, alloc: Global, core: &mut Core<N>) {
-    store(rt, alloc, core);
-    assert!(rt; hits(rt, alloc, core));
-    assert!(rt; clear(rt, alloc, core));
-    assert!(rt; !hits(rt, alloc, core));
+fn use_it<N: Notes<Note>>(rt: &impl Abort, core: &mut Core<N>) {
+    store(rt, core);
+    assert!(rt; hits(rt, core));
+    clear(rt, core);
+    assert!(rt; !hits(rt, core));
     assert!(rt; core.calls() == 4);
 }
 
@@ -97,14 +77,14 @@ fn silent_service(rt: &impl Abort, alloc: Global) -> Service {
     Service { core }
 }
 
-fn serve(rt: &impl Abort, alloc: Global, core: &mut Core<Silent>) {
-    use_it(rt, alloc, core);
+fn serve(rt: &impl Abort, core: &mut Core<Silent>) {
+    use_it(rt, core);
 }
 
 #[test]
 fn a_core_whose_notes_are_silent_answers(rt: HostRuntime) {
     let mut service = silent_service(&rt, rt.alloc());
-    serve(&rt, rt.alloc(), &mut service.core);
+    serve(&rt, &mut service.core);
     assert!(rt; !service.core.notes().keeps());
 }
 
@@ -122,6 +102,19 @@ fn stats(core: Core<Kept>) -> Stats {
 #[test]
 fn a_core_whose_log_is_kept_answers_and_counts(rt: HostRuntime) {
     let mut core = kept(&rt, rt.alloc());
-    use_it(&rt, rt.alloc(), &mut core);
+    use_it(&rt, &mut core);
     assert!(rt; stats(core) == COUNTS);
+}
+
+/// A core whose log is counted.
+pub fn counted(rt: &impl Abort, alloc: Global) -> Core<Counting> {
+    let config = config(rt, alloc);
+    Core::new(alloc, &config, Counting::new(alloc)).expect(rt, "the pool fits")
+}
+
+#[test]
+fn a_core_whose_log_is_counted_answers_and_counts(rt: HostRuntime) {
+    let mut core = counted(&rt, rt.alloc());
+    use_it(&rt, &mut core);
+    assert!(rt; core.notes().counts == COUNTS);
 }

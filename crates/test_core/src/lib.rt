@@ -1,5 +1,5 @@
 //! Tests of what only code can say of the core: cores whose notes are kept, counted or silent, handles that another cache
-//! made, plain calls, writes past an item's end, values that are read when their item is gone, clean marks, runs with slots, and what is printed of types.
+//! made, bytes that are no key, writes past an item's end, values that are read when their item is gone, clean marks, runs with slots, and what is printed of types.
 #![tactic(auto)]
 
 #[cfg(test)]
@@ -9,11 +9,11 @@ mod fixtures;
 #[cfg(test)]
 mod foreign;
 #[cfg(test)]
+mod keys;
+#[cfg(test)]
 mod marks;
 #[cfg(test)]
 mod memory;
-#[cfg(test)]
-mod plain;
 #[cfg(test)]
 mod reads;
 #[cfg(test)]

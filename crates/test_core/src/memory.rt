@@ -1,8 +1,5 @@
 // What calls take of memory: a heap of its own, of which little is left, says so.
-use hc_core::{Core, Found};
-use hc_history::Counting;
-use hc_memory::Fill;
-use hc_types::{Config, Key, PoolSize};
+use hc_core::{Config, Core, Counting, Found, PoolSize};
 use linked_list_allocator::LocalHeap;
 use std::alloc::Global;
 use std::process::Abort;
@@ -12,33 +9,15 @@ const VALUE: [u8; 40] = [b'x'; 40];
 // A counted core of one pool.
 fn core<'a>(rt: &impl Abort, heap: &'a LocalHeap) -> Core<Counting<&'a LocalHeap>, &'a LocalHeap> {
     let (bytes, items) = (1000, 10);
-    let sizes = Vec::from_slice(heap, [PoolSize { bytes, items }].as_slice());
-    let config = Config::new(sizes.expect(rt, "there is memory"), None);
+    let config = Config::in_memory(heap, [PoolSize { bytes, items }].as_slice());
+    let config = config.expect(rt, "there is memory");
     Core::new(heap, &config, Counting::new(heap)).expect(rt, "the pool fits")
 }
 
-fn key<'a>(rt: &impl Abort, heap: &'a LocalHeap) -> Key<&'a LocalHeap> {
-    Key::new(heap, b"k").expect(rt, "the key fits")
-}
-
 // Stores the value.
-fn store<'a>(
-    rt: &impl Abort,
-    heap: &'a LocalHeap,
-    core: &mut Core<Counting<&'a LocalHeap>, &'a LocalHeap>,
-) {
-    let fill = Fill::Copied(VALUE.as_slice());
-    let blank = core
-        .allocate_with(0, key(rt, heap), fill, 0)
-        .expect(rt, "there is room");
-    let sealed = match blank.seal() {
-        Ok(sealed) => sealed,
-        Err(_) => panic!(rt; "there is memory"),
-    };
-    match core.insert_or_replace(0, sealed) {
-        Ok(()) => {}
-        Err(_) => panic!(rt; "there is memory"),
-    }
+fn store<'a>(rt: &impl Abort, core: &mut Core<Counting<&'a LocalHeap>, &'a LocalHeap>) {
+    let stored = core.set(0, b"k", VALUE.as_slice(), 0);
+    assert!(rt; stored == Ok(()));
 }
 
 // A core with the value stored.
@@ -47,18 +26,13 @@ fn stored_core<'a>(
     heap: &'a LocalHeap,
 ) -> Core<Counting<&'a LocalHeap>, &'a LocalHeap> {
     let mut core = core(rt, heap);
-    store(rt, heap, &mut core);
+    store(rt, &mut core);
     core
 }
 
 // That the value is found.
-fn assert_hit<'a>(
-    rt: &impl Abort,
-    heap: &'a LocalHeap,
-    core: &mut Core<Counting<&'a LocalHeap>, &'a LocalHeap>,
-) {
-    let key = key(rt, heap);
-    match core.find(0, &key) {
+fn assert_hit<'a>(rt: &impl Abort, core: &mut Core<Counting<&'a LocalHeap>, &'a LocalHeap>) {
+    match core.get(b"k") {
         Ok(Found::Hit(handle)) => assert!(rt; handle.bytes() == VALUE.as_slice()),
         _ => panic!(rt; "the item is there, and no memory is wanted"),
     }
@@ -94,12 +68,12 @@ fn heap(rt: &impl Abort, alloc: Global) -> LocalHeap {
 fn assert_found_on_a_full_heap(rt: &impl Abort, alloc: Global, heap: &LocalHeap) {
     let mut core = stored_core(rt, heap);
     let blocks = rest(rt, alloc, heap);
-    assert_hit(rt, heap, &mut core);
+    assert_hit(rt, &mut core);
     drop(blocks);
 }
 
 #[test]
-fn a_find_that_hits_takes_no_memory(rt: HostRuntime) {
+fn a_get_that_hits_takes_no_memory(rt: HostRuntime) {
     assert_found_on_a_full_heap(&rt, rt.alloc(), &heap(&rt, rt.alloc()));
 }
 
@@ -136,7 +110,7 @@ fn all_but_gaps<'a>(
 fn assert_replaced_with_three_blocks(rt: &impl Abort, alloc: Global, heap: &LocalHeap) {
     let mut core = stored_core(rt, heap);
     let blocks = all_but_gaps(rt, alloc, heap);
-    store(rt, heap, &mut core);
+    store(rt, &mut core);
     drop(blocks);
 }
 

@@ -1,7 +1,8 @@
 // What is printed of keys, of what is forgotten, of notes, handles and counts.
+use crate::cores::counted;
 use crate::fixtures::key;
 use bytes::Bytes;
-use hc_core::{Cause, Key, Note, Op, Reply, Said, Scope, Stats, Why};
+use hc_core::{Blank, Cause, Core, Counting, Note, Op, Refusal, Said, Scope, Sealed, Stats, Why};
 use std::alloc::Global;
 use std::fmt::{Debug, Display};
 use std::process::Abort;
@@ -28,31 +29,35 @@ fn keys_show_their_bytes(rt: HostRuntime) {
     assert_debugged(&rt, rt.alloc(), &other, "b\"a\\xff\\n\"");
 }
 
+// That a scope shows as this text.
+fn assert_scope(rt: &impl Abort, alloc: Global, scope: Scope, text: &str) {
+    assert_shown(rt, alloc, &scope, text);
+}
+
 #[test]
 fn scopes_show_what_they_cover(rt: HostRuntime) {
-    let one: Scope = Scope::Key(key(&rt, rt.alloc(), b"k"));
-    assert_shown(&rt, rt.alloc(), &one, "key k");
-    let all: Scope = Scope::Hash { kept: 9, but: None };
-    assert_shown(&rt, rt.alloc(), &all, "hash 9");
-    let named = Some(key(&rt, rt.alloc(), b"k"));
-    let most: Scope = Scope::Hash {
-        kept: 9,
-        but: named,
-    };
-    assert_shown(&rt, rt.alloc(), &most, "hash 9 but k");
+    let alloc = rt.alloc();
+    assert_scope(&rt, alloc, Scope::Key(key(&rt, alloc, b"k")), "key k");
+    assert_scope(&rt, alloc, Scope::Hash { kept: 9, but: None }, "hash 9");
+    let but = Some(key(&rt, alloc, b"k"));
+    assert_scope(&rt, alloc, Scope::Hash { kept: 9, but }, "hash 9 but k");
+}
+
+// That a cause shows as this text.
+fn assert_cause(rt: &impl Abort, alloc: Global, cause: Cause, text: &str) {
+    assert_shown(rt, alloc, &cause, text);
 }
 
 #[test]
 fn causes_show_in_the_words_of_answers(rt: HostRuntime) {
-    let evicted: Cause = Cause::Evicted {
+    let why = Why::NoFlash;
+    let evicted = Cause::Evicted {
         pool: 0,
         want: 53,
-        why: Why::NoFlash,
+        why,
     };
-    assert_shown(&rt, rt.alloc(), &evicted, "evicted noflash");
-    let reclaimed: Cause = Cause::Reclaimed(2);
-    assert_shown(&rt, rt.alloc(), &reclaimed, "reclaimed 2");
-    assert_debugged(&rt, rt.alloc(), &reclaimed, "Reclaimed(2)");
+    assert_cause(&rt, rt.alloc(), evicted, "evicted noflash");
+    assert_cause(&rt, rt.alloc(), Cause::Reclaimed(2), "reclaimed 2");
 }
 
 // A note of an insert of five bytes.
@@ -67,12 +72,10 @@ fn inserted(rt: &impl Abort, alloc: Global) -> Note {
 }
 
 #[test]
-fn notes_show_no_value(rt: HostRuntime) {
+fn a_note_shows_no_value(rt: HostRuntime) {
     let note = inserted(&rt, rt.alloc());
     let text = "Note { said: Begin { call: 1, client: 0, op: Insert(b\"k\", 5 bytes, 15) } }";
     assert_debugged(&rt, rt.alloc(), &note, text);
-    let reply: Reply = Reply::FoundInMemory;
-    assert_debugged(&rt, rt.alloc(), &reply, "FoundInMemory");
 }
 
 #[test]
@@ -88,4 +91,44 @@ fn counts_show_with_their_names(rt: HostRuntime) {
     };
     let text = "stored 1 hits 2 misses 3 removes 4 losses 5 reads 0 writes 0";
     assert_shown(&rt, rt.alloc(), &counts, text);
+}
+
+// The handle, sealed.
+fn sealed(rt: &impl Abort, blank: Blank) -> Sealed {
+    match blank.seal() {
+        Ok(sealed) => sealed,
+        Err(_) => panic!(rt; "there is memory"),
+    }
+}
+
+#[test]
+fn handles_show_no_value(rt: HostRuntime) {
+    let mut core = counted(&rt, rt.alloc());
+    let blank = core.allocate(0, key(&rt, rt.alloc(), b"k"), 5, 0);
+    let blank = blank.expect(&rt, "there is room");
+    let text = "Blank { number: 1, pool: 0, key: b\"k\", value: 5 bytes, expiry: 0 }";
+    assert_debugged(&rt, rt.alloc(), &blank, text);
+    let sealed = sealed(&rt, blank);
+    let text = "Sealed { number: 1, pool: 0, key: b\"k\", value: 5 bytes, expiry: 0 }";
+    assert_debugged(&rt, rt.alloc(), &sealed, text);
+    sealed.abandon();
+}
+
+// Why no item is allocated in a pool that isn't there.
+fn refusal_of(rt: &impl Abort, alloc: Global, core: &mut Core<Counting>) -> Refusal {
+    match core.allocate(1, key(rt, alloc, b"k"), 5, 0) {
+        Ok(blank) => {
+            blank.abandon();
+            panic!(rt; "there is one pool")
+        }
+        Err(refused) => Refusal::from(refused),
+    }
+}
+
+#[test]
+fn what_was_refused_is_a_refusal(rt: HostRuntime) {
+    let mut core = counted(&rt, rt.alloc());
+    assert!(rt; refusal_of(&rt, rt.alloc(), &mut core) == Refusal::NoPool);
+    let found = core.get(b"k").expect(&rt, "there is memory");
+    assert_debugged(&rt, rt.alloc(), &found, "Miss");
 }
