@@ -1,3 +1,5 @@
--- What a bucket page is, and how its bytes are read.
+-- What a bucket page is, how its bytes are read, its Bloom word, and what a put pushes out.
 pub mod Page
 pub mod Reading
+pub mod Bloom
+pub mod Putting

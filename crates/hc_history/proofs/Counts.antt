@@ -3,13 +3,8 @@ use Rattle.std.proofs.Common.{◌≡◌, ℕ, ◌+◌, ◌≤◌, Bool, false, L
 use Rattle.std.proofs.lemmas.List.{drop_all}
 use Rattle.hc_types.specs.Tally.{count}
 use Rattle.hc_history.specs.Note.{Note}
-use Rattle.hc_history.specs.Stats.{counts_of, is_stored, is_hit, is_miss, is_removed, is_loss}
+use Rattle.hc_history.specs.Stats.{counts_of, is_stored, is_hit, is_miss, is_removed, is_loss, is_read, is_write}
 use Rattle.hc_history.specs.declared.stats.Stats.{Stats}
-
--- what never passes isn't counted
-pub count-none : {X : Type 0} (xs : List X) → count (λ (x : X). false) xs ≡ 0
-count-none [] = refl
-count-none (x ∷ xs) = omega (arith, count-none xs)
 
 -- nothing is left to count past the end
 count-past : {X : Type 0} (test : X → Bool) (xs : List X) (i n : ℕ) → length xs ≤ i → n + count test (drop i xs) ≡ count test xs → n ≡ count test xs
@@ -18,13 +13,13 @@ count-past test xs i n past sum = omega (arith, sum, ap (count test) (drop_all i
 -- counts whose rest past the end is counted are those of the log
 pub counts-past : (s : Stats) (log : List Note) (i : ℕ) → length log ≤ i
     → s.stored + count is_stored (drop i log) ≡ count is_stored log → s.hits + count is_hit (drop i log) ≡ count is_hit log → s.misses + count is_miss (drop i log) ≡ count is_miss log
-    → s.removes + count is_removed (drop i log) ≡ count is_removed log → s.losses + count is_loss (drop i log) ≡ count is_loss log → s.reads ≡ 0 → s.writes ≡ 0 → s ≡ counts_of log
+    → s.removes + count is_removed (drop i log) ≡ count is_removed log → s.losses + count is_loss (drop i log) ≡ count is_loss log → s.reads + count is_read (drop i log) ≡ count is_read log → s.writes + count is_write (drop i log) ≡ count is_write log → s ≡ counts_of log
 counts-past s log i past stored hits misses removes losses reads writes = λ at. record {
   stored = count-past is_stored log i s.stored past stored at;
   hits = count-past is_hit log i s.hits past hits at;
   misses = count-past is_miss log i s.misses past misses at;
   removes = count-past is_removed log i s.removes past removes at;
   losses = count-past is_loss log i s.losses past losses at;
-  reads = (reads ∙ sym (count-none log)) at;
-  writes = (writes ∙ sym (count-none log)) at;
+  reads = count-past is_read log i s.reads past reads at;
+  writes = count-past is_write log i s.writes past writes at;
 }

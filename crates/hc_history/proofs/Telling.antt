@@ -1,12 +1,13 @@
 -- One note after another.
-use Rattle.std.proofs.Common.{◌≡◌, ℕ, ◌+◌, Bool, true, false, List, [], ◌∷◌, ◌++◌, refl, sym, ap, ◌∙◌, append_assoc, append-nil, arith}
+use Rattle.std.proofs.Common.{◌≡◌, ℕ, ◌+◌, Bool, true, false, List, [], ◌∷◌, ◌++◌, Option, Some, None, refl, sym, ap, ◌∙◌, append_assoc, append-nil, arith}
 use Rattle.std.specs.Prelude.{option_to_list}
 use mathlib.Core.Bool.{cond}
 use Rattle.hc_types.specs.Tally.{count}
 use Rattle.hc_types.proofs.Tallies.{tally-append}
-use Rattle.hc_history.specs.Note.{Op, Note, Begin, Charged, Did, Reply, Stored, Hit, Miss, FoundInMemory, NotInMemory}
+use Rattle.hc_history.specs.Note.{Op, Note, Begin, Charged, Did, Reply, Stored, Exists, Hit, Miss, FoundInMemory, NotInMemory}
 use Rattle.hc_history.specs.Stats.{is_stored, is_hit, is_miss, is_removed, is_loss, is_read, is_write}
 use Rattle.hc_history.specs.declared.stats.Stats.{Stats}
+use Rattle.hc_history.specs.declared.stats.Kind.{Kind}
 use Rattle.hc_history.specs.Told.{Heard, Nothing, Log, Counts, told_more, told_count, counts_more, counts_one, kind_of, is_log, losses_of, where_kept}
 
 -- ---- counts
@@ -103,10 +104,24 @@ more_none n = omega arith
 one_more : (n : ℕ) → n + 1 ≡ n + (1 + 0)
 one_more n = omega arith
 
+-- what is counted of an answer: nothing, of an add that found the key's value
+abbrev counts_if : Stats → Option Kind → Stats
+counts_if counts None = counts
+counts_if counts (Some kind) = counts_one counts kind
+
 -- an answer is counted as its kind
-pub counts-did : (counts : Stats) (call : ℕ) (reply : Reply) → counts_one counts (kind_of reply) ≡ counts_more counts (Did call reply ∷ [])
+pub counts-did : (counts : Stats) (call : ℕ) (reply : Reply) → counts_if counts (kind_of reply) ≡ counts_more counts (Did call reply ∷ [])
 counts-did counts call Stored = λ i. record {
   stored = one_more counts.stored i;
+  hits = more_none counts.hits i;
+  misses = more_none counts.misses i;
+  removes = more_none counts.removes i;
+  losses = more_none counts.losses i;
+  reads = more_none counts.reads i;
+  writes = more_none counts.writes i;
+}
+counts-did counts call Exists = λ i. record {
+  stored = more_none counts.stored i;
   hits = more_none counts.hits i;
   misses = more_none counts.misses i;
   removes = more_none counts.removes i;
@@ -151,11 +166,23 @@ counts-did counts call NotInMemory = λ i. record {
   writes = more_none counts.writes i;
 }
 
+-- so where it is counted, and where it isn't
+pub counts-kind : (counts : Stats) (call : ℕ) (reply : Reply) (kind : Kind) → kind_of reply ≡ Some kind → counts_one counts kind ≡ counts_more counts (Did call reply ∷ [])
+counts-kind counts call reply kind e = ap (counts_if counts) (sym e) ∙ counts-did counts call reply
+
+pub counts-no-kind : (counts : Stats) (call : ℕ) (reply : Reply) → kind_of reply ≡ None → counts ≡ counts_more counts (Did call reply ∷ [])
+counts-no-kind counts call reply e = ap (counts_if counts) (sym e) ∙ counts-did counts call reply
+
 none_lost : (call : ℕ) (reply : Reply) → [] ≡ losses_of (Did call reply ∷ [])
 none_lost call reply = refl
 
 -- and heard so, where its note isn't kept
-pub told-did : (heard : Heard) (call : ℕ) (reply : Reply) → is_log heard ≡ false → told_count heard (kind_of reply) ≡ told_more heard (Did call reply ∷ [])
-told-did Nothing call reply e = refl
-told-did (Log log) call reply e = absurd cc
-told-did (Counts counts losses) call reply e = λ i. Counts (counts-did counts call reply i) ((sym (append-nil losses) ∙ ap (λ ns. losses ++ ns) (none_lost call reply)) i)
+pub told-did : (heard : Heard) (call : ℕ) (reply : Reply) (kind : Kind) → is_log heard ≡ false → kind_of reply ≡ Some kind → told_count heard kind ≡ told_more heard (Did call reply ∷ [])
+told-did Nothing call reply kind e is = refl
+told-did (Log log) call reply kind e is = absurd cc
+told-did (Counts counts losses) call reply kind e is = λ i. Counts (counts-kind counts call reply kind is i) ((sym (append-nil losses) ∙ ap (λ ns. losses ++ ns) (none_lost call reply)) i)
+
+pub told-no-kind : (heard : Heard) (call : ℕ) (reply : Reply) → is_log heard ≡ false → kind_of reply ≡ None → heard ≡ told_more heard (Did call reply ∷ [])
+told-no-kind Nothing call reply e is = refl
+told-no-kind (Log log) call reply e is = absurd cc
+told-no-kind (Counts counts losses) call reply e is = λ i. Counts (counts-no-kind counts call reply is i) ((sym (append-nil losses) ∙ ap (λ ns. losses ++ ns) (none_lost call reply)) i)

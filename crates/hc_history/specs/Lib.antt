@@ -1,8 +1,11 @@
--- What a log says, and what it comes to.
+-- What a log says, what it comes to, and when it is legal.
 pub mod Note
 pub mod Seen
-pub mod Told
+pub mod Books
+pub mod Pages
+pub mod Regions
+pub mod Lawful
+pub mod Honest
 pub mod Stats
 pub mod Counts
-pub mod Books
-pub mod Lawful
+pub mod Told

@@ -1,10 +1,10 @@
 -- The counts over a log.
 use Rattle.std.specs.Prelude.{Bool, true, false, List}
 use Rattle.hc_types.specs.Tally.{count}
-use Rattle.hc_history.specs.Note.{Stored, Hit, Miss, FoundInMemory, NotInMemory, Note, Did, Lose}
 use Rattle.hc_history.specs.declared.stats.Stats.{Stats}
+use Rattle.hc_history.specs.Note.{Stored, Hit, Miss, FoundInMemory, NotInMemory, Note, Did, Lose, Read, Wrote}
 
--- an insert is answered
+-- an insert, or an add that stores, is answered
 abbrev pub is_stored : Note → Bool
 is_stored (Did call Stored) = true
 is_stored note = false
@@ -30,11 +30,14 @@ abbrev pub is_loss : Note → Bool
 is_loss (Lose scope cause) = true
 is_loss note = false
 
--- a page was read, or written: no note tells it yet
+-- a page was read, or a read of it failed
 abbrev pub is_read : Note → Bool
+is_read (Read page result) = true
 is_read note = false
 
+-- a page was written, or a write of it failed
 abbrev pub is_write : Note → Bool
+is_write (Wrote page bytes is_written) = true
 is_write note = false
 
 abbrev pub counts_of : List Note → Stats

@@ -48,13 +48,14 @@ counts_one counts Lost = record counts { losses = counts.losses + 1 }
 counts_one counts Read = record counts { reads = counts.reads + 1 }
 counts_one counts Written = record counts { writes = counts.writes + 1 }
 
--- as what an answer is counted
-abbrev pub kind_of : Reply → Kind
-kind_of note.Stored = Stored
-kind_of (note.Hit value) = Hit
-kind_of note.Miss = Miss
-kind_of note.FoundInMemory = Removed
-kind_of note.NotInMemory = Removed
+-- as what an answer is counted: an add that found the key's value, nowhere
+abbrev pub kind_of : Reply → Option Kind
+kind_of note.Stored = Some Stored
+kind_of note.Exists = None
+kind_of (note.Hit value) = Some Hit
+kind_of note.Miss = Some Miss
+kind_of note.FoundInMemory = Some Removed
+kind_of note.NotInMemory = Some Removed
 
 -- what is heard once something of this kind is counted, where its note isn't kept
 abbrev pub told_count : Heard → Kind → Heard

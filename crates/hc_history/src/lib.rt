@@ -3,6 +3,7 @@
 
 mod note;
 mod notes;
+mod shown;
 mod stats;
 
 ghost use Rattle.std.specs.Prelude.{List};

@@ -6,7 +6,6 @@ ghost use Rattle.hc_history.specs.Note.{Note as Meaning};
 use bytes::Bytes;
 use hc_types::{Cause, Key, Scope};
 use std::alloc::{Allocator, Global};
-use std::fmt;
 use std::marker::Model;
 
 /// What a call asks for.
@@ -14,6 +13,8 @@ use std::marker::Model;
 pub enum Op<A: Allocator = Global> {
     /// To store the value under the key, until this second (0: for good).
     Insert(Key<A>, Bytes<A>, u64),
+    /// The same, unless the key has an unexpired value.
+    Add(Key<A>, Bytes<A>, u64),
     Find(Key<A>),
     Remove(Key<A>),
 }
@@ -22,14 +23,16 @@ pub enum Op<A: Allocator = Global> {
 #[derive(Drop)]
 pub enum Reply<A: Allocator = Global> {
     Stored,
+    /// An add left the key's unexpired value as it is.
+    Exists,
     Hit(Bytes<A>),
     Miss,
     FoundInMemory,
     NotInMemory,
 }
 
-/// What a note says. Calls and charges are numbered from 1.
-#[derive(Debug, Drop)]
+/// What a note says. Calls and charges are numbered from 1, regions and pages from 0.
+#[derive(Drop)]
 pub enum Said<A: Allocator = Global> {
     /// A client's call begins.
     Begin {
@@ -46,7 +49,7 @@ pub enum Said<A: Allocator = Global> {
     End {
         call: u64,
     },
-    /// The covered keys that have no item are forgotten.
+    /// The covered keys that have no item and don't wait are forgotten.
     Lose {
         scope: Scope<A>,
         cause: Cause<A>,
@@ -65,6 +68,53 @@ pub enum Said<A: Allocator = Global> {
     /// The item of this charge is gone.
     Freed {
         charge: u64,
+    },
+    /// The key's entry waits for flash.
+    Queued {
+        key: Key<A>,
+    },
+    /// It waits no longer.
+    Unqueued {
+        key: Key<A>,
+    },
+    /// A small entry of the key is being written.
+    Writing {
+        key: Key<A>,
+    },
+    /// It is stored or lost.
+    Written {
+        key: Key<A>,
+    },
+    /// The key has a tombstone: what flash has of it is not to be found.
+    Buried {
+        key: Key<A>,
+    },
+    /// It has none any longer.
+    Raised {
+        key: Key<A>,
+    },
+    /// A page was read: its bytes, unless the read failed.
+    Read {
+        page: u32,
+        result: Option<Bytes<A>>,
+    },
+    /// These bytes were written to a page, or the write failed.
+    Wrote {
+        page: u32,
+        bytes: Bytes<A>,
+        is_written: bool,
+    },
+    /// The region takes entries from here on.
+    Opened {
+        region: u32,
+    },
+    /// The region is whole on flash.
+    Flushed {
+        region: u32,
+    },
+    /// The region is clean again.
+    Cleared {
+        region: u32,
     },
     /// The clock moved on to this second.
     Now {
@@ -104,31 +154,5 @@ impl<A: Allocator> Note<A> {
         ensures { result ≡ note_of said }
     {
         Note { said }
-    }
-}
-
-/// A value by its length.
-impl<A: Allocator> fmt::Debug for Op<A> {
-    fn fmt<W: fmt::Write>(&self, f: &mut fmt::Formatter<W>) -> fmt::Result {
-        match self {
-            Op::Insert(key, value, expiry) => {
-                write!(f, "Insert({key:?}, {} bytes, {expiry})", value.len())
-            }
-            Op::Find(key) => write!(f, "Find({key:?})"),
-            Op::Remove(key) => write!(f, "Remove({key:?})"),
-        }
-    }
-}
-
-/// A value by its length.
-impl<A: Allocator> fmt::Debug for Reply<A> {
-    fn fmt<W: fmt::Write>(&self, f: &mut fmt::Formatter<W>) -> fmt::Result {
-        match self {
-            Reply::Stored => f.write_str("Stored"),
-            Reply::Hit(value) => write!(f, "Hit({} bytes)", value.len()),
-            Reply::Miss => f.write_str("Miss"),
-            Reply::FoundInMemory => f.write_str("FoundInMemory"),
-            Reply::NotInMemory => f.write_str("NotInMemory"),
-        }
     }
 }

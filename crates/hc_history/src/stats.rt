@@ -14,7 +14,7 @@ use std::fmt;
 /// Counts over a log. A call that isn't answered is in none of them. It shows each with its name.
 #[derive(Clone, Copy, Debug, Default, PartialEq, Eq)]
 pub struct Stats {
-    /// Answered inserts.
+    /// Answered inserts, and adds that stored.
     pub stored: u64,
     /// Finds answered with a value.
     pub hits: u64,
@@ -24,9 +24,9 @@ pub struct Stats {
     pub removes: u64,
     /// Forgettings.
     pub losses: u64,
-    /// Results of page reads. There is no flash yet, and so none.
+    /// Pages that were read, and reads that failed.
     pub reads: u64,
-    /// Results of page writes. There is no flash yet, and so none.
+    /// Pages that were written, and writes that failed.
     pub writes: u64,
 }
 
@@ -103,7 +103,9 @@ impl Stats {
         ensures room { left_to_count self.old ≤ left_to_count self.new + 1 }
         ensures counts { (call : ℕ) → self.new ≡ counts_more self.old (Did call (reply_of reply.now) ∷ []) }
     {
-        self.count(reply.kind());
+        if let Some(kind) = reply.kind() {
+            self.count(kind);
+        }
     }
 
     /// A note more is heard.
@@ -115,6 +117,8 @@ impl Stats {
         match &note.said {
             Said::Did { reply, .. } => self.answered(reply),
             Said::Lose { .. } => self.count(Kind::Lost),
+            Said::Read { .. } => self.count(Kind::Read),
+            Said::Wrote { .. } => self.count(Kind::Written),
             _ => {}
         }
     }
@@ -131,16 +135,17 @@ impl Stats {
 }
 
 impl<A: Allocator> Reply<A> {
-    /// As what it is counted.
+    /// As what it is counted. An add that found the key's value is counted nowhere.
     #[must_use]
-    pub fn kind(&self) -> Kind
+    pub fn kind(&self) -> Option<Kind>
         ensures { result ≡ kind_of (reply_of self.now) }
     {
         match self {
-            Reply::Stored => Kind::Stored,
-            Reply::Hit(_) => Kind::Hit,
-            Reply::Miss => Kind::Miss,
-            Reply::FoundInMemory | Reply::NotInMemory => Kind::Removed,
+            Reply::Stored => Some(Kind::Stored),
+            Reply::Exists => None,
+            Reply::Hit(_) => Some(Kind::Hit),
+            Reply::Miss => Some(Kind::Miss),
+            Reply::FoundInMemory | Reply::NotInMemory => Some(Kind::Removed),
         }
     }
 }
@@ -158,6 +163,8 @@ impl<A: Allocator> Kept<A> {
             counts.misses += u64::from(is_miss(note));
             counts.removes += u64::from(is_removed(note));
             counts.losses += u64::from(is_loss(note));
+            counts.reads += u64::from(is_read(note));
+            counts.writes += u64::from(is_write(note));
         }
         counts
     }
@@ -216,4 +223,16 @@ pub fn is_loss<A: Allocator>(note: &Note<A>) -> bool
     ensures { result ≡ spec.is_loss note.now }
 {
     matches!(&note.said, Said::Lose { .. })
+}
+
+fn is_read<A: Allocator>(note: &Note<A>) -> bool
+    ensures { result ≡ spec.is_read note.now }
+{
+    matches!(&note.said, Said::Read { .. })
+}
+
+fn is_write<A: Allocator>(note: &Note<A>) -> bool
+    ensures { result ≡ spec.is_write note.now }
+{
+    matches!(&note.said, Said::Wrote { .. })
 }

@@ -138,7 +138,6 @@ fn add_cause(out: &mut Vec<u8>, cause: &Cause) -> Result<(), AllocError>
         Cause::BucketFull => out.extend_from_slice(b"bucketfull"),
         Cause::Reclaimed(region) => add_count(out, b"reclaimed ", u64::from(*region)),
         Cause::NoCleanRegion => out.extend_from_slice(b"nocleanregion"),
-        Cause::TokenTaken => out.extend_from_slice(b"tokentaken"),
         Cause::Collision(_) => out.extend_from_slice(b"collision"),
         Cause::Expired => out.extend_from_slice(b"expired"),
         Cause::Fault => out.extend_from_slice(b"fault"),

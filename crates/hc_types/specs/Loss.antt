@@ -40,7 +40,6 @@ pub data Cause : Type 0 where
   BucketFull : Cause
   Reclaimed : (region : ℕ) → Cause
   NoCleanRegion : Cause
-  TokenTaken : Cause
   Collision : (by : List ℕ) → Cause
   Expired : Cause
   Fault : Cause
@@ -50,7 +49,6 @@ cause_of (causes.Evicted pool want why) = Evicted pool want why
 cause_of causes.BucketFull = BucketFull
 cause_of (causes.Reclaimed region) = Reclaimed region
 cause_of causes.NoCleanRegion = NoCleanRegion
-cause_of causes.TokenTaken = TokenTaken
 cause_of (causes.Collision by) = Collision by
 cause_of causes.Expired = Expired
 cause_of causes.Fault = Fault

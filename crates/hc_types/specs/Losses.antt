@@ -4,7 +4,7 @@ use Rattle.std.specs.Fmt.{decimal}
 use Rattle.std.specs.Str.{is_utf8}
 use Rattle.hc_types.specs.declared.loss.Why.{Why}
 use Rattle.hc_types.specs.declared.loss.Why.TheVariants.{NoFlash, Tombstone, NotAdmitted, TooLarge, QueueFull}
-use Rattle.hc_types.specs.Loss.{Scope, Key, Bucket, Hash, Cause, Evicted, BucketFull, Reclaimed, NoCleanRegion, TokenTaken, Collision, Expired, Fault}
+use Rattle.hc_types.specs.Loss.{Scope, Key, Bucket, Hash, Cause, Evicted, BucketFull, Reclaimed, NoCleanRegion, Collision, Expired, Fault}
 
 -- the key that a scope leaves out
 abbrev pub but_text : Option (List ℕ) → List ℕ
@@ -31,7 +31,6 @@ cause_text (Evicted pool want why) = why_text why
 cause_text BucketFull = codes "bucketfull"
 cause_text (Reclaimed region) = codes "reclaimed " ++ decimal region
 cause_text NoCleanRegion = codes "nocleanregion"
-cause_text TokenTaken = codes "tokentaken"
 cause_text (Collision by) = codes "collision"
 cause_text Expired = codes "expired"
 cause_text Fault = codes "fault"

@@ -44,8 +44,6 @@ pub enum Cause<A: Allocator = Global> {
     Reclaimed(u32),
     /// No region was clean for it.
     NoCleanRegion,
-    /// A find took its waiting put.
-    TokenTaken,
     /// This key, of the same kept hash, was written or removed.
     Collision(Key<A>),
     /// Its item was evicted when it was expired.

@@ -92,7 +92,6 @@ impl<A: Allocator> Display for Cause<A> {
             Cause::BucketFull => f.write_str("bucketfull"),
             Cause::Reclaimed(region) => write!(f, "reclaimed {region}"),
             Cause::NoCleanRegion => f.write_str("nocleanregion"),
-            Cause::TokenTaken => f.write_str("tokentaken"),
             Cause::Collision(_) => f.write_str("collision"),
             Cause::Expired => f.write_str("expired"),
             Cause::Fault => f.write_str("fault"),

@@ -1,0 +1,2 @@
+-- What judges a log.
+pub mod Judge
