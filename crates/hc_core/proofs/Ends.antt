@@ -7,7 +7,8 @@ use Rattle.hc_memory.specs.Item.{Item, Open, cost}
 use Rattle.hc_memory.specs.Pool.{is_at, item_at}
 use Rattle.hc_history.specs.Note.{Note}
 use Rattle.hc_history.specs.Books.{Charge, Entry, entry_at, is_linked}
-use Rattle.hc_history.specs.Lawful.{is_backed, AtEnd}
+use Rattle.hc_history.specs.Lawful.{is_backed, is_stray, AtEnd}
+use Rattle.hc_types.specs.Config.{Config}
 use Rattle.hc_core.specs.Mirrors.{charge_at, open_at, entry_of, Mirrors}
 use Rattle.hc_core.proofs.Items.{bytes_eq-refl, bytes_eq-sym, linked-count}
 use Rattle.hc_core.proofs.Same.{eqb-same, one_if}
@@ -44,13 +45,14 @@ none_unbacked (x ∷ items) one =
     omega (arith, first, rest, none_unbacked items (λ key. omega (arith, one key)))
 
 -- books that are those of a core end between two steps
-pub ends : (older : List Note) (items : List Item) (opens : List Open) (made calls now : ℕ) → Mirrors older items opens made calls now → AtEnd older
+pub ends : (config : Config) (older : List Note) (items : List Item) (opens : List Open) (made calls now : ℕ) → Mirrors older items opens made calls now → AtEnd config older
 unfolding unbacked
-ends older items opens made calls now m =
-    let test : Charge → ℕ = λ charge. cond (charge.linked && not (is_backed (entry_at older charge.key) charge)) 1 0 in
-    let each : tally (λ item. test (charge_at item)) items ≡ tally (unbacked items) items = tally-ext (λ item. test (charge_at item)) (unbacked items) (λ i. ap (λ (e : Option Entry). cond (not (is_backed e (charge_at i))) 1 0) (m.entries i.key)) items in
+ends config older items opens made calls now m =
+    let test : Charge → ℕ = λ charge. cond (charge.linked && not (is_backed (entry_at config.flash older charge.key) charge)) 1 0 in
+    let each : tally (λ item. test (charge_at item)) items ≡ tally (unbacked items) items = tally-ext (λ item. test (charge_at item)) (unbacked items) (λ i. ap (λ (e : Option Entry). cond (not (is_backed e (charge_at i))) 1 0) (m.entries config.flash i.key)) items in
     let open_ones = tally-zero (λ (o : Open). test (open_at o)) (λ o. refl) opens in
     record {
       backed = omega (arith, m.same test, each, open_ones, none_unbacked items m.one_key);
       single = λ key. omega (arith, m.same (λ charge. cond (is_linked key charge) 1 0), linked-count key items, tally-zero (λ (o : Open). cond (is_linked key (open_at o)) 1 0) (λ o. refl) opens, m.one_key key);
+      waits = ap (count (is_stray config.flash older)) m.no_waiting;
     }

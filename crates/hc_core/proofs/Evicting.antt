@@ -1,6 +1,7 @@
 -- The evictions that make room are lawful, and so is the charge for which it is made.
-use Rattle.std.proofs.Common.{◌≡◌, ◌≢◌, ⊎_elim, suc, slice_set, ℕ, ◌+◌, ◌<◌, ◌≤◌, ◌++◌, ◌==◌, nat_lt, not, ◌&&◌, ◌||◌, Bool, true, false, List, [], ◌∷◌, length, Option, Some, None, refl, ap, sym, ◌∙◌, arith, subst, inr, slice_get}
+use Rattle.std.proofs.Common.{◌≡◌, ◌≢◌, ⊎_elim, zero, suc, slice_set, ℕ, ◌+◌, ◌<◌, ◌≤◌, ◌++◌, ◌==◌, nat_lt, not, ◌&&◌, ◌||◌, Bool, true, false, List, [], ◌∷◌, length, Option, Some, None, refl, ap, sym, ◌∙◌, arith, subst, inr, slice_get}
 use Rattle.std.specs.Prelude.{IsSomeAnd, option_map}
+use Rattle.std.specs.Str.{bytes_eq}
 use mathlib.Core.Bool.{cond}
 use Rattle.std.proofs.lemmas.Bool.{eqb-true}
 use Rattle.std.proofs.lemmas.Bool.Decides.{eqb_tells}
@@ -23,9 +24,10 @@ use Rattle.hc_memory.proofs.Keys.{get-set, get-set-other}
 use Rattle.hc_memory.proofs.Linking.{ones}
 use Rattle.hc_memory.proofs.Making.{there-of, known}
 use Rattle.hc_history.specs.Note.{Note, Lose, Freed, Charged}
-use Rattle.hc_history.specs.Books.{Charge, Entry, charges, has_number, entry_at, is_past, expired_at, is_linked}
+use Rattle.hc_history.specs.Books.{Charge, Entry, charges, has_number, waiting, is_among, entry_left, entry_at, is_past, expired_at, is_linked}
+use Rattle.hc_types.specs.declared.config.FlashConfig.{FlashConfig}
 use Rattle.hc_history.specs.Lawful as lawful
-use Rattle.hc_history.specs.Lawful.{live_bytes, live_count, is_full_of, next_charged, is_charge_of, IsTrueCause, Lawful, past}
+use Rattle.hc_history.specs.Lawful.{live_bytes, live_count, is_full_of, next_charged, is_charge_of, forgotten_by, IsTrueCause, Lawful, past}
 use Rattle.hc_history.proofs.Appended.{past-append}
 use Rattle.hc_core.specs.Steps.{cause_for, eviction_notes, part_of_allocate}
 use Rattle.hc_core.specs.Mirrors.{items_of, open_at, item_has, open_has, entry_of, Mirrors, FitsConfig}
@@ -49,6 +51,19 @@ entry_step : (b : Bool) (n : ℕ) (was : Option Entry) (x : Item) (o : Option It
 entry_step true n was x o zeroed none is = ap (λ m. cond (m == 0) None was) (zeroed refl) ∙ ap entry_of (sym (none refl))
 entry_step false n was x o zeroed none is = is
 
+not-held : (n : ℕ) → not (nat_lt 0 n || false) ≡ (n == 0)
+not-held zero = refl
+not-held (suc n) = grind arith
+
+none-left : (b : Bool) → ◌≡◌ {A = Option Entry} None (cond b None None)
+none-left true = refl
+none-left false = refl
+
+-- what the loss of a key leaves, where nothing waits
+left_by : (flash : Option FlashConfig) (cause : Cause) (named key : List ℕ) (waits : List (List ℕ)) (n : ℕ) (was : Option Entry) → waits ≡ [] → entry_left flash (loss.Key named) (nat_lt 0 n || is_among key waits) key was ≡ cond (bytes_eq named key && (n == 0)) None was
+left_by flash cause named key waits n None none = none-left (bytes_eq named key && (n == 0))
+left_by flash cause named key waits n (Some e) none = ap (λ ks. cond (bytes_eq named key && not (nat_lt 0 n || is_among key ks)) None (Some e)) none ∙ ap (λ b. cond (bytes_eq named key && b) None (Some e)) (not-held n)
+
 -- where the first item has the key, no other has
 alone : (key : List ℕ) (x : Item) (items : List Item) → count (is_at key) (x ∷ items) ≤ 1 → is_at key x ≡ true → count (is_at key) items ≡ 0
 alone key x items one here = omega (arith, one, one_if (is_at key x) here)
@@ -63,11 +78,12 @@ Mirrors-evicted older x items opens made calls now cause m =
       one_number = λ n. omega (arith, m.one_number n);
       fresh = λ n lt. omega (arith, m.fresh n lt);
       same = left;
-      entries = λ key. ap (λ b. cond (b && (count (is_linked key) live == 0)) None (entry_at older key)) (bytes_eq-sym x.key key)
-          ∙ entry_step (is_at key x) (count (is_linked key) live) (entry_at older key) x (item_at key items)
+      no_waiting = m.no_waiting;
+      entries = λ flash key. left_by flash cause x.key key (waiting older) (count (is_linked key) live) (entry_at flash older key) m.no_waiting ∙ ap (λ b. cond (b && (count (is_linked key) live == 0)) None (entry_at flash older key)) (bytes_eq-sym x.key key)
+          ∙ entry_step (is_at key x) (count (is_linked key) live) (entry_at flash older key) x (item_at key items)
           (λ here. omega (arith, linked_now key live items opens left, alone key x items (m.one_key key) here))
           (λ here. count-none key items (alone key x items (m.one_key key) here))
-          (m.entries key);
+          (m.entries flash key);
       clock = m.clock;
       no_call = m.no_call;
       no_reply = m.no_reply;
@@ -96,6 +112,7 @@ Mirrors-charged older items opens pool key size made calls now m =
       fresh = λ n lt. omega (arith, pushed n, fresh_step n made (count (item_has n) items) (count (open_has n) opens) (made + 1 == n) refl lt (m.fresh n (omega (arith, lt))));
       same = λ f. omega (arith, m.same f, tally-push (λ charge. f (open_at charge)) opens c);
       entries = m.entries;
+      no_waiting = m.no_waiting;
       clock = m.clock;
       no_call = m.no_call;
       no_reply = m.no_reply;
@@ -179,15 +196,15 @@ freed_found : (live : List Charge) (number pool : ℕ) (key : List ℕ) → 0 < 
 freed_found live number pool key found = omega (arith, found, tally-mono (λ charge. cond (is_charge_of number key pool charge) 1 0) (λ (charge : Charge). cond (has_number number charge && is_linked key charge) 1 0) (λ charge. and_less (has_number number charge && is_linked key charge) (charge.pool == pool)) live)
 
 -- the map has the first item's expiry
-first_expired : (older : List Note) (x : Item) (items : List Item) (opens : List Open) (made calls now : ℕ) → Mirrors older (x ∷ items) opens made calls now → expired_at older x.key ≡ is_expired now x
-first_expired older x items opens made calls now m =
+first_expired : (flash : Option FlashConfig) (older : List Note) (x : Item) (items : List Item) (opens : List Open) (made calls now : ℕ) → Mirrors older (x ∷ items) opens made calls now → expired_at flash older x.key ≡ is_expired now x
+first_expired flash older x items opens made calls now m =
     let found : item_at x.key (x ∷ items) ≡ Some x = ap (λ b. cond b (Some x) (item_at x.key items)) (bytes_eq-refl x.key) in
-    λ i. is_past (m.clock i) ((m.entries x.key ∙ ap entry_of found) i)
+    λ i. is_past (m.clock i) ((m.entries flash x.key ∙ ap entry_of found) i)
 
-cause_step : (config : Config) (older : List Note) (x : Item) (pool want : ℕ) (rest : List Note) (b : Bool) → expired_at older x.key ≡ b → config.flash ≡ None → 0 < count (is_charge_of x.number x.key pool) (charges older) → lawful.is_full config pool (charges older) want ≡ true → next_charged rest ≡ Some (pool, want)
+cause_step : (config : Config) (older : List Note) (x : Item) (pool want : ℕ) (rest : List Note) (b : Bool) → expired_at config.flash older x.key ≡ b → config.flash ≡ None → 0 < count (is_charge_of x.number x.key pool) (charges older) → lawful.is_full config pool (charges older) want ≡ true → next_charged rest ≡ Some (pool, want)
     → IsTrueCause config (Freed x.number ∷ older) (loss.Key x.key) (cond b Expired (Evicted pool want NoFlash)) rest
 cause_step config older x pool want rest true expired none live full next = (expired, freed_found (charges older) x.number pool x.key live)
-cause_step config older x pool want rest false expired none live full next = (none, expired, (live, full, next))
+cause_step config older x pool want rest false expired none live full next = (ap (λ flash. forgotten_by flash (Freed x.number ∷ older) x.key) none, expired, (live, full, next))
 
 module _ (size : PoolSize) (pool want : ℕ) (others : List Item) (opens : List Open) (made calls now : ℕ) where
   mirrors_step : (x : Item) (items : List Item) (older : List Note) (b : Bool)
@@ -218,7 +235,7 @@ module _ (size : PoolSize) (pool want : ℕ) (others : List Item) (opens : List 
       let after : next_charged rest ≡ Some (pool, want) = next-evictions now pool want (dropped size (usage_of pool opens) want items) tail (pool, want) next in (
         inr (x.key, (pool, (live, inr (next_full config (charges older) pool want _ (sym after) full)))),
         (
-          cause_step config older x pool want rest (is_expired now x) (first_expired older x (items ++ others) opens made calls now m) none live full after,
+          cause_step config older x pool want rest (is_expired now x) (first_expired config.flash older x (items ++ others) opens made calls now m) none live full after,
           more (Lose (loss.Key x.key) (cause_for now pool want x) ∷ Freed x.number ∷ older) (Mirrors-evicted older x (items ++ others) opens made calls now (cause_for now pool want x) m) h,
         ),
       )

@@ -1,12 +1,13 @@
 -- Each call keeps what holds of every core.
-use Rattle.std.proofs.Common.{◌≡◌, ℕ, zero, suc, ◌+◌, ◌<◌, ◌≤◌, ◌++◌, List, [], ◌∷◌, length, length-append, not, Bool, true, false, nat_lt, Option, Some, None, refl, sym, ap, ◌∙◌, arith, subst, map, slice_get, slice_set, max}
+use Rattle.std.proofs.Common.{◌≡◌, ℕ, zero, suc, ◌+◌, ◌<◌, ◌≤◌, ◌++◌, List, [], ◌∷◌, length, length-append, not, ◌&&◌, Bool, true, false, nat_lt, Option, Some, None, refl, sym, ap, ◌∙◌, arith, subst, map, slice_get, slice_set, max}
 use Rattle.std.specs.Option.{option_map_or}
+use Rattle.std.specs.Prelude.{is_some}
 use mathlib.Core.Bool.{cond}
 use Rattle.hc_types.specs.Charge.{charge_of}
 use Rattle.hc_types.specs.Config.{Config}
 use Rattle.hc_types.specs.declared.config.PoolSize.{PoolSize}
 use Rattle.hc_memory.specs.Item.{Open, Handle, charge_by}
-use Rattle.hc_memory.specs.Pool.{Pool}
+use Rattle.hc_memory.specs.Pool.{Pool, unexpired}
 use Rattle.hc_memory.specs.Charges.{charge_at, closed, is_open}
 use Rattle.hc_memory.specs.Memory as pools
 use Rattle.hc_memory.specs.Memory.{Memory, empty_pool, has, is_hopeless, linked_at, value_at, change_at, change_home}
@@ -21,12 +22,12 @@ use Rattle.hc_core.specs.Cache.{empty_memory}
 use Rattle.hc_types.specs.declared.refusal.Refusal.{Refusal}
 use Rattle.hc_types.specs.declared.refusal.Refusal.TheVariants.{NoPool, ValueTooLong, NoRoom}
 use Rattle.hc_core.specs.Refused.{refusal_of}
-use Rattle.hc_core.specs.Steps.{part_of_allocate, insert_notes, find_notes, remove_notes, tick_notes}
+use Rattle.hc_core.specs.Steps.{part_of_allocate, store_notes, find_notes, remove_notes, tick_notes}
 use Rattle.hc_core.specs.Mirrors.{items_of, Mirrors, FitsConfig, FollowsLog, Follows}
 use Rattle.hc_core.proofs.Ends.{ends}
 use Rattle.hc_core.proofs.Evicting.{allocates}
 use Rattle.hc_core.proofs.Between.{discards, ticks}
-use Rattle.hc_core.proofs.Calls.{finds, removes, inserts}
+use Rattle.hc_core.proofs.Calls.{finds, removes, stores}
 
 -- ---- the log
 
@@ -39,7 +40,7 @@ follows_log : (config : Config) (log part : List Note) (before after : Memory) (
     → Lawful config (past [] log) part × MirrorsMemory (past (past [] log) part) after calls' now'
     → FollowsLog (log ++ part) config after calls' now'
 follows_log config log part before after calls calls' now now' f both = record {
-  legal = Legal-append config log part f.legal both.0 (ends (past (past [] log) part) (items_of after.pools) after.charges after.made calls' now' both.1);
+  legal = Legal-append config log part f.legal both.0 (ends config (past (past [] log) part) (items_of after.pools) after.charges after.made calls' now' both.1);
   mirrors = subst (λ h. MirrorsMemory h after calls' now') (sym (past-append [] log part)) both.1;
 }
 
@@ -61,10 +62,10 @@ pub follows-discard : (config : Config) (log : Heard) (memory : Memory) (c : Ope
 follows-discard config log memory c number calls now found f =
     follows_more config log (Freed number ∷ []) memory (pools.after_free memory number) calls calls now now f (λ older m. discards config older memory c number calls now found m)
 
-pub follows-insert : (config : Config) (log : Heard) (memory : Memory) (handle : Handle) (client calls now : ℕ) → Sound memory.pools memory.charges memory.made → is_open (charge_by handle) memory.charges ≡ true → Follows log config memory calls now
-    → Follows (told_more log (insert_notes (calls + 1) client handle (linked_at handle.key memory.pools))) config (pools.after_link memory false handle) (calls + 1) now
-follows-insert config log memory handle client calls now sound mine f =
-    follows_more config log (insert_notes (calls + 1) client handle (linked_at handle.key memory.pools)) memory (pools.after_link memory false handle) calls (calls + 1) now now f (λ older m. inserts config older memory handle client calls now sound mine m)
+pub follows-store : (config : Config) (log : Heard) (memory : Memory) (adds : Bool) (handle : Handle) (client calls now : ℕ) → Sound memory.pools memory.charges memory.made → is_open (charge_by handle) memory.charges ≡ true → (adds && is_some (unexpired now (linked_at handle.key memory.pools))) ≡ false → Follows log config memory calls now
+    → Follows (told_more log (store_notes (calls + 1) client adds handle (linked_at handle.key memory.pools))) config (pools.after_link memory false handle) (calls + 1) now
+follows-store config log memory adds handle client calls now sound mine free f =
+    follows_more config log (store_notes (calls + 1) client adds handle (linked_at handle.key memory.pools)) memory (pools.after_link memory false handle) calls (calls + 1) now now f (λ older m. stores config older memory adds handle client calls now sound mine free m)
 
 pub follows-find : (config : Config) (log : Heard) (memory : Memory) (key : List ℕ) (client calls now : ℕ) → Follows log config memory calls now
     → Follows (told_more log (find_notes (calls + 1) client key (value_at now key memory.pools))) config (pools.after_find memory now key) (calls + 1) now
@@ -163,7 +164,8 @@ nothing = record {
   one_number = λ n. omega arith;
   fresh = λ n lt. refl;
   same = λ f. refl;
-  entries = λ key. refl;
+  entries = λ flash key. refl;
+  no_waiting = refl;
   clock = refl;
   no_call = refl;
   no_reply = refl;
@@ -172,7 +174,7 @@ nothing = record {
 
 new_log : (config : Config) (log : List Note) → log ≡ [] → FollowsLog log config (empty_memory config) 0 0
 new_log config log e = subst (λ l. FollowsLog l config (empty_memory config) 0 0) (sym e) (record {
-  legal = record { lawful = tt; at_end = ends [] [] [] 0 0 0 nothing };
+  legal = record { lawful = tt; at_end = ends config [] [] [] 0 0 0 nothing };
   mirrors = subst (λ items. Mirrors [] items [] 0 0 0) (sym (none_yet config.pools)) nothing;
 })
 

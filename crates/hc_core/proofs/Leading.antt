@@ -1,5 +1,5 @@
 -- Each pure step leads from one cache to the next.
-use Rattle.std.proofs.Common.{◌≡◌, ℕ, ◌+◌, true, false, List, [], ◌∷◌, ◌++◌, None, refl, sym, ap, ◌∙◌, subst}
+use Rattle.std.proofs.Common.{◌≡◌, ℕ, ◌+◌, true, false, List, [], ◌∷◌, ◌++◌, Bool, ◌&&◌, None, refl, sym, ap, ◌∙◌, subst}
 use Rattle.hc_types.specs.Config.{Config}
 use Rattle.hc_types.specs.Charge.{charge_of}
 use Rattle.hc_types.specs.Limits.{first_wrong}
@@ -16,10 +16,10 @@ use Rattle.hc_memory.proofs.Handing.{linked-sound}
 use Rattle.hc_history.specs.Note.{Note, Freed}
 use Rattle.hc_history.specs.Told.{Heard, Log}
 use Rattle.hc_core.specs.Cache.{Cache, empty_memory, new_cache}
-use Rattle.hc_core.specs.Refused.{allocate_refusal}
-use Rattle.hc_core.specs.Steps.{part_of_allocate, after_allocate, after_discard, insert_notes, after_insert, find_notes, after_find, remove_notes, after_remove, tick_notes, after_tick}
+use Rattle.hc_core.specs.Refused.{allocate_refusal, is_taken}
+use Rattle.hc_core.specs.Steps.{part_of_allocate, after_allocate, after_discard, store_notes, after_store, insert_notes, after_insert, add_notes, after_add, find_notes, after_find, remove_notes, after_remove, tick_notes, after_tick}
 use Rattle.hc_core.specs.Legality.{Led, StepsAreLegal}
-use Rattle.hc_core.proofs.Keeps.{follows-allocate, follows-discard, follows-insert, follows-find, follows-remove, follows-tick, fits-allocate, fits-discard, fits-insert, fits-find, fits-remove, pool-there, may-be, new-holds}
+use Rattle.hc_core.proofs.Keeps.{follows-allocate, follows-discard, follows-store, follows-find, follows-remove, follows-tick, fits-allocate, fits-discard, fits-insert, fits-find, fits-remove, pool-there, may-be, new-holds}
 
 led_new : (config : Config) (heard : Heard) → config.flash ≡ None → first_wrong config ≡ None → Led [] (new_cache config heard)
 led_new config heard flash fits =
@@ -43,15 +43,23 @@ led_allocate log cache pool key size led free =
       follows = follows-allocate cache.config (Log log) memory pool key size cache.calls cache.now led.fits led.sound lt led.follows;
     }
 
-led_insert : (log : List Note) (cache : Cache) (client : ℕ) (handle : Handle) → Led log cache → is_open (charge_by handle) cache.memory.charges ≡ true
-    → Led (log ++ insert_notes (cache.calls + 1) client handle (linked_at handle.key cache.memory.pools)) (after_insert cache client handle)
-led_insert log cache client handle led mine =
+led_store : (log : List Note) (cache : Cache) (client : ℕ) (adds : Bool) (handle : Handle) → Led log cache → is_open (charge_by handle) cache.memory.charges ≡ true → (adds && is_taken handle.key cache) ≡ false
+    → Led (log ++ store_notes (cache.calls + 1) client adds handle (linked_at handle.key cache.memory.pools)) (after_store cache client adds handle)
+led_store log cache client adds handle led mine free =
     let memory = cache.memory in
     record {
       fits = fits-insert cache.config memory handle led.fits;
       sound = linked-sound memory.pools memory.charges memory.made handle false led.sound mine;
-      follows = follows-insert cache.config (Log log) memory handle client cache.calls cache.now led.sound mine led.follows;
+      follows = follows-store cache.config (Log log) memory adds handle client cache.calls cache.now led.sound mine free led.follows;
     }
+
+led_insert : (log : List Note) (cache : Cache) (client : ℕ) (handle : Handle) → Led log cache → is_open (charge_by handle) cache.memory.charges ≡ true
+    → Led (log ++ insert_notes (cache.calls + 1) client handle (linked_at handle.key cache.memory.pools)) (after_insert cache client handle)
+led_insert log cache client handle led mine = led_store log cache client false handle led mine refl
+
+led_add : (log : List Note) (cache : Cache) (client : ℕ) (handle : Handle) → Led log cache → is_open (charge_by handle) cache.memory.charges ≡ true → is_taken handle.key cache ≡ false
+    → Led (log ++ add_notes (cache.calls + 1) client handle (linked_at handle.key cache.memory.pools)) (after_add cache client handle)
+led_add log cache client handle led mine free = led_store log cache client true handle led mine free
 
 led_discard : (log : List Note) (cache : Cache) (handle : Handle) → Led log cache → is_open (charge_by handle) cache.memory.charges ≡ true
     → Led (log ++ Freed handle.number ∷ []) (after_discard cache handle.number)
@@ -95,6 +103,7 @@ steps-are-legal = record {
   new = led_new;
   allocate = led_allocate;
   insert = led_insert;
+  add = led_add;
   discard = led_discard;
   find = led_find;
   remove = led_remove;

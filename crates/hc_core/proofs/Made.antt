@@ -1,14 +1,14 @@
 -- The log that each call leaves, from what its parts tell.
-use Rattle.std.proofs.Common.{◌≡◌, ℕ, ◌+◌, ◌++◌, List, [], ◌∷◌, Option, Some, None, refl, sym, ap, ◌∙◌, append_assoc, append-nil}
+use Rattle.std.proofs.Common.{◌≡◌, ℕ, ◌+◌, ◌++◌, Bool, List, [], ◌∷◌, Option, Some, None, refl, sym, ap, ◌∙◌, append_assoc, append-nil}
 use Rattle.std.specs.Prelude.{option_map, option_to_list}
 use Rattle.hc_types.specs.Charge.{charge_of}
 use Rattle.hc_memory.specs.Item.{Item, Handle}
 use Rattle.hc_memory.specs.Memory.{Memory, victims_of}
-use Rattle.hc_history.specs.Note.{Note, Reply, Begin, Did, End, Linked, Charged, Insert, Find, Remove, Stored}
+use Rattle.hc_history.specs.Note.{Note, Reply, Begin, Did, End, Linked, Charged, Find, Remove, Stored}
 use Rattle.hc_history.specs.Told.{Heard, Nothing, Log, Counts, told_more, kind_of, counts_more, losses_of, where_kept}
 use Rattle.hc_history.specs.declared.stats.Stats.{Stats}
 use Rattle.hc_history.specs.declared.stats.Kind.{Kind}
-use Rattle.hc_core.specs.Steps.{eviction_notes, part_of_allocate, freed_notes, freed_note, insert_notes, find_notes, find_reply, told_did, remove_notes, remove_reply, removed_of}
+use Rattle.hc_core.specs.Steps.{eviction_notes, part_of_allocate, freed_notes, freed_note, store_op, store_notes, find_notes, find_reply, told_did, remove_notes, remove_reply, removed_of}
 use Rattle.hc_core.specs.declared.answers.Removed.{Removed}
 use Rattle.hc_history.proofs.Telling.{told-begin, told-did, told-nothing, told-twice, counts-charged}
 
@@ -41,35 +41,35 @@ removed-log log mid new begin call client key calls number found same next from 
     ∙ ap (λ n. told_more log (remove_notes n client key found)) next
 
 -- a find, whose notes are made where the log is kept
-told_found : (log : Heard) (call client : ℕ) (key : List ℕ) (reply : Reply)
-    → told_more (told_did (told_more log (option_to_list (where_kept log (Begin call client (Find key))))) (where_kept log (Did call reply)) (kind_of reply)) (End call ∷ []) ≡ told_more log (Begin call client (Find key) ∷ Did call reply ∷ End call ∷ [])
-told_found Nothing call client key reply = refl
-told_found (Log log) call client key reply =
+told_found : (log : Heard) (call client : ℕ) (key : List ℕ) (reply : Reply) (kind : Kind) → Some kind ≡ kind_of reply
+    → told_more (told_did (told_more log (option_to_list (where_kept log (Begin call client (Find key))))) (where_kept log (Did call reply)) kind) (End call ∷ []) ≡ told_more log (Begin call client (Find key) ∷ Did call reply ∷ End call ∷ [])
+told_found Nothing call client key reply kind is = refl
+told_found (Log log) call client key reply kind is =
     ap (λ ns. Log ns) (append_assoc (log ++ Begin call client (Find key) ∷ []) (Did call reply ∷ []) (End call ∷ []) ∙ append_assoc log (Begin call client (Find key) ∷ []) (Did call reply ∷ End call ∷ []))
-told_found (Counts counts losses) call client key reply =
+told_found (Counts counts losses) call client key reply kind is =
     let heard : Heard = told_more (Counts counts losses) [] in
-    ap (λ h. told_more h (End call ∷ [])) (told-did heard call reply refl)
+    ap (λ h. told_more h (End call ∷ [])) (told-did heard call reply kind refl (sym is))
     ∙ told-twice heard (Did call reply ∷ []) (End call ∷ [])
     ∙ told-begin (Counts counts losses) call client (Find key) (Did call reply ∷ End call ∷ [])
 
 -- the log after a find
 pub found-log : (log mid new : Heard) (begin did : Option Note) (call client : ℕ) (key : List ℕ) (calls : ℕ) (value : Option (List ℕ)) (kind : Kind) → mid ≡ log → call ≡ calls + 1
-    → begin ≡ where_kept log (Begin call client (Find key)) → did ≡ where_kept log (Did call (find_reply value)) → kind ≡ kind_of (find_reply value)
+    → begin ≡ where_kept log (Begin call client (Find key)) → did ≡ where_kept log (Did call (find_reply value)) → Some kind ≡ kind_of (find_reply value)
     → new ≡ told_more (told_did (told_more mid (option_to_list begin)) did kind) (End call ∷ []) → new ≡ told_more log (find_notes (calls + 1) client key value)
 found-log log mid new begin did call client key calls value kind same next is answers counts told =
-    told ∙ (λ i. told_more (told_did (told_more (same i) (option_to_list (is i))) (answers i) (counts i)) (End call ∷ []))
-    ∙ told_found log call client key (find_reply value)
+    told ∙ (λ i. told_more (told_did (told_more (same i) (option_to_list (is i))) (answers i) kind) (End call ∷ []))
+    ∙ told_found log call client key (find_reply value) kind counts
     ∙ ap (λ n. told_more log (find_notes n client key value)) next
 
--- the log after an insert
-pub inserted-log : (log mid new : Heard) (begin : Option Note) (call client calls : ℕ) (number : ℕ) (handle : Handle) (old : Option ℕ) (found : Option Item) → mid ≡ log → call ≡ calls + 1 → number ≡ handle.number → old ≡ number_of found
-    → begin ≡ where_kept log (Begin call client (Insert handle.key handle.value handle.expiry))
-    → new ≡ told_more (told_more mid (option_to_list begin)) (freed_notes old ++ (Linked number ∷ Did call Stored ∷ End call ∷ [])) → new ≡ told_more log (insert_notes (calls + 1) client handle found)
-inserted-log log mid new begin call client calls number handle old found same next own from is told =
+-- the log after an insert or an add
+pub stored-log : (log mid new : Heard) (begin : Option Note) (call client calls : ℕ) (number : ℕ) (adds : Bool) (handle : Handle) (old : Option ℕ) (found : Option Item) → mid ≡ log → call ≡ calls + 1 → number ≡ handle.number → old ≡ number_of found
+    → begin ≡ where_kept log (Begin call client (store_op adds handle))
+    → new ≡ told_more (told_more mid (option_to_list begin)) (freed_notes old ++ (Linked number ∷ Did call Stored ∷ End call ∷ [])) → new ≡ told_more log (store_notes (calls + 1) client adds handle found)
+stored-log log mid new begin call client calls number adds handle old found same next own from is told =
     told ∙ (λ i. told_more (told_more (same i) (option_to_list (is i))) (freed_notes (from i) ++ (Linked (own i) ∷ Did call Stored ∷ End call ∷ [])))
-    ∙ (λ i. told_more (told_more log (option_to_list (where_kept log (Begin call client (Insert handle.key handle.value handle.expiry))))) (freed-is found i ++ (Linked handle.number ∷ Did call Stored ∷ End call ∷ [])))
-    ∙ told-begin log call client (Insert handle.key handle.value handle.expiry) (freed_note found ++ (Linked handle.number ∷ Did call Stored ∷ End call ∷ []))
-    ∙ ap (λ n. told_more log (insert_notes n client handle found)) next
+    ∙ (λ i. told_more (told_more log (option_to_list (where_kept log (Begin call client (store_op adds handle))))) (freed-is found i ++ (Linked handle.number ∷ Did call Stored ∷ End call ∷ [])))
+    ∙ told-begin log call client (store_op adds handle) (freed_note found ++ (Linked handle.number ∷ Did call Stored ∷ End call ∷ []))
+    ∙ ap (λ n. told_more log (store_notes n client adds handle found)) next
 
 charged_counts : (counts : Stats) (losses : List Note) (number pool bytes : ℕ) (key : List ℕ) → Counts counts losses ≡ told_more (Counts counts losses) (Charged number key pool bytes ∷ [])
 charged_counts counts losses number pool bytes key = λ i. Counts (sym (counts-charged counts number pool bytes key) i) (sym (append-nil losses) i)

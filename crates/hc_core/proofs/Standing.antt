@@ -24,7 +24,7 @@ some_mapped (Some x) = refl
 map_is : (config : Config) (log : List Note) (memory : Memory) (calls now : ℕ) (key : List ℕ) → FollowsLog log config memory calls now → map_has log key ≡ is_some (unexpired now (linked_at key memory.pools))
 map_is config log memory calls now key f =
     let m = f.mirrors in
-    ap is_some ((λ i. books.unexpired (m.clock i) (m.entries key i)) ∙ ap (λ o. books.unexpired now (entry_of o)) (sym (linked-flat key memory.pools)) ∙ value-is now (linked_at key memory.pools))
+    ap is_some ((λ i. books.unexpired (m.clock i) (m.entries None key i)) ∙ ap (λ o. books.unexpired now (entry_of o)) (sym (linked-flat key memory.pools)) ∙ value-is now (linked_at key memory.pools))
     ∙ some_mapped (unexpired now (linked_at key memory.pools))
 
 -- the map has what is linked unexpired

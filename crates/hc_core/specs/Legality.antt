@@ -1,5 +1,5 @@
 -- That the log of any pure steps is legal, whoever keeps it.
-use Rattle.std.specs.Prelude.{◌≡◌, ℕ, ◌+◌, true, List, [], ◌∷◌, ◌++◌, None}
+use Rattle.std.specs.Prelude.{◌≡◌, ℕ, ◌+◌, true, false, List, [], ◌∷◌, ◌++◌, None}
 use Rattle.hc_types.specs.Config.{Config}
 use Rattle.hc_types.specs.Limits.{first_wrong}
 use Rattle.hc_memory.specs.Item.{Handle, charge_by}
@@ -10,8 +10,8 @@ use Rattle.hc_history.specs.Note.{Note, Freed}
 use Rattle.hc_history.specs.Told.{Heard}
 use Rattle.hc_history.specs.Lawful.{Legal}
 use Rattle.hc_core.specs.Cache.{Cache, new_cache}
-use Rattle.hc_core.specs.Refused.{allocate_refusal}
-use Rattle.hc_core.specs.Steps.{part_of_allocate, after_allocate, after_discard, insert_notes, after_insert, find_notes, after_find, remove_notes, after_remove, tick_notes, after_tick}
+use Rattle.hc_core.specs.Refused.{allocate_refusal, is_taken}
+use Rattle.hc_core.specs.Steps.{part_of_allocate, after_allocate, after_discard, insert_notes, after_insert, add_notes, after_add, find_notes, after_find, remove_notes, after_remove, tick_notes, after_tick}
 use Rattle.hc_core.specs.Mirrors.{FitsConfig, FollowsLog}
 
 -- The log of the steps that led to this cache is this one, whatever is heard of it: it is legal, and its books are those
@@ -28,6 +28,8 @@ pub record StepsAreLegal : Type 0 where
       → Led (log ++ part_of_allocate cache.memory cache.now pool key size) (after_allocate cache pool key size)
   pub insert : (log : List Note) (cache : Cache) (client : ℕ) (handle : Handle) → Led log cache → is_open (charge_by handle) cache.memory.charges ≡ true
       → Led (log ++ insert_notes (cache.calls + 1) client handle (linked_at handle.key cache.memory.pools)) (after_insert cache client handle)
+  pub add : (log : List Note) (cache : Cache) (client : ℕ) (handle : Handle) → Led log cache → is_open (charge_by handle) cache.memory.charges ≡ true → is_taken handle.key cache ≡ false
+      → Led (log ++ add_notes (cache.calls + 1) client handle (linked_at handle.key cache.memory.pools)) (after_add cache client handle)
   pub discard : (log : List Note) (cache : Cache) (handle : Handle) → Led log cache → is_open (charge_by handle) cache.memory.charges ≡ true
       → Led (log ++ Freed handle.number ∷ []) (after_discard cache handle.number)
   pub find : (log : List Note) (cache : Cache) (client : ℕ) (key : List ℕ) → Led log cache

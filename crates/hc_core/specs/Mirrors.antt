@@ -7,7 +7,8 @@ use Rattle.hc_memory.specs.Pool.{Pool, is_at, item_at}
 use Rattle.hc_memory.specs.Memory.{Memory}
 use Rattle.hc_history.specs.Note.{Note}
 use Rattle.hc_history.specs.Told.{Heard, Log}
-use Rattle.hc_history.specs.Books.{Charge, Entry, charges, has_number, begun, open_calls, owed, entry_at, now_at}
+use Rattle.hc_types.specs.declared.config.FlashConfig.{FlashConfig}
+use Rattle.hc_history.specs.Books.{Charge, Entry, charges, has_number, begun, open_calls, owed, waiting, entry_at, now_at}
 use Rattle.hc_history.specs.Lawful.{Legal, past}
 
 -- all items that can be found, of one pool after the other
@@ -42,7 +43,9 @@ pub record Mirrors (older : List Note) (items : List Item) (opens : List Open) (
   -- the live charges are those of the items and the open ones, in any order: every sum over them agrees
   pub same : (f : Charge → ℕ) → tally f (charges older) ≡ tally (λ item. f (charge_at item)) items + tally (λ charge. f (open_at charge)) opens
   -- the map has what the items have, and nothing else
-  pub entries : (key : List ℕ) → entry_at older key ≡ entry_of (item_at key items)
+  pub entries : (flash : Option FlashConfig) (key : List ℕ) → entry_at flash older key ≡ entry_of (item_at key items)
+  -- nothing waits for flash
+  pub no_waiting : waiting older ≡ []
   pub clock : now_at older ≡ now
   pub no_call : open_calls older ≡ []
   pub no_reply : owed older ≡ []

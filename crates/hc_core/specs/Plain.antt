@@ -6,7 +6,7 @@ use Rattle.hc_types.specs.declared.refusal.Refusal.{Refusal}
 use Rattle.hc_types.specs.declared.refusal.Refusal.TheVariants.{Exists}
 use Rattle.hc_core.specs.Cache.{Cache}
 use Rattle.hc_core.specs.Refused.{allocate_refusal, is_taken}
-use Rattle.hc_core.specs.Steps.{opened, after_allocate, after_discard, after_insert}
+use Rattle.hc_core.specs.Steps.{opened, after_allocate, after_discard, after_insert, after_add}
 
 -- why a value of this length isn't stored under these bytes: they are no key, or its item isn't allocated
 abbrev pub set_refusal : Cache → ℕ → List ℕ → ℕ → Option Refusal
@@ -19,6 +19,10 @@ add_refusal cache pool key size = option_or (set_refusal cache pool key size) (i
 -- an item is allocated that begins as the value, and inserted
 abbrev pub after_set : Cache → ℕ → List ℕ → List ℕ → ℕ → Cache
 after_set cache pool key value ttl = after_insert (after_allocate cache pool key (length value)) 0 (opened cache pool key value ttl)
+
+-- the same, where no unexpired item is replaced: it is added
+abbrev pub after_set_new : Cache → ℕ → List ℕ → List ℕ → ℕ → Cache
+after_set_new cache pool key value ttl = after_add (after_allocate cache pool key (length value)) 0 (opened cache pool key value ttl)
 
 -- an item was allocated, and is given up: room was made, and nothing is stored
 abbrev pub after_giving_up : Cache → ℕ → List ℕ → ℕ → Cache

@@ -36,4 +36,4 @@ insert_refusal cache handle = if is_taken handle.key cache then Some Exists else
 
 -- after this log, the map has an unexpired value for the key
 abbrev pub map_has : List Note → List ℕ → Bool
-map_has log key = is_some (map_value (past [] log) key)
+map_has log key = is_some (map_value None (past [] log) key)

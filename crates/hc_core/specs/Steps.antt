@@ -1,5 +1,5 @@
 -- What each call leaves, and the part of the log that it tells.
-use Rattle.std.specs.Prelude.{ℕ, ◌+◌, ◌-◌, ◌^◌, ◌==◌, nat_lt, min, max, false, List, [], ◌∷◌, ◌++◌, Option, Some, None, if◌then◌else◌}
+use Rattle.std.specs.Prelude.{ℕ, ◌+◌, ◌-◌, ◌^◌, ◌==◌, nat_lt, min, max, Bool, true, false, List, [], ◌∷◌, ◌++◌, Option, Some, None, if◌then◌else◌}
 use Rattle.hc_types.specs.Charge.{charge_of}
 use Rattle.hc_types.specs.Loss as loss
 use Rattle.hc_types.specs.Loss.{Cause, Evicted, Expired}
@@ -8,7 +8,7 @@ use Rattle.hc_memory.specs.Item.{Item, Handle}
 use Rattle.hc_memory.specs.Pool.{is_expired}
 use Rattle.hc_memory.specs.Memory as pools
 use Rattle.hc_memory.specs.Memory.{Memory, linked_at, value_at, victims_of}
-use Rattle.hc_history.specs.Note.{Reply, Stored, Hit, Miss, FoundInMemory, NotInMemory, Insert, Find, Remove, Note, Begin, Did, End, Lose, Charged, Linked, Freed, Now}
+use Rattle.hc_history.specs.Note.{Op, Add, Reply, Stored, Hit, Miss, FoundInMemory, NotInMemory, Insert, Find, Remove, Note, Begin, Did, End, Lose, Charged, Linked, Freed, Now}
 use Rattle.hc_history.specs.Told.{Heard, told_more, told_count}
 use Rattle.hc_history.specs.declared.stats.Kind.{Kind}
 use Rattle.hc_core.specs.Cache.{Cache}
@@ -64,17 +64,35 @@ abbrev pub freed_note : Option Item → List Note
 freed_note None = []
 freed_note (Some item) = Freed item.number ∷ []
 
--- the notes of an insert over an item, or over none
-abbrev pub insert_notes : ℕ → ℕ → Handle → Option Item → List Note
-insert_notes call client handle old =
-    Begin call client (Insert handle.key handle.value handle.expiry) ∷ (freed_note old ++ (Linked handle.number ∷ Did call Stored ∷ End call ∷ []))
+-- what the call asks for that stores the item of a handle: an add, or an insert
+abbrev pub store_op : Bool → Handle → Op
+store_op true handle = Add handle.key handle.value handle.expiry
+store_op false handle = Insert handle.key handle.value handle.expiry
 
-abbrev pub after_insert : Cache → ℕ → Handle → Cache
-after_insert cache client handle = record cache {
+-- the notes of a call that stores an item over an old one, or over none
+abbrev pub store_notes : ℕ → ℕ → Bool → Handle → Option Item → List Note
+store_notes call client adds handle old =
+    Begin call client (store_op adds handle) ∷ (freed_note old ++ (Linked handle.number ∷ Did call Stored ∷ End call ∷ []))
+
+abbrev pub after_store : Cache → ℕ → Bool → Handle → Cache
+after_store cache client adds handle = record cache {
   memory = pools.after_link cache.memory false handle;
   calls = cache.calls + 1;
-  log = told_more cache.log (insert_notes (cache.calls + 1) client handle (linked_at handle.key cache.memory.pools));
+  log = told_more cache.log (store_notes (cache.calls + 1) client adds handle (linked_at handle.key cache.memory.pools));
 }
+
+abbrev pub insert_notes : ℕ → ℕ → Handle → Option Item → List Note
+insert_notes call client handle old = store_notes call client false handle old
+
+abbrev pub after_insert : Cache → ℕ → Handle → Cache
+after_insert cache client handle = after_store cache client false handle
+
+-- an add, of a key that has no unexpired item
+abbrev pub add_notes : ℕ → ℕ → Handle → Option Item → List Note
+add_notes call client handle old = store_notes call client true handle old
+
+abbrev pub after_add : Cache → ℕ → Handle → Cache
+after_add cache client handle = after_store cache client true handle
 
 -- ---- finds
 

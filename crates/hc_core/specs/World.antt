@@ -10,7 +10,7 @@ use Rattle.hc_history.specs.Note.{Note, Reply, Stored, Freed}
 use Rattle.hc_history.specs.Told.{Heard, Log, told_more}
 use Rattle.hc_core.specs.Cache.{Cache, new_cache}
 use Rattle.hc_core.specs.Refused.{allocate_refusal, insert_refusal}
-use Rattle.hc_core.specs.Steps.{opened, part_of_allocate, after_allocate, after_discard, insert_notes, after_insert, find_reply, find_notes, after_find, remove_reply, remove_notes, after_remove, tick_notes, after_tick}
+use Rattle.hc_core.specs.Steps.{opened, part_of_allocate, after_allocate, after_discard, insert_notes, after_insert, add_notes, after_add, find_reply, find_notes, after_find, remove_reply, remove_notes, after_remove, tick_notes, after_tick}
 
 -- a step: by a client, where it is a call
 pub data Step : Type 0 where
@@ -85,8 +85,8 @@ World old (PutNew client slot) (Answered reply) part new = (handle : Handle) × 
     (handle_in slot old.slots ≡ Some handle)
     × (insert_refusal old.cache handle ≡ None)
     × (reply ≡ Stored)
-    × (part ≡ insert_notes (old.cache.calls + 1) client handle (linked_at handle.key old.cache.memory.pools))
-    × (new ≡ record { cache = after_insert old.cache client handle; slots = slice_set old.slots slot None }))
+    × (part ≡ add_notes (old.cache.calls + 1) client handle (linked_at handle.key old.cache.memory.pools))
+    × (new ≡ record { cache = after_add old.cache client handle; slots = slice_set old.slots slot None }))
 World old (Discard slot) NoSlot part new = (handle_in slot old.slots ≡ None) × Idle old part new
 World old (Discard slot) Discarded part new = (handle : Handle) × (
     (handle_in slot old.slots ≡ Some handle)

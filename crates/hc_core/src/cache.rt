@@ -1,5 +1,5 @@
 // The core of a cache of pools, and no flash.
-ghost use Rattle.std.specs.Prelude.{◌≡◌, ◌+◌, ◌^◌, ◌≤◌, ◌⊎◌, ◌↔◌, true, false, [], None, Some, length, max, IfOk, OnOk, OnErr, IfErr};
+ghost use Rattle.std.specs.Prelude.{◌≡◌, ◌+◌, ◌^◌, ◌≤◌, ◌⊎◌, ◌↔◌, true, false, ◌&&◌, [], None, Some, length, max, IfOk, OnOk, OnErr, IfErr};
 ghost use Rattle.hc_types.specs.Limits.{first_wrong};
 ghost use Rattle.hc_history.specs.Lawful.{Legal};
 ghost use Rattle.hc_history.specs.Told.{Log, IfLog, Hears, losses_taken};
@@ -10,8 +10,8 @@ ghost use Rattle.hc_memory.specs.Seen.{filled};
 ghost use Rattle.hc_core.specs.Answers.{found_value};
 ghost use Rattle.hc_core.specs.Cache.{new_cache};
 ghost use Rattle.hc_core.specs.Mirrors.{Follows};
-ghost use Rattle.hc_core.specs.Refused.{allocate_refusal, handle_refusal, insert_refusal, map_has};
-ghost use Rattle.hc_core.specs.Steps.{expiry_of, opened, after_allocate, after_discard, after_insert, after_find, after_remove, removed_of, after_tick};
+ghost use Rattle.hc_core.specs.Refused.{allocate_refusal, handle_refusal, insert_refusal, is_taken, map_has};
+ghost use Rattle.hc_core.specs.Steps.{expiry_of, opened, after_allocate, after_discard, after_store, after_insert, after_add, after_find, after_remove, removed_of, after_tick};
 
 use crate::answers::{Found, Removed, Unlinked};
 use crate::plans::{expiry_after, has_unexpired};
@@ -280,11 +280,10 @@ impl<N: Notes<Note<A>>, A: Allocator + Clone> Core<N, A> {
         Ok(blank)
     }
 
-    /// Inserts the item of the handle, as the one of its pool that was used last, in place of the key's item in whichever
-    /// pool. Refused with `ForeignHandle` where the handle isn't one of this cache's, and with `NoMemory`; then the
-    /// handle comes back.
-    pub fn insert_or_replace(&mut self, client: u8, sealed: Sealed<A>) -> Result<(), Unlinked<A>>
-        ensures ok { OnOk result (self.new ≡ after_insert self.old client sealed) }
+    // Stores the item of the handle: by an add, of a key that has no unexpired item, or by an insert.
+    fn store(&mut self, client: u8, sealed: Sealed<A>, adds: bool) -> Result<(), Unlinked<A>>
+        requires free { (adds && is_taken sealed.key self.old) ≡ false }
+        ensures ok { OnOk result (self.new ≡ after_store self.old client adds sealed) }
         ensures fits { OnOk result (handle_refusal self.old sealed ≡ None) }
         ensures err { OnErr result (self.new ≡ self.old) }
         ensures why { IfErr result (λ e. (handle_refusal self.old sealed ≡ Some e.refusal) ⊎ ((handle_refusal self.old sealed ≡ None) × (e.refusal ≡ Refusal.NoMemory))) }
@@ -299,7 +298,7 @@ impl<N: Notes<Note<A>>, A: Allocator + Clone> Core<N, A> {
                 });
             }
         };
-        let plan = plans::insert(&mut self.notes, &self.pools, self.calls, client, &sealed);
+        let plan = plans::store(&mut self.notes, &self.pools, self.calls, client, &sealed, adds);
         let (call, begin) = match plan {
             Ok(plan) => plan,
             Err(refusal) => return Err(Unlinked { refusal, sealed }),
@@ -318,14 +317,27 @@ impl<N: Notes<Note<A>>, A: Allocator + Clone> Core<N, A> {
         };
 
         self.calls = call;
-        tells::insert(&mut self.notes, call, begin, old, charge);
+        tells::store(&mut self.notes, call, begin, old, charge);
         Ok(())
+    }
+
+    /// Inserts the item of the handle, as the one of its pool that was used last, in place of the key's item in whichever
+    /// pool. Refused with `ForeignHandle` where the handle isn't one of this cache's, and with `NoMemory`; then the
+    /// handle comes back.
+    pub fn insert_or_replace(&mut self, client: u8, sealed: Sealed<A>) -> Result<(), Unlinked<A>>
+        ensures ok { OnOk result (self.new ≡ after_insert self.old client sealed) }
+        ensures fits { OnOk result (handle_refusal self.old sealed ≡ None) }
+        ensures err { OnErr result (self.new ≡ self.old) }
+        ensures why { IfErr result (λ e. (handle_refusal self.old sealed ≡ Some e.refusal) ⊎ ((handle_refusal self.old sealed ≡ None) × (e.refusal ≡ Refusal.NoMemory))) }
+        ensures sealed_returned { IfErr result (λ e. e.sealed ≡ sealed) }
+    {
+        self.store(client, sealed, false)
     }
 
     /// Inserts the item of the handle where the key has no unexpired item, which isn't replaced. Refused with `Exists`
     /// where it has one, and else as `insert_or_replace` is; then the handle comes back.
     pub fn insert(&mut self, client: u8, sealed: Sealed<A>) -> Result<(), Unlinked<A>>
-        ensures ok { OnOk result (self.new ≡ after_insert self.old client sealed) }
+        ensures ok { OnOk result (self.new ≡ after_add self.old client sealed) }
         ensures fits { OnOk result (insert_refusal self.old sealed ≡ None) }
         ensures free { IfLog self.old.log (λ log. OnOk result (map_has log sealed.key ≡ false)) }
         ensures exists { IfLog self.old.log (λ log. IfErr result (λ e. (e.refusal ≡ Refusal.Exists) ↔ (map_has log sealed.key ≡ true))) }
@@ -339,7 +351,7 @@ impl<N: Notes<Note<A>>, A: Allocator + Clone> Core<N, A> {
                 sealed,
             });
         }
-        self.insert_or_replace(client, sealed)
+        self.store(client, sealed, true)
     }
 }
 

@@ -6,9 +6,9 @@ ghost use Rattle.hc_memory.specs.Charges.{is_open};
 ghost use Rattle.hc_memory.specs.Memory.{linked_at, value_at};
 ghost use Rattle.hc_memory.specs.Seen.{filled};
 ghost use Rattle.hc_core.specs.Answers.{found_value};
-ghost use Rattle.hc_core.specs.Plain.{set_refusal, add_refusal, after_set, after_giving_up};
+ghost use Rattle.hc_core.specs.Plain.{set_refusal, add_refusal, after_set, after_set_new, after_giving_up};
 ghost use Rattle.hc_core.specs.Refused.{allocate_refusal, is_taken};
-ghost use Rattle.hc_core.specs.Steps.{opened, after_allocate, after_discard, after_insert, after_find, after_remove, removed_of};
+ghost use Rattle.hc_core.specs.Steps.{opened, after_allocate, after_discard, after_insert, after_add, after_find, after_remove, removed_of};
 
 use crate::answers::{Found, Removed, Unlinked};
 use crate::cache::Core;
@@ -83,7 +83,7 @@ fn link_new<N: Notes<Note<A>>, A: Allocator + Clone>(
     sealed: Sealed<A>,
 ) -> Result<(), Refusal>
     requires mine { is_open (charge_by sealed) core.old.memory.charges ≡ true }
-    ensures ok { OnOk result (core.new ≡ after_insert core.old 0 sealed) }
+    ensures ok { OnOk result (core.new ≡ after_add core.old 0 sealed) }
     ensures free { OnOk result (is_taken sealed.key core.old ≡ false) }
     ensures err { OnErr result (core.new ≡ after_discard core.old sealed.number) }
     ensures why { IfErr result (λ refusal. ((is_taken sealed.key core.old ≡ true) × (refusal ≡ Refusal.Exists)) ⊎ (refusal ≡ Refusal.NoMemory)) }
@@ -137,7 +137,7 @@ impl<N: Notes<Note<A>>, A: Allocator + Copy> Core<N, A> {
     /// that one stays, and the call is refused with `Exists`: what went to make room is gone. Otherwise refused as `set`
     /// is.
     pub fn add(&mut self, pool: u8, key: &[u8], value: &[u8], ttl: u32) -> Result<(), Refusal>
-        ensures ok { OnOk result (self.new ≡ after_set self.old pool key.now value.now ttl) }
+        ensures ok { OnOk result (self.new ≡ after_set_new self.old pool key.now value.now ttl) }
         ensures fits { OnOk result (add_refusal self.old pool key.now (length value.now) ≡ None) }
         ensures err { IfErr result (λ refusal. ((self.new ≡ self.old) × (refusal ≢ Refusal.Exists)) ⊎ ((self.new ≡ after_giving_up self.old pool key.now (length value.now)) × (set_refusal self.old pool key.now (length value.now) ≡ None) × ((refusal ≡ Refusal.Exists) ⊎ (refusal ≡ Refusal.NoMemory)))) }
         ensures why { IfErr result (λ refusal. (add_refusal self.old pool key.now (length value.now) ≡ Some refusal) ⊎ ((key_refusal key.now ≡ None) × (refusal ≡ Refusal.NoMemory))) }
@@ -153,7 +153,7 @@ impl<N: Notes<Note<A>>, A: Allocator + Copy> Core<N, A> {
         fill: Fill<'_>,
         ttl: u32,
     ) -> Result<(), Refusal>
-        ensures ok { OnOk result (self.new ≡ after_set self.old pool key.now (filled fill.entry) ttl) }
+        ensures ok { OnOk result (self.new ≡ after_set_new self.old pool key.now (filled fill.entry) ttl) }
         ensures fits { OnOk result (add_refusal self.old pool key.now (length (filled fill.entry)) ≡ None) }
         ensures err { IfErr result (λ refusal. ((self.new ≡ self.old) × (refusal ≢ Refusal.Exists)) ⊎ ((self.new ≡ after_giving_up self.old pool key.now (length (filled fill.entry))) × (set_refusal self.old pool key.now (length (filled fill.entry)) ≡ None) × ((refusal ≡ Refusal.Exists) ⊎ (refusal ≡ Refusal.NoMemory)))) }
         ensures why { IfErr result (λ refusal. (add_refusal self.old pool key.now (length (filled fill.entry)) ≡ Some refusal) ⊎ ((key_refusal key.now ≡ None) × (refusal ≡ Refusal.NoMemory))) }

@@ -1,14 +1,15 @@
 // What a call needs before it changes anything: its number, and the notes that copy keys and values.
 ghost use Rattle.std.specs.Prelude.{◌≡◌, ◌+◌, ◌*◌, ◌^◌, ◌≤◌, ◌⊎◌, true, false, length, is_some, None, Some, IfOk, OnOk, OnErr, IfErr};
 ghost use Rattle.hc_types.specs.Charge.{charge_of};
-ghost use Rattle.hc_history.specs.Note.{Begin, Did, Insert, Find, Remove};
+ghost use Rattle.hc_history.specs.Note.{Begin, Did, Find, Remove};
 ghost use Rattle.hc_history.specs.Told.{where_kept, kind_of, Hears};
-ghost use Rattle.hc_history.specs.Seen.{reply_of};
+ghost use Rattle.hc_history.specs.Seen.{op_of, reply_of};
 ghost use Rattle.hc_memory.specs.Pool.{unexpired};
 ghost use Rattle.hc_memory.specs.Memory.{linked_at, value_at, victims_of};
 ghost use Rattle.hc_memory.specs.Seen.{filled};
 ghost use Rattle.hc_core.specs.Answers.{found_value};
 ghost use Rattle.hc_core.specs.Refused.{refusal_of};
+ghost use Rattle.hc_core.specs.Steps as spec;
 ghost use Rattle.hc_core.specs.Steps.{find_reply, expiry_of};
 
 use crate::answers::Found;
@@ -87,22 +88,34 @@ fn begin_remove<A: Allocator, N: Notes<Note<A>>>(
     Ok(Some(Note::new(Said::Begin { call, client, op })))
 }
 
-/// The note with which the insert of a handle's item begins, where notes are kept.
-fn begin_insert<A: Allocator, N: Notes<Note<A>>>(
+/// What a call asks for that stores a handle's item: an add, or an insert.
+fn store_op<A: Allocator>(sealed: &Sealed<A>, adds: bool) -> Result<Op<A>, AllocError>
+    ensures { IfOk result (λ op. op_of op ≡ spec.store_op adds sealed.now) }
+{
+    let key = sealed.key().clone()?;
+    let value = sealed.to_bytes()?;
+    if adds {
+        Ok(Op::Add(key, value, sealed.expiry()))
+    } else {
+        Ok(Op::Insert(key, value, sealed.expiry()))
+    }
+}
+
+/// The note with which the call begins that stores a handle's item, where notes are kept.
+fn begin_store<A: Allocator, N: Notes<Note<A>>>(
     notes: &N,
     call: u64,
     client: u8,
     sealed: &Sealed<A>,
+    adds: bool,
 ) -> Result<Option<Note<A>>, AllocError>
-    ensures told { IfOk result (λ note. note ≡ where_kept (N.told notes.now) (Begin call client (Insert sealed.now.key sealed.now.value sealed.now.expiry))) }
+    ensures told { IfOk result (λ note. note ≡ where_kept (N.told notes.now) (Begin call client (spec.store_op adds sealed.now))) }
     ensures silent { OnErr result (Hears (N.told notes.now)) }
 {
     if !notes.keeps() {
         return Ok(None);
     }
-    let key = sealed.key().clone()?;
-    let value = sealed.to_bytes()?;
-    let op = Op::Insert(key, value, sealed.expiry());
+    let op = store_op(sealed, adds)?;
     Ok(Some(Note::new(Said::Begin { call, client, op })))
 }
 
@@ -150,7 +163,7 @@ pub fn has_unexpired<A: Allocator>(pools: &Pools<A>, key: &Key<A>, now: u64) -> 
 
 /// As what a find is counted, by what the pools found.
 pub fn kind_by<A: Allocator>(found: &Option<ReadHandle<A>>) -> Kind
-    ensures { result ≡ kind_of (find_reply found.now) }
+    ensures { Some result ≡ kind_of (find_reply found.now) }
 {
     match found {
         Some(_) => Kind::Hit,
@@ -229,25 +242,26 @@ pub fn allocate<A: Allocator, N: Notes<Note<A>>>(
     Ok((count, copy))
 }
 
-/// What an insert needs before it changes anything: its number, and the note with which it begins, where notes are
-/// kept. Room is made for its notes.
-pub fn insert<A: Allocator, N: Notes<Note<A>>>(
+/// What an insert or an add needs before it changes anything: its number, and the note with which it begins, where notes
+/// are kept. Room is made for its notes.
+pub fn store<A: Allocator, N: Notes<Note<A>>>(
     notes: &mut N,
     pools: &Pools<A>,
     calls: u64,
     client: u8,
     sealed: &Sealed<A>,
+    adds: bool,
 ) -> Result<(u64, Option<Note<A>>), Refusal>
     ensures same { N.told notes.new ≡ N.told notes.old }
     ensures call { IfOk result (λ plan. plan.0 ≡ calls + 1) }
-    ensures begin { IfOk result (λ plan. plan.1 ≡ where_kept (N.told notes.old) (Begin plan.0 client (Insert sealed.now.key sealed.now.value sealed.now.expiry))) }
+    ensures begin { IfOk result (λ plan. plan.1 ≡ where_kept (N.told notes.old) (Begin plan.0 client (spec.store_op adds sealed.now))) }
     ensures room { OnOk result (5 + length pools.now.charges ≤ N.room notes.new) }
     ensures more { N.room notes.old ≤ N.room notes.new }
     ensures err { IfErr result (λ refusal. refusal ≡ Refusal.NoMemory) }
 {
     let call = number_after(calls)?;
     make_room(notes, pools, 5)?;
-    let begin = begin_insert(notes, call, client, sealed)?;
+    let begin = begin_store(notes, call, client, sealed, adds)?;
     Ok((call, begin))
 }
 

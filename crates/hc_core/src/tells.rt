@@ -55,8 +55,8 @@ fn answered<A: Allocator, N: Notes<Note<A>>>(notes: &mut N, call: u64, reply: Re
 {
     if notes.keeps() {
         notes.note(Note::new(Said::Did { call, reply }));
-    } else {
-        notes.count(reply.kind());
+    } else if let Some(kind) = reply.kind() {
+        notes.count(kind);
     }
 }
 
@@ -157,7 +157,7 @@ pub fn remove<A: Allocator, N: Notes<Note<A>>>(
 }
 
 /// Tells the notes of an insert of the charge's item in place of an old one, or of none.
-pub fn insert<A: Allocator, N: Notes<Note<A>>>(
+pub fn store<A: Allocator, N: Notes<Note<A>>>(
     notes: &mut N,
     call: u64,
     begin: Option<Note<A>>,

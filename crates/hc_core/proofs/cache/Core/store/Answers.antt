@@ -5,9 +5,9 @@ use Rattle.hc_memory.specs.Memory.{linked_at, after_link}
 use Rattle.hc_memory.proofs.Books.{is_open-found}
 use Rattle.hc_memory.proofs.Places.{at-place, no-place}
 use Rattle.hc_core.specs.Mirrors.{FitsConfig}
-use Rattle.hc_core.proofs.Keeps.{follows-as, follows-insert, fits-insert, length-as, length-closed}
-use Rattle.hc_core.proofs.Made.{inserted-log}
-use Rattle.hc_core.proofs.cache.Core.insert_or_replace.Goals as goal
+use Rattle.hc_core.proofs.Keeps.{follows-as, follows-store, fits-insert, length-as, length-closed}
+use Rattle.hc_core.proofs.Made.{stored-log}
+use Rattle.hc_core.proofs.cache.Core.store.Goals as goal
 
 pub invariant_of-self-2 : goal.invariant_of-self-2
 invariant_of-self-2 g c =
@@ -17,12 +17,12 @@ invariant_of-self-2 g c =
     let ok = c.in-Ok-link.ensures in
     let place = at-place (charge_by handle) f.pools.charges c.in-Some.place (sym c.in-Some.ensures) in
     let found = is_open-found (charge_by handle) f.pools.charges place.mine in
-    let log = inserted-log (g.N.Notes.told f.notes) (g.N.Notes.told c.insert-plan.new.notes) (g.N.Notes.told c.insert.new.notes) c.in-Ok.plan.1 c.in-Ok.plan.0 c.args.client f.calls c.number-charge.result handle c.in-Ok-link.old (linked_at handle.key f.pools.pools)
-    e.same e.call c.number-charge.ensures ok.old e.begin c.insert.ensures.told in (
+    let log = stored-log (g.N.Notes.told f.notes) (g.N.Notes.told c.store-plan.new.notes) (g.N.Notes.told c.store.new.notes) c.in-Ok.plan.1 c.in-Ok.plan.0 c.args.client f.calls c.number-charge.result c.args.adds handle c.in-Ok-link.old (linked_at handle.key f.pools.pools)
+    e.same e.call c.number-charge.ensures ok.old e.begin c.store.ensures.told in (
       subst (FitsConfig f.config) (sym ok.pools) (fits-insert f.config f.pools handle c.self.invariant.0),
-      follows-as f.config _ (g.N.Notes.told c.insert.new.notes) _ c.link.new.self _ c.in-Ok.plan.0 f.clock log ok.pools e.call
-          (follows-insert f.config (g.N.Notes.told f.notes) f.pools handle c.args.client f.calls f.clock c.len-sound.ensures.sound place.mine c.self.invariant.1),
-      omega (arith, length-as (after_link f.pools false handle) c.link.new.self ok.pools, length-closed handle.number f.pools.charges (charge_by handle) found, e.room, c.insert.ensures.room),
+      follows-as f.config _ (g.N.Notes.told c.store.new.notes) _ c.link.new.self _ c.in-Ok.plan.0 f.clock log ok.pools e.call
+          (follows-store f.config (g.N.Notes.told f.notes) f.pools c.args.adds handle c.args.client f.calls f.clock c.len-sound.ensures.sound place.mine (rw (← c.self.view_is) at c.requires.free) c.self.invariant.1),
+      omega (arith, length-as (after_link f.pools false handle) c.link.new.self ok.pools, length-closed handle.number f.pools.charges (charge_by handle) found, e.room, c.store.ensures.room),
     )
 
 pub returns-clause-ok : goal.returns-clause-ok
@@ -31,8 +31,8 @@ returns-clause-ok g c =
     let handle = c.args.sealed in
     let e = c.in-Ok.ensures in
     let ok = c.in-Ok-link.ensures in
-    let log = inserted-log (g.N.Notes.told f.notes) (g.N.Notes.told c.insert-plan.new.notes) (g.N.Notes.told c.insert.new.notes) c.in-Ok.plan.1 c.in-Ok.plan.0 c.args.client f.calls c.number-charge.result handle c.in-Ok-link.old (linked_at handle.key f.pools.pools)
-    e.same e.call c.number-charge.ensures ok.old e.begin c.insert.ensures.told in
+    let log = stored-log (g.N.Notes.told f.notes) (g.N.Notes.told c.store-plan.new.notes) (g.N.Notes.told c.store.new.notes) c.in-Ok.plan.1 c.in-Ok.plan.0 c.args.client f.calls c.number-charge.result c.args.adds handle c.in-Ok-link.old (linked_at handle.key f.pools.pools)
+    e.same e.call c.number-charge.ensures ok.old e.begin c.store.ensures.told in
     rw (← c.self.view_is) (λ i. record {
       config = f.config;
       memory = ok.pools i;

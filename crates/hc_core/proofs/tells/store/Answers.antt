@@ -4,7 +4,7 @@ use Rattle.hc_history.specs.Note.{Did, End, Linked, Stored}
 use Rattle.hc_history.specs.Told.{told_more}
 use Rattle.hc_core.specs.Steps.{freed_notes}
 use Rattle.hc_history.proofs.Telling.{told-twice}
-use Rattle.hc_core.proofs.tells.insert.Goals as goal
+use Rattle.hc_core.proofs.tells.store.Goals as goal
 
 pub returns-clause-told : goal.returns-clause-told
 returns-clause-told g c =
