@@ -1,10 +1,12 @@
 //! A service with the cache before its database: its day, from the configuration to the shutdown.
 #![tactic(auto)]
 
+mod badges;
 mod database;
 mod profiles;
 mod shared;
 
+use crate::badges::badge;
 use crate::database::Database;
 use crate::profiles::{change, open, print_counts, print_losses, profile};
 use crate::shared::rush_hour;
@@ -54,6 +56,17 @@ fn day(
     print_losses(rt, cache)
 }
 
+// Two badges, one of which has no room for its name.
+fn print_badges(rt: &(impl Print + AllocGlobal), cache: &mut Core<Counting>) -> io::Result<()> {
+    for (user, name) in [("ada", "Ada"), ("bob", "Bob of the hill beyond the river")] {
+        match badge(rt.alloc(), cache, user, name) {
+            Ok(()) => println!(rt; "a badge for {user}")?,
+            Err(refusal) => println!(rt; "no badge for {user}: {refusal}")?,
+        }
+    }
+    Ok(())
+}
+
 // The whole day, until the cache is dropped.
 fn run<R: Print + AllocGlobal + Threads + Wait + Sync>(
     rt: &R,
@@ -61,6 +74,7 @@ fn run<R: Print + AllocGlobal + Threads + Wait + Sync>(
 ) -> io::Result<()> {
     day(rt, &mut cache.lock(rt), &mut Database::default())?;
     rush_hour(rt, cache);
+    print_badges(rt, &mut cache.lock(rt))?;
     print_counts(rt, &cache.lock(rt))
 }
 

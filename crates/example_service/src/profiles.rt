@@ -5,7 +5,7 @@ use std::alloc::{AllocError, Global};
 use std::io;
 
 /// The one pool has room for three profiles.
-const POOL: u8 = 0;
+pub const POOL: u8 = 0;
 
 const SIZE: PoolSize = PoolSize {
     bytes: 200,

@@ -17,7 +17,7 @@ use Rattle.hc_history.specs.Note.{Note, Freed}
 use Rattle.hc_history.specs.Told.{Heard, Log}
 use Rattle.hc_core.specs.Cache.{Cache, empty_memory, new_cache}
 use Rattle.hc_core.specs.Refused.{allocate_refusal, is_taken}
-use Rattle.hc_core.specs.Steps.{part_of_allocate, after_allocate, after_discard, store_notes, after_store, insert_notes, after_insert, add_notes, after_add, find_notes, after_find, remove_notes, after_remove, tick_notes, after_tick}
+use Rattle.hc_core.specs.Steps.{part_of_allocate, after_allocate, after_discard, store_notes, after_store, find_notes, after_find, remove_notes, after_remove, tick_notes, after_tick}
 use Rattle.hc_core.specs.Legality.{Led, StepsAreLegal}
 use Rattle.hc_core.proofs.Keeps.{follows-allocate, follows-discard, follows-store, follows-find, follows-remove, follows-tick, fits-allocate, fits-discard, fits-insert, fits-find, fits-remove, pool-there, may-be, new-holds}
 
@@ -52,14 +52,6 @@ led_store log cache client adds handle led mine free =
       sound = linked-sound memory.pools memory.charges memory.made handle false led.sound mine;
       follows = follows-store cache.config (Log log) memory adds handle client cache.calls cache.now led.sound mine free led.follows;
     }
-
-led_insert : (log : List Note) (cache : Cache) (client : ℕ) (handle : Handle) → Led log cache → is_open (charge_by handle) cache.memory.charges ≡ true
-    → Led (log ++ insert_notes (cache.calls + 1) client handle (linked_at handle.key cache.memory.pools)) (after_insert cache client handle)
-led_insert log cache client handle led mine = led_store log cache client false handle led mine refl
-
-led_add : (log : List Note) (cache : Cache) (client : ℕ) (handle : Handle) → Led log cache → is_open (charge_by handle) cache.memory.charges ≡ true → is_taken handle.key cache ≡ false
-    → Led (log ++ add_notes (cache.calls + 1) client handle (linked_at handle.key cache.memory.pools)) (after_add cache client handle)
-led_add log cache client handle led mine free = led_store log cache client true handle led mine free
 
 led_discard : (log : List Note) (cache : Cache) (handle : Handle) → Led log cache → is_open (charge_by handle) cache.memory.charges ≡ true
     → Led (log ++ Freed handle.number ∷ []) (after_discard cache handle.number)
@@ -102,8 +94,7 @@ pub steps-are-legal : StepsAreLegal
 steps-are-legal = record {
   new = led_new;
   allocate = led_allocate;
-  insert = led_insert;
-  add = led_add;
+  store = led_store;
   discard = led_discard;
   find = led_find;
   remove = led_remove;

@@ -14,7 +14,7 @@ use Rattle.hc_history.specs.Told.{Heard, told_more}
 use Rattle.hc_history.proofs.Telling.{told-twice, told-nothing}
 use Rattle.hc_core.specs.Cache.{Cache}
 use Rattle.hc_core.specs.Refused.{allocate_refusal, handle_refusal, insert_refusal}
-use Rattle.hc_core.specs.Steps.{opened, part_of_allocate, after_allocate, after_insert, insert_notes}
+use Rattle.hc_core.specs.Steps.{opened, part_of_allocate, after_allocate, after_store, store_notes}
 use Rattle.hc_core.specs.World.{Step, Open as Opening, Put, PutNew, Discard, Answer, Answered, Refused, Filled, Discarded, Stage, handle_in, slot_sum, SlotsHold, May, after_give_up, left_notes}
 use Rattle.hc_run.specs.Asked.{answer_of}
 use Rattle.hc_run.specs.declared.steps.Outcome.{Outcome}
@@ -80,10 +80,10 @@ opened-kept cache new slots slots' slot pool key value ttl handle kept within em
 
 -- ---- what is inserted
 
-pub inserted-kept : (cache new : Cache) (slots slots' : List (Option Handle)) (client slot : ℕ) (handle : Handle) → Kept cache.memory.charges slots → slot < length slots → handle_in slot slots ≡ Some handle → is_open (charge_by handle) cache.memory.charges ≡ true
-    → new ≡ after_insert cache client handle → slots' ≡ slice_set slots slot None → Kept new.memory.charges slots'
-inserted-kept cache new slots slots' client slot handle kept within is known after set =
-    kept-set new.memory.charges (after_insert cache client handle).memory.charges slots slots' slot None kept.0 (held-emptied cache.memory.charges slots slot handle kept.1 within is known) (ap (λ (c : Cache). c.memory.charges) after) set
+pub stored-kept : (cache new : Cache) (slots slots' : List (Option Handle)) (client slot : ℕ) (adds : Bool) (handle : Handle) → Kept cache.memory.charges slots → slot < length slots → handle_in slot slots ≡ Some handle → is_open (charge_by handle) cache.memory.charges ≡ true
+    → new ≡ after_store cache client adds handle → slots' ≡ slice_set slots slot None → Kept new.memory.charges slots'
+stored-kept cache new slots slots' client slot adds handle kept within is known after set =
+    kept-set new.memory.charges (after_store cache client adds handle).memory.charges slots slots' slot None kept.0 (held-emptied cache.memory.charges slots slot handle kept.1 within is known) (ap (λ (c : Cache). c.memory.charges) after) set
 
 -- nothing changed
 pub back-kept : (cache new : Cache) (slots slots' : List (Option Handle)) → Kept cache.memory.charges slots → new ≡ cache → slots' ≡ slots → Kept new.memory.charges slots'
@@ -125,14 +125,14 @@ pub but-memory : (why : Type 0) (none : Type 0) (refusal : Refusal) → (refusal
 but-memory why none refusal other reasons = ⊎_elim (λ reason. reason) (λ memory. absurd (other memory.1)) reasons
 
 pub inserted : (old : Stage) (cache : Cache) (slots : List (Option Handle)) (client slot : ℕ) (handle : Handle) (new : Stage) → record { cache = cache; slots = slots } ≡ old → handle_in slot slots ≡ Some handle
-    → new ≡ record { cache = after_insert cache client handle; slots = slice_set slots slot None } → May old (Put client slot) (Answered Stored) new
+    → new ≡ record { cache = after_store cache client false handle; slots = slice_set slots slot None } → May old (Put client slot) (Answered Stored) new
 inserted old cache slots client slot handle new view is after =
-    subst (λ s. May s (Put client slot) (Answered Stored) new) view (insert_notes (cache.calls + 1) client handle (linked_at handle.key cache.memory.pools), (handle, (is, refl, refl, after)))
+    subst (λ s. May s (Put client slot) (Answered Stored) new) view (store_notes (cache.calls + 1) client false handle (linked_at handle.key cache.memory.pools), (handle, (is, refl, refl, after)))
 
 pub inserted-new : (old : Stage) (cache : Cache) (slots : List (Option Handle)) (client slot : ℕ) (handle : Handle) (new : Stage) → record { cache = cache; slots = slots } ≡ old → handle_in slot slots ≡ Some handle
-    → insert_refusal cache handle ≡ None → new ≡ record { cache = after_insert cache client handle; slots = slice_set slots slot None } → May old (PutNew client slot) (Answered Stored) new
+    → insert_refusal cache handle ≡ None → new ≡ record { cache = after_store cache client true handle; slots = slice_set slots slot None } → May old (PutNew client slot) (Answered Stored) new
 inserted-new old cache slots client slot handle new view is fits after =
-    subst (λ s. May s (PutNew client slot) (Answered Stored) new) view (insert_notes (cache.calls + 1) client handle (linked_at handle.key cache.memory.pools), (handle, (is, fits, refl, refl, after)))
+    subst (λ s. May s (PutNew client slot) (Answered Stored) new) view (store_notes (cache.calls + 1) client true handle (linked_at handle.key cache.memory.pools), (handle, (is, fits, refl, refl, after)))
 
 pub refused-new : (old : Stage) (cache : Cache) (slots : List (Option Handle)) (client slot : ℕ) (handle : Handle) (refusal : Refusal) (new : Stage) → record { cache = cache; slots = slots } ≡ old → handle_in slot slots ≡ Some handle
     → insert_refusal cache handle ≡ Some refusal → new ≡ old → May old (PutNew client slot) (Refused refusal) new

@@ -9,7 +9,7 @@ use Rattle.hc_core.specs.Cache.{Cache}
 use Rattle.hc_core.specs.Refused.{allocate_refusal, is_taken}
 use Rattle.hc_core.specs.Plain.{set_refusal, add_refusal, after_set, after_giving_up}
 use Rattle.hc_lines.specs.Steps.{NewItem, Set, Add, Refused}
-use Rattle.hc_trace.specs.Moves.{Moved, unless, handle_of, after_open, open_notes, inserted, given_up, move}
+use Rattle.hc_trace.specs.Moves.{Moved, unless, handle_of, after_open, open_notes, linked, given_up, move}
 
 pub on-ok : {T E P : Type 0} (r : Result T E) → P → OnOk r P
 on-ok (Ok x) h = h
@@ -34,14 +34,14 @@ done_new (Some x) item taken cache up moved h = absurd cc
 
 pub set-done : (item : NewItem) (cache : Cache) → set_refusal cache item.pool item.key (length item.value) ≡ None → after_set cache item.pool item.key item.value item.ttl ≡ (move (Set item) cache).cache
 set-done item cache h =
-    sym (ap (λ (m : Moved). m.cache) (done (key_refusal item.key) (allocate_refusal cache item.pool item.key (length item.value)) cache (inserted (handle_of item cache) (after_open item cache) (open_notes item cache)) h))
+    sym (ap (λ (m : Moved). m.cache) (done (key_refusal item.key) (allocate_refusal cache item.pool item.key (length item.value)) cache (linked false (handle_of item cache) (after_open item cache) (open_notes item cache)) h))
 
 pub add-done : (item : NewItem) (cache : Cache) → add_refusal cache item.pool item.key (length item.value) ≡ None → after_set cache item.pool item.key item.value item.ttl ≡ (move (Add item) cache).cache
 add-done item cache h =
     let handle = handle_of item cache in
     let mid = after_open item cache in
     let part = open_notes item cache in
-    sym (ap (λ (m : Moved). m.cache) (done_new (key_refusal item.key) (allocate_refusal cache item.pool item.key (length item.value)) (is_taken item.key mid) cache (given_up handle mid part) (inserted handle mid part) h))
+    sym (ap (λ (m : Moved). m.cache) (done_new (key_refusal item.key) (allocate_refusal cache item.pool item.key (length item.value)) (is_taken item.key mid) cache (given_up handle mid part) (linked true handle mid part) h))
 
 -- ---- one of them does
 
@@ -71,7 +71,7 @@ pub set-bars : (item : NewItem) (cache new : Cache) (refusal : Refusal)
 set-bars item cache new refusal (inr left) why told = absurd (told left.2)
 set-bars item cache new refusal (inl same) (inr why) told = absurd (told why.1)
 set-bars item cache new refusal (inl same) (inl why) told =
-    let b = bars (key_refusal item.key) (allocate_refusal cache item.pool item.key (length item.value)) cache (inserted (handle_of item cache) (after_open item cache) (open_notes item cache)) refusal why in
+    let b = bars (key_refusal item.key) (allocate_refusal cache item.pool item.key (length item.value)) cache (linked false (handle_of item cache) (after_open item cache) (open_notes item cache)) refusal why in
     (same ∙ b.0, b.1)
 
 pub add-bars : (item : NewItem) (cache new : Cache) (refusal : Refusal)
@@ -82,4 +82,4 @@ add-bars item cache new refusal left (inl why) told =
     let handle = handle_of item cache in
     let mid = after_open item cache in
     let part = open_notes item cache in
-    bars_new (key_refusal item.key) (allocate_refusal cache item.pool item.key (length item.value)) (is_taken item.key mid) cache new (given_up handle mid part) (inserted handle mid part) refusal refl left why
+    bars_new (key_refusal item.key) (allocate_refusal cache item.pool item.key (length item.value)) (is_taken item.key mid) cache new (given_up handle mid part) (linked true handle mid part) refusal refl left why

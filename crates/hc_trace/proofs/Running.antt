@@ -13,12 +13,12 @@ use Rattle.hc_history.specs.Told.{Log}
 use Rattle.hc_types.specs.Limits.{key_refusal}
 use Rattle.hc_core.specs.Cache.{Cache}
 use Rattle.hc_core.specs.Refused.{allocate_refusal, is_taken}
-use Rattle.hc_core.specs.Steps.{after_discard, insert_notes, after_insert, find_reply, remove_reply}
+use Rattle.hc_core.specs.Steps.{after_discard, store_notes, after_store, find_reply, remove_reply}
 use Rattle.hc_core.specs.World as world
 use Rattle.hc_core.specs.World.{Stage, Run, joined, new_stage}
 use Rattle.hc_core.proofs.Opening.{pushed-open}
 use Rattle.hc_lines.specs.Steps.{NewItem, Step, Set, Add, Get, Del, Now, Answer}
-use Rattle.hc_trace.specs.Moves.{Moved, unless, handle_of, after_open, open_notes, inserted, given_up, finished, get_moved, found_answer, del_moved, removed_answer, move}
+use Rattle.hc_trace.specs.Moves.{Moved, unless, handle_of, after_open, open_notes, linked, given_up, finished, get_moved, found_answer, del_moved, removed_answer, move}
 use Rattle.hc_trace.specs.Trace.{empty_cache, step_text, steps_text, notes_of}
 use Rattle.hc_trace.specs.Runs.{line_answer, key_of, IsKey, Bars, IsServed, IsBarred, Lines, lines_text, RunsAreOfTheWorld}
 
@@ -82,12 +82,12 @@ module _ (cache : Cache) (log : List Note) (rest : List (Option Handle)) (none :
     opened = record { cache = record (after_open item cache) { log = Log (log ++ open_notes item cache) }; slots = Some (handle_of item cache) ∷ rest }
 
     -- the notes by which it is linked
-    abbrev link_notes : List Note
-    link_notes = insert_notes (cache.calls + 1) 0 (handle_of item cache) (linked_at item.key (after_open item cache).memory.pools)
+    abbrev link_notes : Bool → List Note
+    link_notes adds = store_notes (cache.calls + 1) 0 adds (handle_of item cache) (linked_at item.key (after_open item cache).memory.pools)
 
     -- it is linked, or given up
-    abbrev linked : Stage
-    linked = staged (after_insert (after_open item cache) 0 (handle_of item cache)) ((log ++ open_notes item cache) ++ link_notes) rest
+    abbrev has_linked : Bool → Stage
+    has_linked adds = staged (after_store (after_open item cache) 0 adds (handle_of item cache)) ((log ++ open_notes item cache) ++ link_notes adds) rest
 
     abbrev left : Stage
     left = staged (after_discard (after_open item cache) (handle_of item cache).number) ((log ++ open_notes item cache) ++ Freed (handle_of item cache).number ∷ []) rest
@@ -99,15 +99,15 @@ module _ (cache : Cache) (log : List Note) (rest : List (Option Handle)) (none :
     is_mine = open-alone cache.memory.charges (charge_by (handle_of item cache)) none
 
     set-goes : IsKey item.key → (why : Option Refusal) → allocate_refusal cache item.pool item.key (length item.value) ≡ why
-        → Goes (Set item) (unless why cache (inserted (handle_of item cache) (after_open item cache) (open_notes item cache)))
+        → Goes (Set item) (unless why cache (linked false (handle_of item cache) (after_open item cache) (open_notes item cache)))
     set-goes fit None is = (
       inl (record {
         fit = fit;
         answers = world.Filled ∷ world.Answered note.Stored ∷ [];
-        parts = open_notes item cache ∷ link_notes ∷ [];
-        run = (opened, ((refl, is, refl, refl), (linked, ((handle_of item cache, (refl, refl, refl, refl)), told-both (after_insert (after_open item cache) 0 (handle_of item cache)) (open_notes item cache) link_notes))));
+        parts = open_notes item cache ∷ link_notes false ∷ [];
+        run = (opened, ((refl, is, refl, refl), (has_linked false, ((handle_of item cache, (refl, refl, refl, refl)), told-both (after_store (after_open item cache) 0 false (handle_of item cache)) (open_notes item cache) (link_notes false)))));
         answered = refl;
-        told = ap (λ l. open_notes item cache ++ l) (sym (append-nil link_notes));
+        told = ap (λ l. open_notes item cache ++ l) (sym (append-nil (link_notes false)));
       }),
       is_closed,
     )
@@ -124,7 +124,7 @@ module _ (cache : Cache) (log : List Note) (rest : List (Option Handle)) (none :
     )
 
     add-ends : IsKey item.key → (taken : Bool) → is_taken item.key (after_open item cache) ≡ taken → allocate_refusal cache item.pool item.key (length item.value) ≡ None
-        → Goes (Add item) (cond taken (given_up (handle_of item cache) (after_open item cache) (open_notes item cache)) (inserted (handle_of item cache) (after_open item cache) (open_notes item cache)))
+        → Goes (Add item) (cond taken (given_up (handle_of item cache) (after_open item cache) (open_notes item cache)) (linked true (handle_of item cache) (after_open item cache) (open_notes item cache)))
     add-ends fit true taken is = (
       inl (record {
         fit = fit;
@@ -158,20 +158,20 @@ module _ (cache : Cache) (log : List Note) (rest : List (Option Handle)) (none :
       inl (record {
         fit = fit;
         answers = world.Filled ∷ world.Answered note.Stored ∷ world.NoSlot ∷ [];
-        parts = open_notes item cache ∷ link_notes ∷ [] ∷ [];
+        parts = open_notes item cache ∷ link_notes true ∷ [] ∷ [];
         run = (
           opened,
           (
             (refl, is, refl, refl),
             (
-              linked,
+              has_linked true,
               (
                 (handle_of item cache, (refl, rw (taken, is_mine) refl, refl, refl, refl)),
                 (
-                  linked,
+                  has_linked true,
                   (
                     (refl, (refl, refl)),
-                    told-both (after_insert (after_open item cache) 0 (handle_of item cache)) (open_notes item cache) link_notes,
+                    told-both (after_store (after_open item cache) 0 true (handle_of item cache)) (open_notes item cache) (link_notes true),
                   ),
                 ),
               ),
@@ -179,13 +179,13 @@ module _ (cache : Cache) (log : List Note) (rest : List (Option Handle)) (none :
           ),
         );
         answered = refl;
-        told = ap (λ l. open_notes item cache ++ l) (sym (append-nil link_notes));
+        told = ap (λ l. open_notes item cache ++ l) (sym (append-nil (link_notes true)));
       }),
       is_closed,
     )
 
     add-goes : IsKey item.key → (why : Option Refusal) → allocate_refusal cache item.pool item.key (length item.value) ≡ why
-        → Goes (Add item) (unless why cache (finished false (handle_of item cache) (after_open item cache) (open_notes item cache)))
+        → Goes (Add item) (unless why cache (finished true (handle_of item cache) (after_open item cache) (open_notes item cache)))
     add-goes fit None is = add-ends fit (is_taken item.key (after_open item cache)) refl is
     add-goes fit (Some refusal) is = (
       inl (record {

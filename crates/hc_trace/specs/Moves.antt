@@ -1,5 +1,5 @@
 -- What a step of a trace does to the cache.
-use Rattle.std.specs.Prelude.{ℕ, ◌+◌, max, Bool, true, false, not, ◌&&◌, List, [], ◌∷◌, ◌++◌, length, Option, Some, None, if◌then◌else◌}
+use Rattle.std.specs.Prelude.{ℕ, ◌+◌, max, Bool, true, false, ◌&&◌, List, [], ◌∷◌, ◌++◌, length, Option, Some, None, if◌then◌else◌}
 use Rattle.hc_types.specs.Limits.{key_refusal}
 use Rattle.hc_types.specs.declared.refusal.Refusal.{Refusal}
 use Rattle.hc_types.specs.declared.refusal.Refusal.TheVariants.{Exists}
@@ -8,7 +8,7 @@ use Rattle.hc_memory.specs.Memory.{linked_at, value_at}
 use Rattle.hc_history.specs.Note.{Note, Freed}
 use Rattle.hc_core.specs.Cache.{Cache}
 use Rattle.hc_core.specs.Refused.{allocate_refusal, is_taken}
-use Rattle.hc_core.specs.Steps.{opened, part_of_allocate, after_allocate, after_discard, insert_notes, after_insert, find_notes, after_find, remove_notes, after_remove, tick_notes, after_tick}
+use Rattle.hc_core.specs.Steps.{opened, part_of_allocate, after_allocate, after_discard, store_notes, after_store, find_notes, after_find, remove_notes, after_remove, tick_notes, after_tick}
 use Rattle.hc_lines.specs.Steps.{NewItem, Step, Set, Add, Get, Del, Now, Answer, Stored, Refused, Hit, Miss, Found, Absent, Moment}
 
 -- the cache that a step leaves, what it is answered, and the notes that it adds to the log
@@ -35,12 +35,12 @@ after_open item cache = after_allocate cache item.pool item.key (length item.val
 abbrev pub open_notes : NewItem → Cache → List Note
 open_notes item cache = part_of_allocate cache.memory cache.now item.pool item.key (length item.value)
 
--- then it is inserted, in place of the key's item
-abbrev pub inserted : Handle → Cache → List Note → Moved
-inserted handle cache part = record {
-  cache = after_insert cache 0 handle;
+-- then it is stored, in place of the key's item
+abbrev pub linked : Bool → Handle → Cache → List Note → Moved
+linked adds handle cache part = record {
+  cache = after_store cache 0 adds handle;
   answer = Stored;
-  notes = part ++ insert_notes (cache.calls + 1) 0 handle (linked_at handle.key cache.memory.pools);
+  notes = part ++ store_notes (cache.calls + 1) 0 adds handle (linked_at handle.key cache.memory.pools);
 }
 
 -- or given up, since the key has an item
@@ -51,15 +51,15 @@ given_up handle cache part = record {
   notes = part ++ Freed handle.number ∷ [];
 }
 
--- Where the key's item may be replaced, it is. Otherwise an unexpired one stays.
+-- an add leaves an unexpired item as it is
 abbrev pub finished : Bool → Handle → Cache → List Note → Moved
-finished replaces handle cache part = if not replaces && is_taken handle.key cache then given_up handle cache part else inserted handle cache part
+finished adds handle cache part = if adds && is_taken handle.key cache then given_up handle cache part else linked adds handle cache part
 
 -- a set or an add, where the key itself isn't refused
 abbrev pub stored : Bool → NewItem → Cache → Moved
-stored replaces item cache =
+stored adds item cache =
     unless (allocate_refusal cache item.pool item.key (length item.value)) cache
-    (finished replaces (handle_of item cache) (after_open item cache) (open_notes item cache))
+    (finished adds (handle_of item cache) (after_open item cache) (open_notes item cache))
 
 -- ---- the other steps
 
@@ -94,8 +94,8 @@ now_moved moment cache = record {
 
 -- a step: by client 0, where it is a call
 abbrev pub move : Step → Cache → Moved
-move (Set item) cache = unless (key_refusal item.key) cache (stored true item cache)
-move (Add item) cache = unless (key_refusal item.key) cache (stored false item cache)
+move (Set item) cache = unless (key_refusal item.key) cache (stored false item cache)
+move (Add item) cache = unless (key_refusal item.key) cache (stored true item cache)
 move (Get key) cache = unless (key_refusal key) cache (get_moved key cache)
 move (Del key) cache = unless (key_refusal key) cache (del_moved key cache)
 move (Now moment) cache = now_moved moment cache

@@ -1,7 +1,7 @@
-use Rattle.std.proofs.Common.{◌<◌, length, sym, ◌∙◌, arith}
+use Rattle.std.proofs.Common.{false, ◌<◌, length, sym, ◌∙◌, arith}
 use Rattle.hc_core.specs.World.{Stage}
 use Rattle.hc_run.proofs.Filled.{put-back, filled-open}
-use Rattle.hc_run.proofs.Staging.{inserted-kept, back-kept, back-is, taken-open, memory-only, inserted}
+use Rattle.hc_run.proofs.Staging.{stored-kept, back-kept, back-is, taken-open, memory-only, inserted}
 use Rattle.hc_run.proofs.stage.Stage.put.Goals as goal
 
 pub invariant_of-self-in-Ok : goal.invariant_of-self-in-Ok
@@ -9,7 +9,7 @@ invariant_of-self-in-Ok g c =
     let f = c.self.inside in
     let within : c.args.slot < length f.slots.items = omega (arith, c.self.invariant.0) in
     let is = sym c.in_ok-sealed.ensures.ok ∙ c.in-Some.is in
-    inserted-kept f.core c.insert_or_replace.new.self f.slots.items c.take_sealed.new.slots.items c.args.client c.args.slot c.in-Some.sealed c.self.invariant within is (taken-open f.core c.in-Some.sealed c.in-Ok.ensures.fits) c.in-Ok.ensures.ok c.in_ok-sealed.ensures.slots
+    stored-kept f.core c.insert_or_replace.new.self f.slots.items c.take_sealed.new.slots.items c.args.client c.args.slot false c.in-Some.sealed c.self.invariant within is (taken-open f.core c.in-Some.sealed c.in-Ok.ensures.fits) c.in-Ok.ensures.ok c.in_ok-sealed.ensures.slots
 
 pub unreachable-requires : goal.unreachable-requires
 unreachable-requires g c =

@@ -1,8 +1,8 @@
-use Rattle.std.proofs.Common.{◌≡◌, ◌<◌, Some, None, length, sym, ◌∙◌, arith}
+use Rattle.std.proofs.Common.{true, ◌≡◌, ◌<◌, Some, None, length, sym, ◌∙◌, arith}
 use Rattle.hc_core.specs.Refused.{insert_refusal}
 use Rattle.hc_core.specs.World.{Stage, PutNew}
 use Rattle.hc_run.proofs.Filled.{put-back}
-use Rattle.hc_run.proofs.Staging.{inserted-kept, back-kept, back-is, new-open, but-memory, inserted-new, refused-new, refused-may, on-err}
+use Rattle.hc_run.proofs.Staging.{stored-kept, back-kept, back-is, new-open, but-memory, inserted-new, refused-new, refused-may, on-err}
 use Rattle.hc_run.proofs.stage.Stage.put_new.Goals as goal
 
 pub invariant_of-self-in-Ok : goal.invariant_of-self-in-Ok
@@ -10,7 +10,7 @@ invariant_of-self-in-Ok g c =
     let f = c.self.inside in
     let within : c.args.slot < length f.slots.items = omega (arith, c.self.invariant.0) in
     let is = sym c.in_ok-sealed.ensures.ok ∙ c.in-Some.is in
-    inserted-kept f.core c.insert.new.self f.slots.items c.take_sealed.new.slots.items c.args.client c.args.slot c.in-Some.sealed c.self.invariant within is (new-open f.core c.in-Some.sealed c.in-Ok.ensures.fits) c.in-Ok.ensures.ok c.in_ok-sealed.ensures.slots
+    stored-kept f.core c.insert.new.self f.slots.items c.take_sealed.new.slots.items c.args.client c.args.slot true c.in-Some.sealed c.self.invariant within is (new-open f.core c.in-Some.sealed c.in-Ok.ensures.fits) c.in-Ok.ensures.ok c.in_ok-sealed.ensures.slots
 
 pub returns-in-Ok-clause-ok : goal.returns-in-Ok-clause-ok
 returns-in-Ok-clause-ok g c =
