@@ -7,7 +7,7 @@ use Rattle.hc_types.specs.declared.refusal.Refusal.{Refusal}
 use Rattle.hc_types.specs.declared.refusal.Refusal.TheVariants.{Exists, NoMemory}
 use Rattle.hc_core.specs.Cache.{Cache}
 use Rattle.hc_core.specs.Refused.{allocate_refusal, is_taken}
-use Rattle.hc_core.specs.Plain.{set_refusal, add_refusal, after_set, after_giving_up}
+use Rattle.hc_core.specs.Plain.{set_refusal, add_refusal, after_set, after_set_new, after_giving_up}
 use Rattle.hc_lines.specs.Steps.{NewItem, Set, Add, Refused}
 use Rattle.hc_trace.specs.Moves.{Moved, unless, handle_of, after_open, open_notes, linked, given_up, move}
 
@@ -36,7 +36,7 @@ pub set-done : (item : NewItem) (cache : Cache) → set_refusal cache item.pool 
 set-done item cache h =
     sym (ap (λ (m : Moved). m.cache) (done (key_refusal item.key) (allocate_refusal cache item.pool item.key (length item.value)) cache (linked false (handle_of item cache) (after_open item cache) (open_notes item cache)) h))
 
-pub add-done : (item : NewItem) (cache : Cache) → add_refusal cache item.pool item.key (length item.value) ≡ None → after_set cache item.pool item.key item.value item.ttl ≡ (move (Add item) cache).cache
+pub add-done : (item : NewItem) (cache : Cache) → add_refusal cache item.pool item.key (length item.value) ≡ None → after_set_new cache item.pool item.key item.value item.ttl ≡ (move (Add item) cache).cache
 add-done item cache h =
     let handle = handle_of item cache in
     let mid = after_open item cache in
