@@ -10,6 +10,7 @@ use std::process::Abort;
 fn word_of_reply(reply: &Reply) -> &'static str {
     match reply {
         Reply::Stored => "stored",
+        Reply::Exists => "there is one",
         Reply::Hit(_) => "hit",
         Reply::Miss => "miss",
         Reply::FoundInMemory => "found",

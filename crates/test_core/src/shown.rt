@@ -74,7 +74,24 @@ fn inserted(rt: &impl Abort, alloc: Global) -> Note {
 #[test]
 fn a_note_shows_no_value(rt: HostRuntime) {
     let note = inserted(&rt, rt.alloc());
-    let text = "Note { said: Begin { call: 1, client: 0, op: Insert(b\"k\", 5 bytes, 15) } }";
+    let text = "Note { said: Begin(1, 0, Insert(b\"k\", 5 bytes, 15)) }";
+    assert_debugged(&rt, rt.alloc(), &note, text);
+}
+
+// A note of a page of two bytes that was written.
+fn wrote(rt: &impl Abort, alloc: Global) -> Note {
+    let bytes = Bytes::copy_from_slice(alloc, b"ab").expect(rt, "there is memory");
+    Note::new(Said::Wrote {
+        page: 3,
+        bytes,
+        is_written: true,
+    })
+}
+
+#[test]
+fn a_note_shows_no_page(rt: HostRuntime) {
+    let note = wrote(&rt, rt.alloc());
+    let text = "Note { said: Wrote(3, 2 bytes, true) }";
     assert_debugged(&rt, rt.alloc(), &note, text);
 }
 
