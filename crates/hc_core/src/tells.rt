@@ -55,7 +55,11 @@ fn answered<A: Allocator, N: Notes<Note<A>>>(notes: &mut N, call: u64, reply: Re
 {
     if notes.keeps() {
         notes.note(Note::new(Said::Did { call, reply }));
-    } else if let Some(kind) = reply.kind() {
+        return;
+    }
+    let kind = reply.kind();
+    drop(reply);
+    if let Some(kind) = kind {
         notes.count(kind);
     }
 }
