@@ -1,0 +1,8 @@
+use Rattle.std.proofs.Common.{[], take}
+use Rattle.hc_history.specs.Lawful.{past}
+use Rattle.hc_judge_memory.specs.Calls as spec
+use Rattle.hc_legal.proofs.Past.{book-more}
+use Rattle.hc_judge_memory.proofs.calls.is_owed.Goals as goal
+
+pub loop-note-preserved : goal.loop-note-preserved
+loop-note-preserved g c = book-more (λ older. spec.is_owed older c.args.call) c.args.notes.now c.loop-note.note-index c.note-item.result _ c.loop-note-test.true c.note-item.is (c.is_owed_after-owed.ensures (past [] (take c.loop-note.note-index c.args.notes.now)) c.loop-note.invariant)

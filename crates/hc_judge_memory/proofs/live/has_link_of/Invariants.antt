@@ -1,0 +1,8 @@
+use Rattle.std.proofs.Common.{◌≡◌, nat_lt, drop}
+use Rattle.hc_types.specs.Tally.{count}
+use Rattle.hc_judge_memory.specs.Evictions.{is_link_of}
+use Rattle.hc_judge_memory.proofs.live.has_link_of.Given as goal
+
+-- it is among the rest, if there is one
+abbrev pub invariant-loop-charge : goal.invariant-loop-charge
+invariant-loop-charge g l = nat_lt 0 (count (is_link_of l.number l.key) (drop l.charge-index l.live)) ≡ nat_lt 0 (count (is_link_of l.number l.key) l.live)
