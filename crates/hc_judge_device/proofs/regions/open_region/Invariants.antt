@@ -1,0 +1,7 @@
+use Rattle.std.proofs.Common.{◌≡◌, [], take}
+use Rattle.hc_history.specs.Regions as spec
+use Rattle.hc_history.specs.Lawful.{past}
+use Rattle.hc_judge_device.proofs.regions.open_region.Given as goal
+
+abbrev pub invariant-loop-note : goal.invariant-loop-note
+invariant-loop-note g l = l.region ≡ spec.open_region l.flash (past [] (take l.note-index l.notes))
