@@ -41,13 +41,13 @@ apart : (test : ℕ → Bool) (b : ℕ) → test 32 ≡ false → test b ≡ tru
 apart test b never h true e = absurd (true-is-not-false (sym h ∙ ap test (eqb-true b 32 e) ∙ never))
 apart test b never h false e = refl
 
-visible-lacks : (text : List ℕ) → list_all is_visible text ≡ true → Lacks 32 text
+pub visible-lacks : (text : List ℕ) → list_all is_visible text ≡ true → Lacks 32 text
 visible-lacks [] h = tt
 visible-lacks (b ∷ text) h =
     let t = both (is_visible b) (list_all is_visible text) h in
     (apart is_visible b refl t.0 (b == 32) refl, visible-lacks text t.1)
 
-digits-lack : (text : List ℕ) → all_ascii_digits text ≡ true → Lacks 32 text
+pub digits-lack : (text : List ℕ) → all_ascii_digits text ≡ true → Lacks 32 text
 digits-lack [] h = tt
 digits-lack (b ∷ text) h =
     let t = both (is_ascii_digit b) (all_ascii_digits text) h in

@@ -8,7 +8,7 @@ ghost use Rattle.hc_lines.specs.Numbers.{is_visible, number_of, number_below};
 ghost use Rattle.hc_lines.specs.Steps.{Get, Del};
 ghost use Rattle.hc_lines.specs.Seen.{item_seen, order_seen, line_seen};
 
-use crate::number::number;
+use crate::numbers::number;
 use crate::value::{Value, is_key, value_in, visible_front};
 use memchr::memchr;
 
@@ -56,8 +56,8 @@ pub enum Line<'a> {
     Fault,
 }
 
-// The first field and the bytes behind its space. None where there is no space.
-fn first_field(bytes: &[u8]) -> Option<(&[u8], &[u8])>
+/// The first field and the bytes behind its space. None where there is no space.
+pub fn first_field(bytes: &[u8]) -> Option<(&[u8], &[u8])>
     ensures { MatchOption result (fields_of bytes.now ≡ bytes.now ∷ []) (λ p. fields_of bytes.now ≡ p.0.now ∷ fields_of p.1.now) }
 {
     let at = memchr(b' ', bytes)?;

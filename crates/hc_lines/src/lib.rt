@@ -3,12 +3,14 @@
 #![tactic(auto)]
 
 mod grammar;
-mod number;
+mod numbers;
 mod texts;
 mod value;
 
-pub use grammar::{LONGEST, Line, NewItem, Order, Step, line_in};
+pub use grammar::{LONGEST, Line, NewItem, Order, Step, first_field, line_in};
+pub use numbers::number;
 pub use texts::{
-    add_fault, add_hit, add_losses, add_moment, add_refusal, add_stats, add_verdict, add_word,
+    add_fault, add_hit, add_losses, add_moment, add_number, add_refusal, add_stats, add_value,
+    add_verdict, add_word, is_repeated,
 };
-pub use value::Value;
+pub use value::{TIMES_MAX, Value, all_visible, is_key, value_in};

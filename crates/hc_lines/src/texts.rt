@@ -15,8 +15,8 @@ use hc_types::{Cause, Key, Refusal, Scope};
 use itoa::Buffer;
 use std::alloc::AllocError;
 
-// A number in decimal.
-fn add_number(out: &mut Vec<u8>, number: u64) -> Result<(), AllocError>
+/// A number in decimal.
+pub fn add_number(out: &mut Vec<u8>, number: u64) -> Result<(), AllocError>
     ensures { OnOk result (out.new.items ≡ out.old.items ++ decimal number) }
 {
     let mut buffer = Buffer::new();
@@ -35,8 +35,8 @@ fn all_are(bytes: &[u8], c: u8) -> bool
     same
 }
 
-// Four bytes or more, all equal, and no digits.
-fn is_repeated(value: &[u8]) -> bool
+/// Four bytes or more, all equal, and no digits.
+pub fn is_repeated(value: &[u8]) -> bool
     ensures { result ≡ spec.is_repeated value.now }
 {
     let Some((first, rest)) = value.split_first() else {
@@ -46,8 +46,8 @@ fn is_repeated(value: &[u8]) -> bool
     rest.len() >= 3 && rest[0] == c && !c.is_ascii_digit() && all_are(rest, c)
 }
 
-// A value: `*`, how many bytes and which, or `=` and its bytes.
-fn add_value(out: &mut Vec<u8>, value: &[u8]) -> Result<(), AllocError>
+/// A value: `*`, how many bytes and which, or `=` and its bytes.
+pub fn add_value(out: &mut Vec<u8>, value: &[u8]) -> Result<(), AllocError>
     ensures { OnOk result (out.new.items ≡ out.old.items ++ value_text value.now) }
 {
     if is_repeated(value) {

@@ -5,10 +5,10 @@ ghost use Rattle.hc_lines.specs.Numbers as spec;
 ghost use Rattle.hc_lines.specs.Numbers.{value_of, repeated_of, times};
 ghost use Rattle.hc_lines.specs.Seen.{bytes_of};
 
-use crate::number::number;
+use crate::numbers::number;
 
 /// The most times that a value repeats a byte.
-const TIMES_MAX: u64 = 2_097_152;
+pub const TIMES_MAX: u64 = 2_097_152;
 
 /// A value: its bytes, or one byte so many times.
 #[derive(Clone, Copy)]
@@ -23,8 +23,8 @@ fn is_visible(c: u8) -> bool
     (33..=126).contains(&c)
 }
 
-// Whether all are visible. It looks at each, which is faster than to stop at the first that isn't.
-fn all_visible(text: &[u8]) -> bool
+/// Whether all are visible. It looks at each, which is faster than to stop at the first that isn't.
+pub fn all_visible(text: &[u8]) -> bool
     ensures { result ≡ list_all spec.is_visible text.now }
 {
     // not `all`, which stops at the first other byte: this is done for many bytes at a time

@@ -1,0 +1,10 @@
+pub mod Repeats
+pub mod Pages
+pub mod Parts
+pub mod Written
+pub mod Spaces
+pub mod ReadBack
+pub mod Inverse
+pub mod Only
+pub mod Whole
+pub mod FlashLine
