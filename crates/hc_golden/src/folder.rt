@@ -1,4 +1,4 @@
-// The files of a folder of traces.
+// The files of a folder of traces, and of logs.
 use std::{fs, io};
 
 // What stands behind the name of a trace.
@@ -6,16 +6,31 @@ const TRACE: &str = ".trace";
 
 const ANSWERS: &str = ".answers";
 
-/// The names of a folder's traces, in their order.
-pub fn trace_names(rt: &HostRuntime, folder: &str) -> io::Result<Vec<String>> {
+// What stands behind the name of a log.
+const LOG: &str = ".log";
+
+const VERDICT: &str = ".verdict";
+
+// The names of a folder's files that end so, in their order.
+fn names(rt: &HostRuntime, folder: &str, ending: &str) -> io::Result<Vec<String>> {
     let mut names = Vec::new(rt.alloc());
     for entry in fs::read_dir(rt, folder)? {
-        if let Some(name) = entry?.file_name().strip_suffix(TRACE) {
+        if let Some(name) = entry?.file_name().strip_suffix(ending) {
             names.push(String::from_str(rt.alloc(), name)?)?;
         }
     }
     names.sort()?;
     Ok(names)
+}
+
+/// The names of a folder's traces, in their order.
+pub fn trace_names(rt: &HostRuntime, folder: &str) -> io::Result<Vec<String>> {
+    names(rt, folder, TRACE)
+}
+
+/// The names of a folder's logs, in their order.
+pub fn log_names(rt: &HostRuntime, folder: &str) -> io::Result<Vec<String>> {
+    names(rt, folder, LOG)
 }
 
 // The bytes of a file of a folder. One that can't be read is named on standard error.
@@ -38,6 +53,16 @@ pub fn trace_of(rt: &HostRuntime, folder: &str, name: &str) -> io::Result<Vec<u8
 /// The answers that a trace must give.
 pub fn answers_of(rt: &HostRuntime, folder: &str, name: &str) -> io::Result<Vec<u8>> {
     read(rt, folder, name, ANSWERS)
+}
+
+/// The bytes of a log.
+pub fn log_of(rt: &HostRuntime, folder: &str, name: &str) -> io::Result<Vec<u8>> {
+    read(rt, folder, name, LOG)
+}
+
+/// What must be said of a log.
+pub fn verdict_of(rt: &HostRuntime, folder: &str, name: &str) -> io::Result<Vec<u8>> {
+    read(rt, folder, name, VERDICT)
 }
 
 /// The status with which a folder's traces end: the number in its file `status`, or 0 where there is none.

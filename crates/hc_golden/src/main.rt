@@ -1,14 +1,14 @@
-//! Replays the traces of each folder that it is given, and compares what is printed with the answers that stand beside
-//! them. A line for each trace says `ok`, or in which line its answers differ first. The status is 0 where all are as
-//! wanted, 1 where one isn't, and 2 where a folder or a file can't be read.
+//! Replays the traces of each folder that it is given, judges its logs, and compares what is printed with the answers and
+//! the verdicts that stand beside them. A line for each says `ok`, or in which line they differ first. The status is 0
+//! where all are as wanted, 1 where one isn't, and 2 where a folder or a file can't be read.
 #![tactic(auto)]
 
 mod difference;
 mod folder;
 mod judging;
 
-use crate::folder::{answers_of, status_of, trace_names, trace_of};
-use crate::judging::{Verdict, judge};
+use crate::folder::{answers_of, log_names, log_of, status_of, trace_names, trace_of, verdict_of};
+use crate::judging::{Verdict, judge, judge_log};
 use std::process::ExitCode;
 use std::{env, io};
 
@@ -51,17 +51,44 @@ fn check_trace(rt: &HostRuntime, folder: &str, name: &str, status: u8) -> io::Re
     }
 }
 
-// Replays the traces of a folder. Whether all are as wanted.
+// Judges a log of the folder, and prints a line. Whether what is said of it is as wanted.
+fn check_log(rt: &HostRuntime, folder: &str, name: &str) -> io::Result<bool> {
+    let log = log_of(rt, folder, name)?;
+    let verdict = verdict_of(rt, folder, name)?;
+    match judge_log(rt.alloc(), &log, &verdict)? {
+        Verdict::Same => {
+            println!(rt; "{folder}/{name}: ok")?;
+            Ok(true)
+        }
+        Verdict::Line(_) | Verdict::Status(_) => {
+            println!(rt; "{folder}/{name}: another verdict")?;
+            eprintln!(rt; "{folder}/{name}.verdict: it isn't what is said of the log")?;
+            Ok(false)
+        }
+    }
+}
+
+// Judges the logs of a folder. Whether all verdicts are as wanted.
+fn check_logs(rt: &HostRuntime, folder: &str) -> io::Result<bool> {
+    let mut all = true;
+    for name in log_names(rt, folder)?.iter() {
+        all &= check_log(rt, folder, name)?;
+    }
+    Ok(all)
+}
+
+// Replays the traces of a folder, and judges its logs. Whether all are as wanted.
 fn check_folder(rt: &HostRuntime, folder: &str) -> io::Result<bool> {
     let status = status_of(rt, folder)?;
     let mut all = true;
     for name in trace_names(rt, folder)?.iter() {
         all &= check_trace(rt, folder, name, status)?;
     }
+    all &= check_logs(rt, folder)?;
     Ok(all)
 }
 
-// Replays the traces of each folder. Whether all are as wanted.
+// Replays the traces of each folder, and judges its logs. Whether all are as wanted.
 fn run(rt: &HostRuntime) -> io::Result<bool> {
     let mut folders = env::args(rt)?;
     let _program = folders.next();

@@ -1,0 +1,3 @@
+-- What is found of a log.
+pub mod Finding
+pub mod Limiting
