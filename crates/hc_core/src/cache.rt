@@ -298,7 +298,14 @@ impl<N: Notes<Note<A>>, A: Allocator + Clone> Core<N, A> {
                 });
             }
         };
-        let plan = plans::store(&mut self.notes, &self.pools, self.calls, client, &sealed, adds);
+        let plan = plans::store(
+            &mut self.notes,
+            &self.pools,
+            self.calls,
+            client,
+            &sealed,
+            adds,
+        );
         let (call, begin) = match plan {
             Ok(plan) => plan,
             Err(refusal) => return Err(Unlinked { refusal, sealed }),

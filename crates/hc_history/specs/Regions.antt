@@ -30,12 +30,6 @@ pub record IsLowestClean (flash : FlashConfig) (older : List Note) (region : ℕ
   pub clean : is_one_of region (in_use older) ≡ false
   pub lowest : (lower : ℕ) → lower < region → is_one_of lower (in_use older) ≡ true
 
--- the region that was opened last
-abbrev pub last_opened : List Note → Option ℕ
-last_opened [] = None
-last_opened (Opened region ∷ older) = Some region
-last_opened (note ∷ older) = last_opened older
-
 abbrev pub unless_page_of : FlashConfig → ℕ → Option ℕ → Option ℕ
 unless_page_of flash page None = None
 unless_page_of flash page (Some region) = if is_page_of flash region page then None else Some region
