@@ -82,7 +82,7 @@ fn file_put<A: Allocator + Clone>(
     }
 }
 
-/// RegionBooks the put under the open region, where that has room for it.
+/// Files the put under the open region, where that has room for it.
 fn place<A: Allocator>(
     flash: &FlashConfig,
     books: &mut RegionBooks<A>,
