@@ -9,36 +9,36 @@ use Rattle.hc_bighash.specs.Reading.{page_at, entries_at, entry_at, body_at, con
 use Rattle.hc_history.specs.Note.{Insert, Add, Find, Remove, Stored, Exists, Hit, Miss, NotInMemory, Note, Begin, Did, End, Lose, Charged, Linked, Freed, Unqueued, Written, Buried, Raised, Read, Opened}
 use Rattle.hc_history.specs.Lawful.{past, Legal}
 use Rattle.hc_legal.proofs.Computed.{legal, refused_at, refused_end, Refused}
-use Rattle.hc_legal.proofs.Logs.{one_pool, two_pools, a, b, c, one, two, three, anew, item, page, sets, hits, misses, queues, takes_put, writes_first, large, a_one, b_two, row_5, row_5_stores, row_6, row_8, row_13, row_14, row_27}
+use Rattle.hc_legal.proofs.Logs.{one_pool, two_pools, a, b, c, one, two, three, anew, item, page, sets, hits, misses, queues, takes_put, writes_first, large, a_one, b_two, back_from_flash, stored_on_flash, waiting_is_found, set_anew, one_hash, lost_bucket, add_waits}
 
 -- ---- worked runs
 
 -- a waiting put is found
-pub row_6-legal : Legal (one_pool 1000 1) row_6
-row_6-legal = legal (one_pool 1000 1) row_6 refl
+pub waiting_is_found-legal : Legal (one_pool 1000 1) waiting_is_found
+waiting_is_found-legal = legal (one_pool 1000 1) waiting_is_found refl
 
 -- an item comes back from flash
-pub row_5-legal : Legal (one_pool 1000 1) row_5
+pub back_from_flash-legal : Legal (one_pool 1000 1) back_from_flash
 unfolding page_at entries_at entry_at body_at content_at whole_at
-row_5-legal = legal (one_pool 1000 1) row_5 refl
+back_from_flash-legal = legal (one_pool 1000 1) back_from_flash refl
 
 -- two large keys of one kept hash
-pub row_13-legal : Legal (one_pool 2000 1) row_13
-row_13-legal = legal (one_pool 2000 1) row_13 refl
+pub one_hash-legal : Legal (one_pool 2000 1) one_hash
+one_hash-legal = legal (one_pool 2000 1) one_hash refl
 
 -- a large key is set anew while its fill is out
-pub row_8-legal : Legal (one_pool 2000 1) row_8
-row_8-legal = legal (one_pool 2000 1) row_8 refl
+pub set_anew-legal : Legal (one_pool 2000 1) set_anew
+set_anew-legal = legal (one_pool 2000 1) set_anew refl
 
 -- a bucket is given up
-pub row_14-legal : Legal two_pools row_14
+pub lost_bucket-legal : Legal two_pools lost_bucket
 unfolding page_at entries_at entry_at body_at content_at whole_at
-row_14-legal = legal two_pools row_14 refl
+lost_bucket-legal = legal two_pools lost_bucket refl
 
 -- an add waits for flash
-pub row_27-legal : Legal (one_pool 1000 2) row_27
+pub add_waits-legal : Legal (one_pool 1000 2) add_waits
 unfolding page_at entries_at entry_at body_at content_at whole_at
-row_27-legal = legal (one_pool 1000 2) row_27 refl
+add_waits-legal = legal (one_pool 1000 2) add_waits refl
 
 -- an insert that does nothing but begin: no log tells
 pub begun_alone : Legal (one_pool 1000 1) (Begin 1 0 (Insert a one 0) ∷ [])

@@ -103,11 +103,11 @@ writes_first key entries = takes_put key ++ Wrote 0 (page entries) true ∷ Writ
 abbrev pub writes_over : List ℕ → List PageEntry → List PageEntry → List Note
 writes_over key was entries = takes_put key ++ Read 0 (Some (page was)) ∷ Wrote 0 (page entries) true ∷ Written key ∷ []
 
--- ---- rows
+-- ---- worked runs
 
 -- a waiting put is found
-abbrev pub row_6 : List Note
-row_6 = sets 1 1 a one ++ queues 1 a ++ sets 2 2 b two ++ hits 3 a one ++ takes_put a ++ hits 4 b two
+abbrev pub waiting_is_found : List Note
+waiting_is_found = sets 1 1 a one ++ queues 1 a ++ sets 2 2 b two ++ hits 3 a one ++ takes_put a ++ hits 4 b two
 
 -- an item comes back from flash
 abbrev pub a_one : PageEntry
@@ -116,25 +116,25 @@ a_one = item 0 a one
 abbrev pub b_two : PageEntry
 b_two = item 0 b two
 
-abbrev pub row_5_stores : List Note
-row_5_stores = sets 1 1 a one ++ queues 1 a ++ sets 2 2 b two ++ writes_first a (a_one ∷ []) ++ queues 2 b ++ sets 3 3 c three ++ writes_over b (a_one ∷ []) (a_one ∷ b_two ∷ [])
+abbrev pub stored_on_flash : List Note
+stored_on_flash = sets 1 1 a one ++ queues 1 a ++ sets 2 2 b two ++ writes_first a (a_one ∷ []) ++ queues 2 b ++ sets 3 3 c three ++ writes_over b (a_one ∷ []) (a_one ∷ b_two ∷ [])
 
-abbrev pub row_5 : List Note
-row_5 = row_5_stores ++ Begin 4 0 (Find a) ∷ Read 0 (Some (page (a_one ∷ b_two ∷ []))) ∷ queues 3 c ++ Charged 4 a 0 36 ∷ Linked 4 ∷ Did 4 (Hit one) ∷ End 4 ∷ []
+abbrev pub back_from_flash : List Note
+back_from_flash = stored_on_flash ++ Begin 4 0 (Find a) ∷ Read 0 (Some (page (a_one ∷ b_two ∷ []))) ∷ queues 3 c ++ Charged 4 a 0 36 ∷ Linked 4 ∷ Did 4 (Hit one) ∷ End 4 ∷ []
 
 -- two large keys of one kept hash
 abbrev pub large : ℕ → ℕ → List ℕ
 large n byte = replicate n byte
 
-abbrev pub row_13 : List Note
-row_13 =
+abbrev pub one_hash : List Note
+one_hash =
     sets 1 1 aa (large 200 120) ++ queues 1 aa ++ sets 2 2 bH (large 200 121) ++ Unqueued aa ∷ Opened 0 ∷ queues 2 bH
     ++ sets 3 3 c (large 200 122) ++ Unqueued bH ∷ Lose (loss.Hash 183 (Some bH)) (Collision bH) ∷ Begin 4 0 (Find aa) ∷ Did 4 Miss ∷ End 4
     ∷ Begin 5 0 (Remove aa) ∷ Lose (loss.Hash 183 (Some aa)) (Collision aa) ∷ Did 5 NotInMemory ∷ End 5 ∷ misses 6 bH
 
 -- a large key is set anew while its fill is out
-abbrev pub row_8 : List Note
-row_8 =
+abbrev pub set_anew : List Note
+set_anew =
     sets 1 1 a (large 300 120) ++ queues 1 a ++ sets 2 2 b (large 300 121) ++ Unqueued a ∷ Opened 0 ∷ queues 2 b
     ++ sets 3 3 c (large 300 122) ++ Unqueued b ∷ Opened 1 ∷ Wrote 1 (region_page (item 0 a (large 300 120))) true ∷ Flushed 0
     ∷ Begin 4 0 (Find a) ∷ queues 3 c ++ Charged 4 a 0 333 ∷ Begin 5 0 (Insert a (large 300 110) 0) ∷ Lose (loss.Hash 140 (Some a)) (Collision a)
@@ -146,8 +146,8 @@ row_8 =
 abbrev pub in_1 : List ℕ → List ℕ → PageEntry
 in_1 key value = item 1 key value
 
-abbrev pub row_14 : List Note
-row_14 =
+abbrev pub lost_bucket : List Note
+lost_bucket =
     sets_in 1 1 1 a one ++ queues 1 a ++ sets_in 1 2 2 b two ++ writes_first a (in_1 a one ∷ []) ++ queues 2 b
     ++ sets_in 1 3 3 c three ++ writes_over b (in_1 a one ∷ []) (in_1 a one ∷ in_1 b two ∷ []) ++ queues 3 c
     ++ sets_in 1 4 4 d four ++ writes_over c (in_1 a one ∷ in_1 b two ∷ []) (in_1 a one ∷ in_1 b two ∷ in_1 c three ∷ [])
@@ -157,8 +157,8 @@ row_14 =
     ∷ Lose (loss.Bucket 0) Fault ∷ Written d ∷ misses 6 b ++ misses 7 d ++ hits 8 a one ++ queues 5 a ++ sets_in 1 6 9 e [] ++ writes_first a (in_1 a one ∷ [])
 
 -- an add waits for flash
-abbrev pub row_27 : List Note
-row_27 =
+abbrev pub add_waits : List Note
+add_waits =
     sets 1 1 a one ++ sets 2 2 b two ++ queues 1 a ++ sets 3 3 c three ++ writes_first a (a_one ∷ [])
     ++ queues 2 b ++ Charged 4 a 0 36 ∷ Begin 4 0 (Add a anew 0) ∷ Begin 5 0 (Find a) ∷ Read 0 (Some (page (a_one ∷ []))) ∷ queues 3 c
     ++ Charged 5 a 0 36 ∷ Linked 5 ∷ Freed 4 ∷ Did 4 Exists ∷ Did 5 (Hit one) ∷ End 4 ∷ End 5
