@@ -13,9 +13,10 @@ use Rattle.hc_history.specs.Note.{Op, Reply, Note, Begin, Did, End}
 use Rattle.hc_history.specs.Books.{Call, Answer, Entry, charges, begun, open_calls, open_call, owed, entry_after, done_by, waiting, entry_at, now_at}
 use Rattle.hc_types.specs.declared.config.FlashConfig.{FlashConfig}
 use Rattle.hc_history.specs.Lawful.{changes, next_answer, IsChanged, IsAnswer, Lawful, past}
-use Rattle.hc_core.specs.Mirrors.{item_has, open_has, entry_of, Mirrors}
+use Rattle.hc_items.specs.Items.{item_has, open_has, entry_of}
+use Rattle.hc_core.specs.Mirrors.{Mirrors}
 use Rattle.hc_core.specs.Steps.{freed_note}
-use Rattle.hc_core.proofs.Same.{Same, Same-reordered, Same-evicted, charge_found, eqb-same, one_if}
+use Rattle.hc_items.proofs.Same.{Same, Same-reordered, Same-evicted, charge_found, eqb-same, one_if}
 
 -- ---- the books within a call
 

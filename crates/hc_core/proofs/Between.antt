@@ -11,18 +11,11 @@ use Rattle.hc_memory.proofs.Books.{tally-closed}
 use Rattle.hc_history.specs.Note.{Note, Freed, Now}
 use Rattle.hc_history.specs.Books.{Charge, has_number, charges}
 use Rattle.hc_history.specs.Lawful.{Lawful, past}
-use Rattle.hc_core.specs.Mirrors.{items_of, open_has, open_at, Mirrors}
+use Rattle.hc_items.specs.Items.{items_of, open_has, open_at}
+use Rattle.hc_core.specs.Mirrors.{Mirrors}
 use Rattle.hc_core.specs.Steps.{tick_notes}
-use Rattle.hc_core.proofs.Same.{Same, Same-closed, eqb-same, one_if}
-
-number_step : (number : ℕ) (c d : Open) (o : Option Open) (b : Bool) → pools.has_number number d ≡ b → (o ≡ Some c → c.number ≡ number) → cond b (Some d) o ≡ Some c → c.number ≡ number
-number_step number c d o true e h found = let same : d ≡ c = cc in sym (ap (λ (x : Open). x.number) same) ∙ sym (eqb-true number d.number e)
-number_step number c d o false e h found = h found
-
--- the charge with a number has it
-pub number-is : (number : ℕ) (opens : List Open) (c : Open) → pools.charge_at number opens ≡ Some c → c.number ≡ number
-number-is number [] c found = absurd cc
-number-is number (d ∷ opens) c found = number_step number c d (pools.charge_at number opens) (pools.has_number number d) refl (number-is number opens c) found
+use Rattle.hc_items.proofs.Same.{Same, Same-closed, eqb-same, one_if}
+use Rattle.hc_items.proofs.Numbers.{number-is}
 
 -- a charge that is open is live, and not linked
 pub live-open : (live : List Charge) (items : List Item) (opens rest : List Open) (c : Open) → ((f : Open → ℕ) → tally f rest + f c ≡ tally f opens) → Same live items opens → 0 < count (λ (charge : Charge). has_number c.number charge && not charge.linked) live

@@ -24,12 +24,13 @@ use Rattle.hc_history.specs.Books.{Charge, Call, Entry, has_number, is_linked, c
 use Rattle.hc_types.specs.declared.config.FlashConfig.{FlashConfig}
 use Rattle.hc_history.specs.Lawful.{changes, freed_since, IsAnswer, Lawful, past}
 use Rattle.hc_history.proofs.Appended.{past-append}
-use Rattle.hc_core.specs.Mirrors.{items_of, charge_at, item_has, open_has, entry_of, Mirrors}
+use Rattle.hc_items.specs.Items.{items_of, charge_at, item_has, open_has, entry_of}
+use Rattle.hc_core.specs.Mirrors.{Mirrors}
 use Rattle.hc_core.specs.Steps.{freed_note, store_op, store_notes, find_reply, find_notes, remove_reply, remove_notes}
-use Rattle.hc_core.proofs.Items.{bytes_eq-sym, item_at-gone, item_at-other}
-use Rattle.hc_core.proofs.Flat.{linked-flat, unlinked-flat, pushed-flat, used-flat}
+use Rattle.hc_items.proofs.Items.{bytes_eq-sym, item_at-gone, item_at-other}
+use Rattle.hc_items.proofs.Flat.{linked-flat, unlinked-flat, pushed-flat, used-flat}
 use Rattle.hc_core.proofs.Reordered.{Mirrors-reordered}
-use Rattle.hc_core.proofs.Same.{Same, Same-linked, eqb-same, one_if}
+use Rattle.hc_items.proofs.Same.{Same, Same-linked, eqb-same, one_if}
 use Rattle.hc_core.proofs.Between.{live-open}
 use Rattle.hc_core.proofs.Answering.{called, Once, Within, once-of, begin-within, answer-lawful, answer-mirrors, first-order, once-without, frees-lawful, frees-within}
 

@@ -9,9 +9,10 @@ use Rattle.hc_history.specs.Note.{Note}
 use Rattle.hc_history.specs.Books.{Charge, Entry, entry_at, is_linked}
 use Rattle.hc_history.specs.Lawful.{is_backed, is_stray, AtEnd}
 use Rattle.hc_types.specs.Config.{Config}
-use Rattle.hc_core.specs.Mirrors.{charge_at, open_at, entry_of, Mirrors}
-use Rattle.hc_core.proofs.Items.{bytes_eq-refl, bytes_eq-sym, linked-count}
-use Rattle.hc_core.proofs.Same.{eqb-same, one_if}
+use Rattle.hc_items.specs.Items.{charge_at, open_at, entry_of}
+use Rattle.hc_core.specs.Mirrors.{Mirrors}
+use Rattle.hc_items.proofs.Items.{bytes_eq-refl, bytes_eq-sym, linked-count}
+use Rattle.hc_items.proofs.Same.{eqb-same, one_if}
 
 -- a sum of nothing but 0
 tally-zero : {X : Type 0} (f : X → ℕ) → ((x : X) → f x ≡ 0) → (xs : List X) → tally f xs ≡ 0

@@ -18,12 +18,13 @@ use Rattle.hc_history.specs.Note.{Note, Freed, Now}
 use Rattle.hc_history.specs.Told.{Heard, Nothing, Log, Counts, IfLog, told_more}
 use Rattle.hc_history.specs.Lawful.{Lawful, past}
 use Rattle.hc_history.proofs.Appended.{Legal-append, past-append}
-use Rattle.hc_core.specs.Cache.{empty_memory}
+use Rattle.hc_items.specs.Allocating.{empty_memory}
 use Rattle.hc_types.specs.declared.refusal.Refusal.{Refusal}
 use Rattle.hc_types.specs.declared.refusal.Refusal.TheVariants.{NoPool, ValueTooLong, NoRoom}
-use Rattle.hc_core.specs.Refused.{refusal_of}
+use Rattle.hc_items.specs.Allocating.{refusal_of}
 use Rattle.hc_core.specs.Steps.{part_of_allocate, store_notes, find_notes, remove_notes, tick_notes}
-use Rattle.hc_core.specs.Mirrors.{items_of, Mirrors, FitsConfig, FollowsLog, Follows}
+use Rattle.hc_items.specs.Items.{items_of}
+use Rattle.hc_core.specs.Mirrors.{Mirrors, FitsConfig, FollowsLog, Follows}
 use Rattle.hc_core.proofs.Ends.{ends}
 use Rattle.hc_core.proofs.Evicting.{allocates}
 use Rattle.hc_core.proofs.Between.{discards, ticks}

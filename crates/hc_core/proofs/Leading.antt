@@ -15,7 +15,8 @@ use Rattle.hc_memory.proofs.Making.{there-of, known, charged-sound, closed-less,
 use Rattle.hc_memory.proofs.Handing.{linked-sound}
 use Rattle.hc_history.specs.Note.{Note, Freed}
 use Rattle.hc_history.specs.Told.{Heard, Log}
-use Rattle.hc_core.specs.Cache.{Cache, empty_memory, new_cache}
+use Rattle.hc_core.specs.Cache.{Cache, new_cache}
+use Rattle.hc_items.specs.Allocating.{empty_memory}
 use Rattle.hc_core.specs.Refused.{allocate_refusal, is_taken}
 use Rattle.hc_core.specs.Steps.{part_of_allocate, after_allocate, after_discard, store_notes, after_store, find_notes, after_find, remove_notes, after_remove, tick_notes, after_tick}
 use Rattle.hc_core.specs.Legality.{Led, StepsAreLegal}

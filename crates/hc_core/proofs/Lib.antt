@@ -1,6 +1,3 @@
-pub mod Items
-pub mod Flat
-pub mod Same
 pub mod Reordered
 pub mod Evicting
 pub mod Ends

@@ -6,9 +6,10 @@ use Rattle.hc_memory.specs.Item.{Item, Open}
 use Rattle.hc_memory.specs.Pool.{is_at}
 use Rattle.hc_history.specs.Note.{Note}
 use Rattle.hc_history.specs.Books.{charges}
-use Rattle.hc_core.specs.Mirrors.{item_has, Mirrors}
-use Rattle.hc_core.proofs.Items.{entry-same}
-use Rattle.hc_core.proofs.Same.{Same-reordered}
+use Rattle.hc_items.specs.Items.{item_has}
+use Rattle.hc_core.specs.Mirrors.{Mirrors}
+use Rattle.hc_items.proofs.Items.{entry-same}
+use Rattle.hc_items.proofs.Same.{Same-reordered}
 
 pub Mirrors-reordered : (older : List Note) (items items' : List Item) (opens : List Open) (made calls now : ℕ) → ((f : Item → ℕ) → tally f items ≡ tally f items') → Mirrors older items opens made calls now → Mirrors older items' opens made calls now
 Mirrors-reordered older items items' opens made calls now order m = record {

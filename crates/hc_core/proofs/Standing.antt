@@ -13,8 +13,9 @@ use Rattle.hc_history.specs.Note.{Note}
 use Rattle.hc_history.specs.Told.{Heard, Nothing, Log, Counts, IfLog}
 use Rattle.hc_history.specs.Books as books
 use Rattle.hc_core.specs.Refused.{map_has}
-use Rattle.hc_core.specs.Mirrors.{entry_of, FollowsLog, Follows}
-use Rattle.hc_core.proofs.Flat.{linked-flat}
+use Rattle.hc_items.specs.Items.{entry_of}
+use Rattle.hc_core.specs.Mirrors.{FollowsLog, Follows}
+use Rattle.hc_items.proofs.Flat.{linked-flat}
 use Rattle.hc_core.proofs.Calls.{value-is}
 
 some_mapped : (o : Option Item) → is_some (option_map (λ (i : Item). i.value) o) ≡ is_some o

@@ -3,6 +3,7 @@ use Rattle.std.specs.Prelude.{ℕ, [], map}
 use Rattle.hc_types.specs.Config.{Config}
 use Rattle.hc_memory.specs.Memory.{Memory, empty_pool}
 use Rattle.hc_history.specs.Told.{Heard}
+use Rattle.hc_items.specs.Allocating.{empty_memory}
 
 -- its configuration, its pools with what is open in them, the clock (seconds), how many calls there were, and what is
 -- heard of its log
@@ -12,10 +13,6 @@ pub record Cache : Type 0 where
   pub now : ℕ
   pub calls : ℕ
   pub log : Heard
-
--- the pools of a configuration, without items
-abbrev pub empty_memory : Config → Memory
-empty_memory config = record { flash = config.flash; pools = map empty_pool config.pools; charges = []; made = 0 }
 
 -- a new cache, with this log
 abbrev pub new_cache : Config → Heard → Cache

@@ -10,30 +10,7 @@ use Rattle.hc_history.specs.Told.{Heard, Log}
 use Rattle.hc_types.specs.declared.config.FlashConfig.{FlashConfig}
 use Rattle.hc_history.specs.Books.{Charge, Entry, charges, has_number, begun, open_calls, owed, waiting, entry_at, now_at}
 use Rattle.hc_history.specs.Lawful.{Legal, past}
-
--- all items that can be found, of one pool after the other
-abbrev pub items_of : List Pool → List Item
-items_of [] = []
-items_of (pool ∷ pools) = pool.items ++ items_of pools
-
--- the charge of an item, which is linked
-abbrev pub charge_at : Item → Charge
-charge_at item = record { number = item.number; key = item.key; pool = item.pool; bytes = cost item; linked = true }
-
--- an open charge
-abbrev pub open_at : Open → Charge
-open_at charge = record { number = charge.number; key = charge.key; pool = charge.pool; bytes = open_cost charge; linked = false }
-
-abbrev pub item_has : ℕ → Item → Bool
-item_has number item = has_number number (charge_at item)
-
-abbrev pub open_has : ℕ → Open → Bool
-open_has number charge = has_number number (open_at charge)
-
--- what the map has for an item
-abbrev pub entry_of : Option Item → Option Entry
-entry_of None = None
-entry_of (Some item) = Some (record { value = item.value; expiry = item.expiry })
+use Rattle.hc_items.specs.Items.{items_of, charge_at, open_at, item_has, open_has, entry_of}
 
 -- the books of a history are those of these items and open charges, after so many charges and calls, at this moment
 pub record Mirrors (older : List Note) (items : List Item) (opens : List Open) (made calls now : ℕ) : Type 0 where

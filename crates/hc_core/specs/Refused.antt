@@ -11,13 +11,7 @@ use Rattle.hc_history.specs.Note.{Note}
 use Rattle.hc_history.specs.Books.{value_at as map_value}
 use Rattle.hc_history.specs.Lawful.{past}
 use Rattle.hc_core.specs.Cache.{Cache}
-
--- why an item of this key and a value of this length isn't allocated in these pools: the first reason that holds
-abbrev pub refusal_of : Memory → ℕ → List ℕ → ℕ → Option Refusal
-refusal_of memory pool key size =
-    if not (nat_lt pool (length memory.pools)) then Some NoPool
-    else (if nat_lt 1048576 size then Some ValueTooLong
-    else (if is_hopeless memory pool (charge_of key size) then Some NoRoom else None))
+use Rattle.hc_items.specs.Allocating.{refusal_of}
 
 abbrev pub allocate_refusal : Cache → ℕ → List ℕ → ℕ → Option Refusal
 allocate_refusal cache pool key size = refusal_of cache.memory pool key size

@@ -14,16 +14,9 @@ use Rattle.hc_history.specs.declared.stats.Kind.{Kind}
 use Rattle.hc_core.specs.Cache.{Cache}
 use Rattle.hc_core.specs.declared.answers.Removed.{Removed}
 use Rattle.hc_core.specs.declared.answers.Removed.TheVariants as removed
+use Rattle.hc_items.specs.Allocating.{expiry_of, cause_for}
 
 -- ---- evictions and charges
-
--- when an item expires that is to live for so many seconds: never where they are 0, and at the last second at the latest
-abbrev pub expiry_of : ℕ → ℕ → ℕ
-expiry_of now ttl = if ttl == 0 then 0 else min (now + ttl) (2 ^ 64 - 1)
-
--- why the key of an evicted item is forgotten
-abbrev pub cause_for : ℕ → ℕ → ℕ → Item → Cause
-cause_for now pool want item = if is_expired now item then Expired else Evicted pool want NoFlash
 
 -- the notes of these evictions from a pool, for so many bytes: each item's charge is freed, and its key is forgotten
 abbrev pub eviction_notes : ℕ → ℕ → ℕ → List Item → List Note

@@ -11,7 +11,8 @@ ghost use Rattle.hc_core.specs.Answers.{found_value};
 ghost use Rattle.hc_core.specs.Cache.{new_cache};
 ghost use Rattle.hc_core.specs.Mirrors.{Follows};
 ghost use Rattle.hc_core.specs.Refused.{allocate_refusal, handle_refusal, insert_refusal, is_taken, map_has};
-ghost use Rattle.hc_core.specs.Steps.{expiry_of, opened, after_allocate, after_discard, after_store, after_insert, after_add, after_find, after_remove, removed_of, after_tick};
+ghost use Rattle.hc_items.specs.Allocating.{expiry_of};
+ghost use Rattle.hc_core.specs.Steps.{opened, after_allocate, after_discard, after_store, after_insert, after_add, after_find, after_remove, removed_of, after_tick};
 
 use crate::answers::{Found, Removed, Unlinked};
 use crate::plans::{expiry_after, has_unexpired};

@@ -8,9 +8,10 @@ ghost use Rattle.hc_memory.specs.Pool.{unexpired};
 ghost use Rattle.hc_memory.specs.Memory.{linked_at, value_at, victims_of};
 ghost use Rattle.hc_memory.specs.Seen.{filled};
 ghost use Rattle.hc_core.specs.Answers.{found_value};
-ghost use Rattle.hc_core.specs.Refused.{refusal_of};
+ghost use Rattle.hc_items.specs.Allocating.{refusal_of};
 ghost use Rattle.hc_core.specs.Steps as spec;
-ghost use Rattle.hc_core.specs.Steps.{find_reply, expiry_of};
+ghost use Rattle.hc_core.specs.Steps.{find_reply};
+ghost use Rattle.hc_items.specs.Allocating.{expiry_of};
 
 use crate::answers::Found;
 use hc_history::{Kind, Note, Notes, Op, Reply, Said};

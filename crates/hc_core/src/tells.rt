@@ -4,7 +4,7 @@ ghost use Rattle.hc_history.specs.Note.{Did, End, Charged, Linked, Freed, Stored
 ghost use Rattle.hc_history.specs.Seen.{reply_of};
 ghost use Rattle.hc_history.specs.Told.{told_more};
 ghost use Rattle.hc_types.specs.Loss.{cause_of};
-ghost use Rattle.hc_core.specs.Steps as spec;
+ghost use Rattle.hc_items.specs.Allocating as spec;
 ghost use Rattle.hc_core.specs.Steps.{told_did, eviction_notes, freed_notes, remove_reply, removed_of};
 
 use crate::answers::Removed;

@@ -156,16 +156,16 @@ copied : (old : Stage) (slot pool : ℕ) (key key' value value' : List ℕ) (ttl
 copied old slot pool key key' value value' ttl answer new k v may = subst (λ v. May old (Opening slot pool key v ttl) answer new) v (subst (λ k. May old (Opening slot pool k value' ttl) answer new) k may)
 
 module _ (old : Stage) (cache : Cache) (slots : List (Option Handle)) (slot pool : ℕ) (key key' value value' : List ℕ) (ttl : ℕ) (view : record { cache = cache; slots = slots } ≡ old) (empty : is_some (handle_in slot slots) ≡ false)
-    (same_key : key' ≡ key) (same_value : value' ≡ value) where
+    (bytes_eq : key' ≡ key) (same_value : value' ≡ value) where
   pub refused-open : (refusal : Refusal) (new : Stage) → allocate_refusal cache pool key' (length value') ≡ Some refusal → new ≡ old → May old (Opening slot pool key value ttl) (Refused refusal) new
   refused-open refusal new why after =
-      copied old slot pool key key' value value' ttl (Refused refusal) new same_key same_value
+      copied old slot pool key key' value value' ttl (Refused refusal) new bytes_eq same_value
       (subst (λ s. new ≡ s → May s (Opening slot pool key' value' ttl) (Refused refusal) new) view (λ same. ([], (none-held (handle_in slot slots) empty, why, (refl, same)))) after)
 
   pub opened-may : (new : Stage) → allocate_refusal cache pool key' (length value') ≡ None
       → new ≡ record { cache = after_allocate cache pool key' (length value'); slots = slice_set slots slot (Some (opened cache pool key' value' ttl)) } → May old (Opening slot pool key value ttl) Filled new
   opened-may new fits after =
-      copied old slot pool key key' value value' ttl Filled new same_key same_value
+      copied old slot pool key key' value value' ttl Filled new bytes_eq same_value
       (subst (λ s. May s (Opening slot pool key' value' ttl) Filled new) view (part_of_allocate cache.memory cache.now pool key' (length value'), (none-held (handle_in slot slots) empty, fits, refl, after)))
 
 -- ---- what is left in the slots is given up, one after another

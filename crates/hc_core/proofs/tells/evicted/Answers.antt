@@ -3,7 +3,7 @@ use Rattle.hc_types.specs.Loss as loss
 use Rattle.hc_memory.specs.Item.{Item}
 use Rattle.hc_history.specs.Note.{Freed, Lose}
 use Rattle.hc_history.specs.Told.{told_more}
-use Rattle.hc_core.specs.Steps.{cause_for}
+use Rattle.hc_items.specs.Allocating.{cause_for}
 use Rattle.hc_history.proofs.Telling.{told-twice}
 use Rattle.hc_core.proofs.tells.evicted.Goals as goal
 

@@ -6,7 +6,7 @@ use Rattle.hc_memory.specs.Seen.{filled}
 use Rattle.hc_memory.specs.Memory.{after_charge, handle_for}
 use Rattle.hc_core.specs.Cache.{Cache}
 use Rattle.hc_core.specs.Mirrors.{FitsConfig}
-use Rattle.hc_core.specs.Steps.{expiry_of}
+use Rattle.hc_items.specs.Allocating.{expiry_of}
 use Rattle.hc_core.proofs.Keeps.{follows-as, follows-allocate, fits-allocate, length-as, length-opened, pool-there, may-be}
 use Rattle.hc_core.proofs.Made.{allocated-log}
 use Rattle.hc_core.proofs.Opening.{opened-mine}

@@ -1,6 +1,6 @@
 use Rattle.std.proofs.Common.{refl, sym, ap, ◌∙◌}
 use Rattle.hc_types.specs.Config.{Config}
-use Rattle.hc_core.specs.Cache.{empty_memory}
+use Rattle.hc_items.specs.Allocating.{empty_memory}
 use Rattle.hc_core.proofs.Keeps.{new-holds}
 use Rattle.hc_core.proofs.cache.Core.new.Goals as goal
 

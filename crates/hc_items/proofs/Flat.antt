@@ -10,7 +10,7 @@ use Rattle.hc_memory.specs.Pool.{Pool, is_at, item_at, without, used, unexpired}
 use Rattle.hc_memory.specs.Memory.{has, linked_at, change_at, change_home, unlinked}
 use Rattle.hc_memory.proofs.Keyed.{tally-without}
 use Rattle.hc_memory.proofs.Linking.{unexpired-is}
-use Rattle.hc_core.specs.Mirrors.{items_of}
+use Rattle.hc_items.specs.Items.{items_of}
 
 pub tally-items : (f : Item → ℕ) (pools : List Pool) → tally f (items_of pools) ≡ tally (λ (pool : Pool). tally f pool.items) pools
 tally-items f [] = refl

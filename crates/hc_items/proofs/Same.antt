@@ -9,8 +9,8 @@ use Rattle.hc_types.proofs.Tallies.{tally-filter, tally-map, tally-push, tally-w
 use Rattle.hc_memory.specs.Item.{Item, Open}
 use Rattle.hc_history.specs.Books.{Charge, has_number, linked_at}
 use Rattle.hc_history.specs.Lawful.{is_charge_of}
-use Rattle.hc_core.specs.Mirrors.{item_has, open_has, charge_at, open_at}
-use Rattle.hc_core.proofs.Items.{bytes_eq-refl}
+use Rattle.hc_items.specs.Items.{item_has, open_has, charge_at, open_at}
+use Rattle.hc_items.proofs.Items.{bytes_eq-refl}
 
 -- the charges are the items' and the open ones
 abbrev pub Same : List Charge → List Item → List Open → Type 0

@@ -9,7 +9,7 @@ use Rattle.hc_memory.specs.Pool.{is_at, item_at, without}
 use Rattle.hc_memory.proofs.Keyed.{same_bytes, tally-without, item_at-is, count-none}
 use Rattle.hc_memory.proofs.Keys.{counted, none-counted}
 use Rattle.hc_history.specs.Books.{is_linked}
-use Rattle.hc_core.specs.Mirrors.{charge_at, entry_of}
+use Rattle.hc_items.specs.Items.{charge_at, entry_of}
 
 -- ---- keys
 
