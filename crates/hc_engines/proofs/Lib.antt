@@ -1,0 +1,4 @@
+pub mod Keys
+pub mod small
+pub mod large
+pub mod pair

@@ -1,0 +1,32 @@
+-- What is proved of the large engine.
+mod Trials
+pub mod Lists
+pub mod Regions
+pub mod Ends
+pub mod Reclaims
+pub mod Puts
+pub mod Jobs
+pub mod Flushes
+pub mod Bytes
+pub mod Fitting
+pub mod FitsSteps
+pub mod Holding
+pub mod HeldKeys
+pub mod Gets
+pub mod Promise
+pub mod Goods
+pub mod Stays
+pub mod GetStays
+pub mod ReadEnds
+pub mod New
+pub mod Elsewhere
+pub mod Changes
+pub mod Writes
+pub mod Orders
+pub mod FlushesSound
+pub mod GetsSound
+pub mod PutsSound
+pub mod HeldChanges
+pub mod GoodSteps
+pub mod OrdersOut
+pub mod GoodGets

@@ -1,0 +1,128 @@
+-- Operations come and go, and one region changes.
+use Rattle.std.proofs.Common.{◌≡◌, ℕ, ◌+◌, ◌<◌, ◌≤◌, Bool, true, false, List, [], ◌∷◌, length, set, Some, refl, sym, ap, arith, ◌∙◌}
+use Rattle.std.proofs.lemmas.Bool.{eqb-true}
+use Rattle.std.proofs.lemmas.List.{length-set}
+use Rattle.std.specs.Prelude.{if◌then◌else◌, ◌==◌}
+use Rattle.hc_types.specs.declared.config.FlashConfig.{FlashConfig}
+use Rattle.hc_types.specs.Tally.{count}
+use Rattle.hc_engines.specs.large.Region.{Open, Sealed, Region, region_at}
+use Rattle.hc_engines.specs.large.Index.{Place}
+use Rattle.hc_engines.specs.large.Block.{Work, Job, Block, work_of, without_job}
+use Rattle.hc_engines.specs.large.Numbers.{is_in}
+use Rattle.hc_engines.specs.large.Sound.{is_stored, is_listed, writes, reads, writers, readers, WorkHolds, AllHold, Holds, Sound}
+use Rattle.hc_engines.proofs.large.Lists.{region_at-set, each-set}
+
+-- ---- an operation is taken out
+
+abbrev has_no : ℕ → Job → Bool
+has_no n job = job.number == n
+
+absent_stays : (number : ℕ) (jobs : List Job) → count (has_no number) jobs ≡ 0 → without_job number jobs ≡ jobs
+absent_stays number [] h = refl
+absent_stays number (job ∷ jobs) h = go (job.number == number) refl h (λ g. absent_stays number jobs g)
+  where
+    go : (t : Bool) → (job.number == number) ≡ t → (if t then 1 else 0) + count (has_no number) jobs ≡ 0 → (count (has_no number) jobs ≡ 0 → without_job number jobs ≡ jobs) → (if t then without_job number jobs else job ∷ without_job number jobs) ≡ job ∷ jobs
+    go true t h f = absurd (omega arith)
+    go false t h f = ap (λ js. job ∷ js) (f (omega arith))
+
+-- what is counted is the operation and the others
+pub counted_apart : (p : Work → Bool) (number : ℕ) (work : Work) (jobs : List Job) → count (has_no number) jobs ≤ 1 → work_of number jobs ≡ Some work
+    → count (λ (job : Job). p job.work) jobs ≡ (if p work then 1 else 0) + count (λ (job : Job). p job.work) (without_job number jobs)
+counted_apart p number work [] one w = absurd (cc)
+counted_apart p number work (job ∷ jobs) one w = go (job.number == number) refl one w (λ o v. counted_apart p number work jobs o v)
+  where
+    go : (t : Bool) → (job.number == number) ≡ t → (if t then 1 else 0) + count (has_no number) jobs ≤ 1 → (if t then Some job.work else work_of number jobs) ≡ Some work
+        → (count (has_no number) jobs ≤ 1 → work_of number jobs ≡ Some work → count (λ (j : Job). p j.work) jobs ≡ (if p work then 1 else 0) + count (λ (j : Job). p j.work) (without_job number jobs))
+        → (if p job.work then 1 else 0) + count (λ (j : Job). p j.work) jobs ≡ (if p work then 1 else 0) + count (λ (j : Job). p j.work) (if t then without_job number jobs else job ∷ without_job number jobs)
+    go true t o v f = let same : job.work ≡ work = cc in rw (same, absent_stays number jobs (omega arith)) refl
+    go false t o v f = omega (arith, f (omega arith) v)
+
+pub works_left : (flash : FlashConfig) (regions : List Region) (number : ℕ) (jobs : List Job) → AllHold flash regions jobs → AllHold flash regions (without_job number jobs)
+works_left flash regions number [] h = tt
+works_left flash regions number (job ∷ jobs) h = go (job.number == number) (works_left flash regions number jobs h.1)
+  where
+    go : (t : Bool) → AllHold flash regions (without_job number jobs) → AllHold flash regions (if t then without_job number jobs else job ∷ without_job number jobs)
+    go true f = f
+    go false f = (h.0, f)
+
+pub work_holds : (flash : FlashConfig) (regions : List Region) (number : ℕ) (work : Work) (jobs : List Job) → AllHold flash regions jobs → work_of number jobs ≡ Some work → WorkHolds flash regions work
+work_holds flash regions number work [] h w = absurd (cc)
+work_holds flash regions number work (job ∷ jobs) h w = go (job.number == number) w (λ v. work_holds flash regions number work jobs h.1 v)
+  where
+    go : (t : Bool) → (if t then Some job.work else work_of number jobs) ≡ Some work → (work_of number jobs ≡ Some work → WorkHolds flash regions work) → WorkHolds flash regions work
+    go true v f = let same : job.work ≡ work = cc in rw (← same) h.0
+    go false v f = f v
+
+fewer : (n number : ℕ) (jobs : List Job) → count (has_no n) (without_job number jobs) ≤ count (has_no n) jobs
+fewer n number [] = omega arith
+fewer n number (job ∷ jobs) = go (job.number == number) (fewer n number jobs)
+  where
+    go : (t : Bool) → count (has_no n) (without_job number jobs) ≤ count (has_no n) jobs → count (has_no n) (if t then without_job number jobs else job ∷ without_job number jobs) ≤ (if has_no n job then 1 else 0) + count (has_no n) jobs
+    go true f = omega arith
+    go false f = omega arith
+
+none_left : (number : ℕ) (jobs : List Job) → count (has_no number) (without_job number jobs) ≡ 0
+none_left number [] = refl
+none_left number (job ∷ jobs) = go (job.number == number) refl (none_left number jobs)
+  where
+    go : (t : Bool) → (job.number == number) ≡ t → count (has_no number) (without_job number jobs) ≡ 0 → count (has_no number) (if t then without_job number jobs else job ∷ without_job number jobs) ≡ 0
+    go true t f = f
+    go false t f = rw t (omega arith)
+
+-- the operations under way but one, which has ended
+pub record Left (flash : FlashConfig) (number : ℕ) (work : Work) (s : Block) (jobs : List Job) : Type 0 where
+  pub writers_then : (q : ℕ) → writers q s.jobs ≡ (if writes q work then 1 else 0) + writers q jobs
+  pub readers_then : (q : ℕ) → readers q s.jobs ≡ (if reads q work then 1 else 0) + readers q jobs
+  pub works : AllHold flash s.regions jobs
+  pub own : WorkHolds flash s.regions work
+  pub single : (n : ℕ) → count (has_no n) jobs ≤ 1
+  pub free : count (has_no number) jobs ≡ 0
+
+pub ended_left : (flash : FlashConfig) (number : ℕ) (work : Work) (s : Block) → Sound flash s → work_of number s.jobs ≡ Some work → Left flash number work s (without_job number s.jobs)
+ended_left flash number work s sound w = record {
+  writers_then = λ q. counted_apart (writes q) number work s.jobs (sound.single number) w;
+  readers_then = λ q. counted_apart (reads q) number work s.jobs (sound.single number) w;
+  works = works_left flash s.regions number s.jobs sound.works;
+  own = work_holds flash s.regions number work s.jobs sound.works w;
+  single = λ n. omega (arith, fewer n number s.jobs, sound.single n);
+  free = none_left number s.jobs;
+}
+
+-- an operation begins, whose number is free
+pub single_more : (number n : ℕ) (work : Work) (jobs : List Job) → count (has_no number) jobs ≡ 0 → ((n : ℕ) → count (has_no n) jobs ≤ 1) → count (has_no n) (record { number = number; work = work } ∷ jobs) ≤ 1
+single_more number n work jobs free one = go (number == n) refl
+  where
+    go : (t : Bool) → (number == n) ≡ t → (if t then 1 else 0) + count (has_no n) jobs ≤ 1
+    go true t = let same : number ≡ n = eqb-true number n t in let none : count (has_no n) jobs ≡ 0 = (rw same at free) in omega arith
+    go false t = omega (arith, one n)
+
+-- ---- one region changes
+
+-- the state after a change of region r to x, and of who works on it
+pub record Changed (flash : FlashConfig) (r : ℕ) (x : Region) (s new : Block) : Type 0 where
+  pub there : r < length s.regions
+  pub regions : new.regions ≡ set s.regions r x
+  pub index : new.index ≡ s.index
+  pub appended : x.appended ≡ (region_at r s.regions).appended
+  pub current : (q : ℕ) → new.current ≡ Some q → (if q == r then x else region_at q s.regions).status ≡ Open
+  pub sealed : (q : ℕ) → is_in q new.sealed ≡ true → (if q == r then x else region_at q s.regions).status ≡ Sealed
+  pub flushed : (q : ℕ) → is_in q new.flushed ≡ true → is_stored (if q == r then x else region_at q s.regions).status ≡ true
+  pub holds : Holds flash (readers r new.jobs) (writers r new.jobs) x
+  pub others : (q : ℕ) → (q == r) ≡ false → (readers q new.jobs ≡ readers q s.jobs) × (writers q new.jobs ≡ writers q s.jobs)
+  pub works : AllHold flash (set s.regions r x) new.jobs
+  pub single : (n : ℕ) → count (has_no n) new.jobs ≤ 1
+
+pub changed_sound : (flash : FlashConfig) (r : ℕ) (x : Region) (s new : Block) → Sound flash s → Changed flash r x s new → Sound flash new
+changed_sound flash r x s new sound c = record {
+  current = λ q h. rw (c.regions, region_at-set s.regions r q x c.there) (c.current q h);
+  sealed = λ q h. rw (c.regions, region_at-set s.regions r q x c.there) (c.sealed q h);
+  flushed = λ q h. rw (c.regions, region_at-set s.regions r q x c.there) (c.flushed q h);
+  listed = λ h p e. rw (c.regions, region_at-set s.regions r p.region x c.there) (listed h p (sound.listed h p ((rw c.index at e))) (p.region == r) refl);
+  regions = λ q. rw c.regions (each-set (λ q y. Holds flash (readers q new.jobs) (writers q new.jobs) y) s.regions r x c.there c.holds (λ q n. let o = c.others q n in rw (o.0, o.1) (sound.regions q)) q);
+  works = rw c.regions c.works;
+  single = c.single;
+}
+  where
+    listed : (h : ℕ) (p : Place) → is_listed h p.offset (region_at p.region s.regions).appended ≡ true → (t : Bool) → (p.region == r) ≡ t → is_listed h p.offset (if t then x else region_at p.region s.regions).appended ≡ true
+    listed h p l true t = let same : p.region ≡ r = eqb-true p.region r t in rw c.appended (rw same at l)
+    listed h p l false t = l

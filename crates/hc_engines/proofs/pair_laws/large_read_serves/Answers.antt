@@ -1,0 +1,5 @@
+use Rattle.hc_engines.proofs.pair.LargeGets.{large_read_serves}
+use Rattle.hc_engines.proofs.pair_laws.large_read_serves.Goals as goal
+
+pub returns : goal.returns
+returns c = large_read_serves

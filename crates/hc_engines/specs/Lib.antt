@@ -1,0 +1,4 @@
+pub mod Engine
+pub mod small
+pub mod large
+pub mod pair

@@ -1,0 +1,3 @@
+-- Both engines as one, and the large one in the words of any engine.
+pub mod Pair
+pub mod Large

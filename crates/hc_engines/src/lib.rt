@@ -1,0 +1,7 @@
+//! The engines on flash as pure machines: what they are asked and answer, BigHash for small objects, BlockCache for large ones, and
+//! both as one. The functions do nothing: their contracts are the laws.
+#![tactic(auto)]
+
+pub mod large_laws;
+pub mod pair_laws;
+pub mod small_laws;
