@@ -1,0 +1,12 @@
+-- The cache with flash as one machine.
+pub mod Nvm
+pub mod Leaving
+pub mod Takes
+pub mod Cache
+pub mod Evicting
+pub mod Waiting
+pub mod Calls
+pub mod Workers
+pub mod World
+pub mod Schedule
+pub mod Quiet
