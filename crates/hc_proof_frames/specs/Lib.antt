@@ -1,0 +1,4 @@
+pub mod frames
+pub mod shapes
+pub mod losses
+pub mod fresh

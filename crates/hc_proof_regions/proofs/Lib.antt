@@ -1,0 +1,4 @@
+pub mod books
+pub mod writes
+pub mod reads
+pub mod jobs
