@@ -1,0 +1,3 @@
+pub mod writer
+pub mod fills
+pub mod buckets

@@ -1,0 +1,27 @@
+-- Proofs. Jobs of buckets: what all their results share.
+pub mod CacheJobs
+pub mod MemoryKept
+pub mod SmallBooks
+pub mod SmallJobs
+pub mod Stones
+pub mod Raising
+pub mod Closing
+pub mod JobOver
+pub mod Settling
+pub mod Finishing
+pub mod FirstNote
+pub mod PageWritten
+pub mod DeleteOver
+pub mod Emptied
+pub mod GoesOn
+pub mod PutStored
+pub mod PutResults
+pub mod PutsDeletes
+pub mod FillLists
+pub mod FillOver
+pub mod GetEnded
+pub mod Launched
+pub mod WentOn
+pub mod Gets
+pub mod Finished
+pub mod FinishLaws

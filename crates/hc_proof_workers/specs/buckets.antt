@@ -1,0 +1,3 @@
+-- Jobs of buckets: what all their results share.
+pub mod Small
+pub mod SmallJobs
