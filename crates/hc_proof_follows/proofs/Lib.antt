@@ -1,0 +1,4 @@
+pub mod idle
+pub mod slots
+pub mod clients
+pub mod workers

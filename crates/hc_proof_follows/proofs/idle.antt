@@ -1,0 +1,8 @@
+-- Proofs. The workers are idle only where there is nothing for them to do.
+pub mod Idle
+pub mod ListsAll
+pub mod StillParts
+pub mod StillSteps
+pub mod TakesStill
+pub mod StonesRun
+pub mod StonesKept

@@ -1,0 +1,3 @@
+pub mod idle
+pub mod slots
+pub mod clients

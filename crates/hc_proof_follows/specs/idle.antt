@@ -1,0 +1,6 @@
+-- When the workers have nothing to do.
+pub mod Idling
+pub mod Listed
+pub mod Still
+pub mod Takings
+pub mod Stones

@@ -1,0 +1,13 @@
+-- Proofs. Whole runs: the device, traces, schedules, and logs of a device that lies.
+pub mod Devices
+pub mod OrdersStay
+pub mod WritesAlone
+pub mod Betweens
+pub mod ResultsSuit
+pub mod SilentParts
+pub mod SilentSteps
+pub mod Running
+pub mod Honesty
+pub mod Locked
+pub mod Scheduling
+pub mod QuietRunning
