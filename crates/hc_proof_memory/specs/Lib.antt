@@ -1,0 +1,2 @@
+-- What it means that the machine without flash is the core.
+pub mod Bare

@@ -1,0 +1,5 @@
+use Rattle.hc_theorem.proofs.WholeRuns as by
+use Rattle.hc_theorem.proofs.laws.calls_stay_guarded.Goals as goal
+
+pub returns : goal.returns
+returns c = by.guarded

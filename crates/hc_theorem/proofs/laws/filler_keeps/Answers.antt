@@ -1,0 +1,5 @@
+use Rattle.hc_theorem.proofs.EachStep as by
+use Rattle.hc_theorem.proofs.laws.filler_keeps.Goals as goal
+
+pub returns : goal.returns
+returns c = by.fills

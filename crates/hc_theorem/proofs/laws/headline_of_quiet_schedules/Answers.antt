@@ -1,0 +1,5 @@
+use Rattle.hc_theorem.proofs.WholeRuns as by
+use Rattle.hc_theorem.proofs.laws.headline_of_quiet_schedules.Goals as goal
+
+pub returns : goal.returns
+returns c = by.headline_of_quiet_schedules

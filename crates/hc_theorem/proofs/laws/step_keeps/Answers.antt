@@ -1,0 +1,5 @@
+use Rattle.hc_theorem.proofs.WholeRuns as by
+use Rattle.hc_theorem.proofs.laws.step_keeps.Goals as goal
+
+pub returns : goal.returns
+returns c = by.step_keeps
