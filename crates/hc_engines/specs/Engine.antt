@@ -4,11 +4,11 @@ use Rattle.std.specs.List.{list_any}
 use Rattle.std.specs.Str.{bytes_eq}
 use Rattle.hc_types.specs.declared.config.FlashConfig.{FlashConfig}
 use Rattle.hc_types.specs.Loss.{Scope, Cause, NoCleanRegion, covers}
-use Rattle.hc_bighash.specs.Page.{PageEntry}
+use Rattle.hc_types.specs.FlashEntry.{FlashEntry}
 
 -- an operation
 pub data Op : Type 0 where
-  Put : (entry : PageEntry) → Op
+  Put : (entry : FlashEntry) → Op
   Get : (key : List ℕ) → Op
   Delete : (key : List ℕ) → Op
   -- the next sealed region is written
@@ -33,7 +33,7 @@ pub data Answer : Type 0 where
   -- what was asked is over: a put or a delete that was done, a page of a region that was written or not, a reclaim
   Over : Answer
   Absent : Answer
-  Found : (entry : PageEntry) → Answer
+  Found : (entry : FlashEntry) → Answer
 
 -- what is forgotten, and why
 pub record Loss : Type 0 where
@@ -91,22 +91,22 @@ IsHonest (Write page written) result pages = ⊤
 
 -- what an engine holds: the entry that it answers for, by key
 abbrev pub Holds : Type 0
-Holds = List ℕ → Option PageEntry
+Holds = List ℕ → Option FlashEntry
 
 -- A loss takes out what it covers. The entry of a put that found no clean region was never held.
 abbrev pub takes_out : Cause → Bool
 takes_out NoCleanRegion = false
 takes_out cause = true
 
-abbrev pub is_lost : FlashConfig → List Loss → PageEntry → Bool
+abbrev pub is_lost : FlashConfig → List Loss → FlashEntry → Bool
 is_lost flash losses e = list_any (λ loss. takes_out loss.cause && covers (Some flash) loss.scope e.key (length e.value)) losses
 
-abbrev pub left_of : FlashConfig → List Loss → Option PageEntry → Option PageEntry
+abbrev pub left_of : FlashConfig → List Loss → Option FlashEntry → Option FlashEntry
 left_of flash losses None = None
 left_of flash losses (Some e) = if is_lost flash losses e then None else Some e
 
 -- what is held of a key after a put or a delete that is over, before its losses
-abbrev pub changed : Op → Answer → List ℕ → Option PageEntry → Option PageEntry
+abbrev pub changed : Op → Answer → List ℕ → Option FlashEntry → Option FlashEntry
 changed (Put e) Over key was = if bytes_eq e.key key then Some e else was
 changed (Delete k) Over key was = if bytes_eq k key then None else was
 changed op answer key was = was
@@ -116,7 +116,7 @@ abbrev pub held_after : FlashConfig → Op → Outcome → Holds → Holds
 held_after flash op outcome held key = left_of flash outcome.losses (changed op outcome.answer key (held key))
 
 -- what a get answers of what it found
-abbrev pub found : Option PageEntry → Answer
+abbrev pub found : Option FlashEntry → Answer
 found None = Absent
 found (Some e) = Found e
 

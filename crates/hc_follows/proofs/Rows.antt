@@ -1,6 +1,6 @@
 -- Rows 2 and 5, as schedules: the machine follows them.
 use Rattle.std.proofs.Common.{◌≡◌, ◌++◌, ℕ, true, false, List, [], ◌∷◌, Some, None, refl, sym, subst, replicate}
-use Rattle.hc_bighash.specs.Reading.{page_at, entries_at, entry_at, body_at, content_at, whole_at}
+use Rattle.hc_bucket.specs.Reading.{page_at, entries_at, entry_at, body_at, content_at, whole_at}
 use Rattle.hc_engines.specs.Engine.{Read, Write, Page, Written}
 use Rattle.hc_history.specs.Note as note
 use Rattle.hc_history.specs.Note.{Note, Begin, Did, End, Charged, Linked, Freed, Queued, Unqueued, Writing, Written as WasWritten, Wrote}

@@ -1,6 +1,6 @@
 -- An add that waits keeps its charge, and is answered that its key exists.
 use Rattle.std.proofs.Common.{◌≡◌, ◌++◌, ℕ, true, false, List, [], ◌∷◌, Some, None, refl, replicate}
-use Rattle.hc_bighash.specs.Reading.{page_at, entries_at, entry_at, body_at, content_at, whole_at}
+use Rattle.hc_bucket.specs.Reading.{page_at, entries_at, entry_at, body_at, content_at, whole_at}
 use Rattle.hc_engines.specs.Engine.{Read, Write, Page, Written}
 use Rattle.hc_history.specs.Note as note
 use Rattle.hc_history.specs.Note.{Note, Begin, Did, End, Charged, Linked, Freed, Queued, Unqueued, Writing, Written as WasWritten, Wrote}

@@ -12,8 +12,8 @@ use Rattle.hc_types.specs.declared.config.FlashConfig.{FlashConfig}
 use Rattle.hc_types.specs.declared.loss.Why.{Why}
 use Rattle.hc_types.specs.declared.loss.Why.TheVariants.{NoFlash, Tombstone, NotAdmitted, TooLarge, QueueFull}
 use Rattle.hc_types.specs.Tally.{tally, count}
-use Rattle.hc_bighash.specs.Bloom.{word_has}
-use Rattle.hc_bighash.specs.Putting.{last_of, is_pushed_out}
+use Rattle.hc_bucket.specs.Bloom.{word_has}
+use Rattle.hc_bucket.specs.Putting.{last_of, is_pushed_out}
 use Rattle.hc_history.specs.Note.{Op, Insert, Add, Find, Remove, Reply, Stored, Exists, Hit, Miss, FoundInMemory, NotInMemory, Note, Begin, Did, End, Lose, Charged, Linked, Freed, Queued, Unqueued, Writing, Written, Buried, Raised, Read, Wrote, Opened, Flushed, Cleared, Now}
 use Rattle.hc_history.specs.Books.{Charge, Call, Answer, Entry, charges, waiting, writing, buried, is_among, begun, open_calls, open_call, owed, entry_at, now_at, expired_at, value_at, value_length, has_number, is_linked}
 use Rattle.hc_history.specs.Pages.{bytes_at, entries_in, bucket_entries, has_key}

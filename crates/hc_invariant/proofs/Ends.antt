@@ -7,7 +7,7 @@ use Rattle.hc_types.specs.Config.{Config}
 use Rattle.hc_types.specs.Tally.{tally, count}
 use Rattle.hc_types.specs.declared.config.FlashConfig.{FlashConfig}
 use Rattle.hc_types.proofs.Tallies.{tally-push}
-use Rattle.hc_bighash.specs.Page.{PageEntry}
+use Rattle.hc_types.specs.FlashEntry.{FlashEntry}
 use Rattle.hc_memory.specs.Item.{Item, Open, cost}
 use Rattle.hc_memory.specs.Pool.{is_at, item_at}
 use Rattle.hc_memory.specs.Memory.{linked_at}
@@ -79,10 +79,10 @@ linked_charges older items opens made key t = omega (arith, t.same (λ c. if is_
 
 -- ---- puts that wait
 
-still_queued : (key : List ℕ) (e : PageEntry) (queue : List PageEntry) → is_some (put_at key queue) ≡ true → is_some (put_at key (e ∷ queue)) ≡ true
+still_queued : (key : List ℕ) (e : FlashEntry) (queue : List FlashEntry) → is_some (put_at key queue) ≡ true → is_some (put_at key (e ∷ queue)) ≡ true
 still_queued key e queue h = grind arith
 
-none_stray : (test : List ℕ → Bool) (queue : List PageEntry) → ((key : List ℕ) → is_some (put_at key queue) ≡ true → test key ≡ false) → count test (keys_of queue) ≡ 0
+none_stray : (test : List ℕ → Bool) (queue : List FlashEntry) → ((key : List ℕ) → is_some (put_at key queue) ≡ true → test key ≡ false) → count test (keys_of queue) ≡ 0
 none_stray test [] h = refl
 none_stray test (e ∷ queue) h =
     let first = h e.key (rw (bytes_eq-refl e.key) refl) in
@@ -90,7 +90,7 @@ none_stray test (e ∷ queue) h =
     omega (arith, rest, ap {B = ℕ} (λ b. if b then 1 else 0) first)
 
 -- a waiting key is in the map, and isn't linked
-not_stray : (config : Config) (older : List Note) (cache : Cache) (nvm : Nvm) (key : List ℕ) (o : Option PageEntry) → Agrees config older cache → cache.nvm ≡ Some nvm → put_at key nvm.queue ≡ o → is_some o ≡ true → is_stray config.flash older key ≡ false
+not_stray : (config : Config) (older : List Note) (cache : Cache) (nvm : Nvm) (key : List ℕ) (o : Option FlashEntry) → Agrees config older cache → cache.nvm ≡ Some nvm → put_at key nvm.queue ≡ o → is_some o ≡ true → is_stray config.flash older key ≡ false
 not_stray config older cache nvm key None g n e s = absurd cc
 not_stray config older cache nvm key (Some put) g n e s =
     let p : Placed (linked_at key cache.memory.pools) (Some put) _ _ _ _ (entry_at config.flash older key) = rw (n, e) at (g.placed key) in
@@ -117,7 +117,7 @@ waits_by config older cache (Some flash) (Some nvm) g n f =
     sym (tally-reverse (λ key. if test key then 1 else 0) (waiting older)) ∙ ap (count test) (sym f.waits.queue)
     ∙ none_stray test nvm.queue (λ key s. not_stray config older cache nvm key (put_at key nvm.queue) g n refl s)
 
-linked_map : (o q : Option Item) (i : Item) (w x s l : Option PageEntry) (b : Bool) (m : Option Entry) → o ≡ Some i → Placed o w x b s l m → m ≡ Some (map_of_item i)
+linked_map : (o q : Option Item) (i : Item) (w x s l : Option FlashEntry) (b : Bool) (m : Option Entry) → o ≡ Some i → Placed o w x b s l m → m ≡ Some (map_of_item i)
 linked_map o q i w x s l b m e h = grind arith
 
 -- what holds between two steps

@@ -8,7 +8,7 @@ use Rattle.std.proofs.lemmas.List.Folds.{list_any-append}
 use Rattle.hc_types.specs.Config.{Config}
 use Rattle.hc_types.specs.Tally.{count}
 use Rattle.hc_types.specs.declared.config.FlashConfig.{FlashConfig}
-use Rattle.hc_bighash.specs.Page.{PageEntry}
+use Rattle.hc_types.specs.FlashEntry.{FlashEntry}
 use Rattle.hc_memory.specs.Item.{Item}
 use Rattle.hc_memory.specs.Pool.{is_at, item_at}
 use Rattle.hc_memory.specs.Memory.{linked_at}
@@ -45,7 +45,7 @@ placed_still flash older newer before after key h p =
 -- ---- losses
 
 -- what a loss leaves in the map, by where the key stands
-pub left-is : (i : Option Item) (q : Option PageEntry) (m : Option Entry) (covered held : Bool) → held ≡ (is_some i || is_some q) → (if covered && not held then None else m) ≡ (if covered then map_lost i q m else m)
+pub left-is : (i : Option Item) (q : Option FlashEntry) (m : Option Entry) (covered held : Bool) → held ≡ (is_some i || is_some q) → (if covered && not held then None else m) ≡ (if covered then map_lost i q m else m)
 left-is i q m covered held h = grind arith
 
 among-reverse : (key : List ℕ) (keys : List (List ℕ)) → is_among key (reverse keys) ≡ is_among key keys
@@ -55,7 +55,7 @@ among-reverse key (k ∷ keys) = ap (is_among key) (reverse_onto keys k []) ∙ 
     turned : (a b c : Bool) → b ≡ c → (b || (a || false)) ≡ (a || c)
     turned a b c e = grind arith
 
-among-puts : (key : List ℕ) (queue : List PageEntry) → is_among key (keys_of queue) ≡ is_some (put_at key queue)
+among-puts : (key : List ℕ) (queue : List FlashEntry) → is_among key (keys_of queue) ≡ is_some (put_at key queue)
 among-puts key [] = refl
 among-puts key (e ∷ queue) = grind (arith, among-puts key queue)
 

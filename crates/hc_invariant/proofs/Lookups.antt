@@ -4,7 +4,7 @@ use Rattle.std.specs.Prelude.{if◌then◌else◌, is_some, option_map}
 use Rattle.std.specs.List.{list_any}
 use Rattle.std.specs.Str.{bytes_eq}
 use Rattle.hc_types.specs.declared.config.FlashConfig.{FlashConfig}
-use Rattle.hc_bighash.specs.Page.{PageEntry}
+use Rattle.hc_types.specs.FlashEntry.{FlashEntry}
 use Rattle.hc_memory.specs.Item.{Item}
 use Rattle.hc_memory.specs.Pool.{Pool, is_at, item_at, unmarked_where}
 use Rattle.hc_memory.specs.Memory.{linked_at, unlinked}
@@ -31,24 +31,24 @@ at_key P key here there k = go (bytes_eq k key) refl
 
 -- ---- puts that wait
 
-put_step : (e : PageEntry) (key k : List ℕ) (rest : List PageEntry) (b : Bool) → bytes_eq e.key key ≡ b → bytes_eq k key ≡ false → put_at k (without_put key rest) ≡ put_at k rest
+put_step : (e : FlashEntry) (key k : List ℕ) (rest : List FlashEntry) (b : Bool) → bytes_eq e.key key ≡ b → bytes_eq k key ≡ false → put_at k (without_put key rest) ≡ put_at k rest
     → put_at k (if not b then e ∷ without_put key rest else without_put key rest) ≡ put_at k (e ∷ rest)
 put_step e key k rest true t o h = rw (key-other e.key key k t o) h
-put_step e key k rest false t o h = ap (λ (r : Option PageEntry). if bytes_eq e.key k then Some e else r) h
+put_step e key k rest false t o h = ap (λ (r : Option FlashEntry). if bytes_eq e.key k then Some e else r) h
 
-pub put-other : (key k : List ℕ) (queue : List PageEntry) → bytes_eq k key ≡ false → put_at k (without_put key queue) ≡ put_at k queue
+pub put-other : (key k : List ℕ) (queue : List FlashEntry) → bytes_eq k key ≡ false → put_at k (without_put key queue) ≡ put_at k queue
 put-other key k [] o = refl
 put-other key k (e ∷ queue) o = put_step e key k queue (bytes_eq e.key key) refl o (put-other key k queue o)
 
-put_own_step : (e : PageEntry) (key : List ℕ) (rest : List PageEntry) (b : Bool) → bytes_eq e.key key ≡ b → put_at key (without_put key rest) ≡ None → put_at key (if not b then e ∷ without_put key rest else without_put key rest) ≡ None
+put_own_step : (e : FlashEntry) (key : List ℕ) (rest : List FlashEntry) (b : Bool) → bytes_eq e.key key ≡ b → put_at key (without_put key rest) ≡ None → put_at key (if not b then e ∷ without_put key rest else without_put key rest) ≡ None
 put_own_step e key rest true t h = h
 put_own_step e key rest false t h = rw t h
 
-pub put-gone : (key : List ℕ) (queue : List PageEntry) → put_at key (without_put key queue) ≡ None
+pub put-gone : (key : List ℕ) (queue : List FlashEntry) → put_at key (without_put key queue) ≡ None
 put-gone key [] = refl
 put-gone key (e ∷ queue) = put_own_step e key queue (bytes_eq e.key key) refl (put-gone key queue)
 
-pub put-push : (e : PageEntry) (k : List ℕ) (queue : List PageEntry) → put_at k (queue ++ e ∷ []) ≡ first_of (put_at k queue) (if bytes_eq e.key k then Some e else None)
+pub put-push : (e : FlashEntry) (k : List ℕ) (queue : List FlashEntry) → put_at k (queue ++ e ∷ []) ≡ first_of (put_at k queue) (if bytes_eq e.key k then Some e else None)
 put-push e k [] = refl
 put-push e k (x ∷ queue) = push_step (bytes_eq x.key k) (put-push e k queue)
   where

@@ -5,7 +5,7 @@ use Rattle.hc_types.specs.Loss as loss
 use Rattle.hc_types.specs.Loss.{Scope}
 use Rattle.hc_types.specs.Places.{kept_of}
 use Rattle.hc_types.specs.declared.config.FlashConfig.{FlashConfig}
-use Rattle.hc_bighash.specs.Page.{PageEntry}
+use Rattle.hc_types.specs.FlashEntry.{FlashEntry}
 use Rattle.hc_memory.specs.Item.{Item}
 use Rattle.hc_memory.specs.Pool.{Pool, item_at, unmarked_where}
 use Rattle.hc_memory.specs.Memory.{has, linked_at, all_unmarked}
@@ -29,7 +29,7 @@ linked-unmarked flash scope key (pool ∷ pools) =
     (item-unmarked (covers_item flash scope) key pool.items) (linked-unmarked flash scope key pools)
 
 -- what the map has of a key after a loss that covers it or not
-pub left-by : (flash : Option FlashConfig) (scope : Scope) (key : List ℕ) (i : Option Item) (q : Option PageEntry) (m : Option Entry) (held : Bool) → held ≡ (is_some i || is_some q)
+pub left-by : (flash : Option FlashConfig) (scope : Scope) (key : List ℕ) (i : Option Item) (q : Option FlashEntry) (m : Option Entry) (held : Bool) → held ≡ (is_some i || is_some q)
     → entry_left flash scope held key m ≡ (if covers flash scope key m then map_lost i q m else m)
 left-by flash scope key i q m held h = left-is i q m (covers flash scope key m) held h
 

@@ -1,6 +1,6 @@
 -- The invariant holds after each line of the worked runs: all its parts are tried there, and none is wrong.
 use Rattle.std.proofs.Common.{◌≡◌, [], refl}
-use Rattle.hc_bighash.specs.Reading.{page_at, entries_at, entry_at, body_at, content_at, whole_at}
+use Rattle.hc_bucket.specs.Reading.{page_at, entries_at, entry_at, body_at, content_at, whole_at}
 use Rattle.hc_engines.specs.small.Bloom.{bits_of}
 use Rattle.hc_legal.proofs.Logs.{two_pools}
 use Rattle.hc_machine.proofs.Tables.{lines_of, no_flash}

@@ -1,7 +1,7 @@
 -- The trial finds what is wrong: a state of a worked run is damaged, and the parts of the invariant that are false are named.
 use Rattle.std.proofs.Common.{◌≡◌, List, [], ◌∷◌, take, option_map, refl}
 use Rattle.hc_types.specs.Loss as loss
-use Rattle.hc_bighash.specs.Reading.{page_at, entries_at, entry_at, body_at, content_at, whole_at}
+use Rattle.hc_bucket.specs.Reading.{page_at, entries_at, entry_at, body_at, content_at, whole_at}
 use Rattle.hc_engines.specs.small.Bloom.{bits_of}
 use Rattle.hc_memory.specs.Memory.{after_unmark}
 use Rattle.hc_history.specs.Lawful.{past}

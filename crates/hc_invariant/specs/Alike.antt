@@ -2,7 +2,7 @@
 use Rattle.std.specs.Prelude.{ℕ, zero, suc, ◌==◌, Bool, true, false, not, ◌&&◌, ◌||◌, List, [], ◌∷◌, Option, Some, None, if◌then◌else◌}
 use Rattle.std.specs.Str.{bytes_eq}
 use Rattle.hc_types.specs.declared.config.PoolSize.{PoolSize}
-use Rattle.hc_bighash.specs.Page.{PageEntry}
+use Rattle.hc_types.specs.FlashEntry.{FlashEntry}
 use Rattle.hc_engines.specs.Engine.{Order, Read, Write}
 use Rattle.hc_history.specs.Note.{Op as Asked, Add, Find, Reply, Stored, Exists, Hit, Miss, FoundInMemory, NotInMemory}
 use Rattle.hc_history.specs.Books.{Entry, Charge}
@@ -26,7 +26,7 @@ both a b = if a then b else not b
 abbrev pub same_map : Entry → Entry → Bool
 same_map a b = bytes_eq a.value b.value && (a.expiry == b.expiry)
 
-abbrev pub same_entry : PageEntry → PageEntry → Bool
+abbrev pub same_entry : FlashEntry → FlashEntry → Bool
 same_entry a b = bytes_eq a.key b.key && (bytes_eq a.value b.value && ((a.pool == b.pool) && (a.expiry == b.expiry)))
 
 abbrev pub same_bytes : Option (List ℕ) → Option (List ℕ) → Bool

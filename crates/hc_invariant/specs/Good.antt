@@ -5,7 +5,7 @@ use Rattle.hc_types.specs.declared.config.FlashConfig.{FlashConfig}
 use Rattle.hc_types.specs.Limits.{first_wrong}
 use Rattle.hc_types.specs.Places.{is_small_by}
 use Rattle.hc_types.specs.Tally.{count}
-use Rattle.hc_bighash.specs.Page.{PageEntry}
+use Rattle.hc_types.specs.FlashEntry.{FlashEntry}
 use Rattle.hc_engines.specs.Engine.{Pages, Order, Read, Write, IoResult, Page, Written, Failed, pages_after}
 use Rattle.hc_engines.specs.small.Sound.{Limits}
 use Rattle.hc_engines.specs.small.Held as small
@@ -50,7 +50,7 @@ AllSized pools [] = Unit {0}
 AllSized pools (waiter ∷ waiters) = WishSized pools waiter.wish × AllSized pools waiters
 
 -- the pool of each entry is there
-abbrev pub InPools : ℕ → List PageEntry → Type 0
+abbrev pub InPools : ℕ → List FlashEntry → Type 0
 InPools pools [] = Unit {0}
 InPools pools (e ∷ es) = (e.pool < pools) × InPools pools es
 
@@ -67,7 +67,7 @@ pub record EnginesFit (flash : FlashConfig) (older : List Note) (nvm : Nvm) : Ty
   -- a bucket's entries are those that the small engine has there
   pub buckets : (bucket : ℕ) → bucket < flash.buckets → bucket_entries flash older bucket ≡ small.bucket_entries nvm.pair.small (bytes_at older) bucket
   -- what the large engine holds is large
-  pub large_ones : (key : List ℕ) (e : PageEntry) → large.held flash (bytes_at older) nvm.pair.large key ≡ Some e → is_small_by flash key (length e.value) ≡ false
+  pub large_ones : (key : List ℕ) (e : FlashEntry) → large.held flash (bytes_at older) nvm.pair.large key ≡ Some e → is_small_by flash key (length e.value) ≡ false
 
 pub record FlashGood (flash : FlashConfig) (older : List Note) (memory : Memory) (nvm : Nvm) : Type 0 where
   pub engines : EnginesFit flash older nvm

@@ -2,7 +2,7 @@
 use Rattle.std.specs.Prelude.{◌≡◌, ℕ, ◌==◌, Bool, true, false, ◌&&◌, List, [], ◌∷◌, Option, Some, None, option_map, length, if◌then◌else◌}
 use Rattle.std.specs.Str.{bytes_eq}
 use Rattle.hc_types.specs.declared.config.FlashConfig.{FlashConfig}
-use Rattle.hc_bighash.specs.Page.{PageEntry}
+use Rattle.hc_types.specs.FlashEntry.{FlashEntry}
 use Rattle.hc_engines.specs.Engine.{Op, Put, Pages}
 use Rattle.hc_engines.specs.small.BigHash as bighash
 use Rattle.hc_engines.specs.small.Held as small
@@ -17,7 +17,7 @@ use Rattle.hc_machine.specs.Evicting.{entry_of_item}
 use Rattle.hc_machine.specs.Cache.{Cache}
 
 -- what the map has for an item, and for an entry
-abbrev pub map_of : PageEntry → Entry
+abbrev pub map_of : FlashEntry → Entry
 map_of e = record { value = e.value; expiry = e.expiry }
 
 abbrev pub map_of_item : Item → Entry
@@ -25,7 +25,7 @@ map_of_item i = record { value = i.value; expiry = i.expiry }
 
 -- Where one key stands: its item; its entry that waits, that is being written; whether it is buried; its entry that the
 -- small engine holds, that the large one holds; and what the map has. Each way to stand is a line, and there is no other.
-abbrev pub Placed : Option Item → Option PageEntry → Option PageEntry → Bool → Option PageEntry → Option PageEntry → Option Entry → Type 0
+abbrev pub Placed : Option Item → Option FlashEntry → Option FlashEntry → Bool → Option FlashEntry → Option FlashEntry → Option Entry → Type 0
 -- nowhere
 Placed None None None false None None m = m ≡ None
 -- in memory alone, and not clean
@@ -45,7 +45,7 @@ Placed i q w b s l m = ⊥
 
 -- ---- what the state says at a key
 
-abbrev pub put_in : List ℕ → Op → Option PageEntry
+abbrev pub put_in : List ℕ → Op → Option FlashEntry
 put_in key (Put e) = if bytes_eq e.key key then Some e else None
 put_in key op = None
 
@@ -54,15 +54,15 @@ first_of (Some x) other = Some x
 first_of None other = other
 
 -- the entry of the key that a job of the small engine writes
-abbrev pub written_by : List ℕ → List bighash.Job → Option PageEntry
+abbrev pub written_by : List ℕ → List bighash.Job → Option FlashEntry
 written_by key [] = None
 written_by key (job ∷ jobs) = first_of (put_in key job.op) (written_by key jobs)
 
-abbrev pub queued_at : Option Nvm → List ℕ → Option PageEntry
+abbrev pub queued_at : Option Nvm → List ℕ → Option FlashEntry
 queued_at None key = None
 queued_at (Some nvm) key = put_at key nvm.queue
 
-abbrev pub written_at : Option Nvm → List ℕ → Option PageEntry
+abbrev pub written_at : Option Nvm → List ℕ → Option FlashEntry
 written_at None key = None
 written_at (Some nvm) key = written_by key nvm.pair.small.jobs
 
@@ -70,11 +70,11 @@ abbrev pub buried_at : Option Nvm → List ℕ → Bool
 buried_at None key = false
 buried_at (Some nvm) key = is_buried nvm key
 
-abbrev pub small_at : Pages → Option Nvm → List ℕ → Option PageEntry
+abbrev pub small_at : Pages → Option Nvm → List ℕ → Option FlashEntry
 small_at pages None key = None
 small_at pages (Some nvm) key = small.held nvm.pair.small pages key
 
-abbrev pub large_at : Pages → Option Nvm → List ℕ → Option PageEntry
+abbrev pub large_at : Pages → Option Nvm → List ℕ → Option FlashEntry
 large_at pages None key = None
 large_at pages (Some nvm) key = (large.held nvm.pair.small.flash pages nvm.pair.large key)
 

@@ -4,7 +4,7 @@ use Rattle.std.specs.Str.{bytes_eq}
 use Rattle.hc_types.specs.Config.{Config}
 use Rattle.hc_types.specs.declared.config.FlashConfig.{FlashConfig}
 use Rattle.hc_types.specs.Tally.{tally, count}
-use Rattle.hc_bighash.specs.Page.{PageEntry}
+use Rattle.hc_types.specs.FlashEntry.{FlashEntry}
 use Rattle.hc_memory.specs.Item.{Item, Open}
 use Rattle.hc_memory.specs.Pool.{Pool, is_at}
 use Rattle.hc_memory.specs.Memory.{Memory}
@@ -40,8 +40,8 @@ pub record MemoryTells (config : Config) (older : List Note) (memory : Memory) :
 
 -- ---- puts that wait, tombstones, puts that are being written
 
-abbrev pub keys_of : List PageEntry → List (List ℕ)
-keys_of entries = map (λ (e : PageEntry). e.key) entries
+abbrev pub keys_of : List FlashEntry → List (List ℕ)
+keys_of entries = map (λ (e : FlashEntry). e.key) entries
 
 pub record WaitsTell (older : List Note) (nvm : Nvm) : Type 0 where
   -- the queue, the oldest first

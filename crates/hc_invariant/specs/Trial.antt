@@ -4,7 +4,7 @@ use Rattle.std.specs.List.{list_any, list_all}
 use Rattle.hc_types.specs.Config.{Config}
 use Rattle.hc_types.specs.declared.config.FlashConfig.{FlashConfig}
 use Rattle.hc_types.specs.Tally.{count}
-use Rattle.hc_bighash.specs.Page.{PageEntry}
+use Rattle.hc_types.specs.FlashEntry.{FlashEntry}
 use Rattle.hc_engines.specs.Engine.{Pages, Order, Read, Write, IoResult, Page, Written, Failed}
 use Rattle.hc_engines.specs.large.Block as block
 use Rattle.hc_memory.specs.Item.{Item, Open as OpenCharge}
@@ -45,7 +45,7 @@ keys_in (note ∷ older) = keys_in older
 abbrev pub is_item : Item → Option Entry → Bool
 is_item i m = is_same same_map m (Some (map_of_item i))
 
-abbrev pub is_placed : Option Item → Option PageEntry → Option PageEntry → Bool → Option PageEntry → Option PageEntry → Option Entry → Bool
+abbrev pub is_placed : Option Item → Option FlashEntry → Option FlashEntry → Bool → Option FlashEntry → Option FlashEntry → Option Entry → Bool
 is_placed None None None false None None m = not (is_some m)
 is_placed (Some i) None None false None None m = is_item i m && not i.clean
 is_placed (Some i) None None false (Some e) None m = is_item i m && (i.clean && same_entry e (entry_of_item i))
@@ -180,7 +180,7 @@ flash_wrong keys (Some flash) older memory (Some nvm) =
     ++ unless WaitingTold (waits_tell keys older nvm)
     ++ unless JobsRun (jobs_run nvm)
     ++ unless FillsHold (fills_hold (bytes_at older) memory nvm)
-    ++ unless PoolsThere (list_all (λ (e : PageEntry). nat_lt e.pool (length memory.pools)) nvm.queue)
+    ++ unless PoolsThere (list_all (λ (e : FlashEntry). nat_lt e.pool (length memory.pools)) nvm.queue)
     ++ unless AddsSized (list_all (λ (waiter : Waiter). wish_sized (length memory.pools) waiter.wish) (waiters_of nvm.fills))
     ++ unless FlushedOnce (one_flush older)
     ++ unless FillsRested (rested flash older nvm)

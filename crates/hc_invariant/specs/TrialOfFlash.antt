@@ -5,14 +5,15 @@ use Rattle.std.specs.Str.{bytes_eq}
 use Rattle.hc_types.specs.declared.config.FlashConfig.{FlashConfig}
 use Rattle.hc_types.specs.Tally.{count}
 use Rattle.hc_types.specs.Places.{kept_of, bucket_at, is_small_by}
-use Rattle.hc_bighash.specs.Page.{PageEntry, page_bytes}
+use Rattle.hc_types.specs.FlashEntry.{FlashEntry}
+use Rattle.hc_bucket.specs.Page.{page_bytes}
 use Rattle.hc_engines.specs.Engine.{Pages, Op, Put, Get, Delete, Order}
 use Rattle.hc_engines.specs.small.Bloom.{word_of}
 use Rattle.hc_engines.specs.small.Entries.{without, page_put}
 use Rattle.hc_engines.specs.small.BigHash as bighash
 use Rattle.hc_engines.specs.small.Held as small
 use Rattle.hc_engines.specs.large.Region.{Status, Open, Sealed, Flushing, Region, Appended, is_clean, is_draining, filled_to, next_page, region_at, page_no, region_len}
-use Rattle.hc_bighash.specs.Page.{PageEntry}
+use Rattle.hc_types.specs.FlashEntry.{FlashEntry}
 use Rattle.hc_engines.specs.large.Entries.{entry_in}
 use Rattle.hc_engines.specs.large.Index.{Indexed, place_at, is_place}
 use Rattle.hc_engines.specs.large.Held as large
@@ -78,9 +79,9 @@ page_fits flash bucket None page = true
 page_fits flash bucket (Some word) None = false
 page_fits flash bucket (Some word) (Some bytes) =
     let es = small.entries_in flash.page (Some bytes) in
-    bytes_eq bytes (page_bytes flash.page es) && ((word == word_of es) && list_all (λ (e : PageEntry). is_small_by flash e.key (length e.value) && (bucket_at flash e.key == bucket)) es)
+    bytes_eq bytes (page_bytes flash.page es) && ((word == word_of es) && list_all (λ (e : FlashEntry). is_small_by flash e.key (length e.value) && (bucket_at flash e.key == bucket)) es)
 
-abbrev pub work_fits : ℕ → Op → bighash.Phase → Option ℕ → List PageEntry → Bool
+abbrev pub work_fits : ℕ → Op → bighash.Phase → Option ℕ → List FlashEntry → Bool
 work_fits size op bighash.Reading word es = is_some word
 work_fits size (Put e) (bighash.Writing page losses) word es = all_same same_entry page (page_put size e es)
 work_fits size (Delete key) (bighash.Writing page losses) word es = all_same same_entry page (without key es)
@@ -132,7 +133,7 @@ large_sound flash s =
     && (list_all (λ r. region_holds flash (readers r s.jobs) (writers r s.jobs) (region_at r s.regions)) (below flash.regions)
     && (list_all (λ (job : block.Job). work_holds flash s.regions job.work && (count (λ (other : block.Job). other.number == job.number) s.jobs == 1)) s.jobs)))))
 
-abbrev pub own_entry : FlashConfig → ℕ → Option PageEntry → Bool
+abbrev pub own_entry : FlashConfig → ℕ → Option FlashEntry → Bool
 own_entry flash hash None = false
 own_entry flash hash (Some e) = (kept_of flash.bits e.key == hash) && not (is_small_by flash e.key (length e.value))
 

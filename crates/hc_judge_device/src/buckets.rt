@@ -1,8 +1,8 @@
 // The entries of buckets, and their Bloom words.
 ghost use Rattle.std.specs.Prelude.{◌≡◌, ◌==◌, List, [], ◌∷◌, IfOk};
 ghost use Rattle.std.specs.List.{list_any};
-ghost use Rattle.hc_bighash.specs.Page.{entries_of};
-ghost use Rattle.hc_bighash.specs.Bloom as bloom;
+ghost use Rattle.hc_types.specs.FlashEntry.{entries_of};
+ghost use Rattle.hc_bucket.specs.Bloom as bloom;
 ghost use Rattle.hc_history.specs.Note.{Note as Meaning};
 ghost use Rattle.hc_history.specs.Pages as spec;
 ghost use Rattle.hc_history.specs.Lawful as lawful;
@@ -13,7 +13,7 @@ ghost use Rattle.hc_judge_device.specs.Limits.{IsLimited};
 ghost use Rattle.hc_judge_device.specs.Reading.{entries_held};
 
 use bytes::Bytes;
-use hc_bighash::decode_page;
+use hc_bucket::decode_page;
 use hc_history::{Note, Said};
 use hc_types::{Entry, FlashConfig, Key, Scope, bucket_of, hash};
 use std::alloc::{AllocError, Allocator};

@@ -1,15 +1,16 @@
 // What a put pushes out of its bucket.
 ghost use Rattle.std.specs.Prelude.{◌≡◌, ◌==◌, ◌+◌, ◌-◌, ◌≤◌, ℕ, nat_lt, nat_le, false, Bool, List, [], ◌∷◌, ◌++◌, length, IfOk, SomeIff};
-ghost use Rattle.hc_bighash.specs.Page.{entry_of, entries_of, entry_bytes, entries_bytes, used};
-ghost use Rattle.hc_bighash.specs.Putting as spec;
-ghost use Rattle.hc_bighash.specs.Putting.{last_of, entries_without};
+ghost use Rattle.hc_types.specs.FlashEntry.{entry_of, entries_of};
+ghost use Rattle.hc_bucket.specs.Page.{entry_bytes, entries_bytes, used};
+ghost use Rattle.hc_bucket.specs.Putting as spec;
+ghost use Rattle.hc_bucket.specs.Putting.{last_of, entries_without};
 ghost use Rattle.hc_history.specs.Stats.{is_loss};
 ghost use Rattle.hc_history.specs.Lawful.{past};
 ghost use Rattle.hc_legal.specs.Judge as judge;
 
 use crate::buckets::{bucket_entries, entries_in};
 use crate::ends::{before_losses, last};
-use hc_bighash::entry_len;
+use hc_bucket::entry_len;
 use hc_history::{Note, Said};
 use hc_types::{Entry, FlashConfig, Key};
 use std::alloc::{AllocError, Allocator};

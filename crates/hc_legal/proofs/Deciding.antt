@@ -11,7 +11,7 @@ use Rattle.hc_types.specs.Loss as loss
 use Rattle.hc_types.specs.Loss.{Scope, Cause, Evicted, BucketFull, Reclaimed, NoCleanRegion, Collision, Expired, Fault}
 use Rattle.hc_types.specs.Config.{Config}
 use Rattle.hc_types.specs.Places.{kept_of, is_small_by, is_page_of, last_page}
-use Rattle.hc_bighash.specs.Putting.{last_of, is_pushed_out}
+use Rattle.hc_bucket.specs.Putting.{last_of, is_pushed_out}
 use Rattle.hc_types.specs.Tally.{count}
 use Rattle.hc_types.specs.declared.config.FlashConfig.{FlashConfig}
 use Rattle.hc_types.specs.declared.loss.Why.{Why}

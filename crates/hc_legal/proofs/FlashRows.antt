@@ -5,7 +5,7 @@ use Rattle.hc_types.specs.Loss as loss
 use Rattle.hc_types.specs.Loss.{Evicted, Collision, Expired, Fault}
 use Rattle.hc_types.specs.declared.loss.Why.{Why}
 use Rattle.hc_types.specs.declared.loss.Why.TheVariants.{NoFlash, Tombstone, NotAdmitted, TooLarge, QueueFull}
-use Rattle.hc_bighash.specs.Reading.{page_at, entries_at, entry_at, body_at, content_at, whole_at}
+use Rattle.hc_bucket.specs.Reading.{page_at, entries_at, entry_at, body_at, content_at, whole_at}
 use Rattle.hc_history.specs.Note.{Insert, Add, Find, Remove, Stored, Exists, Hit, Miss, NotInMemory, Note, Begin, Did, End, Lose, Charged, Linked, Freed, Unqueued, Written, Buried, Raised, Read, Opened}
 use Rattle.hc_history.specs.Lawful.{past, Legal}
 use Rattle.hc_legal.proofs.Computed.{legal, refused_at, refused_end, Refused}

@@ -6,7 +6,8 @@ use Rattle.hc_types.specs.Config.{Config}
 use Rattle.hc_types.specs.Loss as loss
 use Rattle.hc_types.specs.Loss.{Collision, Fault}
 use Rattle.hc_types.specs.declared.config.FlashConfig.{FlashConfig}
-use Rattle.hc_bighash.specs.Page.{PageEntry, page_bytes}
+use Rattle.hc_types.specs.FlashEntry.{FlashEntry}
+use Rattle.hc_bucket.specs.Page.{page_bytes}
 use Rattle.hc_history.specs.Note.{Insert, Add, Find, Remove, Stored, Exists, Hit, Miss, FoundInMemory, NotInMemory, Note, Begin, Did, End, Lose, Charged, Linked, Freed, Queued, Unqueued, Writing, Written, Buried, Read, Wrote, Opened, Flushed}
 
 -- ---- configurations
@@ -61,18 +62,18 @@ anew = 110 ∷ 101 ∷ 119 ∷ []
 
 -- ---- pages
 
-abbrev pub item : ℕ → List ℕ → List ℕ → PageEntry
+abbrev pub item : ℕ → List ℕ → List ℕ → FlashEntry
 item pool key value = record { key = key; value = value; pool = pool; expiry = 0 }
 
-abbrev pub page : List PageEntry → List ℕ
+abbrev pub page : List FlashEntry → List ℕ
 page entries = page_bytes 512 entries
 
 -- the bytes of an entry in a region: key length, pool, value length, expiry, key, value
-abbrev region_entry_bytes : PageEntry → List ℕ
+abbrev region_entry_bytes : FlashEntry → List ℕ
 region_entry_bytes e = length e.key ∷ e.pool ∷ (to_be_bytes w32 (length e.value) ++ (to_be_bytes w64 e.expiry ++ (e.key ++ e.value)))
 
 -- a region of one page that holds one entry
-abbrev pub region_page : PageEntry → List ℕ
+abbrev pub region_page : FlashEntry → List ℕ
 region_page entry = region_entry_bytes entry ++ replicate (512 - length (region_entry_bytes entry)) 0
 
 -- ---- parts
@@ -97,10 +98,10 @@ queues charge key = Freed charge ∷ Queued key ∷ []
 abbrev pub takes_put : List ℕ → List Note
 takes_put key = Unqueued key ∷ Writing key ∷ []
 
-abbrev pub writes_first : List ℕ → List PageEntry → List Note
+abbrev pub writes_first : List ℕ → List FlashEntry → List Note
 writes_first key entries = takes_put key ++ Wrote 0 (page entries) true ∷ Written key ∷ []
 
-abbrev pub writes_over : List ℕ → List PageEntry → List PageEntry → List Note
+abbrev pub writes_over : List ℕ → List FlashEntry → List FlashEntry → List Note
 writes_over key was entries = takes_put key ++ Read 0 (Some (page was)) ∷ Wrote 0 (page entries) true ∷ Written key ∷ []
 
 -- ---- worked runs
@@ -110,10 +111,10 @@ abbrev pub waiting_is_found : List Note
 waiting_is_found = sets 1 1 a one ++ queues 1 a ++ sets 2 2 b two ++ hits 3 a one ++ takes_put a ++ hits 4 b two
 
 -- an item comes back from flash
-abbrev pub a_one : PageEntry
+abbrev pub a_one : FlashEntry
 a_one = item 0 a one
 
-abbrev pub b_two : PageEntry
+abbrev pub b_two : FlashEntry
 b_two = item 0 b two
 
 abbrev pub stored_on_flash : List Note
@@ -143,7 +144,7 @@ set_anew =
     ∷ Begin 8 0 (Find a) ∷ queues 5 d ++ Charged 6 a 0 333 ∷ Linked 6 ∷ Did 8 (Hit (large 300 110)) ∷ End 8 ∷ []
 
 -- a bucket is given up
-abbrev pub in_1 : List ℕ → List ℕ → PageEntry
+abbrev pub in_1 : List ℕ → List ℕ → FlashEntry
 in_1 key value = item 1 key value
 
 abbrev pub lost_bucket : List Note

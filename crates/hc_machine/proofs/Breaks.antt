@@ -1,7 +1,7 @@
 -- A device that fails by itself: each such failure is counted. What a step fails doesn't reach it.
 use Rattle.std.proofs.Common.{◌≡◌, ℕ, Bool, true, false, List, [], ◌∷◌, Some, refl}
 use Rattle.hc_types.specs.Config.{Config}
-use Rattle.hc_bighash.specs.Reading.{page_at, entries_at, entry_at, body_at, content_at, whole_at}
+use Rattle.hc_bucket.specs.Reading.{page_at, entries_at, entry_at, body_at, content_at, whole_at}
 use Rattle.hc_engines.specs.Engine.{IoResult, Written, Failed}
 use Rattle.hc_engines.specs.small.Bloom.{bits_of}
 use Rattle.hc_machine.specs.World as w

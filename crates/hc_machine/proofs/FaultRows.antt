@@ -2,7 +2,7 @@
 use Rattle.std.proofs.Common.{◌≡◌, true, false, List, [], ◌∷◌, ◌++◌, Some, None, refl, codes}
 use Rattle.hc_types.specs.Loss as loss
 use Rattle.hc_types.specs.Loss.{Fault}
-use Rattle.hc_bighash.specs.Reading.{page_at, entries_at, entry_at, body_at, content_at, whole_at}
+use Rattle.hc_bucket.specs.Reading.{page_at, entries_at, entry_at, body_at, content_at, whole_at}
 use Rattle.hc_engines.specs.Engine as engine
 use Rattle.hc_engines.specs.small.Bloom.{bits_of}
 use Rattle.hc_history.specs.Note.{Hit, Lose, Unqueued, Writing, Written, Buried, Raised, Read, Wrote}

@@ -3,8 +3,8 @@ use Rattle.std.proofs.Common.{◌≡◌, true, List, [], ◌∷◌, ◌++◌, So
 use Rattle.hc_types.specs.Config.{Config}
 use Rattle.hc_types.specs.Loss as loss
 use Rattle.hc_types.specs.Loss.{Expired}
-use Rattle.hc_bighash.specs.Page.{PageEntry}
-use Rattle.hc_bighash.specs.Reading.{page_at, entries_at, entry_at, body_at, content_at, whole_at}
+use Rattle.hc_types.specs.FlashEntry.{FlashEntry}
+use Rattle.hc_bucket.specs.Reading.{page_at, entries_at, entry_at, body_at, content_at, whole_at}
 use Rattle.hc_engines.specs.Engine as engine
 use Rattle.hc_engines.specs.small.Bloom.{bits_of}
 use Rattle.hc_history.specs.Note.{Stored, Exists, Hit, Miss, Did, Lose, Charged, Linked, Freed, Buried, Read, Now}
@@ -41,7 +41,7 @@ small_set_anew-counts = refl
 -- ---- values expire in memory, and on their way back from flash
 
 -- a, which expires at second 15
-abbrev a_until_15 : PageEntry
+abbrev a_until_15 : FlashEntry
 a_until_15 = record { key = a; value = one; pool = 0; expiry = 15 }
 
 abbrev pub values_expire : List Turn

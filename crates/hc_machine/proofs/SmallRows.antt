@@ -4,8 +4,8 @@ use Rattle.hc_types.specs.Config.{Config}
 use Rattle.hc_types.specs.Loss as loss
 use Rattle.hc_types.specs.Loss.{BucketFull}
 use Rattle.hc_types.specs.declared.loss.Why.TheVariants.{Tombstone}
-use Rattle.hc_bighash.specs.Page.{PageEntry}
-use Rattle.hc_bighash.specs.Reading.{page_at, entries_at, entry_at, body_at, content_at, whole_at}
+use Rattle.hc_types.specs.FlashEntry.{FlashEntry}
+use Rattle.hc_bucket.specs.Reading.{page_at, entries_at, entry_at, body_at, content_at, whole_at}
 use Rattle.hc_engines.specs.Engine as engine
 use Rattle.hc_engines.specs.small.Bloom.{bits_of}
 use Rattle.hc_history.specs.Note.{Hit, Did, Lose, Unqueued, Writing, Written, Buried, Wrote}
@@ -105,19 +105,19 @@ up_to_200 = on_flash 1000 1 (flash 1 1 200 8 0 2000)
 abbrev quarter : ℕ → List ℕ
 quarter byte = replicate 114 byte
 
-abbrev a_p : PageEntry
+abbrev a_p : FlashEntry
 a_p = item 0 a (quarter 112)
 
-abbrev b_q : PageEntry
+abbrev b_q : FlashEntry
 b_q = item 0 b (quarter 113)
 
-abbrev c_r : PageEntry
+abbrev c_r : FlashEntry
 c_r = item 0 c (quarter 114)
 
-abbrev d_s : PageEntry
+abbrev d_s : FlashEntry
 d_s = item 0 d (quarter 115)
 
-abbrev e_t : PageEntry
+abbrev e_t : FlashEntry
 e_t = item 0 e (quarter 116)
 
 abbrev pub pushed_out : List Turn
@@ -152,13 +152,13 @@ up_to_400 = record { pools = record { bytes = 1000; items = 1 } ∷ record { byt
 abbrev half : ℕ → List ℕ
 half byte = replicate 241 byte
 
-abbrev a_half : PageEntry
+abbrev a_half : FlashEntry
 a_half = item 1 a (half 112)
 
-abbrev b_half : PageEntry
+abbrev b_half : FlashEntry
 b_half = item 0 b (half 113)
 
-abbrev c_none : PageEntry
+abbrev c_none : FlashEntry
 c_none = item 1 c []
 
 abbrev pub copy_pushed_out : List Turn

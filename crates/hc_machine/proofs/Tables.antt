@@ -6,7 +6,7 @@ use Rattle.hc_types.specs.Loss as loss
 use Rattle.hc_types.specs.Loss.{Evicted}
 use Rattle.hc_types.specs.declared.config.FlashConfig.{FlashConfig}
 use Rattle.hc_types.specs.declared.loss.Why.{Why}
-use Rattle.hc_bighash.specs.Page.{PageEntry}
+use Rattle.hc_types.specs.FlashEntry.{FlashEntry}
 use Rattle.hc_engines.specs.Engine as engine
 use Rattle.hc_history.specs.declared.stats.Stats.{Stats}
 use Rattle.hc_history.specs.Note.{Op, Insert, Add, Find, Remove, Reply, Stored, Hit, Miss, FoundInMemory, NotInMemory, Note, Begin, Did, End, Lose, Charged, Linked, Freed, Unqueued, Writing, Written, Raised, Read, Wrote}
@@ -152,24 +152,24 @@ abbrev pub io_fails : ℕ → Turn
 io_fails job = record { line = w.Io job true; said = Made engine.Failed 0; part = [] }
 
 -- a small put is taken, and the first page of its bucket is written
-abbrev pub writes_first : ℕ → List ℕ → List PageEntry → List Turn
+abbrev pub writes_first : ℕ → List ℕ → List FlashEntry → List Turn
 writes_first job key now =
     works w.Writer job (engine.Write 0 (page now)) (Unqueued key ∷ Writing key ∷ []) ∷ io_writes job
     ∷ finishes (w.Done job) (Wrote 0 (page now) true ∷ Written key ∷ []) ∷ []
 
 -- a page is read and written again, by a job that the writer takes: what is told at the take, and once the page is written
-abbrev pub rewrites : (job : ℕ) (was now : List PageEntry) (taken told : List Note) → List Turn
+abbrev pub rewrites : (job : ℕ) (was now : List FlashEntry) (taken told : List Note) → List Turn
 rewrites job was now taken told =
     works w.Writer job (engine.Read 0) taken ∷ io_reads job (page was)
     ∷ works (w.Done job) job (engine.Write 0 (page now)) (Read 0 (Some (page was)) ∷ []) ∷ io_writes job
     ∷ finishes (w.Done job) (Wrote 0 (page now) true ∷ told) ∷ []
 
 -- a small put is taken whose bucket has entries: some may be lost
-abbrev pub writes_over : (job : ℕ) (key : List ℕ) (was now : List PageEntry) (lost : List Note) → List Turn
+abbrev pub writes_over : (job : ℕ) (key : List ℕ) (was now : List FlashEntry) (lost : List Note) → List Turn
 writes_over job key was now lost = rewrites job was now (Unqueued key ∷ Writing key ∷ []) (lost ++ Written key ∷ [])
 
 -- a delete is taken
-abbrev pub deletes : (job : ℕ) (key : List ℕ) (was now : List PageEntry) → List Turn
+abbrev pub deletes : (job : ℕ) (key : List ℕ) (was now : List FlashEntry) → List Turn
 deletes job key was now = rewrites job was now [] (Raised key ∷ [])
 
 -- a fill is taken, and a page is read

@@ -2,7 +2,7 @@
 use Rattle.std.specs.Prelude.{ℕ, ◌+◌, max, nat_lt, Bool, false, not, ◌&&◌, List, [], ◌∷◌, ◌++◌, Option, Some, None, is_some, if◌then◌else◌}
 use Rattle.std.specs.Option.{option_map_or}
 use Rattle.hc_types.specs.declared.refusal.Refusal.TheVariants.{ForeignHandle, Exists as AlreadyExists, UnknownCall, NotReady}
-use Rattle.hc_bighash.specs.Page.{PageEntry}
+use Rattle.hc_types.specs.FlashEntry.{FlashEntry}
 use Rattle.hc_memory.specs.Item.{Item, Handle, charge_by}
 use Rattle.hc_memory.specs.Charges.{is_open}
 use Rattle.hc_memory.specs.Memory.{linked_at, after_find}
@@ -55,11 +55,11 @@ insert_or_replace client handle cache =
     else stays (Refused ForeignHandle) cache
 
 -- what stands under a key in memory: its item, or else its waiting put
-abbrev pub waiting_at : Option Nvm → List ℕ → Option PageEntry
+abbrev pub waiting_at : Option Nvm → List ℕ → Option FlashEntry
 waiting_at None key = None
 waiting_at (Some nvm) key = put_at key nvm.queue
 
-abbrev pub in_memory : Cache → List ℕ → Option PageEntry
+abbrev pub in_memory : Cache → List ℕ → Option FlashEntry
 in_memory cache key = option_map_or (λ item. Some (entry_of_item item)) (linked_at key cache.memory.pools) (waiting_at cache.nvm key)
 
 -- nothing in memory tells what the key has, and flash may

@@ -3,7 +3,7 @@ use Rattle.std.specs.Prelude.{ℕ, ◌+◌, List, [], ◌∷◌, ◌++◌, lengt
 use Rattle.hc_types.specs.Charge.{charge_of}
 use Rattle.hc_types.specs.Loss as loss
 use Rattle.hc_types.specs.declared.refusal.Refusal.{Refusal}
-use Rattle.hc_bighash.specs.Page.{PageEntry}
+use Rattle.hc_types.specs.FlashEntry.{FlashEntry}
 use Rattle.hc_memory.specs.Item.{Item, Handle}
 use Rattle.hc_memory.specs.Memory.{Memory, victims_of, after_room, blank_of}
 use Rattle.hc_items.specs.Allocating.{refusal_of}
@@ -13,7 +13,7 @@ use Rattle.hc_machine.specs.Nvm.{Nvm}
 use Rattle.hc_machine.specs.Leaving.{Changed, evicted}
 use Rattle.hc_machine.specs.Cache.{Cache, Moved, Refused, Opened, Told, tells, and_then, answers, stays, with_memory, with_nvm}
 
-abbrev pub entry_of_item : Item → PageEntry
+abbrev pub entry_of_item : Item → FlashEntry
 entry_of_item item = record { key = item.key; value = item.value; pool = item.pool; expiry = item.expiry }
 
 -- what flash did with it: a loss of its key covers no item, since its own is gone

@@ -7,7 +7,7 @@ use Rattle.hc_types.specs.Places.{is_small_by}
 use Rattle.hc_types.specs.declared.config.FlashConfig.{FlashConfig}
 use Rattle.hc_types.specs.declared.loss.Why.{Why}
 use Rattle.hc_types.specs.declared.loss.Why.TheVariants.{Tombstone, NotAdmitted, TooLarge, QueueFull}
-use Rattle.hc_bighash.specs.Page.{PageEntry}
+use Rattle.hc_types.specs.FlashEntry.{FlashEntry}
 use Rattle.hc_engines.specs.large.Region.{region_len}
 use Rattle.hc_engines.specs.large.Entries.{entry_len}
 use Rattle.hc_history.specs.Note.{Note, Lose, Queued, Unqueued, Buried}
@@ -32,16 +32,16 @@ and_then first f = behind first.part (f first.nvm)
 -- ---- an item was evicted
 
 -- the entry expires at this second, and this is the moment or it is past
-abbrev pub is_over : ℕ → PageEntry → Bool
+abbrev pub is_over : ℕ → FlashEntry → Bool
 is_over now entry = not (entry.expiry == 0) && not (nat_lt now entry.expiry)
 
 -- a large entry that no region can take
-abbrev pub is_too_large : FlashConfig → PageEntry → Bool
+abbrev pub is_too_large : FlashConfig → FlashEntry → Bool
 is_too_large flash entry =
     not (is_small_by flash entry.key (length entry.value)) && nat_lt (region_len flash) (entry_len (length entry.key) (length entry.value))
 
 -- why an entry doesn't wait for flash: the first reason that holds
-abbrev pub why_not : Nvm → PageEntry → Option Why
+abbrev pub why_not : Nvm → FlashEntry → Option Why
 why_not nvm entry =
     let flash = nvm.pair.small.flash in
     if is_buried nvm entry.key then Some Tombstone
@@ -50,15 +50,15 @@ why_not nvm entry =
     else (if length nvm.queue == flash.queue then Some QueueFull else None)))
 
 -- why the key of an evicted entry is forgotten; none where it is to wait for flash
-abbrev pub cause_for : ℕ → ℕ → ℕ → PageEntry → Nvm → Option Cause
+abbrev pub cause_for : ℕ → ℕ → ℕ → FlashEntry → Nvm → Option Cause
 cause_for now pool want entry nvm = if is_over now entry then Some Expired else option_map (Evicted pool want) (why_not nvm entry)
 
-abbrev pub waits_unless : Option Cause → PageEntry → Nvm → Changed
+abbrev pub waits_unless : Option Cause → FlashEntry → Nvm → Changed
 waits_unless (Some cause) entry nvm = changed (Lose (loss.Key entry.key) cause ∷ []) nvm
 waits_unless None entry nvm = changed (Queued entry.key ∷ []) (record nvm { queue = nvm.queue ++ entry ∷ [] })
 
 -- an item with no copy on flash was evicted from a pool, where so many bytes were wanted
-abbrev pub evicted : ℕ → ℕ → ℕ → PageEntry → Nvm → Changed
+abbrev pub evicted : ℕ → ℕ → ℕ → FlashEntry → Nvm → Changed
 evicted now pool want entry nvm = waits_unless (cause_for now pool want entry nvm) entry nvm
 
 -- ---- a key is inserted or removed

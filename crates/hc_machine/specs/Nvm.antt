@@ -4,7 +4,7 @@ use Rattle.std.specs.List.{list_any}
 use Rattle.std.specs.Str.{bytes_eq}
 use Rattle.hc_types.specs.declared.config.FlashConfig.{FlashConfig}
 use Rattle.hc_types.specs.Places.{is_small_by}
-use Rattle.hc_bighash.specs.Page.{PageEntry}
+use Rattle.hc_types.specs.FlashEntry.{FlashEntry}
 use Rattle.hc_engines.specs.Engine.{Order}
 use Rattle.hc_engines.specs.small.BigHash.{could_hold}
 use Rattle.hc_memory.specs.Item.{Handle}
@@ -48,7 +48,7 @@ pub record Job : Type 0 where
 pub record Nvm : Type 0 where
   pub pair : Pair
   -- the puts that wait, the oldest first
-  pub queue : List PageEntry
+  pub queue : List FlashEntry
   -- in the order of their burying
   pub tombstones : List Tombstone
   pub fills : List Fill
@@ -61,17 +61,17 @@ new_nvm flash = record { pair = new_pair flash; queue = []; tombstones = []; fil
 
 -- ---- puts that wait
 
-abbrev pub is_put_of : List ℕ → PageEntry → Bool
+abbrev pub is_put_of : List ℕ → FlashEntry → Bool
 is_put_of key put = bytes_eq put.key key
 
-abbrev pub put_at : List ℕ → List PageEntry → Option PageEntry
+abbrev pub put_at : List ℕ → List FlashEntry → Option FlashEntry
 put_at key puts = find (is_put_of key) puts
 
-abbrev pub without_put : List ℕ → List PageEntry → List PageEntry
+abbrev pub without_put : List ℕ → List FlashEntry → List FlashEntry
 without_put key puts = filter (λ put. not (is_put_of key put)) puts
 
 -- the first put that can be served: a large one, or one whose bucket no job is on
-abbrev pub next_put : Nvm → Option PageEntry
+abbrev pub next_put : Nvm → Option FlashEntry
 next_put nvm = find (λ put. not (is_small_by nvm.pair.small.flash put.key (length put.value)) || not (is_busy_for nvm.pair put.key)) nvm.queue
 
 -- ---- tombstones

@@ -2,7 +2,7 @@
 use Rattle.std.specs.Prelude.{ℕ, ◌+◌, ◌==◌, Bool, true, false, not, List, [], ◌∷◌, ◌++◌, length, map, filter, Option, Some, None, option_map}
 use Rattle.hc_types.specs.Loss as scopes
 use Rattle.hc_types.specs.Places.{is_small_by}
-use Rattle.hc_bighash.specs.Page.{PageEntry}
+use Rattle.hc_types.specs.FlashEntry.{FlashEntry}
 use Rattle.hc_engines.specs.Engine as engine
 use Rattle.hc_engines.specs.Engine.{Put, Get, Delete, Flush, Order, Read, Write, IoResult, Page, Written as WasWritten, Found, Loss, Outcome, Next, Busy, Io, Done}
 use Rattle.hc_engines.specs.large.Block as block
@@ -23,7 +23,7 @@ pub data Take : Type 0 where
 
 -- a fill that is over: what was found, and the calls that wait for it
 pub record Filled : Type 0 where
-  pub entry : Option PageEntry
+  pub entry : Option FlashEntry
   pub waiters : List Waiter
 
 pub record Taken : Type 0 where
@@ -89,7 +89,7 @@ closing_notes task outcome = written_note task ++ (region_note Flushed outcome.f
 abbrev pub settled : Task → Outcome → Nvm → Changed
 settled task outcome nvm = and_then (holds outcome nvm) (λ nvm. and_then (raise (ends_with task) nvm) (changed (closing_notes task outcome)))
 
-abbrev pub found_in : engine.Answer → Option PageEntry
+abbrev pub found_in : engine.Answer → Option FlashEntry
 found_in (Found entry) = Some entry
 found_in answer = None
 
@@ -127,11 +127,11 @@ launch task op nvm = launch_by task (pairs.start (nvm.made + 1) op nvm.pair) nvm
 -- ---- writer
 
 -- a put is taken: a small one is being written from here on, and a large one is over at once
-abbrev pub take_sized : Bool → PageEntry → Nvm → Taken
+abbrev pub take_sized : Bool → FlashEntry → Nvm → Taken
 take_sized true put nvm = told_before (Unqueued put.key ∷ Writing put.key ∷ []) (launch (Putting put.key) (Put put) nvm)
 take_sized false put nvm = told_before (Unqueued put.key ∷ []) (launch Flushing (Put put) nvm)
 
-abbrev pub take_put : Option PageEntry → Nvm → Taken
+abbrev pub take_put : Option FlashEntry → Nvm → Taken
 take_put None nvm = idle nvm
 take_put (Some put) nvm = take_sized (is_small_by nvm.pair.small.flash put.key (length put.value)) put (record nvm { queue = without_put put.key nvm.queue })
 

@@ -1,6 +1,6 @@
 -- A key is inserted or removed, and calls that wait are answered.
 use Rattle.std.specs.Prelude.{ℕ, false, List, [], ◌∷◌, Option, Some, None, if◌then◌else◌}
-use Rattle.hc_bighash.specs.Page.{PageEntry}
+use Rattle.hc_types.specs.FlashEntry.{FlashEntry}
 use Rattle.hc_memory.specs.Item.{Item, Handle}
 use Rattle.hc_memory.specs.Memory.{linked_at, after_unlink, after_free, after_link}
 use Rattle.hc_history.specs.Note.{Note, Reply, Stored, Exists, Hit, Miss, Did, Linked, Freed}
@@ -33,15 +33,15 @@ free number cache = tells (Freed number ∷ []) (with_memory (after_free cache.m
 
 -- ---- calls that wait are answered, one after the other
 
-abbrev pub entry_of_handle : Handle → PageEntry
+abbrev pub entry_of_handle : Handle → FlashEntry
 entry_of_handle handle = record { key = handle.key; value = handle.value; pool = handle.pool; expiry = handle.expiry }
 
 -- what a key has, if it isn't expired
-abbrev pub live : ℕ → Option PageEntry → Option PageEntry
+abbrev pub live : ℕ → Option FlashEntry → Option FlashEntry
 live now None = None
 live now (Some entry) = if is_over now entry then None else Some entry
 
-abbrev pub find_reply : Option PageEntry → Reply
+abbrev pub find_reply : Option FlashEntry → Reply
 find_reply None = Miss
 find_reply (Some entry) = Hit entry.value
 
@@ -50,30 +50,30 @@ abbrev pub answer : ℕ → Reply → Cache → Told
 answer call reply cache = tells (Did call reply ∷ []) (record cache { owed = owed_with call reply cache.owed })
 
 -- a call that waited is served, where this is what its key has
-abbrev pub serve : ℕ → Wish → Option PageEntry → Cache → Told
+abbrev pub serve : ℕ → Wish → Option FlashEntry → Cache → Told
 serve call ToFind there cache = answer call (find_reply there) cache
 serve call (ToAdd handle) (Some entry) cache = and_then (free handle.number cache) (answer call Exists)
 serve call (ToAdd handle) None cache = and_then (plant handle cache) (answer call Stored)
 
 -- what the key has after it
-abbrev pub there_after : Wish → Option PageEntry → Option PageEntry
+abbrev pub there_after : Wish → Option FlashEntry → Option FlashEntry
 there_after ToFind there = there
 there_after (ToAdd handle) (Some entry) = Some entry
 there_after (ToAdd handle) None = Some (entry_of_handle handle)
 
-abbrev pub serve_all : List Waiter → Option PageEntry → Cache → Told
+abbrev pub serve_all : List Waiter → Option FlashEntry → Cache → Told
 serve_all [] there cache = tells [] cache
 serve_all (waiter ∷ waiters) there cache =
     and_then (serve waiter.call waiter.wish (live cache.now there) cache) (serve_all waiters (there_after waiter.wish (live cache.now there)))
 
-abbrev pub serve_fill : Option Fill → Nvm → Option PageEntry → Cache → Told
+abbrev pub serve_fill : Option Fill → Nvm → Option FlashEntry → Cache → Told
 serve_fill None nvm there cache = tells [] cache
 serve_fill (Some fill) nvm there cache = serve_all fill.waiters there (with_nvm (record nvm { fills = without_fill fill.key nvm.fills }) cache)
 
-abbrev pub end_fill_of : Option Nvm → List ℕ → Option PageEntry → Cache → Told
+abbrev pub end_fill_of : Option Nvm → List ℕ → Option FlashEntry → Cache → Told
 end_fill_of None key there cache = tells [] cache
 end_fill_of (Some nvm) key there cache = serve_fill (fill_at key nvm.fills) nvm there cache
 
 -- the key's fill is an orphan, and its calls are answered by what the key has now
-abbrev pub end_fill : List ℕ → Option PageEntry → Cache → Told
+abbrev pub end_fill : List ℕ → Option FlashEntry → Cache → Told
 end_fill key there cache = end_fill_of cache.nvm key there cache

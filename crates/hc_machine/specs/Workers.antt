@@ -1,7 +1,7 @@
 -- The calls of workers.
 use Rattle.std.specs.Prelude.{ℕ, Bool, true, not, ◌&&◌, [], ◌∷◌, length, Option, Some, None, is_some, if◌then◌else◌}
 use Rattle.hc_types.specs.declared.refusal.Refusal.TheVariants.{UnknownJob}
-use Rattle.hc_bighash.specs.Page.{PageEntry}
+use Rattle.hc_types.specs.FlashEntry.{FlashEntry}
 use Rattle.hc_engines.specs.Engine.{IoResult}
 use Rattle.hc_memory.specs.Item.{Handle}
 use Rattle.hc_memory.specs.Memory.{after_link}
@@ -17,14 +17,14 @@ use Rattle.hc_machine.specs.Waiting.{live, serve_all}
 -- ---- a fill ends
 
 -- the entry can be linked: it isn't expired, and its pool exists and can make room
-abbrev pub can_link : Cache → PageEntry → Bool
+abbrev pub can_link : Cache → FlashEntry → Bool
 can_link cache entry = is_some (live cache.now (Some entry)) && not (is_some (refusal_of cache.memory entry.pool entry.key (length entry.value)))
 
 abbrev pub link_clean : Handle → Cache → Told
 link_clean handle cache = tells (Linked handle.number ∷ []) (with_memory (after_link cache.memory true handle) cache)
 
 -- what was found is linked, where it can be
-abbrev pub bring : Option PageEntry → Cache → Told
+abbrev pub bring : Option FlashEntry → Cache → Told
 bring None cache = tells [] cache
 bring (Some entry) cache =
     if can_link cache entry

@@ -1,7 +1,7 @@
 -- The parts of a step tell of no read and no write, and leave the jobs as they are.
 use Rattle.std.proofs.Common.{◌≡◌, ℕ, Bool, true, false, List, [], ◌∷◌, ◌++◌, length, map, filter, Option, Some, None, refl, ap, sym, ◌∙◌}
 use Rattle.std.specs.Prelude.{if◌then◌else◌}
-use Rattle.hc_bighash.specs.Page.{PageEntry}
+use Rattle.hc_types.specs.FlashEntry.{FlashEntry}
 use Rattle.hc_engines.specs.Engine.{Loss, Outcome}
 use Rattle.hc_memory.specs.Item.{Handle}
 use Rattle.hc_types.specs.Charge.{charge_of}
@@ -105,17 +105,17 @@ uproot_no_io key cache = let u = uproot_aside key cache in record { silent = sil
 pub plant_no_io : (handle : Handle) (cache : Cache) → NoIoPart cache (plant handle cache)
 plant_no_io handle cache = let p = plant_aside handle cache in record { silent = silent_by (plant handle cache).part p.aside; jobs = p.jobs }
 
-serve_no_io : (call : ℕ) (wish : Wish) (there : Option PageEntry) (cache : Cache) → NoIoPart cache (serve call wish there cache)
+serve_no_io : (call : ℕ) (wish : Wish) (there : Option FlashEntry) (cache : Cache) → NoIoPart cache (serve call wish there cache)
 serve_no_io call ToFind there cache = record { silent = tt; jobs = refl }
 serve_no_io call (ToAdd handle) (Some entry) cache = record { silent = tt; jobs = refl }
 serve_no_io call (ToAdd handle) None cache = both_told cache (plant handle cache) (answer call Stored) (plant_no_io handle cache) (λ c. record { silent = tt; jobs = refl })
 
-pub serve_all_no_io : (waiters : List Waiter) (there : Option PageEntry) (cache : Cache) → NoIoPart cache (serve_all waiters there cache)
+pub serve_all_no_io : (waiters : List Waiter) (there : Option FlashEntry) (cache : Cache) → NoIoPart cache (serve_all waiters there cache)
 serve_all_no_io [] there cache = record { silent = tt; jobs = refl }
 serve_all_no_io (waiter ∷ waiters) there cache =
     both_told cache (serve waiter.call waiter.wish (live cache.now there) cache) (serve_all waiters (there_after waiter.wish (live cache.now there))) (serve_no_io waiter.call waiter.wish (live cache.now there) cache) (serve_all_no_io waiters (there_after waiter.wish (live cache.now there)))
 
-pub end_fill_no_io : (key : List ℕ) (there : Option PageEntry) (cache : Cache) → NoIoPart cache (end_fill key there cache)
+pub end_fill_no_io : (key : List ℕ) (there : Option FlashEntry) (cache : Cache) → NoIoPart cache (end_fill key there cache)
 end_fill_no_io key there cache = go cache.nvm refl
   where
     serves : (o : Option Fill) (nvm : Nvm) → cache.nvm ≡ Some nvm → NoIoPart cache (serve_fill o nvm there cache)
@@ -129,7 +129,7 @@ end_fill_no_io key there cache = go cache.nvm refl
 pub replies_no_io : (reply : Reply) (f : Cache → Told) → ((c : Cache) → NoIoPart c (f c)) → (cache : Cache) → NoIoPart cache (replies_then reply f cache)
 replies_no_io reply f q cache = let b = both_told cache (f cache) (tells (End cache.calls ∷ [])) (q cache) (λ c. record { silent = tt; jobs = refl }) in record { silent = b.silent; jobs = b.jobs }
 
-pub bring_no_io : (entry : Option PageEntry) (cache : Cache) → NoIoPart cache (bring entry cache)
+pub bring_no_io : (entry : Option FlashEntry) (cache : Cache) → NoIoPart cache (bring entry cache)
 bring_no_io None cache = record { silent = tt; jobs = refl }
 bring_no_io (Some entry) cache = go (can_link cache entry)
   where

@@ -3,7 +3,7 @@ use Rattle.std.proofs.Common.{◌≡◌, ℕ, ◌+◌, ◌==◌, Bool, true, fal
 use Rattle.std.specs.Prelude.{if◌then◌else◌, is_some, nat_lt, option_map}
 use Rattle.hc_types.specs.Places.{is_small_by}
 use Rattle.hc_types.specs.declared.refusal.Refusal.{Refusal}
-use Rattle.hc_bighash.specs.Page.{PageEntry}
+use Rattle.hc_types.specs.FlashEntry.{FlashEntry}
 use Rattle.hc_engines.specs.Engine as engine
 use Rattle.hc_engines.specs.Engine.{Op, Put, Get, Delete, Order, IoResult, Outcome, Next, Busy, Io, Done}
 use Rattle.hc_engines.specs.large.Block as block
@@ -155,11 +155,11 @@ launched_no_io task (Io order outcome) nvm =
     record { silent = q.silent; orders = λ n o h. ap (λ jobs. order_at jobs n) q.jobs ∙ pushed_order n o job nvm.jobs h }
 launched_no_io task (Done outcome) nvm = let e = ends_so (nvm.made + 1) task outcome nvm in record { silent = e.silent; orders = λ n o h. ap (λ jobs. order_at jobs n) e.jobs ∙ h }
 
-sized_no_io : (t : Bool) (put : PageEntry) (nvm : Nvm) → NoIoTaken nvm (take_sized t put nvm)
+sized_no_io : (t : Bool) (put : FlashEntry) (nvm : Nvm) → NoIoTaken nvm (take_sized t put nvm)
 sized_no_io true put nvm = let m = pairs.start (nvm.made + 1) (Put put) nvm.pair in let q = launched_no_io (Putting put.key) m.next (record nvm { pair = m.pair }) in record { silent = q.silent; orders = q.orders }
 sized_no_io false put nvm = let m = pairs.start (nvm.made + 1) (Put put) nvm.pair in let q = launched_no_io Flushing m.next (record nvm { pair = m.pair }) in record { silent = q.silent; orders = q.orders }
 
-put_no_io : (o : Option PageEntry) (nvm : Nvm) → NoIoTaken nvm (take_put o nvm)
+put_no_io : (o : Option FlashEntry) (nvm : Nvm) → NoIoTaken nvm (take_put o nvm)
 put_no_io None nvm = idle_no_io nvm
 put_no_io (Some put) nvm = let q = sized_no_io (is_small_by nvm.pair.small.flash put.key (length put.value)) put (record nvm { queue = without_put put.key nvm.queue }) in record { silent = q.silent; orders = q.orders }
 

@@ -4,7 +4,7 @@ use Rattle.std.specs.Prelude.{if◌then◌else◌, option_map}
 use Rattle.std.proofs.lemmas.Bool.{eqb-true, eq-eqb}
 use Rattle.hc_types.specs.Places.{kept_of}
 use Rattle.hc_types.specs.declared.config.FlashConfig.{FlashConfig}
-use Rattle.hc_bighash.proofs.Numbers.{some_is}
+use Rattle.hc_bucket.proofs.Numbers.{some_is}
 use Rattle.hc_engines.specs.Engine.{Order, Pages}
 use Rattle.hc_engines.specs.small.BigHash as bighash
 use Rattle.hc_engines.specs.small.BigHash.{is_busy, key_of, word_at}

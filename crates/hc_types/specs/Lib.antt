@@ -6,6 +6,7 @@ pub mod Charge
 pub mod Config
 pub mod Limits
 pub mod Places
+pub mod FlashEntry
 pub mod Refusals
 pub mod Loss
 pub mod Losses

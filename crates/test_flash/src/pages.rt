@@ -2,7 +2,7 @@
 ghost use Rattle.std.specs.Prelude.{◌<◌, ◌≤◌, length};
 
 use bytes::Bytes;
-use hc_bighash::{decode_page, decode_shared, encode_page, entry_len, fits, one_list_a_page};
+use hc_bucket::{decode_page, decode_shared, encode_page, entry_len, fits, one_list_a_page};
 use hc_types::{Entry, Key};
 use std::alloc::Global;
 use std::process::Abort;

@@ -6,7 +6,7 @@ use Rattle.std.proofs.lemmas.Nat.{div-mul-add}
 use Rattle.std.specs.Prelude.{if◌then◌else◌, ◌==◌}
 use Rattle.hc_types.specs.declared.config.FlashConfig.{FlashConfig}
 use Rattle.hc_types.specs.Places.{kept_of}
-use Rattle.hc_bighash.specs.Page.{PageEntry}
+use Rattle.hc_types.specs.FlashEntry.{FlashEntry}
 use Rattle.hc_engines.specs.large.Entries.{IsLarge, entry_bytes}
 use Rattle.hc_engines.specs.large.Region.{is_clean, Region, filled_to, region_at, page_no}
 use Rattle.hc_engines.specs.large.Index.{Place, place_at}
@@ -80,13 +80,13 @@ pub filled_long : (flash : FlashConfig) (pages : ℕ → Option (List ℕ)) (s :
 filled_long flash pages s r fits u =
     omega (arith, length-append (first_pages flash pages r (region_at r s.regions).written) (region_at r s.regions).buffer, pages_long flash pages r (region_at r s.regions).written (λ i lt. fits.known r i u lt))
 
-abbrev pub with_entry : FlashConfig → PageEntry → Region → Region
+abbrev pub with_entry : FlashConfig → FlashEntry → Region → Region
 with_entry flash entry region = record region { buffer = region.buffer ++ entry_bytes entry; appended = region.appended ++ record { hash = kept_of flash.bits entry.key; offset = filled_to flash region } ∷ [] }
 
-abbrev pub new_place : FlashConfig → ℕ → PageEntry → Block → Place
+abbrev pub new_place : FlashConfig → ℕ → FlashEntry → Block → Place
 new_place flash r entry s = record { region = r; offset = filled_to flash (region_at r s.regions); length = length (entry_bytes entry) }
 
-module _ (flash : FlashConfig) (pages : ℕ → Option (List ℕ)) (s : Block) (r : ℕ) (entry : PageEntry) (unclean : is_clean (region_at r s.regions).status ≡ false) where
+module _ (flash : FlashConfig) (pages : ℕ → Option (List ℕ)) (s : Block) (r : ℕ) (entry : FlashEntry) (unclean : is_clean (region_at r s.regions).status ≡ false) where
   pub appended_grows : (q : ℕ) → Grows flash pages pages s (append flash r entry s) q
   appended_grows q = go (q == r) refl
     where

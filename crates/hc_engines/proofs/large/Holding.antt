@@ -5,7 +5,7 @@ use Rattle.std.specs.Str.{bytes_eq}
 use Rattle.hc_types.specs.declared.config.FlashConfig.{FlashConfig}
 use Rattle.hc_types.specs.Places.{kept_of}
 use Rattle.hc_types.specs.Loss.{Cause}
-use Rattle.hc_bighash.specs.Page.{PageEntry}
+use Rattle.hc_types.specs.FlashEntry.{FlashEntry}
 use Rattle.hc_engines.specs.large.Entries.{IsLarge, entry_in}
 use Rattle.hc_engines.specs.large.Region.{is_clean, region_at}
 use Rattle.hc_engines.specs.large.Index.{Place, Indexed, place_at, without, leading_into, without_all}
@@ -34,7 +34,7 @@ held_same flash pages new_pages s new fits e grows key =
     ap (λ index. read_at flash new_pages new key (place_at (kept_of flash.bits key) index)) e
     ∙ read_same flash pages new_pages s new key (place_at (kept_of flash.bits key) s.index) (λ p f. same_bytes_at flash pages new_pages s new p (grows (kept_of flash.bits key) p f) (fits.places (kept_of flash.bits key) p f).within)
 
-pub held_put : (flash : FlashConfig) (pages : ℕ → Option (List ℕ)) (s : Block) (r : ℕ) (entry : PageEntry) → is_clean (region_at r s.regions).status ≡ false → IsLarge entry → Fits flash pages s
+pub held_put : (flash : FlashConfig) (pages : ℕ → Option (List ℕ)) (s : Block) (r : ℕ) (entry : FlashEntry) → is_clean (region_at r s.regions).status ≡ false → IsLarge entry → Fits flash pages s
     → (key : List ℕ) → held flash pages (append flash r entry s) key ≡ after_put flash entry key (held flash pages s key)
 held_put flash pages s r entry unclean large fits key =
     ap (read_at flash pages (append flash r entry s) key) (place_at-leading (kept_of flash.bits entry.key) (kept_of flash.bits key) (new_place flash r entry s) s.index)

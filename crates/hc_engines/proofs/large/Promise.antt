@@ -9,7 +9,7 @@ use Rattle.std.specs.Prelude.{if◌then◌else◌, ◌==◌, ◌&&◌, min}
 use Rattle.std.specs.Str.{bytes_eq}
 use Rattle.hc_types.specs.declared.config.FlashConfig.{FlashConfig}
 use Rattle.hc_types.specs.Places.{kept_of}
-use Rattle.hc_bighash.specs.Page.{PageEntry}
+use Rattle.hc_types.specs.FlashEntry.{FlashEntry}
 use Rattle.hc_engines.specs.Engine.{Absent, Found, nothing}
 use Rattle.hc_engines.specs.large.Entries.{entry_in}
 use Rattle.hc_engines.specs.large.Region.{is_clean, region_at, page_no}
@@ -146,7 +146,7 @@ pub is-place : (o : Option Place) (p : Place) → is_place o p ≡ true → o �
 is-place None p h = absurd (cc)
 is-place (Some q) p h = ap Some (same-place q p h)
 
-own_by : (key : List ℕ) (entry : PageEntry) → own_entry key entry ≡ answer_by (if_own key (Some entry))
+own_by : (key : List ℕ) (entry : FlashEntry) → own_entry key entry ≡ answer_by (if_own key (Some entry))
 own_by key entry = go (bytes_eq entry.key key)
   where
     go : (t : Bool) → (if t then Found entry else Absent) ≡ answer_by (if t then Some entry else None)

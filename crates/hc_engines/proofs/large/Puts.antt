@@ -6,7 +6,7 @@ use Rattle.std.specs.Prelude.{if◌then◌else◌, ◌==◌, nat_le, is_some}
 use Rattle.std.specs.Str.{bytes_eq}
 use Rattle.hc_types.specs.declared.config.FlashConfig.{FlashConfig}
 use Rattle.hc_types.specs.Places.{kept_of}
-use Rattle.hc_bighash.specs.Page.{PageEntry}
+use Rattle.hc_types.specs.FlashEntry.{FlashEntry}
 use Rattle.hc_engines.specs.large.Entries.{entry_bytes}
 use Rattle.hc_engines.specs.large.Region.{Status, Clean, Open, Sealed, is_clean, Appended, Region, clean_region, opened_region, filled_to, next_page, region_at}
 use Rattle.hc_engines.specs.large.Index.{Place, place_at, region_in}
@@ -20,7 +20,7 @@ use Rattle.hc_engines.proofs.large.Flushes.{not_both}
 
 -- ---- the entry goes behind what the region has
 
-abbrev grown : PageEntry → FlashConfig → Region → Region
+abbrev grown : FlashEntry → FlashConfig → Region → Region
 grown entry flash region = record region { buffer = region.buffer ++ entry_bytes entry; appended = region.appended ++ record { hash = kept_of flash.bits entry.key; offset = filled_to flash region } ∷ [] }
 
 listed-push : (h o : ℕ) (xs : List Appended) (x : Appended) → is_listed h o xs ≡ true → is_listed h o (xs ++ x ∷ []) ≡ true
@@ -40,7 +40,7 @@ same_page flash region more bytes e h =
     let none2 : flash.page - length region.buffer ≡ 0 = omega arith in
     rw (front, none, none2) refl
 
-grown_holds : (flash : FlashConfig) (entry : PageEntry) (rs ws : ℕ) (region : Region) → region.status ≡ Open → Holds flash rs ws region → Holds flash rs ws (grown entry flash region)
+grown_holds : (flash : FlashConfig) (entry : FlashEntry) (rs ws : ℕ) (region : Region) → region.status ≡ Open → Holds flash rs ws region → Holds flash rs ws (grown entry flash region)
 grown_holds flash entry rs ws region o h = record {
   blank = λ c. absurd (let d : is_clean Open ≡ true = (rw o at c) in cc);
   bare = λ c. absurd (let d : is_live Open ≡ false = (rw o at c) in cc);
@@ -63,7 +63,7 @@ open_out flash rs ws region o h w = go region.early refl
     go true t = h.early t
     go false t = let none : ◌≡◌ {A = ℕ} (if is_out region then 1 else 0) 0 = (rw (o, t) refl) in absurd (omega (arith, h.out))
 
-pub append_sound : (flash : FlashConfig) (r : ℕ) (entry : PageEntry) (s : Block) → (region_at r s.regions).status ≡ Open → Sound flash s → Sound flash (append flash r entry s)
+pub append_sound : (flash : FlashConfig) (r : ℕ) (entry : FlashEntry) (s : Block) → (region_at r s.regions).status ≡ Open → Sound flash s → Sound flash (append flash r entry s)
 append_sound flash r entry s o sound = record {
   current = λ q c. kept (λ status. status ≡ Open) q (sound.current q c);
   sealed = λ q i. kept (λ status. status ≡ Sealed) q (sound.sealed q i);

@@ -3,7 +3,7 @@ use Rattle.std.proofs.Common.{◌≡◌, ℕ, ◌+◌, ◌<◌, Bool, true, fals
 use Rattle.std.specs.Prelude.{if◌then◌else◌, nat_lt, nat_le}
 use Rattle.hc_types.specs.declared.config.FlashConfig.{FlashConfig}
 use Rattle.hc_types.specs.Loss.{Reclaimed}
-use Rattle.hc_bighash.specs.Page.{PageEntry}
+use Rattle.hc_types.specs.FlashEntry.{FlashEntry}
 use Rattle.hc_engines.specs.large.Entries.{entry_bytes}
 use Rattle.hc_engines.specs.large.Region.{Open, is_clean, opened_region, region_len, filled_to, region_at, lowest_clean}
 use Rattle.hc_engines.specs.large.Block.{Block, unmoved}
@@ -44,7 +44,7 @@ opens flash s r sound e =
       is_open = (rw (region_at-set (seal s.current s.regions) r r opened_region there, same_num r) refl);
     }
 
-pub put_sound : (flash : FlashConfig) (entry : PageEntry) (s : Block) → 0 < flash.region_pages → Sound flash s → Sound flash (put flash entry s).state
+pub put_sound : (flash : FlashConfig) (entry : FlashEntry) (s : Block) → 0 < flash.region_pages → Sound flash s → Sound flash (put flash entry s).state
 put_sound flash entry s some sound = go (fitting flash s (length (entry_bytes entry)) s.current) refl
   where
     fresh : (o : Option ℕ) → lowest_clean 0 s.regions ≡ o → Sound flash (put_fresh flash entry s o).state

@@ -5,7 +5,7 @@ use Rattle.std.proofs.lemmas.List.{set-get_or}
 use Rattle.std.specs.Prelude.{if◌then◌else◌, ◌==◌, nat_lt, nat_le}
 use Rattle.hc_types.specs.declared.config.FlashConfig.{FlashConfig}
 use Rattle.hc_types.specs.Loss.{Cause, Reclaimed}
-use Rattle.hc_bighash.specs.Page.{PageEntry}
+use Rattle.hc_types.specs.FlashEntry.{FlashEntry}
 use Rattle.hc_engines.specs.large.Entries.{IsLarge, entry_bytes}
 use Rattle.hc_engines.specs.large.Region.{Status, Clean, Open, Sealed, Flushing, OnFlash, Draining, is_clean, Region, clean_region, opened_region, filled_to, region_len, can_go, region_at, lowest_clean}
 use Rattle.hc_engines.specs.large.Block.{Work, Writing, Getting, Job, Block, unmoved, without_job}
@@ -58,7 +58,7 @@ reclaim_rest flash pages s sound rest = go (nat_lt (clean_count s.regions) flash
 
 -- ---- put
 
-pub append_rest : (flash : FlashConfig) (pages : ℕ → Option (List ℕ)) (r : ℕ) (entry : PageEntry) (s : Block) → (region_at r s.regions).status ≡ Open → IsLarge entry → AllHold flash s.regions s.jobs → Rest flash pages s → Rest flash pages (append flash r entry s)
+pub append_rest : (flash : FlashConfig) (pages : ℕ → Option (List ℕ)) (r : ℕ) (entry : FlashEntry) (s : Block) → (region_at r s.regions).status ≡ Open → IsLarge entry → AllHold flash s.regions s.jobs → Rest flash pages s → Rest flash pages (append flash r entry s)
 append_rest flash pages r entry s o large works rest = record {
   fits = append_fits flash pages s r entry (rw o refl) large rest.fits;
   reads = reads_stay flash pages pages r (with_entry flash entry (region_at r s.regions)) s (append flash r entry s) s.jobs (record {
@@ -111,7 +111,7 @@ open_rest flash pages r s sound lt c rest = record {
   }) sound.works rest.reads;
 }
 
-pub put_rest : (flash : FlashConfig) (pages : ℕ → Option (List ℕ)) (entry : PageEntry) (s : Block) → 0 < flash.region_pages → IsLarge entry → Sound flash s → Rest flash pages s → Rest flash pages (put flash entry s).state
+pub put_rest : (flash : FlashConfig) (pages : ℕ → Option (List ℕ)) (entry : FlashEntry) (s : Block) → 0 < flash.region_pages → IsLarge entry → Sound flash s → Rest flash pages s → Rest flash pages (put flash entry s).state
 put_rest flash pages entry s some large sound rest = go (fitting flash s (length (entry_bytes entry)) s.current) refl
   where
     fresh : (o : Option ℕ) → lowest_clean 0 s.regions ≡ o → Rest flash pages (put_fresh flash entry s o).state

@@ -3,7 +3,7 @@ use Rattle.std.proofs.Common.{◌≡◌, ℕ, [], ◌∷◌, Some, None, refl, r
 use Rattle.hc_types.specs.Places.{kept_of}
 use Rattle.hc_types.specs.declared.config.FlashConfig.{FlashConfig}
 use Rattle.hc_types.specs.Loss.{Key, Hash, Collision, NoCleanRegion, Reclaimed, Fault}
-use Rattle.hc_bighash.specs.Page.{PageEntry}
+use Rattle.hc_types.specs.FlashEntry.{FlashEntry}
 use Rattle.hc_engines.specs.Engine.{Put, Get, Flush, Reclaim, Read, Over, Absent, Found}
 use Rattle.hc_engines.specs.large.Trial.{Trial, fresh, begin, finish, fail, taken, entry, small_flash, page_asked}
 
@@ -105,7 +105,7 @@ drained_again = refl
 
 -- ---- two keys of one hash
 
-abbrev two : ℕ → ℕ → ℕ → PageEntry
+abbrev two : ℕ → ℕ → ℕ → FlashEntry
 two x y byte = record { key = x ∷ y ∷ []; value = replicate 200 byte; pool = 0; expiry = 0 }
 
 abbrev r13a : Trial

@@ -4,7 +4,7 @@ use Rattle.std.specs.Prelude.{if◌then◌else◌, is_some, ◌==◌, ◌⊎◌}
 use Rattle.hc_types.specs.declared.config.FlashConfig.{FlashConfig}
 use Rattle.hc_types.specs.Places.{kept_of}
 use Rattle.hc_types.specs.Loss.{Fault}
-use Rattle.hc_bighash.specs.Page.{PageEntry}
+use Rattle.hc_types.specs.FlashEntry.{FlashEntry}
 use Rattle.hc_engines.specs.Engine.{Get, Order, Read, Write, Page, Failed, Answer, Loss, Nothing, Absent, Pages, left_of, found, never, Does, AnswersFor, IsKnown, Serves}
 use Rattle.hc_engines.proofs.small.Losses.{left-none}
 use Rattle.hc_engines.specs.large.Index.{Place, place_at, is_place}
@@ -24,7 +24,7 @@ use Rattle.hc_engines.proofs.pair.LargeLosses.{ArePlain}
 use Rattle.hc_engines.proofs.pair.LargeServes.{left, plain_fits, known_done}
 
 -- what is answered of what is held
-by_found : (o : Option PageEntry) → answer_by o ≡ found o
+by_found : (o : Option FlashEntry) → answer_by o ≡ found o
 by_found None = refl
 by_found (Some e) = refl
 
@@ -127,6 +127,6 @@ large_takes flash pages hash s fits = (
   held_taken flash pages s hash,
 )
   where
-    was : (k : List ℕ) (x : PageEntry) (t : Bool) → (if t then None else held flash pages s k) ≡ Some x → held flash pages s k ≡ Some x
+    was : (k : List ℕ) (x : FlashEntry) (t : Bool) → (if t then None else held flash pages s k) ≡ Some x → held flash pages s k ≡ Some x
     was k x true h = absurd cc
     was k x false h = h

@@ -6,7 +6,7 @@ use Rattle.std.specs.Str.{bytes_eq}
 use Rattle.hc_types.specs.declared.config.FlashConfig.{FlashConfig}
 use Rattle.hc_types.specs.Places.{kept_of, is_small_by}
 use Rattle.hc_types.specs.Loss.{Scope, Key, Bucket, Hash, Cause, covers}
-use Rattle.hc_bighash.specs.Page.{PageEntry}
+use Rattle.hc_types.specs.FlashEntry.{FlashEntry}
 use Rattle.hc_engines.specs.Engine.{Loss, Pages, takes_out, is_lost, left_of}
 use Rattle.hc_engines.proofs.Keys.{same-true, same-refl}
 use Rattle.hc_engines.specs.large.Index.{Place, place_at}
@@ -17,7 +17,7 @@ use Rattle.hc_engines.specs.large.Laws.{names_hash, loses, after_put}
 use Rattle.hc_engines.proofs.large.Lists.{same_num}
 
 -- something is held under a key only where the index has its hash
-pub held-indexed : (flash : FlashConfig) (pages : Pages) (s : Block) (key : List ℕ) (e : PageEntry) → held flash pages s key ≡ Some e → place_at (kept_of flash.bits key) s.index ≡ None → ⊥
+pub held-indexed : (flash : FlashConfig) (pages : Pages) (s : Block) (key : List ℕ) (e : FlashEntry) → held flash pages s key ≡ Some e → place_at (kept_of flash.bits key) s.index ≡ None → ⊥
 held-indexed flash pages s key e h none = let gone : None ≡ Some e = (rw none at h) in cc
 
 -- ---- losses of hashes
@@ -35,7 +35,7 @@ pub plain-lost : (cause : Cause) (hashes : List ℕ) → takes_out cause ≡ tru
 plain-lost cause [] h = tt
 plain-lost cause (x ∷ xs) h = (h, plain-lost cause xs h)
 
-plain-covers : (flash : FlashConfig) (scope : Scope) (cause : Cause) (e : PageEntry) → IsPlain scope cause → is_small_by flash e.key (length e.value) ≡ false
+plain-covers : (flash : FlashConfig) (scope : Scope) (cause : Cause) (e : FlashEntry) → IsPlain scope cause → is_small_by flash e.key (length e.value) ≡ false
     → (takes_out cause && covers (Some flash) scope e.key (length e.value)) ≡ names_hash (kept_of flash.bits e.key) scope
 plain-covers flash (Key key) cause e h large = absurd h
 plain-covers flash (Bucket bucket) cause e h large = absurd h
@@ -46,7 +46,7 @@ plain-covers flash (Hash kept None) cause e h large = rw (h, large) (go (kept_of
     go false t = grind (arith, t)
 plain-covers flash (Hash kept (Some key)) cause e h large = absurd h
 
-plain-is : (flash : FlashConfig) (losses : List Loss) (e : PageEntry) → ArePlain losses → is_small_by flash e.key (length e.value) ≡ false → is_lost flash losses e ≡ loses (kept_of flash.bits e.key) losses
+plain-is : (flash : FlashConfig) (losses : List Loss) (e : FlashEntry) → ArePlain losses → is_small_by flash e.key (length e.value) ≡ false → is_lost flash losses e ≡ loses (kept_of flash.bits e.key) losses
 plain-is flash [] e h large = refl
 plain-is flash (loss ∷ losses) e h large = rw (plain-covers flash loss.scope loss.cause e h.0 large, plain-is flash losses e h.1 large) (go (names_hash (kept_of flash.bits e.key) loss.scope))
   where
@@ -55,11 +55,11 @@ plain-is flash (loss ∷ losses) e h large = rw (plain-covers flash loss.scope l
     go false = refl
 
 -- what is left of a held entry
-pub plain-left : (flash : FlashConfig) (losses : List Loss) (key : List ℕ) (o : Option PageEntry) → ArePlain losses → ((e : PageEntry) → o ≡ Some e → (e.key ≡ key) × (is_small_by flash e.key (length e.value) ≡ false))
+pub plain-left : (flash : FlashConfig) (losses : List Loss) (key : List ℕ) (o : Option FlashEntry) → ArePlain losses → ((e : FlashEntry) → o ≡ Some e → (e.key ≡ key) × (is_small_by flash e.key (length e.value) ≡ false))
     → (if loses (kept_of flash.bits key) losses then None else o) ≡ left_of flash losses o
 plain-left flash losses key None plain own = go (loses (kept_of flash.bits key) losses) None refl
   where
-    go : (t : Bool) (o : Option PageEntry) → o ≡ None → (if t then None else o) ≡ None
+    go : (t : Bool) (o : Option FlashEntry) → o ≡ None → (if t then None else o) ≡ None
     go true o e = refl
     go false o e = e
 plain-left flash losses key (Some x) plain own =
@@ -69,9 +69,9 @@ plain-left flash losses key (Some x) plain own =
 
 -- ---- what is left of what a put's entry meets
 
-pub collision-left : (flash : FlashConfig) (e : PageEntry) (key : List ℕ) (o : Option PageEntry) (at : Option Place) → is_small_by flash e.key (length e.value) ≡ false
-    → ((x : PageEntry) → o ≡ Some x → (x.key ≡ key) × (is_small_by flash x.key (length x.value) ≡ false))
-    → ((x : PageEntry) → o ≡ Some x → kept_of flash.bits key ≡ kept_of flash.bits e.key → at ≡ None → ⊥)
+pub collision-left : (flash : FlashConfig) (e : FlashEntry) (key : List ℕ) (o : Option FlashEntry) (at : Option Place) → is_small_by flash e.key (length e.value) ≡ false
+    → ((x : FlashEntry) → o ≡ Some x → (x.key ≡ key) × (is_small_by flash x.key (length x.value) ≡ false))
+    → ((x : FlashEntry) → o ≡ Some x → kept_of flash.bits key ≡ kept_of flash.bits e.key → at ≡ None → ⊥)
     → after_put flash e key o ≡ left_of flash (collided (kept_of flash.bits e.key) e.key at) (if bytes_eq e.key key then Some e else o)
 collision-left flash e key o at large own there = by (bytes_eq e.key key) refl
   where
@@ -79,9 +79,9 @@ collision-left flash e key o at large own there = by (bytes_eq e.key key) refl
     here None p = refl
     here (Some q) p = rw (large, same_num (kept_of flash.bits e.key), same-refl e.key) refl
 
-    other : (o : Option PageEntry) (at : Option Place) (t : Bool) → (kept_of flash.bits key == kept_of flash.bits e.key) ≡ t → bytes_eq e.key key ≡ false
-        → ((x : PageEntry) → o ≡ Some x → (x.key ≡ key) × (is_small_by flash x.key (length x.value) ≡ false))
-        → ((x : PageEntry) → o ≡ Some x → kept_of flash.bits key ≡ kept_of flash.bits e.key → at ≡ None → ⊥)
+    other : (o : Option FlashEntry) (at : Option Place) (t : Bool) → (kept_of flash.bits key == kept_of flash.bits e.key) ≡ t → bytes_eq e.key key ≡ false
+        → ((x : FlashEntry) → o ≡ Some x → (x.key ≡ key) × (is_small_by flash x.key (length x.value) ≡ false))
+        → ((x : FlashEntry) → o ≡ Some x → kept_of flash.bits key ≡ kept_of flash.bits e.key → at ≡ None → ⊥)
         → (if t then None else o) ≡ left_of flash (collided (kept_of flash.bits e.key) e.key at) o
     other None at true t p own there = refl
     other None at false t p own there = refl

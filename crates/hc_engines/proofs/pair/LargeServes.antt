@@ -5,8 +5,8 @@ use Rattle.std.specs.Str.{bytes_eq}
 use Rattle.hc_types.specs.declared.config.FlashConfig.{FlashConfig}
 use Rattle.hc_types.specs.Places.{kept_of, is_small_by}
 use Rattle.hc_types.specs.Loss.{Key, NoCleanRegion, Reclaimed, Fault}
-use Rattle.hc_bighash.specs.Page.{PageEntry}
-use Rattle.hc_bighash.proofs.Numbers.{some_is}
+use Rattle.hc_types.specs.FlashEntry.{FlashEntry}
+use Rattle.hc_bucket.proofs.Numbers.{some_is}
 use Rattle.hc_engines.specs.Engine.{Op, Put, Flush, Reclaim, Order, Read, Write, Written, Failed, Nothing, Over, Loss, Outcome, Pages, with_page, never, is_lost, left_of, Does, IsKnown}
 use Rattle.hc_engines.proofs.small.Losses.{left-none}
 use Rattle.hc_engines.specs.large.Entries.{entry_bytes}
@@ -25,10 +25,10 @@ use Rattle.hc_engines.specs.pair.Pair.{next_of}
 use Rattle.hc_engines.specs.pair.Large.{large_held, LargeFits, LargeServes, LargePutServes, LargeReclaimServes, LargeFlushServes, LargeWrittenServes, LargeFailedWriteServes}
 use Rattle.hc_engines.proofs.pair.LargeLosses.{held-indexed, ArePlain, plain-lost, plain-left, collision-left}
 
-own_at : (flash : FlashConfig) (s : Block) (pages : Pages) → LargeFits flash s pages → (key : List ℕ) (x : PageEntry) → held flash pages s key ≡ Some x → (x.key ≡ key) × (is_small_by flash x.key (length x.value) ≡ false)
+own_at : (flash : FlashConfig) (s : Block) (pages : Pages) → LargeFits flash s pages → (key : List ℕ) (x : FlashEntry) → held flash pages s key ≡ Some x → (x.key ≡ key) × (is_small_by flash x.key (length x.value) ≡ false)
 own_at flash s pages fits key x h = (held_own flash pages s key x h, fits.large key x h)
 
-left-was : (flash : FlashConfig) (losses : List Loss) (o : Option PageEntry) (e : PageEntry) → left_of flash losses o ≡ Some e → o ≡ Some e
+left-was : (flash : FlashConfig) (losses : List Loss) (o : Option FlashEntry) (e : FlashEntry) → left_of flash losses o ≡ Some e → o ≡ Some e
 left-was flash losses None e h = absurd cc
 left-was flash losses (Some x) e h = go (is_lost flash losses x) h
   where
@@ -39,12 +39,12 @@ left-was flash losses (Some x) e h = go (is_lost flash losses x) h
 -- ---- put
 
 -- what a put tells
-record PutIs (flash : FlashConfig) (e : PageEntry) (s : Block) (room : Bool) (m : block.Moved) : Type 0 where
+record PutIs (flash : FlashConfig) (e : FlashEntry) (s : Block) (room : Bool) (m : block.Moved) : Type 0 where
   order : m.order ≡ None
   answer : m.outcome.answer ≡ (if room then Over else Nothing)
   losses : m.outcome.losses ≡ (if room then collided (kept_of flash.bits e.key) e.key (place_at (kept_of flash.bits e.key) s.index) else record { scope = Key e.key; cause = NoCleanRegion } ∷ [])
 
-put_is : (flash : FlashConfig) (e : PageEntry) (s : Block) (o : Option ℕ) → PutIs flash e s (is_some o || is_some (lowest_clean 0 s.regions)) (put_into flash e s o)
+put_is : (flash : FlashConfig) (e : FlashEntry) (s : Block) (o : Option ℕ) → PutIs flash e s (is_some o || is_some (lowest_clean 0 s.regions)) (put_into flash e s o)
 put_is flash e s (Some r) = record { order = refl; answer = refl; losses = refl }
 put_is flash e s None = fresh (lowest_clean 0 s.regions)
   where
@@ -52,11 +52,11 @@ put_is flash e s None = fresh (lowest_clean 0 s.regions)
     fresh None = record { order = refl; answer = refl; losses = refl }
     fresh (Some r) = record { order = refl; answer = refl; losses = refl }
 
-module _ (flash : FlashConfig) (pages : Pages) (e : PageEntry) (s : Block) (fits : LargeFits flash s pages) (big : is_small_by flash e.key (length e.value) ≡ false) where
-  there : (key : List ℕ) (x : PageEntry) → held flash pages s key ≡ Some x → kept_of flash.bits key ≡ kept_of flash.bits e.key → place_at (kept_of flash.bits e.key) s.index ≡ None → ⊥
+module _ (flash : FlashConfig) (pages : Pages) (e : FlashEntry) (s : Block) (fits : LargeFits flash s pages) (big : is_small_by flash e.key (length e.value) ≡ false) where
+  there : (key : List ℕ) (x : FlashEntry) → held flash pages s key ≡ Some x → kept_of flash.bits key ≡ kept_of flash.bits e.key → place_at (kept_of flash.bits e.key) s.index ≡ None → ⊥
   there key x h same none = held-indexed flash pages s key x h (ap (λ n. place_at n s.index) same ∙ none)
 
-  unplaced : (o : Option PageEntry) → o ≡ left_of flash (record { scope = Key e.key; cause = NoCleanRegion } ∷ []) o
+  unplaced : (o : Option FlashEntry) → o ≡ left_of flash (record { scope = Key e.key; cause = NoCleanRegion } ∷ []) o
   unplaced None = refl
   unplaced (Some x) = refl
 
@@ -68,16 +68,16 @@ module _ (flash : FlashConfig) (pages : Pages) (e : PageEntry) (s : Block) (fits
 
   -- what is held after it is large
   still_large : (room : Bool) (m : block.Moved) → ((key : List ℕ) → held flash pages m.state key ≡ (if room then after_put flash e key (held flash pages s key) else held flash pages s key))
-      → (key : List ℕ) (x : PageEntry) → held flash pages m.state key ≡ Some x → is_small_by flash x.key (length x.value) ≡ false
+      → (key : List ℕ) (x : FlashEntry) → held flash pages m.state key ≡ Some x → is_small_by flash x.key (length x.value) ≡ false
   still_large false m new key x h = fits.large key x (sym (new key) ∙ h)
   still_large true m new key x h = by (after_put flash e key (held flash pages s key)) refl (sym (new key) ∙ h)
     where
       pick : (a b : Bool) → (if a then (if b then Some e else None) else held flash pages s key) ≡ Some x → is_small_by flash x.key (length x.value) ≡ false
-      pick true true k = subst (λ (y : PageEntry). is_small_by flash y.key (length y.value) ≡ false) (some_is e x k) big
+      pick true true k = subst (λ (y : FlashEntry). is_small_by flash y.key (length y.value) ≡ false) (some_is e x k) big
       pick true false k = absurd cc
       pick false b k = fits.large key x k
 
-      by : (o : Option PageEntry) → after_put flash e key (held flash pages s key) ≡ o → after_put flash e key (held flash pages s key) ≡ Some x → is_small_by flash x.key (length x.value) ≡ false
+      by : (o : Option FlashEntry) → after_put flash e key (held flash pages s key) ≡ o → after_put flash e key (held flash pages s key) ≡ Some x → is_small_by flash x.key (length x.value) ≡ false
       by o i k = pick _ _ k
 
 pub known_done : (pages : Pages) (o : Option Order) (outcome : Outcome) → o ≡ None → IsKnown pages (next_of outcome o)

@@ -13,7 +13,7 @@ use Rattle.hc_engines.specs.small.BigHash.{BigHash, Job, Phase, Reading, Writing
 use Rattle.hc_engines.specs.small.Held.{StateFits, PageFits, JobFits, JobsFit, held, bucket_entries, entries_at, under_way, job_under_way, KeptByOthers, StartGoes, ResumeGoes}
 use Rattle.hc_engines.proofs.small.UnderWay.{none_is_there}
 use Rattle.hc_engines.proofs.small.Resumed.{job_out}
-use Rattle.hc_bighash.proofs.Numbers.{some_is}
+use Rattle.hc_bucket.proofs.Numbers.{some_is}
 use Rattle.hc_engines.proofs.small.Serving.{none_under}
 
 -- ---- pages

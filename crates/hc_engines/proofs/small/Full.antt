@@ -1,10 +1,11 @@
 -- What a put pushes out.
 use Rattle.std.proofs.Common.{◌≡◌, ℕ, ◌+◌, ◌<◌, Bool, true, false, List, [], ◌∷◌, ◌++◌, refl, sym, ap, ◌∙◌, arith, nat_lt, append_assoc}
-use Rattle.hc_bighash.specs.Page.{PageEntry, used}
+use Rattle.hc_types.specs.FlashEntry.{FlashEntry}
+use Rattle.hc_bucket.specs.Page.{used}
 use Rattle.hc_engines.specs.small.Entries.{without, pushed_out, full_losses, put_losses, size_of}
 use Rattle.hc_engines.specs.small.Held.{IsPushedOut, AllPushedOut, FullIsTrue}
 
-pushed : (size : ℕ) (x : PageEntry) (es front rest : List PageEntry) → without x.key es ≡ front ++ rest → AllPushedOut size x es (full_losses (pushed_out size x rest))
+pushed : (size : ℕ) (x : FlashEntry) (es front rest : List FlashEntry) → without x.key es ≡ front ++ rest → AllPushedOut size x es (full_losses (pushed_out size x rest))
 pushed size x es front [] parts = tt
 pushed size x es front (old ∷ rest) parts = cases (nat_lt size (used (old ∷ rest) + size_of x)) refl (pushed size x es (front ++ old ∷ []) rest (parts ∙ sym (append_assoc front (old ∷ []) rest)))
   where

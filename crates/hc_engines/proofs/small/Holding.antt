@@ -4,8 +4,9 @@ use Rattle.std.specs.Prelude.{if◌then◌else◌, is_some, slice_index_or}
 use Rattle.std.proofs.lemmas.Bool.{eqb-true, eq-eqb}
 use Rattle.hc_types.specs.declared.config.FlashConfig.{FlashConfig}
 use Rattle.hc_types.specs.Places.{bucket_at, is_small_by}
-use Rattle.hc_bighash.specs.Page.{PageEntry, Fits, page_bytes}
-use Rattle.hc_bighash.proofs.Pages.{page_again}
+use Rattle.hc_types.specs.FlashEntry.{FlashEntry}
+use Rattle.hc_bucket.specs.Page.{Fits, page_bytes}
+use Rattle.hc_bucket.proofs.Pages.{page_again}
 use Rattle.std.specs.Str.{bytes_eq}
 use Rattle.hc_engines.specs.Engine.{Op, Put, Get, Delete, Flush, Reclaim, Answer, Nothing, Over, Absent, Found, Loss, is_lost, left_of, changed, Pages}
 use Rattle.hc_engines.specs.small.Entries.{under}
@@ -21,10 +22,10 @@ use Rattle.hc_engines.proofs.small.Losses.{Within, left-none, left-kept, left-lo
 -- ---- one bucket
 
 -- the entries of a page that fits its bucket
-pub read_again : (size : ℕ) (es : List PageEntry) (page : Option (List ℕ)) → page ≡ Some (page_bytes size es) → Fits size es → entries_in size page ≡ es
+pub read_again : (size : ℕ) (es : List FlashEntry) (page : Option (List ℕ)) → page ≡ Some (page_bytes size es) → Fits size es → entries_in size page ≡ es
 read_again size es page p fits = ap (entries_in size) p ∙ ap read_in (page_again size es fits)
 
-pub record Has (flash : FlashConfig) (bucket : ℕ) (es : List PageEntry) : Type 0 where
+pub record Has (flash : FlashConfig) (bucket : ℕ) (es : List FlashEntry) : Type 0 where
   pub fits : Fits flash.page es
   pub own : AllOwn flash bucket es
 
@@ -39,14 +40,14 @@ bucket_word flash bucket word page h = h.3 ∙ ap word_of (sym (read_again flash
 
 -- ---- a bucket that is given up
 
-lost-here : (flash : FlashConfig) (bucket : ℕ) (x : PageEntry) → is_small_by flash x.key (length x.value) ≡ true → bucket_at flash x.key ≡ bucket → is_lost flash (bucket_loss bucket) x ≡ true
+lost-here : (flash : FlashConfig) (bucket : ℕ) (x : FlashEntry) → is_small_by flash x.key (length x.value) ≡ true → bucket_at flash x.key ≡ bucket → is_lost flash (bucket_loss bucket) x ≡ true
 lost-here flash bucket x small here = let same : (bucket_at flash x.key == bucket) ≡ true = eq-eqb _ _ here in rw small (rw same refl)
 
-gone-here : (flash : FlashConfig) (bucket : ℕ) (key : List ℕ) (es : List PageEntry) (o : Option PageEntry) → under key es ≡ o → AllOwn flash bucket es → None ≡ left_of flash (bucket_loss bucket) o
+gone-here : (flash : FlashConfig) (bucket : ℕ) (key : List ℕ) (es : List FlashEntry) (o : Option FlashEntry) → under key es ≡ o → AllOwn flash bucket es → None ≡ left_of flash (bucket_loss bucket) o
 gone-here flash bucket key es None p own = refl
 gone-here flash bucket key es (Some x) p own = let h = own_under flash bucket key es x own p in sym (left-lost flash (bucket_loss bucket) x (lost-here flash bucket x h.0 h.1))
 
-pub give_up_changes : (flash : FlashConfig) (bucket : ℕ) (op : Op) (es : List PageEntry) (key : List ℕ) → is_ours flash op ≡ true → bucket_at flash (key_of op) ≡ bucket → AllOwn flash bucket es
+pub give_up_changes : (flash : FlashConfig) (bucket : ℕ) (op : Op) (es : List FlashEntry) (key : List ℕ) → is_ours flash op ≡ true → bucket_at flash (key_of op) ≡ bucket → AllOwn flash bucket es
     → None ≡ left_of flash (bucket_loss bucket) (changed op (given_up op) key (under key es))
 give_up_changes flash bucket (Put e) es key ours here own = cases (bytes_eq e.key key) refl
   where
@@ -71,7 +72,7 @@ not-same flash bucket a key here other = cases (bytes_eq a key) refl
     cases true p = let e : (bucket_at flash key == bucket) ≡ true = eq-eqb _ _ (ap (bucket_at flash) (sym (same-true a key p)) ∙ here) in absurd (cc (e, other))
     cases false p = p
 
-changed-other : (flash : FlashConfig) (bucket : ℕ) (op : Op) (answer : Answer) (key : List ℕ) (o : Option PageEntry) → bucket_at flash (key_of op) ≡ bucket → (bucket_at flash key == bucket) ≡ false → changed op answer key o ≡ o
+changed-other : (flash : FlashConfig) (bucket : ℕ) (op : Op) (answer : Answer) (key : List ℕ) (o : Option FlashEntry) → bucket_at flash (key_of op) ≡ bucket → (bucket_at flash key == bucket) ≡ false → changed op answer key o ≡ o
 changed-other flash bucket (Put e) Nothing key o here other = refl
 changed-other flash bucket (Put e) Over key o here other = rw (not-same flash bucket e.key key here other) refl
 changed-other flash bucket (Put e) Absent key o here other = refl
@@ -84,7 +85,7 @@ changed-other flash bucket (Delete k) (Found x) key o here other = refl
 changed-other flash bucket Flush answer key o here other = refl
 changed-other flash bucket Reclaim answer key o here other = refl
 
-left-other : (flash : FlashConfig) (bucket : ℕ) (losses : List Loss) (key : List ℕ) (es : List PageEntry) (o : Option PageEntry) → under key es ≡ o → Within flash bucket losses → (bucket_at flash key == bucket) ≡ false → o ≡ left_of flash losses o
+left-other : (flash : FlashConfig) (bucket : ℕ) (losses : List Loss) (key : List ℕ) (es : List FlashEntry) (o : Option FlashEntry) → under key es ≡ o → Within flash bucket losses → (bucket_at flash key == bucket) ≡ false → o ≡ left_of flash losses o
 left-other flash bucket losses key es None p within other = refl
 left-other flash bucket losses key es (Some x) p within other =
     let same : x.key ≡ key = same-true x.key key (under-key key es x p) in
@@ -92,7 +93,7 @@ left-other flash bucket losses key es (Some x) p within other =
     sym (left-kept flash losses x (within x apart))
 
 -- what is held changes by the outcome at each key, where it does so at the keys of the bucket and other buckets are as they were
-pub held_changes : (flash : FlashConfig) (bucket : ℕ) (op : Op) (answer : Answer) (losses : List Loss) (old new : ℕ → List PageEntry) → bucket_at flash (key_of op) ≡ bucket → Within flash bucket losses
+pub held_changes : (flash : FlashConfig) (bucket : ℕ) (op : Op) (answer : Answer) (losses : List Loss) (old new : ℕ → List FlashEntry) → bucket_at flash (key_of op) ≡ bucket → Within flash bucket losses
     → ((c : ℕ) → (c == bucket) ≡ false → new c ≡ old c)
     → ((key : List ℕ) → under key (new bucket) ≡ left_of flash losses (changed op answer key (under key (old bucket))))
     → (key : List ℕ) → under key (new (bucket_at flash key)) ≡ left_of flash losses (changed op answer key (under key (old (bucket_at flash key))))

@@ -4,7 +4,8 @@ use Rattle.std.specs.Prelude.{is_some, slice_index_or}
 use Rattle.std.proofs.lemmas.Bool.{eqb-true, eq-eqb}
 use Rattle.hc_types.specs.declared.config.FlashConfig.{FlashConfig}
 use Rattle.hc_types.specs.Places.{bucket_at}
-use Rattle.hc_bighash.specs.Page.{PageEntry, Fits, page_bytes}
+use Rattle.hc_types.specs.FlashEntry.{FlashEntry}
+use Rattle.hc_bucket.specs.Page.{Fits, page_bytes}
 use Rattle.hc_engines.specs.Engine.{Op, Put, Get, Delete, Flush, Reclaim, Answer, Nothing, Over, Loss, left_of, changed, found, Pages, with_page, Answers}
 use Rattle.hc_engines.specs.small.Entries.{under, without, page_put, put_losses}
 use Rattle.hc_engines.specs.small.Bloom.{word_of}
@@ -39,14 +40,14 @@ same-changes s pages bucket op answer mine h =
     held_changes s.flash bucket op answer [] (bucket_entries s pages) (bucket_entries s pages) (sym mine.here) (within_none s.flash bucket) (λ c n. refl)
     (λ key. h key ∙ sym (left-none s.flash (changed op answer key (under key (bucket_entries s pages bucket)))))
 
-nothing-changes : (op : Op) (key : List ℕ) (o : Option PageEntry) → o ≡ changed op Nothing key o
+nothing-changes : (op : Op) (key : List ℕ) (o : Option FlashEntry) → o ≡ changed op Nothing key o
 nothing-changes (Put e) key o = refl
 nothing-changes (Get k) key o = refl
 nothing-changes (Delete k) key o = refl
 nothing-changes Flush key o = refl
 nothing-changes Reclaim key o = refl
 
-pub nothing-held : (flash : FlashConfig) (op : Op) (key : List ℕ) (o : Option PageEntry) → o ≡ left_of flash [] (changed op Nothing key o)
+pub nothing-held : (flash : FlashConfig) (op : Op) (key : List ℕ) (o : Option FlashEntry) → o ≡ left_of flash [] (changed op Nothing key o)
 nothing-held flash op key o = nothing-changes op key o ∙ sym (left-none flash (changed op Nothing key o))
 
 state-with : (s : BigHash) (pages : Pages) (number bucket : ℕ) (op : Op) (phase : Phase) → StateFits s pages → Spare s pages number bucket → JobFits s.flash (word_at s bucket) (pages bucket) (make_job number bucket op phase)
@@ -69,7 +70,7 @@ keep_read s pages number bucket op fits spare mine word = record {
   known = known-page s.flash bucket (word_at s bucket) (pages bucket) (fits.pages_fit bucket) word;
 }
 
-pub keep_write : (s : BigHash) (pages : Pages) (number bucket : ℕ) (op : Op) (es : List PageEntry) (losses : List Loss) → StateFits s pages → Spare s pages number bucket → Mine s bucket op
+pub keep_write : (s : BigHash) (pages : Pages) (number bucket : ℕ) (op : Op) (es : List FlashEntry) (losses : List Loss) → StateFits s pages → Spare s pages number bucket → Mine s bucket op
     → WorkFits s.flash.page op (Writing es losses) (word_at s bucket) (bucket_entries s pages bucket) → Keeps op s pages (moved s number bucket op (ToWrite es losses)) pages
 keep_write s pages number bucket op es losses fits spare mine work = record {
   fits = state-with s pages number bucket op (Writing es losses) fits spare (mine.can, mine.ours, mine.here, work);
@@ -112,7 +113,7 @@ state-changed s pages after number bucket word fits spare lt others page = recor
     each c false p = subst (λ (o : Option ℕ). PageFits s.flash c o (after c)) (sym (word-other s.words bucket word c p)) (subst (λ (o : Option (List ℕ)). PageFits s.flash c (word_at s c) o) (sym (others c p)) (fits.pages_fit c))
 
 -- what is held then
-held-changed : (s : BigHash) (pages after : Pages) (number bucket : ℕ) (op : Op) (word : Option ℕ) (answer : Answer) (losses : List Loss) (es : List PageEntry) → StateFits s pages → Mine s bucket op → OthersSame bucket pages after → Within s.flash bucket losses
+held-changed : (s : BigHash) (pages after : Pages) (number bucket : ℕ) (op : Op) (word : Option ℕ) (answer : Answer) (losses : List Loss) (es : List FlashEntry) → StateFits s pages → Mine s bucket op → OthersSame bucket pages after → Within s.flash bucket losses
     → entries_at s.flash.page word (after bucket) ≡ es → ((key : List ℕ) → under key es ≡ left_of s.flash losses (changed op answer key (under key (bucket_entries s pages bucket))))
     → (key : List ℕ) → held (record { flash = s.flash; words = set s.words bucket word; jobs = without_job number s.jobs }) after key ≡ left_of s.flash losses (changed op answer key (held s pages key))
 held-changed s pages after number bucket op word answer losses es fits mine others within now h =
@@ -156,9 +157,9 @@ with-here pages bucket page = let t : (bucket == bucket) ≡ true = eq-eqb bucke
 pub fails_others : (pages : Pages) (bucket : ℕ) (page : Option (List ℕ)) → OthersSame bucket pages (with_page pages bucket page)
 fails_others = with-others
 
-kept : (s : BigHash) (pages : Pages) (number bucket : ℕ) (op : Op) (es : List PageEntry) (losses : List Loss) → StateFits s pages → Spare s pages number bucket → Mine s bucket op → Fits s.flash.page es → AllOwn s.flash bucket es → Within s.flash bucket losses
+kept : (s : BigHash) (pages : Pages) (number bucket : ℕ) (op : Op) (es : List FlashEntry) (losses : List Loss) → StateFits s pages → Spare s pages number bucket → Mine s bucket op → Fits s.flash.page es → AllOwn s.flash bucket es → Within s.flash bucket losses
     → ((key : List ℕ) → under key es ≡ left_of s.flash losses (changed op Over key (under key (bucket_entries s pages bucket))))
-    → ((new : List ℕ → Option PageEntry) → Answers op Over new)
+    → ((new : List ℕ → Option FlashEntry) → Answers op Over new)
     → Keeps op s pages (moved s number bucket op (ToKeep (word_of es) losses)) (with_page pages bucket (Some (page_bytes s.flash.page es)))
 kept s pages number bucket op es losses fits spare mine ok own within h answers =
     let here = with-here pages bucket (Some (page_bytes s.flash.page es)) in
@@ -169,24 +170,24 @@ kept s pages number bucket op es losses fits spare mine ok own within h answers 
       known = tt;
     }
 
-pub keep_kept : (s : BigHash) (pages : Pages) (number bucket : ℕ) (op : Op) (es : List PageEntry) (losses : List Loss) → StateFits s pages → Spare s pages number bucket → Mine s bucket op
+pub keep_kept : (s : BigHash) (pages : Pages) (number bucket : ℕ) (op : Op) (es : List FlashEntry) (losses : List Loss) → StateFits s pages → Spare s pages number bucket → Mine s bucket op
     → WorkFits s.flash.page op (Writing es losses) (word_at s bucket) (bucket_entries s pages bucket) → Keeps op s pages (moved s number bucket op (ToKeep (word_of es) losses)) (with_page pages bucket (Some (page_bytes s.flash.page es)))
 keep_kept s pages number bucket (Put e) es losses fits spare mine work =
     let has = has_entries s pages bucket fits in
-    let old : List PageEntry = bucket_entries s pages bucket in
+    let old : List FlashEntry = bucket_entries s pages bucket in
     let small = small_entry s.flash e fits.limits mine.can mine.ours in
     let done : Keeps (Put e) s pages (moved s number bucket (Put e) (ToKeep (word_of (page_put s.flash.page e old)) (put_losses s.flash.page e old))) (with_page pages bucket (Some (page_bytes s.flash.page (page_put s.flash.page e old)))) =
     kept s pages number bucket (Put e) (page_put s.flash.page e old) (put_losses s.flash.page e old) fits spare mine (fits-put s.flash.page e old (omega (arith, fits.limits.most_page)) has.fits small.0 small.1) (own_put s.flash bucket s.flash.page e old has.own mine.ours (sym mine.here))
     (within_put s.flash bucket s.flash.page e old has.own) (λ key. put_changes s.flash s.flash.page e old key (differ_from old has.fits.distinct_keys)) (λ new. tt) in
     subst (λ (l : List Loss). Keeps (Put e) s pages (moved s number bucket (Put e) (ToKeep (word_of es) l)) (with_page pages bucket (Some (page_bytes s.flash.page es)))) (sym work.1)
-    (subst (λ (x : List PageEntry). Keeps (Put e) s pages (moved s number bucket (Put e) (ToKeep (word_of x) (put_losses s.flash.page e old))) (with_page pages bucket (Some (page_bytes s.flash.page x)))) (sym work.0) done)
+    (subst (λ (x : List FlashEntry). Keeps (Put e) s pages (moved s number bucket (Put e) (ToKeep (word_of x) (put_losses s.flash.page e old))) (with_page pages bucket (Some (page_bytes s.flash.page x)))) (sym work.0) done)
 keep_kept s pages number bucket (Delete k) es losses fits spare mine work =
     let has = has_entries s pages bucket fits in
-    let old : List PageEntry = bucket_entries s pages bucket in
+    let old : List FlashEntry = bucket_entries s pages bucket in
     let done : Keeps (Delete k) s pages (moved s number bucket (Delete k) (ToKeep (word_of (without k old)) [])) (with_page pages bucket (Some (page_bytes s.flash.page (without k old)))) =
     kept s pages number bucket (Delete k) (without k old) [] fits spare mine (fits-without s.flash.page k old has.fits) (own_without s.flash bucket k old has.own) (within_none s.flash bucket) (λ key. delete_changes s.flash k old key) (λ new. tt) in
     subst (λ (l : List Loss). Keeps (Delete k) s pages (moved s number bucket (Delete k) (ToKeep (word_of es) l)) (with_page pages bucket (Some (page_bytes s.flash.page es)))) (sym work.1)
-    (subst (λ (x : List PageEntry). Keeps (Delete k) s pages (moved s number bucket (Delete k) (ToKeep (word_of x) [])) (with_page pages bucket (Some (page_bytes s.flash.page x)))) (sym work.0) done)
+    (subst (λ (x : List FlashEntry). Keeps (Delete k) s pages (moved s number bucket (Delete k) (ToKeep (word_of x) [])) (with_page pages bucket (Some (page_bytes s.flash.page x)))) (sym work.0) done)
 keep_kept s pages number bucket (Get k) es losses fits spare mine work = absurd work
 keep_kept s pages number bucket Flush es losses fits spare mine work = absurd work
 keep_kept s pages number bucket Reclaim es losses fits spare mine work = absurd work

@@ -5,10 +5,11 @@ use Rattle.std.proofs.Math.Nat.{mod-lt}
 use Rattle.std.proofs.lemmas.Bool.{eqb-true, eq-eqb}
 use Rattle.hc_types.specs.declared.config.FlashConfig.{FlashConfig}
 use Rattle.hc_types.specs.Places.{kept_of}
-use Rattle.hc_bighash.specs.Page.{PageEntry, page_bytes}
-use Rattle.hc_bighash.specs.Reading.{page_at}
-use Rattle.hc_bighash.proofs.Numbers.{some_is}
-use Rattle.hc_bighash.proofs.Pages.{page_again}
+use Rattle.hc_types.specs.FlashEntry.{FlashEntry}
+use Rattle.hc_bucket.specs.Page.{page_bytes}
+use Rattle.hc_bucket.specs.Reading.{page_at}
+use Rattle.hc_bucket.proofs.Numbers.{some_is}
+use Rattle.hc_bucket.proofs.Pages.{page_again}
 use Rattle.std.specs.Str.{bytes_eq}
 use Rattle.hc_engines.specs.Engine.{Op, Put, Get, Delete, Flush, Reclaim, Over, found, changed, Pages, IoResult, Page, Written, Failed, IsHonest, pages_after}
 use Rattle.hc_engines.specs.small.Entries.{under, without, page_put, put_losses}
@@ -80,16 +81,16 @@ page_read : (flash : FlashConfig) (bucket : ℕ) (word : Option ℕ) (page : Opt
 page_read flash bucket None page bytes h w p = absurd (cc)
 page_read flash bucket (Some word) page bytes h w p =
     let same : page_bytes flash.page h.0 ≡ bytes = some_is (page_bytes flash.page h.0) bytes (sym h.1 ∙ p) in
-    ap (page_at flash.page) (sym same) ∙ page_again flash.page h.0 h.2 ∙ ap (λ (es : List PageEntry). Some es) (sym (read_again flash.page h.0 page h.1 h.2))
+    ap (page_at flash.page) (sym same) ∙ page_again flash.page h.0 h.2 ∙ ap (λ (es : List FlashEntry). Some es) (sym (read_again flash.page h.0 page h.1 h.2))
 
-delete-absent : (k key : List ℕ) (es : List PageEntry) → under k es ≡ None → under key es ≡ changed (Delete k) Over key (under key es)
+delete-absent : (k key : List ℕ) (es : List FlashEntry) → under k es ≡ None → under key es ≡ changed (Delete k) Over key (under key es)
 delete-absent k key es none = cases (bytes_eq k key) refl
   where
     cases : (t : Bool) → bytes_eq k key ≡ t → under key es ≡ changed (Delete k) Over key (under key es)
     cases true p = rw p (ap (λ (z : List ℕ). under z es) (sym (same-true k key p)) ∙ none)
     cases false p = rw p refl
 
-deletes : (s : BigHash) (pages : Pages) (number bucket : ℕ) (k : List ℕ) (o : Option PageEntry) → under k (bucket_entries s pages bucket) ≡ o → StateFits s pages → Spare s pages number bucket → Mine s bucket (Delete k)
+deletes : (s : BigHash) (pages : Pages) (number bucket : ℕ) (k : List ℕ) (o : Option FlashEntry) → under k (bucket_entries s pages bucket) ≡ o → StateFits s pages → Spare s pages number bucket → Mine s bucket (Delete k)
     → Keeps (Delete k) s pages (moved s number bucket (Delete k) (if is_some o then ToWrite (without k (bucket_entries s pages bucket)) [] else ToEnd Over)) pages
 deletes s pages number bucket k None p fits spare mine = keep_end s pages number bucket (Delete k) Over fits spare mine (λ key. delete-absent k key (bucket_entries s pages bucket) p) tt
 deletes s pages number bucket k (Some e) p fits spare mine = keep_write s pages number bucket (Delete k) (without k (bucket_entries s pages bucket)) [] fits spare mine (refl, refl)
@@ -107,7 +108,7 @@ goes : (s : BigHash) (pages : Pages) (number bucket : ℕ) (op : Op) (phase : Ph
     → Keeps op s pages m (pages_after (order_of s.flash.page bucket phase) result pages)
 goes s pages number bucket op Reading (Page bytes) m fits spare mine work r honest =
     let read = page_read s.flash bucket (word_at s bucket) (pages bucket) bytes (fits.pages_fit bucket) work honest in
-    let e : moved s number bucket op (was_read s.flash.page op (bucket_entries s pages bucket)) ≡ m = ap (λ (o : Option (List PageEntry)). moved s number bucket op (read_as s.flash.page op o)) (sym read) ∙ some_is _ _ r in
+    let e : moved s number bucket op (was_read s.flash.page op (bucket_entries s pages bucket)) ≡ m = ap (λ (o : Option (List FlashEntry)). moved s number bucket op (read_as s.flash.page op o)) (sym read) ∙ some_is _ _ r in
     subst (λ (x : Moved). Keeps op s pages x pages) e (reads s pages number bucket op fits spare mine)
 goes s pages number bucket op Reading Failed m fits spare mine work r honest = subst (λ (x : Moved). Keeps op s pages x pages) (some_is _ _ r) (keep_given_up s pages pages number bucket op fits spare mine (λ c n. refl))
 goes s pages number bucket op Reading Written m fits spare mine work r honest = absurd (cc)

@@ -3,7 +3,7 @@ use Rattle.std.proofs.Common.{◌≡◌, ◌≢◌, ℕ, Bool, true, false, List
 use Rattle.std.specs.Prelude.{is_some, option_map, ◌⊎◌, Result, Ok, Err, IfOk, IfErr, IfSome, OnOk}
 use Rattle.hc_types.specs.declared.config.FlashConfig.{FlashConfig}
 use Rattle.hc_types.specs.Places.{bucket_at}
-use Rattle.hc_bighash.specs.Page.{PageEntry}
+use Rattle.hc_types.specs.FlashEntry.{FlashEntry}
 use Rattle.hc_engines.specs.Engine.{IoResult, Page, Written, Failed, IsHonest, pages_after, Suits, Awaits, Op, Next, Busy, Io, Done, Holds, Pages, Changes, Does, never, Serves, UnderWay}
 use Rattle.hc_engines.specs.small.Bloom.{could_have, word_of}
 use Rattle.hc_engines.specs.small.Entries.{under}
@@ -30,7 +30,7 @@ none_under flash (Some job) h = absurd (cc)
 pub start_serves : StartServes
 start_serves s pages number op fits none can = serves s pages op (start s number op) pages (start_keeps s pages number op fits (none_under s.flash (job_at number s.jobs) none) can)
 
-some_of : (o : Option PageEntry) → o ≢ None → is_some o ≡ true
+some_of : (o : Option FlashEntry) → o ≢ None → is_some o ≡ true
 some_of None h = absurd (h refl)
 some_of (Some e) h = refl
 

@@ -4,7 +4,7 @@ use Rattle.std.specs.Prelude.{is_some, if◌then◌else◌}
 use Rattle.std.proofs.Math.Nat.{mod-lt}
 use Rattle.hc_types.specs.Places.{kept_of}
 use Rattle.hc_types.specs.declared.config.FlashConfig.{FlashConfig}
-use Rattle.hc_bighash.specs.Page.{PageEntry}
+use Rattle.hc_types.specs.FlashEntry.{FlashEntry}
 use Rattle.std.specs.Str.{bytes_eq}
 use Rattle.hc_engines.specs.Engine.{Op, Put, Get, Delete, Flush, Reclaim, Nothing, Over, Absent, found, changed, Pages, Busy, Answers}
 use Rattle.hc_engines.specs.small.Entries.{under, page_put, put_losses}
@@ -30,7 +30,7 @@ delete-none k key = cases (bytes_eq k key) refl
     cases false p = rw p refl
 
 -- what isn't told of isn't held
-not-told : (word : ℕ) (es : List PageEntry) (key : List ℕ) (o : Option PageEntry) → under key es ≡ o → word ≡ word_of es → could_have word key ≡ false → o ≡ None
+not-told : (word : ℕ) (es : List FlashEntry) (key : List ℕ) (o : Option FlashEntry) → under key es ≡ o → word ≡ word_of es → could_have word key ≡ false → o ≡ None
 not-told word es key None p w h = refl
 not-told word es key (Some e) p w h =
     let there : is_some (under key es) ≡ true = ap is_some p in
@@ -57,7 +57,7 @@ begins s pages number bucket (Get key) None w fits spare mine =
     keep_end s pages number bucket (Get key) Absent fits spare mine (λ k. refl) (sym (ap found here))
 begins s pages number bucket (Delete k) None w fits spare mine =
     let empty = fresh-holds s pages bucket w in
-    keep_end s pages number bucket (Delete k) Over fits spare mine (λ key. ap (under key) empty ∙ delete-none k key ∙ sym (ap (λ (es : List PageEntry). changed (Delete k) Over key (under key es)) empty)) tt
+    keep_end s pages number bucket (Delete k) Over fits spare mine (λ key. ap (under key) empty ∙ delete-none k key ∙ sym (ap (λ (es : List FlashEntry). changed (Delete k) Over key (under key es)) empty)) tt
 begins s pages number bucket (Put e) (Some word) w fits spare mine = keep_read s pages number bucket (Put e) fits spare mine (ap is_some w)
 begins s pages number bucket (Get key) (Some word) w fits spare mine = looks s pages number bucket key word (could_have word key) refl fits spare mine w
 begins s pages number bucket (Delete k) (Some word) w fits spare mine = keep_read s pages number bucket (Delete k) fits spare mine (ap is_some w)
@@ -72,7 +72,7 @@ busy-or-not s pages number bucket op false p fits none mine =
     let spare : Spare s pages number bucket = record { rest = subst (λ js. JobsFit s.flash (word_at s) pages js) (sym same) fits.jobs_fit; free = ap (is_busy bucket) same ∙ p; gone = ap (job_at number) same ∙ none } in
     begins s pages number bucket op (word_at s bucket) refl fits spare mine
 
-others-answer : (op : Op) (new : List ℕ → Option PageEntry) (flash : FlashConfig) → our_bucket flash op ≡ None → Answers op Nothing new
+others-answer : (op : Op) (new : List ℕ → Option FlashEntry) (flash : FlashConfig) → our_bucket flash op ≡ None → Answers op Nothing new
 others-answer (Put e) new flash h = tt
 others-answer (Get key) new flash h = absurd (cc)
 others-answer (Delete key) new flash h = tt

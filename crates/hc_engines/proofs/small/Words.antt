@@ -4,7 +4,7 @@ use Rattle.std.specs.Prelude.{bit_or, bit_and, is_some, ◌==◌, cond}
 use Rattle.std.proofs.lemmas.Nat.{and_or_self, or_comm}
 use Rattle.std.proofs.lemmas.Bool.{eq-eqb, eqb-true}
 use Rattle.std.specs.Cmp.Lexicographic.{pointwise}
-use Rattle.hc_bighash.specs.Page.{PageEntry}
+use Rattle.hc_types.specs.FlashEntry.{FlashEntry}
 use Rattle.std.specs.Str.{bytes_eq}
 use Rattle.hc_engines.specs.small.Bloom.{bits_of, word_of, could_have}
 use Rattle.hc_engines.specs.small.Entries.{under}
@@ -25,7 +25,7 @@ stays word more bits h = same_from_bits (bit_and (bit_or word more) bits) bits e
         let c = bit_at_or word more i in
         grind (arith, here, a, b, c)
 
-word_cases : (e : PageEntry) (es : List PageEntry) (key : List ℕ) (t : Bool) → pointwise nat_eq e.key key ≡ t → is_some (under key (e ∷ es)) ≡ true
+word_cases : (e : FlashEntry) (es : List FlashEntry) (key : List ℕ) (t : Bool) → pointwise nat_eq e.key key ≡ t → is_some (under key (e ∷ es)) ≡ true
     → (is_some (under key es) ≡ true → could_have (word_of es) key ≡ true) → could_have (word_of (e ∷ es)) key ≡ true
 word_cases e es key true p h more = let same : e.key ≡ key = same-true e.key key p in eq-eqb _ _ (ap (λ (k : List ℕ). bit_and (bit_or (word_of es) (bits_of k)) (bits_of key)) same ∙ and_or_self (bits_of key) (word_of es))
 word_cases e es key false p h more =

@@ -2,7 +2,7 @@
 use Rattle.std.specs.Prelude.{◌≡◌, ℕ, ◌+◌, ◌<◌, ◌≤◌, true, false, List, [], ◌∷◌, ◌++◌, take, drop, length, Option, Some, None}
 use Rattle.hc_types.specs.declared.config.FlashConfig.{FlashConfig}
 use Rattle.hc_types.specs.Places.{kept_of}
-use Rattle.hc_bighash.specs.Page.{PageEntry}
+use Rattle.hc_types.specs.FlashEntry.{FlashEntry}
 use Rattle.hc_engines.specs.Engine.{Answer, Absent, Found}
 use Rattle.hc_engines.specs.large.Entries.{entry_in}
 use Rattle.hc_engines.specs.large.Region.{is_clean, region_at, page_no}
@@ -14,7 +14,7 @@ use Rattle.hc_engines.specs.large.Sound.{is_live}
 
 -- at the place stands an entry whose key has this hash
 pub record HoldsEntry (flash : FlashConfig) (pages : ℕ → Option (List ℕ)) (s : Block) (hash : ℕ) (place : Place) : Type 0 where
-  pub entry : PageEntry
+  pub entry : FlashEntry
   pub read : entry_in (bytes_at flash pages s place) ≡ Some entry
   pub own : kept_of flash.bits entry.key ≡ hash
   pub within : place.offset + place.length ≤ length (bytes_of flash pages s place.region)
@@ -44,6 +44,6 @@ ReadsHold flash pages s [] = Unit {0}
 ReadsHold flash pages s (job ∷ jobs) = WorkReads flash pages s job.work × ReadsHold flash pages s jobs
 
 -- what a get answers of what is held
-abbrev pub answer_by : Option PageEntry → Answer
+abbrev pub answer_by : Option FlashEntry → Answer
 answer_by None = Absent
 answer_by (Some entry) = Found entry

@@ -3,7 +3,7 @@ use Rattle.std.specs.Prelude.{ℕ, zero, suc, List, [], ◌++◌, take, drop, Op
 use Rattle.std.specs.Str.{bytes_eq}
 use Rattle.hc_types.specs.declared.config.FlashConfig.{FlashConfig}
 use Rattle.hc_types.specs.Places.{kept_of}
-use Rattle.hc_bighash.specs.Page.{PageEntry}
+use Rattle.hc_types.specs.FlashEntry.{FlashEntry}
 use Rattle.hc_engines.specs.large.Entries.{entry_in}
 use Rattle.hc_engines.specs.large.Region.{region_at, page_no}
 use Rattle.hc_engines.specs.large.Index.{Place, place_at}
@@ -25,14 +25,14 @@ bytes_of flash pages s r = first_pages flash pages r (region_at r s.regions).wri
 abbrev pub bytes_at : FlashConfig → (ℕ → Option (List ℕ)) → Block → Place → List ℕ
 bytes_at flash pages s place = take place.length (drop place.offset (bytes_of flash pages s place.region))
 
-abbrev pub if_own : List ℕ → Option PageEntry → Option PageEntry
+abbrev pub if_own : List ℕ → Option FlashEntry → Option FlashEntry
 if_own key None = None
 if_own key (Some entry) = if bytes_eq entry.key key then Some entry else None
 
-abbrev pub read_at : FlashConfig → (ℕ → Option (List ℕ)) → Block → List ℕ → Option Place → Option PageEntry
+abbrev pub read_at : FlashConfig → (ℕ → Option (List ℕ)) → Block → List ℕ → Option Place → Option FlashEntry
 read_at flash pages s key None = None
 read_at flash pages s key (Some place) = if_own key (entry_in (bytes_at flash pages s place))
 
 -- the entry that is held under the key
-abbrev pub held : FlashConfig → (ℕ → Option (List ℕ)) → Block → List ℕ → Option PageEntry
+abbrev pub held : FlashConfig → (ℕ → Option (List ℕ)) → Block → List ℕ → Option FlashEntry
 held flash pages s key = read_at flash pages s key (place_at (kept_of flash.bits key) s.index)

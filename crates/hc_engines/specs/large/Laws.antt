@@ -5,7 +5,7 @@ use Rattle.hc_types.specs.declared.config.FlashConfig.{FlashConfig}
 use Rattle.hc_types.specs.Places.{kept_of}
 use Rattle.hc_types.specs.Tally.{count}
 use Rattle.hc_types.specs.Loss.{Scope, Key, Bucket, Hash}
-use Rattle.hc_bighash.specs.Page.{PageEntry}
+use Rattle.hc_types.specs.FlashEntry.{FlashEntry}
 use Rattle.hc_engines.specs.Engine.{Loss, nothing}
 use Rattle.hc_engines.specs.large.Entries.{IsLarge, entry_bytes, entry_in}
 use Rattle.hc_engines.specs.large.Region.{clean_region, region_at, page_no, lowest_clean}
@@ -30,16 +30,16 @@ abbrev pub read_page : FlashConfig → Reading → ℕ
 read_page flash reading = page_no flash reading.place.region reading.next
 
 abbrev pub EntryReadsBack : Type 0
-EntryReadsBack = (e : PageEntry) → IsLarge e → entry_in (entry_bytes e) ≡ Some e
+EntryReadsBack = (e : FlashEntry) → IsLarge e → entry_in (entry_bytes e) ≡ Some e
 
 -- ---- what is held
 
 -- a region takes the entry: the one in use, where it fits, or a clean one
-abbrev pub has_room : FlashConfig → PageEntry → Block → Bool
+abbrev pub has_room : FlashConfig → FlashEntry → Block → Bool
 has_room flash entry s = is_some (fitting flash s (length (entry_bytes entry)) s.current) || is_some (lowest_clean 0 s.regions)
 
 -- what is held under a key after a put: its entry under its own key, nothing under others of its hash
-abbrev pub after_put : FlashConfig → PageEntry → List ℕ → Option PageEntry → Option PageEntry
+abbrev pub after_put : FlashConfig → FlashEntry → List ℕ → Option FlashEntry → Option FlashEntry
 after_put flash entry key was = if kept_of flash.bits key == kept_of flash.bits entry.key then (if bytes_eq entry.key key then Some entry else None) else was
 
 -- the hash is lost

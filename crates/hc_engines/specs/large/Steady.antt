@@ -3,7 +3,7 @@ use Rattle.std.specs.Prelude.{◌≡◌, ◌≢◌, ℕ, ◌<◌, ◌==◌, true
 use Rattle.hc_types.specs.declared.config.FlashConfig.{FlashConfig}
 use Rattle.hc_types.specs.Places.{kept_of}
 use Rattle.hc_types.specs.Loss.{Fault}
-use Rattle.hc_bighash.specs.Page.{PageEntry}
+use Rattle.hc_types.specs.FlashEntry.{FlashEntry}
 use Rattle.hc_engines.specs.Engine.{Order, Read, Write, Page, Written, Failed, Nothing, Absent, Pages, with_page, nothing}
 use Rattle.hc_engines.specs.large.Entries.{IsLarge}
 use Rattle.hc_engines.specs.large.Region.{is_draining, region_at, lowest_clean}
@@ -21,7 +21,7 @@ abbrev pub NewIsGood : Type 0
 NewIsGood = (flash : FlashConfig) (pages : Pages) → Good flash pages (new_block flash)
 
 abbrev pub PutKeeps : Type 0
-PutKeeps = (flash : FlashConfig) (pages : Pages) (entry : PageEntry) (s : Block) → 0 < flash.region_pages → IsLarge entry → Good flash pages s → Good flash pages (put flash entry s).state
+PutKeeps = (flash : FlashConfig) (pages : Pages) (entry : FlashEntry) (s : Block) → 0 < flash.region_pages → IsLarge entry → Good flash pages s → Good flash pages (put flash entry s).state
 
 abbrev pub ReclaimKeeps : Type 0
 ReclaimKeeps = (flash : FlashConfig) (pages : Pages) (s : Block) → Good flash pages s → Good flash pages (reclaim flash s).state
@@ -93,7 +93,7 @@ OthersKeep = (flash : FlashConfig) (pages : Pages) (page : ℕ) (bytes : Option 
 -- ---- what is held
 
 abbrev pub PutChangesHeld : Type 0
-PutChangesHeld = (flash : FlashConfig) (pages : Pages) (entry : PageEntry) (s : Block) (key : List ℕ) → 0 < flash.region_pages → IsLarge entry → Good flash pages s
+PutChangesHeld = (flash : FlashConfig) (pages : Pages) (entry : FlashEntry) (s : Block) (key : List ℕ) → 0 < flash.region_pages → IsLarge entry → Good flash pages s
     → held flash pages (put flash entry s).state key ≡ (if has_room flash entry s then after_put flash entry key (held flash pages s key) else held flash pages s key)
 
 -- a reclaim takes out what its losses name, and nothing else

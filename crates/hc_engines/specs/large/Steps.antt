@@ -5,7 +5,7 @@ use Rattle.hc_types.specs.declared.config.FlashConfig.{FlashConfig}
 use Rattle.hc_types.specs.Places.{kept_of}
 use Rattle.hc_types.specs.Tally.{count}
 use Rattle.hc_types.specs.Loss.{Key, Hash, Cause, Reclaimed, NoCleanRegion, Collision, Fault}
-use Rattle.hc_bighash.specs.Page.{PageEntry}
+use Rattle.hc_types.specs.FlashEntry.{FlashEntry}
 use Rattle.hc_engines.specs.Engine.{Op, Put, Get, Delete, Flush, Reclaim, Read, Write, IoResult, Page, Written, Failed, Answer, Over, Absent, Found, Loss, outcome_of, nothing}
 use Rattle.hc_engines.specs.large.Entries.{entry_bytes, entry_in}
 use Rattle.hc_engines.specs.large.Region.{Status, Sealed, Flushing, OnFlash, Draining, is_clean, is_draining, Region, clean_region, opened_region, region_len, filled_to, next_page, page_done, can_go, region_at, page_no, lowest_clean}
@@ -33,7 +33,7 @@ fitting flash s len None = None
 fitting flash s len (Some r) = if nat_le (filled_to flash (region_at r s.regions) + len) (region_len flash) then Some r else None
 
 -- the entry goes behind what the region has, and its hash leads there
-abbrev pub append : FlashConfig → ℕ → PageEntry → Block → Block
+abbrev pub append : FlashConfig → ℕ → FlashEntry → Block → Block
 append flash r entry s =
     let region = region_at r s.regions in
     let bytes = entry_bytes entry in
@@ -55,20 +55,20 @@ sealed_too (Some r) rs = rs ++ r ∷ []
 abbrev pub open_next : ℕ → Block → Block
 open_next r s = record s { regions = set (seal s.current s.regions) r opened_region; current = Some r; sealed = sealed_too s.current s.sealed }
 
-abbrev pub stored : FlashConfig → PageEntry → Block → Option ℕ → Block → Moved
+abbrev pub stored : FlashConfig → FlashEntry → Block → Option ℕ → Block → Moved
 stored flash entry old opened s =
     let hash = kept_of flash.bits entry.key in
     finished s (record nothing { answer = Over; losses = collided hash entry.key (place_at hash old.index); opened = opened })
 
-abbrev pub put_fresh : FlashConfig → PageEntry → Block → Option ℕ → Moved
+abbrev pub put_fresh : FlashConfig → FlashEntry → Block → Option ℕ → Moved
 put_fresh flash entry s None = finished s (record nothing { losses = record { scope = Key entry.key; cause = NoCleanRegion } ∷ [] })
 put_fresh flash entry s (Some r) = stored flash entry s (Some r) (append flash r entry (open_next r s))
 
-abbrev pub put_into : FlashConfig → PageEntry → Block → Option ℕ → Moved
+abbrev pub put_into : FlashConfig → FlashEntry → Block → Option ℕ → Moved
 put_into flash entry s None = put_fresh flash entry s (lowest_clean 0 s.regions)
 put_into flash entry s (Some r) = stored flash entry s None (append flash r entry s)
 
-abbrev pub put : FlashConfig → PageEntry → Block → Moved
+abbrev pub put : FlashConfig → FlashEntry → Block → Moved
 put flash entry s = put_into flash entry s (fitting flash s (length (entry_bytes entry)) s.current)
 
 -- ---- a region ends
@@ -181,10 +181,10 @@ read_bytes flash reading = take reading.place.length (drop (reading.place.offset
 abbrev pub unreadable : ℕ → Block → Moved
 unreadable hash s = finished (record s { index = without hash s.index }) (record nothing { answer = Absent; losses = record { scope = Hash hash None; cause = Fault } ∷ [] })
 
-abbrev pub own_entry : List ℕ → PageEntry → Answer
+abbrev pub own_entry : List ℕ → FlashEntry → Answer
 own_entry key entry = if bytes_eq entry.key key then Found entry else Absent
 
-abbrev pub answer_of : ℕ → List ℕ → Block → Option PageEntry → Moved
+abbrev pub answer_of : ℕ → List ℕ → Block → Option FlashEntry → Moved
 answer_of hash key s None = unreadable hash s
 answer_of hash key s (Some entry) = finished s (record nothing { answer = own_entry key entry })
 

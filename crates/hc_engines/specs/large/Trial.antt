@@ -1,7 +1,7 @@
 -- The machine on the worked rows, its pages in a list of what was written.
 use Rattle.std.specs.Prelude.{ℕ, ◌==◌, List, [], ◌∷◌, replicate, Option, Some, None, if◌then◌else◌}
 use Rattle.hc_types.specs.declared.config.FlashConfig.{FlashConfig}
-use Rattle.hc_bighash.specs.Page.{PageEntry}
+use Rattle.hc_types.specs.FlashEntry.{FlashEntry}
 use Rattle.hc_engines.specs.Engine.{Op, IoResult, Page, Written, Failed, Order, Read, Write, Outcome, nothing}
 use Rattle.hc_engines.specs.large.Region.{clean_region}
 use Rattle.hc_engines.specs.large.Block.{Work, Block, Moved, work_of}
@@ -78,7 +78,7 @@ fail flash number t = resumed flash number Failed (work_of number t.state.jobs) 
 abbrev pub taken : ℕ → Trial → Trial
 taken hash t = record t { state = take_index hash t.state }
 
-abbrev pub entry : ℕ → ℕ → ℕ → PageEntry
+abbrev pub entry : ℕ → ℕ → ℕ → FlashEntry
 entry key n byte = record { key = key ∷ []; value = replicate n byte; pool = 0; expiry = 0 }
 
 abbrev pub small_flash : ℕ → ℕ → FlashConfig

@@ -2,7 +2,7 @@
 use Rattle.std.specs.Prelude.{◌≡◌, ◌≢◌, ℕ, ◌<◌, ◌==◌, true, false, List, length, Option, Some, None, is_some, if◌then◌else◌}
 use Rattle.hc_types.specs.declared.config.FlashConfig.{FlashConfig}
 use Rattle.hc_types.specs.Places.{kept_of, is_small_by}
-use Rattle.hc_bighash.specs.Page.{PageEntry}
+use Rattle.hc_types.specs.FlashEntry.{FlashEntry}
 use Rattle.hc_engines.specs.Engine.{Op, Put, Get, Flush, Reclaim, Page, Written, Failed, Answer, Absent, Pages, Holds, with_page, never, Serves}
 use Rattle.hc_engines.specs.large.Entries.{IsLarge}
 use Rattle.hc_engines.specs.large.Index.{place_at, is_place}
@@ -20,7 +20,7 @@ large_held flash s pages key = place.held flash pages s key
 -- the state fits the pages: it is good with them, and holds large entries alone
 pub record LargeFits (flash : FlashConfig) (s : Block) (pages : Pages) : Type 0 where
   pub good : Good flash pages s
-  pub large : (key : List ℕ) (e : PageEntry) → large_held flash s pages key ≡ Some e → is_small_by flash e.key (length e.value) ≡ false
+  pub large : (key : List ℕ) (e : FlashEntry) → large_held flash s pages key ≡ Some e → is_small_by flash e.key (length e.value) ≡ false
   pub some_bytes : 0 < flash.page
   pub some_pages : 0 < flash.region_pages
 
@@ -29,7 +29,7 @@ abbrev pub LargeServes : FlashConfig → Op → Block → Pages → block.Moved 
 LargeServes flash op s before moved after = Serves (LargeFits flash) (large_held flash) never flash op (next_of moved.outcome moved.order) s before moved.state after
 
 abbrev pub LargePutServes : Type 0
-LargePutServes = (flash : FlashConfig) (pages : Pages) (e : PageEntry) (s : Block) → LargeFits flash s pages → is_small_by flash e.key (length e.value) ≡ false → IsLarge e → LargeServes flash (Put e) s pages (put flash e s) pages
+LargePutServes = (flash : FlashConfig) (pages : Pages) (e : FlashEntry) (s : Block) → LargeFits flash s pages → is_small_by flash e.key (length e.value) ≡ false → IsLarge e → LargeServes flash (Put e) s pages (put flash e s) pages
 
 abbrev pub LargeReclaimServes : Type 0
 LargeReclaimServes = (flash : FlashConfig) (pages : Pages) (s : Block) → LargeFits flash s pages → LargeServes flash Reclaim s pages (reclaim flash s) pages

@@ -4,8 +4,9 @@ use Rattle.std.specs.List.{list_any}
 use Rattle.hc_types.specs.declared.config.FlashConfig.{FlashConfig}
 use Rattle.hc_types.specs.Loss.{Bucket, Fault}
 use Rattle.hc_types.specs.Places.{bucket_at, is_small_by}
-use Rattle.hc_bighash.specs.Page.{PageEntry, page_bytes}
-use Rattle.hc_bighash.specs.Reading.{page_at}
+use Rattle.hc_types.specs.FlashEntry.{FlashEntry}
+use Rattle.hc_bucket.specs.Page.{page_bytes}
+use Rattle.hc_bucket.specs.Reading.{page_at}
 use Rattle.hc_engines.specs.Engine.{Op, Put, Get, Delete, Flush, Reclaim, Read, Write, IoResult, Page, Written, Failed, Answer, Nothing, Over, Absent, Loss, outcome_of, nothing, found, Next, Busy, Io, Done}
 use Rattle.hc_engines.specs.small.Bloom.{word_of, could_have}
 use Rattle.hc_engines.specs.small.Entries.{under, without, page_put, put_losses}
@@ -15,7 +16,7 @@ pub data Phase : Type 0 where
   -- its bucket's page is being read
   Reading : Phase
   -- its bucket's page is being written, with these entries; once it is, this is lost
-  Writing : (entries : List PageEntry) (losses : List Loss) → Phase
+  Writing : (entries : List FlashEntry) (losses : List Loss) → Phase
 
 pub record Job : Type 0 where
   pub number : ℕ
@@ -85,7 +86,7 @@ pub data Plan : Type 0 where
   -- the page is to be read
   ToRead : Plan
   -- the page is to be written with these entries; then this is lost
-  ToWrite : (entries : List PageEntry) (losses : List Loss) → Plan
+  ToWrite : (entries : List FlashEntry) (losses : List Loss) → Plan
   -- it is over, and the bucket is as it was
   ToEnd : (answer : Answer) → Plan
   -- it is over, and the page that was written has this word
@@ -105,14 +106,14 @@ begun word Flush = ToEnd Nothing
 begun word Reclaim = ToEnd Nothing
 
 -- its page was read, and has these entries
-abbrev pub was_read : ℕ → Op → List PageEntry → Plan
+abbrev pub was_read : ℕ → Op → List FlashEntry → Plan
 was_read size (Put e) es = ToWrite (page_put size e es) (put_losses size e es)
 was_read size (Get key) es = ToEnd (found (under key es))
 was_read size (Delete key) es = if is_some (under key es) then ToWrite (without key es) [] else ToEnd Over
 was_read size Flush es = ToEnd Nothing
 was_read size Reclaim es = ToEnd Nothing
 
-abbrev pub read_as : ℕ → Op → Option (List PageEntry) → Plan
+abbrev pub read_as : ℕ → Op → Option (List FlashEntry) → Plan
 read_as size op None = ToGiveUp
 read_as size op (Some es) = was_read size op es
 

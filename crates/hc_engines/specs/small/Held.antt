@@ -2,9 +2,10 @@
 use Rattle.std.specs.Prelude.{◌≡◌, ◌≢◌, option_map, ℕ, ◌-◌, ◌≤◌, ◌<◌, ◌^◌, Bool, true, false, ◌==◌, ◌&&◌, List, [], ◌∷◌, ◌++◌, ◌+◌, length, Option, Some, None, is_some, if◌then◌else◌, ⊤}
 use Rattle.hc_types.specs.declared.config.FlashConfig.{FlashConfig}
 use Rattle.hc_types.specs.Places.{bucket_at, is_small_by}
-use Rattle.hc_bighash.specs.Page.{PageEntry, Fits, page_bytes, used}
+use Rattle.hc_types.specs.FlashEntry.{FlashEntry}
+use Rattle.hc_bucket.specs.Page.{Fits, page_bytes, used}
 use Rattle.hc_types.specs.Loss.{Key, BucketFull}
-use Rattle.hc_bighash.specs.Reading.{page_at}
+use Rattle.hc_bucket.specs.Reading.{page_at}
 use Rattle.std.specs.Str.{bytes_eq}
 use Rattle.hc_engines.specs.Engine.{Loss, Pages, Holds, Op, Put, Delete, Order, Read, Write, Changes, IsKnown, IsHonest, UnderWay, then_under_way, never, Serves, pages_after, IoResult}
 use Rattle.hc_engines.specs.small.Bloom.{word_of, could_have}
@@ -12,21 +13,21 @@ use Rattle.hc_engines.specs.small.Entries.{under, without, page_put, put_losses,
 use Rattle.hc_engines.specs.small.Sound.{Limits, CanStart}
 use Rattle.hc_engines.specs.small.BigHash.{BigHash, Job, Phase, Reading, Writing, Moved, word_at, is_busy, job_at, key_of, is_ours, could_hold, start, resume}
 
-abbrev pub read_in : Option (List PageEntry) → List PageEntry
+abbrev pub read_in : Option (List FlashEntry) → List FlashEntry
 read_in None = []
 read_in (Some es) = es
 
 -- the entries of these bytes
-abbrev pub entries_in : ℕ → Option (List ℕ) → List PageEntry
+abbrev pub entries_in : ℕ → Option (List ℕ) → List FlashEntry
 entries_in size None = []
 entries_in size (Some bytes) = read_in (page_at size bytes)
 
 -- the entries of a bucket: those of its page, and none where it is fresh
-abbrev pub entries_at : ℕ → Option ℕ → Option (List ℕ) → List PageEntry
+abbrev pub entries_at : ℕ → Option ℕ → Option (List ℕ) → List FlashEntry
 entries_at size None page = []
 entries_at size (Some word) page = entries_in size page
 
-abbrev pub bucket_entries : BigHash → Pages → ℕ → List PageEntry
+abbrev pub bucket_entries : BigHash → Pages → ℕ → List FlashEntry
 bucket_entries s pages bucket = entries_at s.flash.page (word_at s bucket) (pages bucket)
 
 -- what BigHash holds
@@ -39,17 +40,17 @@ order_of size bucket Reading = Read bucket
 order_of size bucket (Writing es losses) = Write bucket (page_bytes size es)
 
 -- each of these entries is small, and of this bucket
-abbrev pub AllOwn : FlashConfig → ℕ → List PageEntry → Type 0
+abbrev pub AllOwn : FlashConfig → ℕ → List FlashEntry → Type 0
 AllOwn flash bucket [] = ⊤
 AllOwn flash bucket (e ∷ es) = (is_small_by flash e.key (length e.value) ≡ true) × (bucket_at flash e.key ≡ bucket) × AllOwn flash bucket es
 
 -- the page of a bucket that was written is known, its entries are the bucket's own, and the word is that of their keys
 abbrev pub PageFits : FlashConfig → ℕ → Option ℕ → Option (List ℕ) → Type 0
 PageFits flash bucket None page = ⊤
-PageFits flash bucket (Some word) page = (es : List PageEntry) × (page ≡ Some (page_bytes flash.page es)) × Fits flash.page es × (word ≡ word_of es) × AllOwn flash bucket es
+PageFits flash bucket (Some word) page = (es : List FlashEntry) × (page ≡ Some (page_bytes flash.page es)) × Fits flash.page es × (word ≡ word_of es) × AllOwn flash bucket es
 
 -- what is written is what the operation makes of the bucket's entries
-abbrev pub WorkFits : ℕ → Op → Phase → Option ℕ → List PageEntry → Type 0
+abbrev pub WorkFits : ℕ → Op → Phase → Option ℕ → List FlashEntry → Type 0
 WorkFits size op Reading word es = is_some word ≡ true
 WorkFits size (Put e) (Writing page losses) word es = (page ≡ page_put size e es) × (losses ≡ put_losses size e es)
 WorkFits size (Delete key) (Writing page losses) word es = (page ≡ without key es) × (losses ≡ [])
@@ -89,7 +90,7 @@ ResumeKeeps = (s : BigHash) (pages : Pages) (number : ℕ) (result : IoResult) (
 
 -- a word tells of each key of its entries
 abbrev pub WordTells : Type 0
-WordTells = (es : List PageEntry) (key : List ℕ) → is_some (under key es) ≡ true → could_have (word_of es) key ≡ true
+WordTells = (es : List FlashEntry) (key : List ℕ) → is_some (under key es) ≡ true → could_have (word_of es) key ≡ true
 
 -- BigHash says that it could have each key that it holds
 abbrev pub HeldIsTold : Type 0
@@ -123,13 +124,13 @@ ResumeGoes = (s : BigHash) (pages : Pages) (number : ℕ) (result : IoResult) (j
     → (other : ℕ) → under_way m.state other ≡ (if other == number then then_under_way job.op m.next else under_way s other)
 
 -- a put of x pushes this key out of these entries: one of them has it, and with those behind it and x it passes the page
-abbrev pub IsPushedOut : ℕ → PageEntry → List PageEntry → List ℕ → Type 0
-IsPushedOut size x es key = (front behind : List PageEntry) × (old : PageEntry) × (without x.key es ≡ front ++ old ∷ behind) × (old.key ≡ key) × (size < used (old ∷ behind) + size_of x)
+abbrev pub IsPushedOut : ℕ → FlashEntry → List FlashEntry → List ℕ → Type 0
+IsPushedOut size x es key = (front behind : List FlashEntry) × (old : FlashEntry) × (without x.key es ≡ front ++ old ∷ behind) × (old.key ≡ key) × (size < used (old ∷ behind) + size_of x)
 
 -- each loss of a put is of a key that is pushed out
-abbrev pub AllPushedOut : ℕ → PageEntry → List PageEntry → List Loss → Type 0
+abbrev pub AllPushedOut : ℕ → FlashEntry → List FlashEntry → List Loss → Type 0
 AllPushedOut size x es [] = ⊤
 AllPushedOut size x es (loss ∷ losses) = ((key : List ℕ) × (loss ≡ record { scope = Key key; cause = BucketFull }) × IsPushedOut size x es key) × AllPushedOut size x es losses
 
 abbrev pub FullIsTrue : Type 0
-FullIsTrue = (size : ℕ) (x : PageEntry) (es : List PageEntry) → AllPushedOut size x es (put_losses size x es)
+FullIsTrue = (size : ℕ) (x : FlashEntry) (es : List FlashEntry) → AllPushedOut size x es (put_losses size x es)

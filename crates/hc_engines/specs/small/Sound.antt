@@ -1,13 +1,14 @@
 -- What holds of BigHash at all times, whatever the device answers.
 use Rattle.std.specs.Prelude.{◌≡◌, ℕ, ◌+◌, ◌-◌, ◌≤◌, ◌<◌, ◌^◌, true, List, [], ◌∷◌, length, Option, ⊤}
 use Rattle.hc_types.specs.declared.config.FlashConfig.{FlashConfig}
-use Rattle.hc_bighash.specs.Page.{PageEntry, IsSmall, Fits}
+use Rattle.hc_types.specs.FlashEntry.{FlashEntry}
+use Rattle.hc_bucket.specs.Page.{IsSmall, Fits}
 use Rattle.hc_engines.specs.Engine.{Op, Put, Get, Delete, Flush, Reclaim}
 use Rattle.hc_engines.specs.small.Entries.{size_of}
 use Rattle.hc_engines.specs.small.BigHash.{BigHash, Job, Plan, ToWrite, is_ours}
 
 -- an entry that can be put: what every entry of the code is
-pub record IsEntry (e : PageEntry) : Type 0 where
+pub record IsEntry (e : FlashEntry) : Type 0 where
   pub some_key : 1 ≤ length e.key
   pub key : length e.key ≤ 255
   pub pool : e.pool < 2 ^ 8

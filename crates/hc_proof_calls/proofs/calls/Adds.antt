@@ -6,7 +6,7 @@ use Rattle.hc_types.specs.Tally.{count}
 use Rattle.hc_types.specs.Config.{Config}
 use Rattle.hc_types.proofs.Tallies.{tally-append}
 use Rattle.hc_types.specs.declared.refusal.Refusal.TheVariants.{ForeignHandle, Exists as AlreadyExists}
-use Rattle.hc_bighash.specs.Page.{PageEntry}
+use Rattle.hc_types.specs.FlashEntry.{FlashEntry}
 use Rattle.hc_memory.specs.Item.{Handle, charge_by}
 use Rattle.hc_memory.specs.Charges.{is_open}
 use Rattle.hc_memory.proofs.Handing.{known-place}
@@ -49,7 +49,7 @@ stands_still : (config : Config) (older : List Note) (cache : Cache) → Agrees 
 stands_still config older cache g = record { lawful = tt; good = g }
 
 -- the map has no unexpired value
-no_value : (o : Option PageEntry) (v : Option (List ℕ)) → option_map (λ (e : PageEntry). e.value) o ≡ v → is_some o ≡ false → v ≡ None
+no_value : (o : Option FlashEntry) (v : Option (List ℕ)) → option_map (λ (e : FlashEntry). e.value) o ≡ v → is_some o ≡ false → v ≡ None
 no_value None v e h = sym e
 no_value (Some x) v e h = absurd cc
 

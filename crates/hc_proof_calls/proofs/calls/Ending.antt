@@ -3,7 +3,7 @@ use Rattle.std.proofs.Common.{◌≡◌, ℕ, ◌≤◌, Bool, true, false, List
 use Rattle.hc_types.specs.Tally.{count}
 use Rattle.hc_types.specs.Config.{Config}
 use Rattle.hc_types.specs.declared.config.FlashConfig.{FlashConfig}
-use Rattle.hc_bighash.specs.Page.{PageEntry}
+use Rattle.hc_types.specs.FlashEntry.{FlashEntry}
 use Rattle.hc_memory.specs.Memory.{Memory}
 use Rattle.hc_memory.proofs.Keyed.{same_bytes}
 use Rattle.hc_items.specs.Items.{items_of}
@@ -57,7 +57,7 @@ leaves_rest config older cache nvm key r here = record {
     each k true e = subst (λ (x : List ℕ). PlacedAt config.flash older (with_nvm nvm cache) x) (sym (same_bytes k key e)) here
     each k false e = r.placed k e
 
-module _ (serves : ServeAllKeeps) (config : Config) (older : List Note) (cache : Cache) (key : List ℕ) (there : Option PageEntry) (more : List Owed) where
+module _ (serves : ServeAllKeeps) (config : Config) (older : List Note) (cache : Cache) (key : List ℕ) (there : Option FlashEntry) (more : List Owed) where
   for_before : {before left : Cache} {told : Told} → Served config older more left told → left.calls ≡ before.calls → Served config older more before told
   for_before s e = record { lawful = s.lawful; rest = s.rest; calls = s.calls; number = s.number ∙ e }
 

@@ -3,7 +3,7 @@ use Rattle.std.proofs.Common.{◌≡◌, ℕ, ◌+◌, ◌<◌, ◌==◌, Bool, 
 use Rattle.std.specs.Prelude.{is_some, option_map, IsSomeAnd, if◌then◌else◌}
 use Rattle.hc_types.specs.Tally.{count}
 use Rattle.hc_types.specs.Config.{Config}
-use Rattle.hc_bighash.specs.Page.{PageEntry}
+use Rattle.hc_types.specs.FlashEntry.{FlashEntry}
 use Rattle.hc_memory.specs.Memory.{after_find}
 use Rattle.hc_items.specs.Items.{items_of}
 use Rattle.hc_history.specs.Note.{Note, Op, Find, Reply, Begin, Did, End}
@@ -34,11 +34,11 @@ use Rattle.hc_proof_calls.proofs.calls.Serving.{there_by_map}
 abbrev told_notes : ℕ → ℕ → List ℕ → Reply → List Note
 told_notes c client key reply = Begin c client (Find key) ∷ Did c reply ∷ End c ∷ []
 
-find_answer : (config : Config) (older : List Note) (c : ℕ) (key : List ℕ) (v : Option PageEntry) → option_map (λ (e : PageEntry). e.value) v ≡ value_at config.flash older key → IsAnswer config.flash older c (Find key) (find_reply v)
+find_answer : (config : Config) (older : List Note) (c : ℕ) (key : List ℕ) (v : Option FlashEntry) → option_map (λ (e : FlashEntry). e.value) v ≡ value_at config.flash older key → IsAnswer config.flash older c (Find key) (find_reply v)
 find_answer config older c key None e = sym e
 find_answer config older c key (Some x) e = sym e
 
-told_lawful : (config : Config) (older : List Note) (calls client : ℕ) (key : List ℕ) (v : Option PageEntry) → begun older ≡ calls → option_map (λ (e : PageEntry). e.value) v ≡ value_at config.flash older key
+told_lawful : (config : Config) (older : List Note) (calls client : ℕ) (key : List ℕ) (v : Option FlashEntry) → begun older ≡ calls → option_map (λ (e : FlashEntry). e.value) v ≡ value_at config.flash older key
     → Lawful config older (told_notes (calls + 1) client key (find_reply v))
 told_lawful config older calls client key v b e =
     let c = calls + 1 in (

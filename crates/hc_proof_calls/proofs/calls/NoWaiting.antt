@@ -5,7 +5,7 @@ use Rattle.std.specs.List.{list_any}
 use Rattle.std.specs.Option.{option_map_or}
 use Rattle.hc_types.specs.Config.{Config}
 use Rattle.hc_types.specs.declared.config.FlashConfig.{FlashConfig}
-use Rattle.hc_bighash.specs.Page.{PageEntry}
+use Rattle.hc_types.specs.FlashEntry.{FlashEntry}
 use Rattle.hc_engines.specs.Engine.{Pages, Op, Put, Get, Delete, Flush, Reclaim, Order}
 use Rattle.hc_engines.specs.small.BigHash as bighash
 use Rattle.hc_engines.specs.small.BigHash.{could_hold}
@@ -50,7 +50,7 @@ writes_by flash words pages key (x ∷ jobs) fit h = step (put_in key x.op) refl
     behind job found true e = absurd (let none : bighash.job_at job.number jobs ≡ None = ap (λ n. bighash.job_at n jobs) (sym (eqb-true x.number job.number e)) ∙ fit.2 in cc)
     behind job found false e = ap (λ b. cond b (Some x) (bighash.job_at job.number jobs)) e ∙ found
 
-    step : (o : Option PageEntry) → put_in key x.op ≡ o → (is_some (written_by key jobs) ≡ true → Writes key jobs) → is_some (first_of o (written_by key jobs)) ≡ true → Writes key (x ∷ jobs)
+    step : (o : Option FlashEntry) → put_in key x.op ≡ o → (is_some (written_by key jobs) ≡ true → Writes key jobs) → is_some (first_of o (written_by key jobs)) ≡ true → Writes key (x ∷ jobs)
     step (Some e) p rest h = record { job = x; found = ap (λ b. cond b (Some x) (bighash.job_at x.number jobs)) (same_number x.number); writes = ap is_some p }
     step None p rest h = let w = rest h in record { job = w.job; found = behind w.job w.found (x.number == w.job.number) refl; writes = w.writes }
 
@@ -120,14 +120,14 @@ large_told pages nvm key h = large_step nvm.pair.small.flash pages nvm.pair.larg
 pub small_told : (pages : Pages) (nvm : Nvm) (key : List ℕ) → StateFits nvm.pair.small pages → could_hold nvm.pair.small key ≡ false → small.held nvm.pair.small pages key ≡ None
 small_told pages nvm key fits h = step (small.held nvm.pair.small pages key) refl
   where
-    step : (o : Option PageEntry) → small.held nvm.pair.small pages key ≡ o → o ≡ None
+    step : (o : Option FlashEntry) → small.held nvm.pair.small pages key ≡ o → o ≡ None
     step None e = refl
     step (Some x) e = absurd (let told = held_is_told nvm.pair.small pages key fits (λ n. let k = sym n ∙ e in cc) in cc)
 
 pub written_none : (nvm : Nvm) (pages : Pages) (key : List ℕ) → JobsRun nvm → StateFits nvm.pair.small pages → is_written_now nvm key ≡ false → written_by key nvm.pair.small.jobs ≡ None
 written_none nvm pages key j fits h = step (written_by key nvm.pair.small.jobs) refl
   where
-    step : (o : Option PageEntry) → written_by key nvm.pair.small.jobs ≡ o → o ≡ None
+    step : (o : Option FlashEntry) → written_by key nvm.pair.small.jobs ≡ o → o ≡ None
     step None e = refl
     step (Some x) e = absurd (let told = written_told nvm pages key j fits (ap is_some e) in cc)
 
@@ -157,11 +157,11 @@ waiting-is : (nvm : Option Nvm) (key : List ℕ) → waiting_at nvm key ≡ queu
 waiting-is None key = refl
 waiting-is (Some nvm) key = refl
 
-absent_by : (w s l : Option PageEntry) (m : Option Entry) (b : Bool) → Placed None None w b s l m → (b ≡ false → (w ≡ None) × ((s ≡ None) × (l ≡ None))) → m ≡ None
+absent_by : (w s l : Option FlashEntry) (m : Option Entry) (b : Bool) → Placed None None w b s l m → (b ≡ false → (w ≡ None) × ((s ≡ None) × (l ≡ None))) → m ≡ None
 absent_by w s l m true p h = map_buried None w s l m p
-absent_by w s l m false p h = let e = h refl in map_nowhere m false (subst (λ (x : Option PageEntry). Placed None None None false None x m) e.1.1 (subst (λ (x : Option PageEntry). Placed None None None false x l m) e.1.0 (subst (λ (x : Option PageEntry). Placed None None x false s l m) e.0 p)))
+absent_by w s l m false p h = let e = h refl in map_nowhere m false (subst (λ (x : Option FlashEntry). Placed None None None false None x m) e.1.1 (subst (λ (x : Option FlashEntry). Placed None None None false x l m) e.1.0 (subst (λ (x : Option FlashEntry). Placed None None x false s l m) e.0 p)))
 
-in_memory_by : (i : Option Item) (q w s l : Option PageEntry) (m : Option Entry) (b : Bool) → Placed i q w b s l m → (i ≡ None → q ≡ None → b ≡ false → (w ≡ None) × ((s ≡ None) × (l ≡ None)))
+in_memory_by : (i : Option Item) (q w s l : Option FlashEntry) (m : Option Entry) (b : Bool) → Placed i q w b s l m → (i ≡ None → q ≡ None → b ≡ false → (w ≡ None) × ((s ≡ None) × (l ≡ None)))
     → m ≡ option_map map_of (option_map_or (λ (item : Item). Some (entry_of_item item)) i q)
 in_memory_by (Some i) q w s l m b p h = map_linked i q w s l m b p
 in_memory_by None (Some e) w s l m b p h = map_queued None e w s l m b p
@@ -173,10 +173,10 @@ pub memory_tells : (config : Config) (older : List Note) (cache : Cache) (moves 
 memory_tells config older cache moves key f p h =
     in_memory_by (linked_at key cache.memory.pools) (queued_at cache.nvm key) (written_at cache.nvm key) (small_at (bytes_at older) cache.nvm key) (large_at (bytes_at older) cache.nvm key) (entry_at config.flash older key) (buried_at cache.nvm key) p
     (λ i q b. let n = stands_not config.flash older cache.memory cache.nvm moves key f (sym (waits_by i q) ∙ h) b in (n.written, (n.small_one, n.large_one)))
-    ∙ ap (λ (o : Option PageEntry). option_map map_of (option_map_or (λ (item : Item). Some (entry_of_item item)) (linked_at key cache.memory.pools) o)) (sym (waiting-is cache.nvm key))
+    ∙ ap (λ (o : Option FlashEntry). option_map map_of (option_map_or (λ (item : Item). Some (entry_of_item item)) (linked_at key cache.memory.pools) o)) (sym (waiting-is cache.nvm key))
   where
     waits_by : linked_at key cache.memory.pools ≡ None → queued_at cache.nvm key ≡ None → must_wait cache key ≡ must_wait_in cache.nvm key
-    waits_by i q = ap (λ (o : Option PageEntry). not (is_some o) && must_wait_in cache.nvm key) ((λ k. option_map_or (λ (item : Item). Some (entry_of_item item)) (i k) (waiting_at cache.nvm key)) ∙ waiting-is cache.nvm key ∙ q)
+    waits_by i q = ap (λ (o : Option FlashEntry). not (is_some o) && must_wait_in cache.nvm key) ((λ k. option_map_or (λ (item : Item). Some (entry_of_item item)) (i k) (waiting_at cache.nvm key)) ∙ waiting-is cache.nvm key ∙ q)
 
 -- where a call has to wait, memory has nothing, and the key isn't buried
 pub record MustWait (cache : Cache) (key : List ℕ) : Type 0 where
@@ -184,7 +184,7 @@ pub record MustWait (cache : Cache) (key : List ℕ) : Type 0 where
   pub unqueued : queued_at cache.nvm key ≡ None
   pub unburied : buried_at cache.nvm key ≡ false
 
-waits_step : (i : Option Item) (q : Option PageEntry) (b : Bool) → (not (is_some (option_map_or (λ (item : Item). Some (entry_of_item item)) i q)) && b) ≡ true → (i ≡ None) × ((q ≡ None) × (b ≡ true))
+waits_step : (i : Option Item) (q : Option FlashEntry) (b : Bool) → (not (is_some (option_map_or (λ (item : Item). Some (entry_of_item item)) i q)) && b) ≡ true → (i ≡ None) × ((q ≡ None) × (b ≡ true))
 waits_step None None b h = (refl, (refl, h))
 waits_step None (Some e) b h = absurd cc
 waits_step (Some i) q b h = absurd cc

@@ -7,7 +7,7 @@ use Rattle.hc_types.specs.Tally.{count}
 use Rattle.hc_types.proofs.Tallies.{tally-append, find-none}
 use Rattle.hc_types.specs.Config.{Config}
 use Rattle.hc_types.specs.declared.config.FlashConfig.{FlashConfig}
-use Rattle.hc_bighash.specs.Page.{PageEntry}
+use Rattle.hc_types.specs.FlashEntry.{FlashEntry}
 use Rattle.hc_memory.specs.Item.{Item, Handle, item_by}
 use Rattle.hc_memory.specs.Pool.{Pool}
 use Rattle.hc_memory.specs.Memory.{Memory, linked_at, after_free}
@@ -43,20 +43,20 @@ use Rattle.hc_proof_frames.proofs.frames.CallsPass.{calls_over}
 
 -- ---- what the key has
 
-live_step : (now : ℕ) (e : PageEntry) (b : Bool) → is_over now e ≡ b → option_map (λ (e : PageEntry). e.value) (if b then None else Some e) ≡ (if b then None else Some e.value)
+live_step : (now : ℕ) (e : FlashEntry) (b : Bool) → is_over now e ≡ b → option_map (λ (e : FlashEntry). e.value) (if b then None else Some e) ≡ (if b then None else Some e.value)
 live_step now e true h = refl
 live_step now e false h = refl
 
 -- what is seen of an entry is what the map answers of it
-pub live-is : (now : ℕ) (o : Option PageEntry) → option_map (λ (e : PageEntry). e.value) (live now o) ≡ unexpired now (option_map map_of o)
+pub live-is : (now : ℕ) (o : Option FlashEntry) → option_map (λ (e : FlashEntry). e.value) (live now o) ≡ unexpired now (option_map map_of o)
 live-is now None = refl
 live-is now (Some e) = live_step now e (is_over now e) refl
 
-again_step : (now : ℕ) (e : PageEntry) (b : Bool) → is_over now e ≡ b → live now (if b then None else Some e) ≡ (if b then None else Some e)
+again_step : (now : ℕ) (e : FlashEntry) (b : Bool) → is_over now e ≡ b → live now (if b then None else Some e) ≡ (if b then None else Some e)
 again_step now e true h = refl
 again_step now e false h = ap (λ b. if b then None else Some e) h
 
-pub live-again : (now : ℕ) (o : Option PageEntry) → live now (live now o) ≡ live now o
+pub live-again : (now : ℕ) (o : Option FlashEntry) → live now (live now o) ≡ live now o
 live-again now None = refl
 live-again now (Some e) = again_step now e (is_over now e) refl
 
@@ -121,7 +121,7 @@ module _ (older : List Note) (calls : ℕ) (all more : List Owed) (key : List �
 -- ---- one call
 
 -- what the first of the calls to be served leaves to the others
-pub record ServedOne (config : Config) (older : List Note) (key : List ℕ) (waiters : List Waiter) (more : List Owed) (cache : Cache) (there : Option PageEntry) (told : Told) : Type 0 where
+pub record ServedOne (config : Config) (older : List Note) (key : List ℕ) (waiters : List Waiter) (more : List Owed) (cache : Cache) (there : Option FlashEntry) (told : Told) : Type 0 where
   pub lawful : (tail : List Note) → LawfulIn config older told.part tail
   pub serving : Serving config (past older told.part) told.cache key waiters more
   pub there_is : IsThere config (past older told.part) told.cache key there
@@ -136,7 +136,7 @@ same_there : (config : Config) (older newer : List Note) (key : List ℕ) → no
 same_there config older newer key n e = λ i. unexpired (n i) (e i)
 
 -- a find
-serve_find : (config : Config) (older : List Note) (cache : Cache) (key : List ℕ) (call : ℕ) (waiters : List Waiter) (more : List Owed) (v : Option PageEntry)
+serve_find : (config : Config) (older : List Note) (cache : Cache) (key : List ℕ) (call : ℕ) (waiters : List Waiter) (more : List Owed) (v : Option FlashEntry)
     → Serving config older cache key (record { call = call; wish = ToFind } ∷ waiters) more → IsThere config older cache key v → live cache.now v ≡ v
     → ServedOne config older key waiters more cache v (answer call (find_reply v) cache)
 serve_find config older cache key call waiters more v s there again =
@@ -144,7 +144,7 @@ serve_find config older cache key call waiters more v s there again =
     let reply = find_reply v in
     let newer : List Note = Did call reply ∷ older in
     let asks = asked older cache.calls cache.owed more key call ToFind waiters fills s.calls s.answered in
-    let value : option_map (λ (e : PageEntry). e.value) v ≡ value_at config.flash older key = ap (option_map (λ (e : PageEntry). e.value)) (sym again) ∙ there in
+    let value : option_map (λ (e : FlashEntry). e.value) v ≡ value_at config.flash older key = ap (option_map (λ (e : FlashEntry). e.value)) (sym again) ∙ there in
     let same : (k : List ℕ) → entry_at config.flash newer k ≡ entry_at config.flash older k = λ k. done_as (now_at older) (Find key) k (entry_at config.flash older k) (open_call call (open_calls older)) asks in
     let charges : ChargesTell newer (items_of cache.memory.pools) cache.memory.charges cache.memory.made = record { one_key = s.rest.charges.one_key; one_number = s.rest.charges.one_number; fresh = s.rest.charges.fresh; same = s.rest.charges.same } in
     record {
@@ -164,7 +164,7 @@ serve_find config older cache key call waiters more v s there again =
       number = refl;
     }
   where
-    by : (v : Option PageEntry) → option_map (λ (e : PageEntry). e.value) v ≡ value_at config.flash older key → IsAnswer config.flash older call (Find key) (find_reply v)
+    by : (v : Option FlashEntry) → option_map (λ (e : FlashEntry). e.value) v ≡ value_at config.flash older key → IsAnswer config.flash older call (Find key) (find_reply v)
     by None e = sym e
     by (Some x) e = sym e
 
@@ -176,12 +176,12 @@ kept_entry now handle k was h = step (bytes_eq handle.key k) (unexpired now was)
     step true (Some x) h = refl
     step false u h = refl
 
-is_there : (v : Option (List ℕ)) (e : PageEntry) → Some e.value ≡ v → IsSome v
+is_there : (v : Option (List ℕ)) (e : FlashEntry) → Some e.value ≡ v → IsSome v
 is_there None e h = absurd cc
 is_there (Some x) e h = refl
 
 -- an add whose key has a value: its charge goes
-serve_exists : (config : Config) (older : List Note) (cache : Cache) (handle : Handle) (call : ℕ) (waiters : List Waiter) (more : List Owed) (entry : PageEntry)
+serve_exists : (config : Config) (older : List Note) (cache : Cache) (handle : Handle) (call : ℕ) (waiters : List Waiter) (more : List Owed) (entry : FlashEntry)
     → Serving config older cache handle.key (record { call = call; wish = ToAdd handle } ∷ waiters) more → IsThere config older cache handle.key (Some entry) → live cache.now (Some entry) ≡ Some entry
     → ServedOne config older handle.key waiters more cache (Some entry) (and_then (free handle.number cache) (answer call Exists))
 serve_exists config older cache handle call waiters more entry s there again =
@@ -196,7 +196,7 @@ serve_exists config older cache handle call waiters more entry s there again =
     let own : ◌≡◌ {A = ℕ} (cond (n == n) 1 0) 1 = ap {B = ℕ} (λ b. cond b 1 0) (same_number n) in
     let others : count (adds n) (waiters ++ waiters_of fills) ≡ 0 = omega (arith, s.one_add n, own) in
     let sum = tally-append (λ (w : Waiter). cond (adds n w) 1 0) waiters (waiters_of fills) in
-    let value : Some entry.value ≡ value_at config.flash older key = ap (option_map (λ (e : PageEntry). e.value)) (sym again) ∙ there in
+    let value : Some entry.value ≡ value_at config.flash older key = ap (option_map (λ (e : FlashEntry). e.value)) (sym again) ∙ there in
     let has : IsSome (value_at config.flash older key) = is_there (value_at config.flash older key) entry value in
     let same : (k : List ℕ) → entry_at config.flash newer k ≡ entry_at config.flash older k = λ k. done_as (now_at older) (Add handle.key handle.value handle.expiry) k (entry_at config.flash older k) (open_call call (open_calls older)) asks
     ∙ kept_entry (now_at older) handle k (entry_at config.flash older k) (λ e. subst (λ (x : List ℕ). IsSome (value_at config.flash older x)) (same_bytes handle.key k e) has) in
@@ -273,7 +273,7 @@ wishes_by memory memory' key (w ∷ ws) e h = (one w.wish h.0, wishes_by memory 
     one ToFind h = tt
     one (ToAdd handle) h = (h.0, rw e h.1)
 
-linked_alone : (i : Option Item) (x : Item) (q w : Option PageEntry) (b : Bool) (s l : Option PageEntry) (m : Option Entry) → i ≡ Some x → Placed i q w b s l m → q ≡ None
+linked_alone : (i : Option Item) (x : Item) (q w : Option FlashEntry) (b : Bool) (s l : Option FlashEntry) (m : Option Entry) → i ≡ Some x → Placed i q w b s l m → q ≡ None
 linked_alone i x q w b s l m e h = grind arith
 
 stored_entry : (now : ℕ) (handle : Handle) (was : Option Entry) → unexpired now was ≡ None → entry_after now (Add handle.key handle.value handle.expiry) handle.key was ≡ Some (record { value = handle.value; expiry = handle.expiry })
@@ -361,7 +361,7 @@ serve_store plants config older cache handle call waiters more s there =
 
 -- ---- all of them
 
-serve_one : (plants : PlantKeeps) (config : Config) (older : List Note) (cache : Cache) (key : List ℕ) (call : ℕ) (wish : Wish) (waiters : List Waiter) (more : List Owed) (v : Option PageEntry)
+serve_one : (plants : PlantKeeps) (config : Config) (older : List Note) (cache : Cache) (key : List ℕ) (call : ℕ) (wish : Wish) (waiters : List Waiter) (more : List Owed) (v : Option FlashEntry)
     → Serving config older cache key (record { call = call; wish = wish } ∷ waiters) more → IsThere config older cache key v → live cache.now v ≡ v → ServedOne config older key waiters more cache (there_after wish v) (serve call wish v cache)
 serve_one plants config older cache key call ToFind waiters more v s there again = serve_find config older cache key call waiters more v s there again
 serve_one plants config older cache key call (ToAdd handle) waiters more (Some entry) s there again =
@@ -373,7 +373,7 @@ serve_one plants config older cache key call (ToAdd handle) waiters more None s 
     subst (λ (k : List ℕ). ServedOne config older k waiters more cache (Some (entry_of_handle handle)) (and_then (plant handle cache) (answer call Stored))) same
     (serve_store plants config older cache handle call waiters more (subst (λ (k : List ℕ). Serving config older cache k (record { call = call; wish = ToAdd handle } ∷ waiters) more) (sym same) s) (subst (λ (k : List ℕ). IsThere config older cache k None) (sym same) there))
 
-served_then : (config : Config) (older : List Note) (key : List ℕ) (waiters : List Waiter) (more : List Owed) (cache : Cache) (there : Option PageEntry) (told : Told) (f : Cache → Told) → ServedOne config older key waiters more cache there told
+served_then : (config : Config) (older : List Note) (key : List ℕ) (waiters : List Waiter) (more : List Owed) (cache : Cache) (there : Option FlashEntry) (told : Told) (f : Cache → Told) → ServedOne config older key waiters more cache there told
     → Served config (past older told.part) more told.cache (f told.cache) → Served config older more cache (and_then told f)
 served_then config older key waiters more cache there told f one rest = record {
   lawful = λ tail. pieces-both config older told.part (f told.cache).part tail (one.lawful ((f told.cache).part ++ tail)) (rest.lawful tail);
@@ -387,7 +387,7 @@ serve_all_keeps plants config older cache key [] there more s t = record { lawfu
 serve_all_keeps plants config older cache key (waiter ∷ waiters) there more s t =
     let v = live cache.now there in
     let again = live-again cache.now there in
-    let one = serve_one plants config older cache key waiter.call waiter.wish waiters more v s (ap (option_map (λ (e : PageEntry). e.value)) again ∙ t) again in
+    let one = serve_one plants config older cache key waiter.call waiter.wish waiters more v s (ap (option_map (λ (e : FlashEntry). e.value)) again ∙ t) again in
     let told = serve waiter.call waiter.wish v cache in
     served_then config older key waiters more cache (there_after waiter.wish v) told (serve_all waiters (there_after waiter.wish v)) one
     (serve_all_keeps plants config (past older told.part) told.cache key waiters (there_after waiter.wish v) more one.serving one.there_is)

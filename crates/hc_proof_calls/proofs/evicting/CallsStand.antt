@@ -2,7 +2,7 @@
 use Rattle.std.proofs.Common.{◌≡◌, ℕ, List, Option, Some, None, refl, sym, ◌∙◌, subst}
 use Rattle.hc_history.specs.Note.{Note}
 use Rattle.hc_history.specs.Books.{begun, owed}
-use Rattle.hc_bighash.specs.Page.{PageEntry}
+use Rattle.hc_types.specs.FlashEntry.{FlashEntry}
 use Rattle.hc_machine.specs.Nvm.{Nvm, Fill}
 use Rattle.hc_machine.specs.Cache.{Cache, Owed}
 use Rattle.hc_invariant.specs.Tells.{CallsTell}
@@ -15,6 +15,6 @@ pub calls_same : (older newer : List Note) (before after : Cache) (fills : List 
 calls_same older newer before after fills s t =
     subst (λ (n : ℕ). CallsTell newer n after.owed fills) (sym s.calls) (subst (λ (all : List Owed). CallsTell newer before.calls all fills) (sym s.owes) (calls_over older newer before.calls before.owed fills s.begun s.open_ones s.owed t))
 
-pub fills_queue : (queue : List PageEntry) (nvm : Option Nvm) → fills_of (with_queue queue nvm) ≡ fills_of nvm
+pub fills_queue : (queue : List FlashEntry) (nvm : Option Nvm) → fills_of (with_queue queue nvm) ≡ fills_of nvm
 fills_queue queue None = refl
 fills_queue queue (Some nvm) = refl

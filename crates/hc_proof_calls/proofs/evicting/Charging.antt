@@ -10,7 +10,7 @@ use Rattle.hc_types.specs.declared.config.PoolSize.{PoolSize}
 use Rattle.hc_types.specs.declared.refusal.Refusal.TheVariants.{NoPool, ValueTooLong, NoRoom}
 use Rattle.hc_types.specs.Tally.{tally, count}
 use Rattle.hc_types.proofs.Tallies.{tally-push, tally-append}
-use Rattle.hc_bighash.specs.Page.{PageEntry}
+use Rattle.hc_types.specs.FlashEntry.{FlashEntry}
 use Rattle.hc_memory.specs.Item.{Item, Open}
 use Rattle.hc_memory.specs.Pool.{Pool, item_at, kept, dropped}
 use Rattle.hc_memory.specs.Charges.{usage_of}
@@ -160,11 +160,11 @@ module _ (config : Config) (older : List Note) (cache : Cache) (pool : ℕ) (key
   all_went = all_gone config there.size pool want others cache.memory configured lt (others_none pools cache.memory.charges cache.memory.made pool there rest.sound at) there.items older (with_memory roomy cache) (rest.sound.own pool there at) begins
 
   -- the cache, once they left
-  abbrev emptier : List PageEntry → Cache
+  abbrev emptier : List FlashEntry → Cache
   emptier queue = record cache { memory = roomy; nvm = with_queue queue cache.nvm }
 
   -- once they left, and the item is charged
-  charged : (queue : List PageEntry) (part : List Note) → ((tail : List Note) → next_charged tail ≡ Some (pool, want) → Lawful config (past older part) tail → Lawful config older (part ++ tail))
+  charged : (queue : List FlashEntry) (part : List Note) → ((tail : List Note) → next_charged tail ≡ Some (pool, want) → Lawful config (past older part) tail → Lawful config older (part ++ tail))
       → Leaves config (past older part) (with_queue queue cache.nvm) cache.now cache.memory (left ++ others) → NoCalls older (past older part)
       → ((k : List ℕ) → linked_at k pools ≡ None → (queued_at (with_queue queue cache.nvm) k ≡ queued_at cache.nvm k) × (entry_at config.flash (past older part) k ≡ entry_at config.flash older k))
       → Charged config older cache pool key size (behind part (charge pool key size (emptier queue)))

@@ -10,7 +10,7 @@ use Rattle.hc_types.specs.declared.config.FlashConfig.{FlashConfig}
 use Rattle.hc_types.specs.declared.loss.Why.{Why}
 use Rattle.hc_types.specs.declared.loss.Why.TheVariants.{NoFlash, Tombstone, NotAdmitted, TooLarge, QueueFull}
 use Rattle.hc_types.specs.Tally.{count}
-use Rattle.hc_bighash.specs.Page.{PageEntry}
+use Rattle.hc_types.specs.FlashEntry.{FlashEntry}
 use Rattle.hc_memory.specs.Item.{Item}
 use Rattle.hc_memory.specs.Pool.{is_at, item_at}
 use Rattle.hc_memory.specs.Memory.{Memory}
@@ -44,7 +44,7 @@ use Rattle.hc_proof_calls.proofs.evicting.ItemsLeave.{Leaves, One, clean_at, los
 
 -- ---- the queue as it is
 
-abbrev own_queue : Option Nvm → List PageEntry
+abbrev own_queue : Option Nvm → List FlashEntry
 own_queue None = []
 own_queue (Some nvm) = nvm.queue
 
@@ -52,7 +52,7 @@ same_queue : (nvm : Option Nvm) → with_queue (own_queue nvm) nvm ≡ nvm
 same_queue None = refl
 same_queue (Some nvm) = refl
 
-pub same_cache : (cache : Cache) → (queue : List PageEntry) × (cache ≡ record cache { nvm = with_queue queue cache.nvm })
+pub same_cache : (cache : Cache) → (queue : List FlashEntry) × (cache ≡ record cache { nvm = with_queue queue cache.nvm })
 same_cache cache = (own_queue cache.nvm, ap (λ (n : Option Nvm). record cache { nvm = n }) (sym (same_queue cache.nvm)))
 
 -- ---- a clean one
@@ -137,7 +137,7 @@ no_flash_step config older cache pool want before x items false over none empty 
 -- ---- with flash
 
 -- why an entry doesn't wait: the books say the same
-why_same : (flash : FlashConfig) (older : List Note) (nvm : Nvm) (e : PageEntry) → nvm.pair.small.flash ≡ flash → is_among e.key (buried older) ≡ is_buried nvm e.key → length (waiting older) ≡ length nvm.queue
+why_same : (flash : FlashConfig) (older : List Note) (nvm : Nvm) (e : FlashEntry) → nvm.pair.small.flash ≡ flash → is_among e.key (buried older) ≡ is_buried nvm e.key → length (waiting older) ≡ length nvm.queue
     → refused_by flash older e.key (length e.value) ≡ why_not nvm e
 why_same flash older nvm e same buried waits =
     let region : ◌≡◌ {A = ℕ} (flash.page * flash.region_pages) (flash.region_pages * flash.page) = mul_comm flash.page flash.region_pages in
@@ -146,19 +146,19 @@ why_same flash older nvm e same buried waits =
 why_none : (a b c d : Bool) → (if a then Some Tombstone else (if not b then Some NotAdmitted else (if c then Some TooLarge else (if d then Some QueueFull else None)))) ≡ None → (a ≡ false) × (c ≡ false)
 why_none a b c d h = grind arith
 
-keys_push : (queue : List PageEntry) (e : PageEntry) → keys_of (queue ++ e ∷ []) ≡ keys_of queue ++ e.key ∷ []
+keys_push : (queue : List FlashEntry) (e : FlashEntry) → keys_of (queue ++ e ∷ []) ≡ keys_of queue ++ e.key ∷ []
 keys_push [] e = refl
 keys_push (x ∷ queue) e = ap (λ (keys : List (List ℕ)). x.key ∷ keys) (keys_push queue e)
 
-keys_length : (queue : List PageEntry) → length (keys_of queue) ≡ length queue
+keys_length : (queue : List FlashEntry) → length (keys_of queue) ≡ length queue
 keys_length [] = refl
 keys_length (x ∷ queue) = ap suc (keys_length queue)
 
-in_pools_push : (pools : ℕ) (queue : List PageEntry) (e : PageEntry) → InPools pools queue → e.pool < pools → InPools pools (queue ++ e ∷ [])
+in_pools_push : (pools : ℕ) (queue : List FlashEntry) (e : FlashEntry) → InPools pools queue → e.pool < pools → InPools pools (queue ++ e ∷ [])
 in_pools_push pools [] e h lt = (lt, tt)
 in_pools_push pools (x ∷ queue) e h lt = (h.0, in_pools_push pools queue e h.1 lt)
 
-no_put : (key : List ℕ) (queue : List PageEntry) → put_at key queue ≡ None → count (is_put_of key) queue ≡ 0
+no_put : (key : List ℕ) (queue : List FlashEntry) → put_at key queue ≡ None → count (is_put_of key) queue ≡ 0
 no_put key [] h = refl
 no_put key (x ∷ queue) h = step (is_put_of key x) h (no_put key queue)
   where
@@ -170,7 +170,7 @@ none_of : {A : Type 0} (o : Option A) → is_some o ≡ false → o ≡ None
 none_of None h = refl
 none_of (Some x) h = absurd cc
 
-none_in : (key : List ℕ) (es : List PageEntry) → under key es ≡ None → has_key key es ≡ false
+none_in : (key : List ℕ) (es : List FlashEntry) → under key es ≡ None → has_key key es ≡ false
 none_in key [] h = refl
 none_in key (e ∷ es) h = step (bytes_eq e.key key) h (none_in key es)
   where
@@ -194,7 +194,7 @@ module _ (flash : FlashConfig) (config : Config) (older : List Note) (cache : Ca
   apart = none_of (put_at x.key nvm.queue) (unqueued x _ _ _ _ _ _ place)
 
   not_waiting : is_among x.key (waiting older) ≡ false
-  not_waiting = waits-is older nvm x.key g.waits ∙ ap (λ (o : Option PageEntry). is_some o) apart
+  not_waiting = waits-is older nvm x.key g.waits ∙ ap (λ (o : Option FlashEntry). is_some o) apart
 
   waits_length : length (waiting older) ≡ length nvm.queue
   waits_length = sym (length-reverse (waiting older)) ∙ ap (λ (keys : List (List ℕ)). length keys) (sym g.waits.queue) ∙ keys_length nvm.queue
@@ -206,15 +206,15 @@ module _ (flash : FlashConfig) (config : Config) (older : List Note) (cache : Ca
   fits_after small lt = record {
     keys = keys_push nvm.queue (entry_of_item x) ∙ ap (λ (keys : List (List ℕ)). keys ++ x.key ∷ []) g.waits.queue ∙ sym (reverse_onto (waiting older) x.key []);
     one_put = λ key. one_more key (bytes_eq x.key key) refl;
-    can_put = omega (arith, tally-push (λ (e : PageEntry). if is_too_large nvm.pair.small.flash e then 1 else 0) nvm.queue (entry_of_item x), g.waits.can_put, ap {B = ℕ} (λ b. if b then 1 else 0) small);
+    can_put = omega (arith, tally-push (λ (e : FlashEntry). if is_too_large nvm.pair.small.flash e then 1 else 0) nvm.queue (entry_of_item x), g.waits.can_put, ap {B = ℕ} (λ b. if b then 1 else 0) small);
     pools_there = in_pools_push (length before.pools) nvm.queue (entry_of_item x) g.pools lt;
   }
     where
       one_more : (key : List ℕ) (b : Bool) → bytes_eq x.key key ≡ b → count (is_put_of key) (nvm.queue ++ entry_of_item x ∷ []) ≤ 1
       one_more key true e =
           let none = no_put x.key nvm.queue apart in
-          omega (arith, tally-push (λ (e : PageEntry). if is_put_of key e then 1 else 0) nvm.queue (entry_of_item x), ap {B = ℕ} (λ b. if b then 1 else 0) e, ap (λ (k : List ℕ). count (is_put_of k) nvm.queue) (sym (same_bytes x.key key e)), none)
-      one_more key false e = omega (arith, tally-push (λ (e : PageEntry). if is_put_of key e then 1 else 0) nvm.queue (entry_of_item x), ap {B = ℕ} (λ b. if b then 1 else 0) e, g.waits.one_put key)
+          omega (arith, tally-push (λ (e : FlashEntry). if is_put_of key e then 1 else 0) nvm.queue (entry_of_item x), ap {B = ℕ} (λ b. if b then 1 else 0) e, ap (λ (k : List ℕ). count (is_put_of k) nvm.queue) (sym (same_bytes x.key key e)), none)
+      one_more key false e = omega (arith, tally-push (λ (e : FlashEntry). if is_put_of key e then 1 else 0) nvm.queue (entry_of_item x), ap {B = ℕ} (λ b. if b then 1 else 0) e, g.waits.one_put key)
 
   fills_after : (fills : List Fill) → AllFill (bytes_at older) before nvm fills → AllUnqueued (nvm.queue ++ entry_of_item x ∷ []) fills
   fills_after [] f = tt

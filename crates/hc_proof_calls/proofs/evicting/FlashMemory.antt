@@ -2,7 +2,7 @@
 use Rattle.std.proofs.Common.{◌≡◌, ℕ, Bool, true, false, not, List, [], ◌∷◌, ◌++◌, length, Option, Some, None, refl, arith, sym, subst, find}
 use Rattle.std.specs.Prelude.{if◌then◌else◌, is_some}
 use Rattle.hc_types.specs.declared.config.FlashConfig.{FlashConfig}
-use Rattle.hc_bighash.specs.Page.{PageEntry}
+use Rattle.hc_types.specs.FlashEntry.{FlashEntry}
 use Rattle.hc_items.proofs.Items.{bytes_eq-refl}
 use Rattle.hc_engines.specs.Engine.{Pages}
 use Rattle.hc_memory.specs.Item.{Open, charge_by}
@@ -118,7 +118,7 @@ both_fills pages pages0 m0 m1 m2 nvm nvm0 moves (fill ∷ fills) bare open_ones 
     )
 
 -- what waited before waits for charges that are open now; all else is as it is beside the memory between
-pub flash_both : (flash : Option FlashConfig) (older0 older : List Note) (m0 m1 m2 : Memory) (nvm : Option Nvm) (queue : List PageEntry) (moves : List ℕ → Bool) → length m2.pools ≡ length m1.pools → StayBare (fills_of nvm) m1 m2 → StayOpen m0.charges m2.charges
+pub flash_both : (flash : Option FlashConfig) (older0 older : List Note) (m0 m1 m2 : Memory) (nvm : Option Nvm) (queue : List FlashEntry) (moves : List ℕ → Bool) → length m2.pools ≡ length m1.pools → StayBare (fills_of nvm) m1 m2 → StayOpen m0.charges m2.charges
     → FlashMidst flash older0 m0 nvm moves → FlashMidst flash older m1 (with_queue queue nvm) moves → FlashMidst flash older m2 (with_queue queue nvm) moves
 flash_both None older0 older m0 m1 m2 None queue moves n bare open_ones g0 g = record { no_waiting = g.no_waiting; no_writing = g.no_writing; no_buried = g.no_buried }
 flash_both (Some flash) older0 older m0 m1 m2 (Some nvm) queue moves n bare open_ones g0 g = record {

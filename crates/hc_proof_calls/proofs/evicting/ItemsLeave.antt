@@ -7,7 +7,7 @@ use Rattle.hc_types.specs.Loss as loss
 use Rattle.hc_types.specs.Tally.{count}
 use Rattle.hc_types.proofs.Tallies.{tally-mono}
 use Rattle.hc_types.specs.declared.config.FlashConfig.{FlashConfig}
-use Rattle.hc_bighash.specs.Page.{PageEntry}
+use Rattle.hc_types.specs.FlashEntry.{FlashEntry}
 use Rattle.hc_memory.specs.Item.{Item, Open}
 use Rattle.hc_memory.specs.Pool.{is_at, item_at}
 use Rattle.hc_memory.specs.Memory.{Memory, linked_at}
@@ -82,11 +82,11 @@ not_own key x items e = grind (arith, bytes_eq-sym x.key key)
 
 -- ---- the key of the first item, and the others
 
-pub clean_at : (t : Bool) (x : Item) (o : Option Item) (q w s l : Option PageEntry) (m : Option Entry) (b : Bool) → (t ≡ true → o ≡ None) → x.clean ≡ true → Placed (if t then Some x else o) q w b s l m → Placed o q w b s l m
+pub clean_at : (t : Bool) (x : Item) (o : Option Item) (q w s l : Option FlashEntry) (m : Option Entry) (b : Bool) → (t ≡ true → o ≡ None) → x.clean ≡ true → Placed (if t then Some x else o) q w b s l m → Placed o q w b s l m
 clean_at true x o q w s l m b none c p = rw (none refl) (placed_evict_clean x q w s l m b p c)
 clean_at false x o q w s l m b none c p = p
 
-pub lost_at : (t : Bool) (x : Item) (o : Option Item) (q w s l : Option PageEntry) (m : Option Entry) (b : Bool) → (t ≡ true → o ≡ None) → x.clean ≡ false → Placed (if t then Some x else o) q w b s l m → Placed o q w b s l (if t then None else m)
+pub lost_at : (t : Bool) (x : Item) (o : Option Item) (q w s l : Option FlashEntry) (m : Option Entry) (b : Bool) → (t ≡ true → o ≡ None) → x.clean ≡ false → Placed (if t then Some x else o) q w b s l m → Placed o q w b s l (if t then None else m)
 lost_at true x o q w s l m b none c p = rw (none refl) (placed_evict_lost x q w s l m b p c)
 lost_at false x o q w s l m b none c p = p
 
@@ -94,16 +94,16 @@ pub still_first : {A : Type 0} (q : Option A) → q ≡ first_of q None
 still_first None = refl
 still_first (Some x) = refl
 
-queue_step : (x : Item) (q w s l : Option PageEntry) (m : Option Entry) (b : Bool) → Placed (Some x) q w b s l m → b ≡ false → x.clean ≡ false → Placed None (first_of q (Some (entry_of_item x))) w b s l m
+queue_step : (x : Item) (q w s l : Option FlashEntry) (m : Option Entry) (b : Bool) → Placed (Some x) q w b s l m → b ≡ false → x.clean ≡ false → Placed None (first_of q (Some (entry_of_item x))) w b s l m
 queue_step x q w s l m b p u c = grind arith
 
-pub wait_at : (t : Bool) (x : Item) (o : Option Item) (q w s l : Option PageEntry) (m : Option Entry) (b : Bool) → (t ≡ true → o ≡ None) → (t ≡ true → b ≡ false) → x.clean ≡ false → Placed (if t then Some x else o) q w b s l m
+pub wait_at : (t : Bool) (x : Item) (o : Option Item) (q w s l : Option FlashEntry) (m : Option Entry) (b : Bool) → (t ≡ true → o ≡ None) → (t ≡ true → b ≡ false) → x.clean ≡ false → Placed (if t then Some x else o) q w b s l m
     → Placed o (first_of q (if t then Some (entry_of_item x) else None)) w b s l m
 wait_at true x o q w s l m b none u c p = rw (none refl) (queue_step x q w s l m b p (u refl) c)
-wait_at false x o q w s l m b none u c p = subst (λ (r : Option PageEntry). Placed o r w b s l m) (still_first q) p
+wait_at false x o q w s l m b none u c p = subst (λ (r : Option FlashEntry). Placed o r w b s l m) (still_first q) p
 
 -- a linked key isn't queued
-pub unqueued : (x : Item) (q w s l : Option PageEntry) (m : Option Entry) (b : Bool) → Placed (Some x) q w b s l m → is_some q ≡ false
+pub unqueued : (x : Item) (q w s l : Option FlashEntry) (m : Option Entry) (b : Bool) → Placed (Some x) q w b s l m → is_some q ≡ false
 unqueued x q w s l m b p = grind arith
 
 -- what the map has once a key is lost that nobody has
@@ -155,5 +155,5 @@ pub record One (config : Config) (older : List Note) (cache : Cache) (pool want 
   pub lawful : (tail : List Note) → next_charged tail ≡ Some (pool, want) → LawfulIn config (Freed x.number ∷ older) told.part tail
   pub left : Leaves config (past (Freed x.number ∷ older) told.part) told.cache.nvm told.cache.now before items
   pub calls : NoCalls (Freed x.number ∷ older) (past (Freed x.number ∷ older) told.part)
-  pub same : (queue : List PageEntry) × (told.cache ≡ record cache { nvm = with_queue queue cache.nvm })
+  pub same : (queue : List FlashEntry) × (told.cache ≡ record cache { nvm = with_queue queue cache.nvm })
   pub other : (key : List ℕ) → is_at key x ≡ false → (queued_at told.cache.nvm key ≡ queued_at cache.nvm key) × (entry_at config.flash (past (Freed x.number ∷ older) told.part) key ≡ entry_at config.flash older key)

@@ -7,7 +7,7 @@ use Rattle.hc_types.specs.Tally.{tally, count}
 use Rattle.hc_types.proofs.Tallies.{find-none}
 use Rattle.hc_types.specs.declared.config.PoolSize.{PoolSize}
 use Rattle.hc_types.specs.declared.refusal.Refusal.{Refusal}
-use Rattle.hc_bighash.specs.Page.{PageEntry}
+use Rattle.hc_types.specs.FlashEntry.{FlashEntry}
 use Rattle.hc_memory.specs.Item.{Item, Open, Handle, charge_by, item_by}
 use Rattle.hc_memory.specs.Pool.{Pool, item_at, without}
 use Rattle.hc_memory.specs.Charges.{closed, is_open, charge_at, has_number}
@@ -85,13 +85,13 @@ still_open charges c one none o h = stays_open o c.number (charges ++ c ∷ []) 
 
 -- ---- a clean item of its entry
 
-fill_small : (e : PageEntry) (i : Option Item) (q w s l : Option PageEntry) (b : Bool) (m : Option Entry) (handle : Handle) → handle.pool ≡ e.pool → handle.key ≡ e.key → handle.value ≡ e.value → handle.expiry ≡ e.expiry → i ≡ None → b ≡ false → s ≡ Some e → Placed i q w b s l m
+fill_small : (e : FlashEntry) (i : Option Item) (q w s l : Option FlashEntry) (b : Bool) (m : Option Entry) (handle : Handle) → handle.pool ≡ e.pool → handle.key ≡ e.key → handle.value ≡ e.value → handle.expiry ≡ e.expiry → i ≡ None → b ≡ false → s ≡ Some e → Placed i q w b s l m
     → Placed (Some (item_by true handle)) q w b s l m
 fill_small e i q w s l b m handle ep ek ev ex ei eb es p =
     let clean : Placed None q w false (Some e) l m = rw (ei, eb, es) at p in
     rw (ep, ek, ev, ex, eb, es) (placed_fill_small e q w l m handle.number clean)
 
-fill_large : (e : PageEntry) (i : Option Item) (q w s l : Option PageEntry) (b : Bool) (m : Option Entry) (handle : Handle) → handle.pool ≡ e.pool → handle.key ≡ e.key → handle.value ≡ e.value → handle.expiry ≡ e.expiry → i ≡ None → b ≡ false → l ≡ Some e → Placed i q w b s l m
+fill_large : (e : FlashEntry) (i : Option Item) (q w s l : Option FlashEntry) (b : Bool) (m : Option Entry) (handle : Handle) → handle.pool ≡ e.pool → handle.key ≡ e.key → handle.value ≡ e.value → handle.expiry ≡ e.expiry → i ≡ None → b ≡ false → l ≡ Some e → Placed i q w b s l m
     → Placed (Some (item_by true handle)) q w b s l m
 fill_large e i q w s l b m handle ep ek ev ex ei eb el p =
     let clean : Placed None q w false s (Some e) m = rw (ei, eb, el) at p in
@@ -99,7 +99,7 @@ fill_large e i q w s l b m handle ep ek ev ex ei eb el p =
 
 -- ---- it is linked
 
-module _ (config : Config) (older : List Note) (cache : Cache) (e : PageEntry) (b : IsBrought config older cache e.key (Some e)) (allowed : refusal_of cache.memory e.pool e.key (length e.value) ≡ None) where
+module _ (config : Config) (older : List Note) (cache : Cache) (e : FlashEntry) (b : IsBrought config older cache e.key (Some e)) (allowed : refusal_of cache.memory e.pool e.key (length e.value) ≡ None) where
   abbrev handle : Handle
   handle = handle_for cache e.pool e.key e.value e.expiry
 
@@ -153,15 +153,15 @@ module _ (config : Config) (older : List Note) (cache : Cache) (e : PageEntry) (
   queue_is : one.cache.nvm ≡ with_queue charged.nvm.0 cache.nvm
   queue_is = charged.nvm.1
 
-  stale : (queue : List PageEntry) (nvm : Option Nvm) (key : List ℕ) → buried_at (with_queue queue nvm) key ≡ buried_at nvm key
+  stale : (queue : List FlashEntry) (nvm : Option Nvm) (key : List ℕ) → buried_at (with_queue queue nvm) key ≡ buried_at nvm key
   stale queue None key = refl
   stale queue (Some nvm) key = refl
 
-  small_still : (queue : List PageEntry) (nvm : Option Nvm) (key : List ℕ) → small_at (bytes_at older) (with_queue queue nvm) key ≡ small_at (bytes_at older) nvm key
+  small_still : (queue : List FlashEntry) (nvm : Option Nvm) (key : List ℕ) → small_at (bytes_at older) (with_queue queue nvm) key ≡ small_at (bytes_at older) nvm key
   small_still queue None key = refl
   small_still queue (Some nvm) key = refl
 
-  large_still : (queue : List PageEntry) (nvm : Option Nvm) (key : List ℕ) → large_at (bytes_at older) (with_queue queue nvm) key ≡ large_at (bytes_at older) nvm key
+  large_still : (queue : List FlashEntry) (nvm : Option Nvm) (key : List ℕ) → large_at (bytes_at older) (with_queue queue nvm) key ≡ large_at (bytes_at older) nvm key
   large_still queue None key = refl
   large_still queue (Some nvm) key = refl
 
@@ -235,7 +235,7 @@ module _ (config : Config) (older : List Note) (cache : Cache) (e : PageEntry) (
 
 -- ---- where it can be
 
-nothing_brought : (config : Config) (older : List Note) (cache : Cache) (key : List ℕ) (found : Option PageEntry) → IsBrought config older cache key found → Brought config older cache key found (tells [] cache)
+nothing_brought : (config : Config) (older : List Note) (cache : Cache) (key : List ℕ) (found : Option FlashEntry) → IsBrought config older cache key found → Brought config older cache key found (tells [] cache)
 nothing_brought config older cache key found b = record {
   lawful = tt;
   rest = b.rest;
@@ -251,7 +251,7 @@ nothing_brought config older cache key found b = record {
   pages = refl;
 }
   where
-    same_nvm : (nvm : Option Nvm) → (queue : List PageEntry) × (nvm ≡ with_queue queue nvm)
+    same_nvm : (nvm : Option Nvm) → (queue : List FlashEntry) × (nvm ≡ with_queue queue nvm)
     same_nvm None = ([], refl)
     same_nvm (Some nvm) = (nvm.queue, refl)
 
@@ -260,7 +260,7 @@ not_refused a None h = refl
 not_refused true (Some r) h = absurd cc
 not_refused false (Some r) h = absurd cc
 
-own_brought : (config : Config) (older : List Note) (cache : Cache) (e : PageEntry) → IsBrought config older cache e.key (Some e) → Brought config older cache e.key (Some e) (bring (Some e) cache)
+own_brought : (config : Config) (older : List Note) (cache : Cache) (e : FlashEntry) → IsBrought config older cache e.key (Some e) → Brought config older cache e.key (Some e) (bring (Some e) cache)
 own_brought config older cache e b = go (can_link cache e) refl
   where
     go : (t : Bool) → can_link cache e ≡ t → Brought config older cache e.key (Some e) (if t then and_then (make_charge e.pool e.key (length e.value) cache) (link_clean (handle_for cache e.pool e.key e.value e.expiry)) else tells [] cache)

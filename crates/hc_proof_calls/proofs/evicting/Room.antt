@@ -5,7 +5,7 @@ use Rattle.std.proofs.lemmas.List.{append_assoc}
 use Rattle.hc_types.specs.Config.{Config}
 use Rattle.hc_types.specs.declared.config.PoolSize.{PoolSize}
 use Rattle.hc_types.specs.Tally.{count}
-use Rattle.hc_bighash.specs.Page.{PageEntry}
+use Rattle.hc_types.specs.FlashEntry.{FlashEntry}
 use Rattle.hc_memory.specs.Item.{Item}
 use Rattle.hc_memory.specs.Pool.{is_at, item_at, is_full, kept, dropped}
 use Rattle.hc_memory.specs.Charges.{usage_of}
@@ -32,13 +32,13 @@ pub record Gone (config : Config) (older : List Note) (cache : Cache) (pool want
   pub lawful : (tail : List Note) → next_charged tail ≡ Some (pool, want) → LawfulIn config older told.part tail
   pub left : Leaves config (past older told.part) told.cache.nvm told.cache.now before items
   pub calls : NoCalls older (past older told.part)
-  pub same : (queue : List PageEntry) × (told.cache ≡ record cache { nvm = with_queue queue cache.nvm })
+  pub same : (queue : List FlashEntry) × (told.cache ≡ record cache { nvm = with_queue queue cache.nvm })
   pub other : (key : List ℕ) → linked_at key before.pools ≡ None → (queued_at told.cache.nvm key ≡ queued_at cache.nvm key) × (entry_at config.flash (past older told.part) key ≡ entry_at config.flash older key)
 
 next_full : (config : Config) (live : List Charge) (pool want : ℕ) (o : Option (ℕ × ℕ)) → o ≡ Some (pool, want) → lawful.is_full config pool live want ≡ true → IsSomeAnd o (λ next. (next.0 ≡ pool) × (lawful.is_full config pool live next.1 ≡ true))
 next_full config live pool want o e full = rw e (refl, full)
 
-queue_twice : (q r : List PageEntry) (nvm : Option Nvm) → with_queue r (with_queue q nvm) ≡ with_queue r nvm
+queue_twice : (q r : List FlashEntry) (nvm : Option Nvm) → with_queue r (with_queue q nvm) ≡ with_queue r nvm
 queue_twice q r None = refl
 queue_twice q r (Some nvm) = refl
 

@@ -6,7 +6,7 @@ use Rattle.hc_types.specs.Config.{Config}
 use Rattle.hc_types.specs.Tally.{count}
 use Rattle.hc_types.specs.declared.config.FlashConfig.{FlashConfig}
 use Rattle.hc_types.proofs.Tallies.{tally-push, find-none}
-use Rattle.hc_bighash.specs.Page.{PageEntry}
+use Rattle.hc_types.specs.FlashEntry.{FlashEntry}
 use Rattle.hc_items.specs.Items.{items_of}
 use Rattle.hc_history.specs.Note.{Op, Reply, Note, Begin, Did, End}
 use Rattle.hc_history.specs.Books.{Call, Answer, Entry, open_calls, open_call, owed, entry_at, entry_after, done_by, now_at}
@@ -127,7 +127,7 @@ end_allowed older calls c reply all fills t =
     replied c reply (owed older) (t.replies c ∙ ap reply_of found)
 
 -- the key's fill ends, and the call
-ends_call : EndFillKeeps → (config : Config) (older : List Note) (cache : Cache) (key : List ℕ) (there : Option PageEntry) (c : ℕ) (reply : Reply) → Stands config older cache key → CallsTell older cache.calls (cache.owed ++ record { call = c; reply = Some reply } ∷ []) (fills_of cache.nvm)
+ends_call : EndFillKeeps → (config : Config) (older : List Note) (cache : Cache) (key : List ℕ) (there : Option FlashEntry) (c : ℕ) (reply : Reply) → Stands config older cache key → CallsTell older cache.calls (cache.owed ++ record { call = c; reply = Some reply } ∷ []) (fills_of cache.nvm)
     → queued_at cache.nvm key ≡ None → RestsFrom config.flash older key → IsThere config older cache key there
     → Steady config older ((end_fill key there cache).part ++ End c ∷ []) (end_fill key there cache).cache
 ends_call ends config older cache key there c reply stands calls unqueued rested is_there =
@@ -145,7 +145,7 @@ ends_call ends config older cache key there c reply stands calls unqueued rested
 -- ---- all of the call
 
 -- what its piece leaves, and what it is answered
-pub record Piece (config : Config) (older : List Note) (cache : Cache) (client : ℕ) (op : Op) (key : List ℕ) (reply : Reply) (there : Option PageEntry) (told : Told) : Type 0 where
+pub record Piece (config : Config) (older : List Note) (cache : Cache) (client : ℕ) (op : Op) (key : List ℕ) (reply : Reply) (there : Option FlashEntry) (told : Told) : Type 0 where
   pub lawful : (tail : List Note) → LawfulIn config (begun_by client op cache older) told.part (Did (cache.calls + 1) reply ∷ tail)
   pub calls : SameCalls (begun_by client op cache older) (past (begun_by client op cache older) told.part) (counted cache) told.cache
   pub fills : fills_of told.cache.nvm ≡ fills_of cache.nvm
@@ -161,7 +161,7 @@ part_of number client op reply cache told ended = Begin (cache.calls + 1) client
 answer_open : (flash : Option FlashConfig) (newer : List Note) (c : ℕ) (reply : Reply) (call : Call) → open_call c (open_calls newer) ≡ Some call → IsAnswer flash newer c call.op reply → IsSomeAnd (open_call c (open_calls newer)) (λ call. IsAnswer flash newer c call.op reply)
 answer_open flash newer c reply call e h = subst (λ (o : Option Call). IsSomeAnd o (λ call. IsAnswer flash newer c call.op reply)) (sym e) h
 
-pub call_keeps : EndFillKeeps → (config : Config) (older : List Note) (cache : Cache) (client : ℕ) (op : Op) (key : List ℕ) (reply : Reply) (there : Option PageEntry) (piece : Told) → Agrees config older cache → Piece config older cache client op key reply there piece
+pub call_keeps : EndFillKeeps → (config : Config) (older : List Note) (cache : Cache) (client : ℕ) (op : Op) (key : List ℕ) (reply : Reply) (there : Option FlashEntry) (piece : Told) → Agrees config older cache → Piece config older cache client op key reply there piece
     → Steady config older (part_of piece.cache.calls client op reply cache piece (end_fill key there piece.cache).part) (end_fill key there piece.cache).cache
 call_keeps ends config older cache client op key reply there piece g p =
     let c = cache.calls + 1 in

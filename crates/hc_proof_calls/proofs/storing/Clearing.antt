@@ -5,7 +5,7 @@ use Rattle.hc_types.specs.Config.{Config}
 use Rattle.hc_types.specs.Tally.{count}
 use Rattle.hc_types.specs.declared.config.PoolSize.{PoolSize}
 use Rattle.hc_types.specs.declared.config.FlashConfig.{FlashConfig}
-use Rattle.hc_bighash.specs.Page.{PageEntry}
+use Rattle.hc_types.specs.FlashEntry.{FlashEntry}
 use Rattle.hc_engines.specs.small.BigHash.{could_hold}
 use Rattle.hc_engines.specs.small.Held as small
 use Rattle.hc_engines.specs.small.Held.{StateFits}
@@ -50,16 +50,16 @@ use Rattle.hc_proof_calls.proofs.storing.WrittenNow.{written_now}
 abbrev pub stone_after : Bool → Bool → Bool → Bool
 stone_after buried could written = if (could || written) && not buried then true else buried
 
-inserted_at : (i : Option Item) (q w s l : Option PageEntry) (m : Option Entry) (b could written : Bool) (new : Item) → Placed i q w b s l m → (is_some s ≡ true → could ≡ true) → (is_some w ≡ true → written ≡ true) → new.clean ≡ false
+inserted_at : (i : Option Item) (q w s l : Option FlashEntry) (m : Option Entry) (b could written : Bool) (new : Item) → Placed i q w b s l m → (is_some s ≡ true → could ≡ true) → (is_some w ≡ true → written ≡ true) → new.clean ≡ false
     → Placed (Some new) None w (stone_after b could written) s None (Some (map_of_item new))
 inserted_at i q w s l m b could written new h c v n = grind arith
 
-removed_at : (i : Option Item) (q w s l : Option PageEntry) (m : Option Entry) (b could written : Bool) → Placed i q w b s l m → (is_some s ≡ true → could ≡ true) → (is_some w ≡ true → written ≡ true)
+removed_at : (i : Option Item) (q w s l : Option FlashEntry) (m : Option Entry) (b could written : Bool) → Placed i q w b s l m → (is_some s ≡ true → could ≡ true) → (is_some w ≡ true → written ≡ true)
     → Placed None None w (stone_after b could written) s None None
 removed_at i q w s l m b could written h c v = grind arith
 
 -- where the key would stand then, with an item that is linked in its place, and with none
-pub record MayStand (q w s l : Option PageEntry) (b : Bool) : Type 0 where
+pub record MayStand (q w s l : Option FlashEntry) (b : Bool) : Type 0 where
   pub inserted : (new : Item) → new.clean ≡ false → Placed (Some new) q w b s l (Some (map_of_item new))
   pub removed : Placed None q w b s l None
 
@@ -129,7 +129,7 @@ unindex_go take pools older cache nvm key tail true e h st =
       rest = rest_unindexed pools older cache nvm key takes.fit h.rest;
       one = omega (arith, h.one, tally_unmarked (λ item. if is_at key item then 1 else 0) (λ y. refl) cache.memory.flash (hash_scope key nvm) cache.memory.pools);
       linked = own_item cache.memory nvm key;
-      stands = subst (λ (l : Option PageEntry). MayStand (put_at key nvm.queue) (written_by key nvm.pair.small.jobs) (small.held nvm.pair.small (bytes_at older) key) l (is_buried nvm key)) (sym (own_large (bytes_at older) nvm key)) st;
+      stands = subst (λ (l : Option FlashEntry). MayStand (put_at key nvm.queue) (written_by key nvm.pair.small.jobs) (small.held nvm.pair.small (bytes_at older) key) l (is_buried nvm key)) (sym (own_large (bytes_at older) nvm key)) st;
       calls = record { begun = refl; open_ones = refl; owed = refl; calls = refl; owes = refl };
       entry = own_entry older nvm key;
       same_clock = refl;
@@ -143,7 +143,7 @@ unindex_go take pools older cache nvm key tail false e h st = record {
   rest = h.rest;
   one = h.one;
   linked = refl;
-  stands = subst (λ (l : Option PageEntry). MayStand (put_at key nvm.queue) (written_by key nvm.pair.small.jobs) (small.held nvm.pair.small (bytes_at older) key) l (is_buried nvm key)) (sym (unindexed_large (bytes_at older) nvm key e)) st;
+  stands = subst (λ (l : Option FlashEntry). MayStand (put_at key nvm.queue) (written_by key nvm.pair.small.jobs) (small.held nvm.pair.small (bytes_at older) key) l (is_buried nvm key)) (sym (unindexed_large (bytes_at older) nvm key e)) st;
   calls = record { begun = refl; open_ones = refl; owed = refl; calls = refl; owes = refl };
   entry = refl;
   same_clock = refl;
@@ -170,12 +170,12 @@ outdate_go due take pools older cache nvm key tail true e h st =
     (allowed_buried due pools (own_flash nvm) older ((unindex key (with_stone key nvm)).part ++ tail) nvm key h.rest.flash.engines h.rest.flash.waits e (changed_by older ((unindex key (with_stone key nvm)).part ++ tail) tail key c.quiet h.changed)) c
 outdate_go due take pools older cache nvm key tail false e h st = unindex_go take pools older cache nvm key tail (is_indexed nvm.pair key) refl h st
 
-could_step : (nvm : Nvm) (pages : Pages) (key : List ℕ) (o : Option PageEntry) → small.held nvm.pair.small pages key ≡ o → StateFits nvm.pair.small pages → is_some o ≡ true → could_hold nvm.pair.small key ≡ true
+could_step : (nvm : Nvm) (pages : Pages) (key : List ℕ) (o : Option FlashEntry) → small.held nvm.pair.small pages key ≡ o → StateFits nvm.pair.small pages → is_some o ≡ true → could_hold nvm.pair.small key ≡ true
 could_step nvm pages key None e fits h = absurd cc
 could_step nvm pages key (Some x) e fits h = held_is_told nvm.pair.small pages key fits (λ none. cc)
 
 -- where the key stood before, but for its queue
-outdate_keeps : DueIs → TakeTells → (pools : List PoolSize) (older : List Note) (cache : Cache) (nvm : Nvm) (key : List ℕ) (tail : List Note) (i : Option Item) (q : Option PageEntry) (m : Option Entry) → Before pools older cache nvm key tail → put_at key nvm.queue ≡ None
+outdate_keeps : DueIs → TakeTells → (pools : List PoolSize) (older : List Note) (cache : Cache) (nvm : Nvm) (key : List ℕ) (tail : List Note) (i : Option Item) (q : Option FlashEntry) (m : Option Entry) → Before pools older cache nvm key tail → put_at key nvm.queue ≡ None
     → Placed i q (written_by key nvm.pair.small.jobs) (is_buried nvm key) (small.held nvm.pair.small (bytes_at older) key) (large_at (bytes_at older) (Some nvm) key) m
     → Cleared (flashed pools (own_flash nvm)) older (record cache { nvm = Some nvm }) key tail false (took_in (outdate key nvm) (record cache { nvm = Some nvm }))
 outdate_keeps due take pools older cache nvm key tail i q m h none p =
@@ -187,7 +187,7 @@ outdate_keeps due take pools older cache nvm key tail i q m h none p =
     let holds = could_step nvm (bytes_at older) key s refl h.rest.flash.engines.small_fits in
     let writes = written_now nvm (bytes_at older) key h.rest.flash.engines.small_fits h.rest.flash.jobs in
     outdate_go due take pools older cache nvm key tail (is_due nvm key) refl h
-    (subst (λ (q : Option PageEntry). MayStand q w s None (stone_after (is_buried nvm key) could written)) (sym none)
+    (subst (λ (q : Option FlashEntry). MayStand q w s None (stone_after (is_buried nvm key) could written)) (sym none)
     (record { inserted = λ new clean. inserted_at i q w s l m (is_buried nvm key) could written new p holds writes clean; removed = removed_at i q w s l m (is_buried nvm key) could written p holds writes }))
 
 -- ---- its item's charge goes before
@@ -201,7 +201,7 @@ or_left a b e = grind arith
 freed_now : (older : List Note) (items : List Item) (opens : List Open) (made : ℕ) (key : List ℕ) (x : Item) → item_at key items ≡ Some x → ChargesTell older items opens made → (call : ℕ) → freed_since (Freed x.number ∷ older) call key ≡ (true || freed_since older call key)
 freed_now older items opens made key x found t call = or_left _ (freed_since older call key) (lt_true _ (freed_linked older items opens made key x found t))
 
-freed_go : DueIs → TakeTells → (pools : List PoolSize) (older : List Note) (cache : Cache) (nvm : Nvm) (key : List ℕ) (tail : List Note) (o i : Option Item) (q : Option PageEntry) (m : Option Entry) → linked_at key cache.memory.pools ≡ o
+freed_go : DueIs → TakeTells → (pools : List PoolSize) (older : List Note) (cache : Cache) (nvm : Nvm) (key : List ℕ) (tail : List Note) (o i : Option Item) (q : Option FlashEntry) (m : Option Entry) → linked_at key cache.memory.pools ≡ o
     → Rest (flashed pools (own_flash nvm)) older (record cache { nvm = Some nvm }) (items_of cache.memory.pools) (only key) → count (is_at key) (items_of cache.memory.pools) ≤ 1 → IsChanged older key tail → is_put_of key (put_under_way (own_flash nvm) older) ≡ false → put_at key nvm.queue ≡ None
     → Placed i q (written_by key nvm.pair.small.jobs) (is_buried nvm key) (small.held nvm.pair.small (bytes_at older) key) (large_at (bytes_at older) (Some nvm) key) m
     → Cleared (flashed pools (own_flash nvm)) older (record cache { nvm = Some nvm }) key tail (is_some o) (behind (freed_note o) (took_in (outdate key nvm) (record cache { nvm = Some nvm })))
@@ -224,7 +224,7 @@ freed_go due take pools older cache nvm key tail (Some x) i q m e r one changed 
 abbrev unqueue_by : Bool → List ℕ → Nvm → Changed
 unqueue_by b key nvm = if b then changed (Unqueued key ∷ []) (unqueued key nvm) else changed [] nvm
 
-no_put : (o : Option PageEntry) → is_some o ≡ false → o ≡ None
+no_put : (o : Option FlashEntry) → is_some o ≡ false → o ≡ None
 no_put None h = refl
 no_put (Some e) h = absurd cc
 

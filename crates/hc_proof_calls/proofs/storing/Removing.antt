@@ -4,7 +4,7 @@ use Rattle.std.specs.Prelude.{if◌then◌else◌, is_some, IsSome}
 use Rattle.std.specs.Str.{bytes_eq}
 use Rattle.hc_types.specs.Config.{Config}
 use Rattle.hc_types.specs.declared.config.FlashConfig.{FlashConfig}
-use Rattle.hc_bighash.specs.Page.{PageEntry}
+use Rattle.hc_types.specs.FlashEntry.{FlashEntry}
 use Rattle.hc_memory.specs.Item.{Item}
 use Rattle.hc_memory.specs.Memory.{linked_at}
 use Rattle.hc_items.specs.Items.{items_of}
@@ -34,7 +34,7 @@ answered_by : (flash : Option FlashConfig) (older newer : List Note) (cache : Ca
 answered_by flash older newer cache client key None freed has = freed ∙ ap (λ (b : Bool). if b then false else freed_since older (cache.calls + 1) key) (same_number (cache.calls + 1))
 answered_by flash older newer cache client key (Some x) freed has = (subst (λ (e : Option Entry). IsSome e) (sym (has x refl)) refl, freed)
 
-unlinked_alone : (i : Option Item) (q w s l : Option PageEntry) (b : Bool) → i ≡ None → Placed i q w b s l None → q ≡ None
+unlinked_alone : (i : Option Item) (q w s l : Option FlashEntry) (b : Bool) → i ≡ None → Placed i q w b s l None → q ≡ None
 unlinked_alone i q w s l b e h = grind arith
 
 remove_own : (now : ℕ) (key : List ℕ) (was : Option Entry) → entry_after now (Remove key) key was ≡ None

@@ -5,7 +5,7 @@ use Rattle.std.specs.Str.{bytes_eq}
 use Rattle.hc_types.specs.Config.{Config}
 use Rattle.hc_types.specs.declared.refusal.Refusal.TheVariants.{ForeignHandle}
 use Rattle.hc_types.specs.declared.config.FlashConfig.{FlashConfig}
-use Rattle.hc_bighash.specs.Page.{PageEntry}
+use Rattle.hc_types.specs.FlashEntry.{FlashEntry}
 use Rattle.hc_memory.specs.Item.{Item, Handle, charge_by, item_by}
 use Rattle.hc_memory.specs.Charges.{is_open}
 use Rattle.hc_memory.specs.Memory.{linked_at}
@@ -75,7 +75,7 @@ store_other config older now handle op k was (inr e) o = ap (λ (x : Op). entry_
 
 -- ---- its piece
 
-linked_alone : (i : Option Item) (x : Item) (q w s l : Option PageEntry) (m : Option Entry) (b : Bool) → i ≡ Some x → Placed i q w b s l m → q ≡ None
+linked_alone : (i : Option Item) (x : Item) (q w s l : Option FlashEntry) (m : Option Entry) (b : Bool) → i ≡ Some x → Placed i q w b s l m → q ≡ None
 linked_alone i x q w s l m b e h = grind arith
 
 store_piece : PlantKeeps → ThereByMap → (config : Config) (older : List Note) (cache : Cache) (client : ℕ) (handle : Handle) (op : Op) → Agrees config older cache → IsSized handle.key handle.value handle.expiry → is_known cache handle ≡ true → MayStore config older handle op

@@ -8,7 +8,7 @@ use Rattle.hc_types.specs.Places.{kept_of, is_small_by}
 use Rattle.hc_types.specs.Tally.{tally}
 use Rattle.hc_types.specs.declared.config.PoolSize.{PoolSize}
 use Rattle.hc_types.specs.declared.config.FlashConfig.{FlashConfig}
-use Rattle.hc_bighash.specs.Page.{PageEntry}
+use Rattle.hc_types.specs.FlashEntry.{FlashEntry}
 use Rattle.hc_engines.specs.Engine.{Pages}
 use Rattle.hc_engines.specs.small.BigHash as bighash
 use Rattle.hc_engines.specs.small.Held as small
@@ -72,27 +72,27 @@ unindexed key nvm = record nvm { pair = pairs.take_index key nvm.pair }
 
 -- ---- where the other keys stand
 
-at_step : (i i2 : Option Item) (q w s l l2 : Option PageEntry) (m m2 : Option Entry) (b big here : Bool) → i2 ≡ (if big then unclean i else i) → l2 ≡ (if here then None else l) → m2 ≡ (if big then map_lost i q m else m)
+at_step : (i i2 : Option Item) (q w s l l2 : Option FlashEntry) (m m2 : Option Entry) (b big here : Bool) → i2 ≡ (if big then unclean i else i) → l2 ≡ (if here then None else l) → m2 ≡ (if big then map_lost i q m else m)
     → Placed i q w b s l m → (here ≡ false → big ≡ false) → (b ≡ false → is_some s ≡ true → big ≡ false) → (b ≡ false → is_some w ≡ true → big ≡ false) → (here ≡ true → is_some l ≡ true → big ≡ true)
     → Placed i2 q w b s l2 m2
 at_step i i2 q w s l l2 m m2 b big here ei el em p fo fs fw fl = rw (ei, el, em) (hash_lost i q w s l m b big here p fo fs fw fl)
 
-small_free : (nvm : Nvm) (pages : Pages) (key k : List ℕ) (i : Option Item) (q w s l : Option PageEntry) (m : Option Entry) (b : Bool) → small.StateFits nvm.pair.small pages → small.held nvm.pair.small pages k ≡ s → Placed i q w b s l m
+small_free : (nvm : Nvm) (pages : Pages) (key k : List ℕ) (i : Option Item) (q w s l : Option FlashEntry) (m : Option Entry) (b : Bool) → small.StateFits nvm.pair.small pages → small.held nvm.pair.small pages k ≡ s → Placed i q w b s l m
     → b ≡ false → is_some s ≡ true → covers (Some (own_flash nvm)) (hash_scope key nvm) k m ≡ false
 small_free nvm pages key k i q w None l m b fits h p eb es = absurd cc
 small_free nvm pages key k i q w (Some e) l m b fits h p eb es =
     uncovered (own_flash nvm) (hash_in nvm.pair key) (Some key) k e m (map_of_small i q w l e m (subst (λ (c : Bool). Placed i q w c (Some e) l m) eb p)) (held_small nvm.pair.small pages k e fits h)
 
-written_free : (nvm : Nvm) (pages : Pages) (key k : List ℕ) (i : Option Item) (q w s l : Option PageEntry) (m : Option Entry) (b : Bool) → small.StateFits nvm.pair.small pages → written_by k nvm.pair.small.jobs ≡ w → Placed i q w b s l m
+written_free : (nvm : Nvm) (pages : Pages) (key k : List ℕ) (i : Option Item) (q w s l : Option FlashEntry) (m : Option Entry) (b : Bool) → small.StateFits nvm.pair.small pages → written_by k nvm.pair.small.jobs ≡ w → Placed i q w b s l m
     → b ≡ false → is_some w ≡ true → covers (Some (own_flash nvm)) (hash_scope key nvm) k m ≡ false
 written_free nvm pages key k i q None s l m b fits h p eb ew = absurd cc
 written_free nvm pages key k i q (Some e) s l m b fits h p eb ew =
     uncovered (own_flash nvm) (hash_in nvm.pair key) (Some key) k e m (map_of_written i q s l e m (subst (λ (c : Bool). Placed i q (Some e) c s l m) eb p)) (written_small nvm.pair.small pages k e fits h)
 
-covered_but : (flash : FlashConfig) (hash : ℕ) (key k : List ℕ) (e : PageEntry) (m : Option Entry) → m ≡ Some (map_of e) → is_small_by flash k (length e.value) ≡ false → (kept_of flash.bits k == hash) ≡ true → bytes_eq key k ≡ false → covers (Some flash) (loss.Hash hash (Some key)) k m ≡ true
+covered_but : (flash : FlashConfig) (hash : ℕ) (key k : List ℕ) (e : FlashEntry) (m : Option Entry) → m ≡ Some (map_of e) → is_small_by flash k (length e.value) ≡ false → (kept_of flash.bits k == hash) ≡ true → bytes_eq key k ≡ false → covers (Some flash) (loss.Hash hash (Some key)) k m ≡ true
 covered_but flash hash key k e m me s h o = rw (me, s, h, o) refl
 
-large_caught : (nvm : Nvm) (older : List Note) (key k : List ℕ) (i : Option Item) (q w s : Option PageEntry) (held : Option PageEntry) (m : Option Entry) (b : Bool) → EnginesFit (own_flash nvm) older nvm → bytes_eq key k ≡ false
+large_caught : (nvm : Nvm) (older : List Note) (key k : List ℕ) (i : Option Item) (q w s : Option FlashEntry) (held : Option FlashEntry) (m : Option Entry) (b : Bool) → EnginesFit (own_flash nvm) older nvm → bytes_eq key k ≡ false
     → large.held (own_flash nvm) (bytes_at older) nvm.pair.large k ≡ held → Placed i q w b s held m
     → (kept_of (own_flash nvm).bits k == hash_in nvm.pair key) ≡ true → is_some held ≡ true → covers (Some (own_flash nvm)) (hash_scope key nvm) k m ≡ true
 large_caught nvm older key k i q w s None m b fit other h p here el = absurd cc
@@ -169,7 +169,7 @@ fill_unindexed key older memory nvm fill h = record {
 
 -- ---- all of flash
 
-held_some : (flash : FlashConfig) (pages : Pages) (s : block.Block) (hash : ℕ) (k : List ℕ) (e : PageEntry) (here : Bool) → (kept_of flash.bits k == hash) ≡ here → large.held flash pages (take_index hash s) k ≡ Some e → large.held flash pages s k ≡ Some e
+held_some : (flash : FlashConfig) (pages : Pages) (s : block.Block) (hash : ℕ) (k : List ℕ) (e : FlashEntry) (here : Bool) → (kept_of flash.bits k == hash) ≡ here → large.held flash pages (take_index hash s) k ≡ Some e → large.held flash pages s k ≡ Some e
 held_some flash pages s hash k e true is h = let none : large.held flash pages (take_index hash s) k ≡ None = held_taken flash pages s hash k ∙ rw is refl in absurd cc
 held_some flash pages s hash k e false is h = let same : large.held flash pages (take_index hash s) k ≡ large.held flash pages s k = held_taken flash pages s hash k ∙ rw is refl in sym same ∙ h
 

@@ -4,7 +4,7 @@ use Rattle.std.specs.Prelude.{if◌then◌else◌, is_some}
 use Rattle.std.specs.List.{list_any}
 use Rattle.std.specs.Str.{bytes_eq}
 use Rattle.std.proofs.lemmas.Bool.{eqb-true}
-use Rattle.hc_bighash.specs.Page.{PageEntry}
+use Rattle.hc_types.specs.FlashEntry.{FlashEntry}
 use Rattle.hc_engines.specs.Engine.{Pages, Op, Put, Get, Delete, Flush, Reclaim, Order}
 use Rattle.hc_engines.specs.small.BigHash as bighash
 use Rattle.hc_engines.specs.small.Held.{StateFits, JobsFit}
@@ -65,7 +65,7 @@ found_put flash words pages key (j ∷ jobs) fit h = go (put_in key j.op) refl h
     other job e true same = let none : bighash.job_at job.number jobs ≡ None = subst (λ (n : ℕ). bighash.job_at n jobs ≡ None) (eqb-true j.number job.number same) fit.2 in absurd cc
     other job e false same = e
 
-    go : (o : Option PageEntry) → put_in key j.op ≡ o → is_some (first_of o (written_by key jobs)) ≡ true
+    go : (o : Option FlashEntry) → put_in key j.op ≡ o → is_some (first_of o (written_by key jobs)) ≡ true
         → (is_some (written_by key jobs) ≡ true → (job : bighash.Job) × ((bighash.job_at job.number jobs ≡ Some job) × (is_some (put_in key job.op) ≡ true)))
         → (job : bighash.Job) × ((bighash.job_at job.number (j ∷ jobs) ≡ Some job) × (is_some (put_in key job.op) ≡ true))
     go (Some e) p h rest = (j, (ap (λ (b : Bool). if b then Some j else bighash.job_at j.number jobs) (same_number j.number), rw p refl))

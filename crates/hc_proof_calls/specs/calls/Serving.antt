@@ -2,7 +2,7 @@
 use Rattle.std.specs.Prelude.{◌≡◌, ℕ, ◌≤◌, Bool, not, List, ◌∷◌, ◌++◌, length, Option, None, option_map, is_some}
 use Rattle.hc_types.specs.Config.{Config}
 use Rattle.hc_types.specs.Tally.{count}
-use Rattle.hc_bighash.specs.Page.{PageEntry}
+use Rattle.hc_types.specs.FlashEntry.{FlashEntry}
 use Rattle.hc_memory.specs.Item.{Item}
 use Rattle.hc_items.specs.Items.{items_of}
 use Rattle.hc_history.specs.Note.{Note}
@@ -25,8 +25,8 @@ abbrev pub ghost : List ℕ → List Waiter → Fill
 ghost key waiters = record { key = key; waiters = waiters; job = None }
 
 -- what a find of the key would be answered now is what the map answers
-abbrev pub IsThere : Config → List Note → Cache → List ℕ → Option PageEntry → Type 0
-IsThere config older cache key there = option_map (λ (e : PageEntry). e.value) (live cache.now there) ≡ value_at config.flash older key
+abbrev pub IsThere : Config → List Note → Cache → List ℕ → Option FlashEntry → Type 0
+IsThere config older cache key there = option_map (λ (e : FlashEntry). e.value) (live cache.now there) ≡ value_at config.flash older key
 
 abbrev pub is_unsaid : Owed → Bool
 is_unsaid owed = not (is_some owed.reply)
@@ -56,7 +56,7 @@ pub record Served (config : Config) (older : List Note) (more : List Owed) (cach
 
 -- all of them are served
 abbrev pub ServeAllKeeps : Type 0
-ServeAllKeeps = (config : Config) (older : List Note) (cache : Cache) (key : List ℕ) (waiters : List Waiter) (there : Option PageEntry) (more : List Owed)
+ServeAllKeeps = (config : Config) (older : List Note) (cache : Cache) (key : List ℕ) (waiters : List Waiter) (there : Option FlashEntry) (more : List Owed)
     → Serving config older cache key waiters more → IsThere config older cache key there → Served config older more cache (serve_all waiters there cache)
 
 -- Before the key's fill, if it has one, is ended, behind the Did of an insert, an add or a remove of the key.
@@ -70,10 +70,10 @@ pub record Ending (config : Config) (older : List Note) (cache : Cache) (key : L
   pub rested : RestsFrom config.flash older key
 
 abbrev pub EndFillKeeps : Type 0
-EndFillKeeps = (config : Config) (older : List Note) (cache : Cache) (key : List ℕ) (there : Option PageEntry) (more : List Owed)
+EndFillKeeps = (config : Config) (older : List Note) (cache : Cache) (key : List ℕ) (there : Option FlashEntry) (more : List Owed)
     → Ending config older cache key more → IsThere config older cache key there → Served config older more cache (end_fill key there cache)
 
 -- the premise on what the key has, where the map has just that
 abbrev pub ThereByMap : Type 0
-ThereByMap = (config : Config) (older : List Note) (cache : Cache) (key : List ℕ) (there : Option PageEntry) (items : List Item) (moves : List ℕ → Bool)
+ThereByMap = (config : Config) (older : List Note) (cache : Cache) (key : List ℕ) (there : Option FlashEntry) (items : List Item) (moves : List ℕ → Bool)
     → Rest config older cache items moves → entry_at config.flash older key ≡ option_map map_of there → IsThere config older cache key there

@@ -2,7 +2,7 @@
 use Rattle.std.specs.Prelude.{◌≡◌, ◌⊎◌, ℕ, ◌+◌, true, false, List, [], ◌∷◌, ◌++◌, length, Option, Some, None, option_map}
 use Rattle.hc_types.specs.Config.{Config}
 use Rattle.hc_types.specs.declared.config.FlashConfig.{FlashConfig}
-use Rattle.hc_bighash.specs.Page.{PageEntry}
+use Rattle.hc_types.specs.FlashEntry.{FlashEntry}
 use Rattle.hc_memory.specs.Item.{Open}
 use Rattle.hc_memory.specs.Charges.{is_open}
 use Rattle.hc_memory.specs.Memory.{linked_at}
@@ -23,7 +23,7 @@ use Rattle.hc_proof_frames.specs.frames.Midst.{none_moves}
 use Rattle.hc_proof_frames.specs.frames.Rest.{Rest, SameCalls}
 
 -- the same, but for the puts that wait
-abbrev pub with_queue : List PageEntry → Option Nvm → Option Nvm
+abbrev pub with_queue : List FlashEntry → Option Nvm → Option Nvm
 with_queue queue None = None
 with_queue queue (Some nvm) = Some (record nvm { queue = queue })
 
@@ -38,7 +38,7 @@ pub record Charged (config : Config) (older : List Note) (cache : Cache) (pool :
   pub made : told.cache.memory.made ≡ cache.memory.made + 1
   pub pools : length told.cache.memory.pools ≡ length cache.memory.pools
   -- what of flash changed are the puts that wait
-  pub nvm : (queue : List PageEntry) × (told.cache.nvm ≡ with_queue queue cache.nvm)
+  pub nvm : (queue : List FlashEntry) × (told.cache.nvm ≡ with_queue queue cache.nvm)
   pub now : told.cache.now ≡ cache.now
   -- no page was written
   pub pages : bytes_at (past older told.part) ≡ bytes_at older
@@ -54,12 +54,12 @@ MakeChargeKeeps = (config : Config) (older : List Note) (cache : Cache) (pool : 
 -- ---- what came from flash
 
 -- one engine holds the entry, under this key, and it isn't stale
-abbrev pub Stands : List Note → Cache → List ℕ → Option PageEntry → Type 0
+abbrev pub Stands : List Note → Cache → List ℕ → Option FlashEntry → Type 0
 Stands older cache key None = Unit {0}
 Stands older cache key (Some e) = (e.key ≡ key) × (buried_at cache.nvm key ≡ false) × ((small_at (bytes_at older) cache.nvm key ≡ Some e) ⊎ (large_at (bytes_at older) cache.nvm key ≡ Some e))
 
 -- before it is linked: the key has no item and no fill (its own has left nvm.fills), and nothing is on its way
-pub record IsBrought (config : Config) (older : List Note) (cache : Cache) (key : List ℕ) (found : Option PageEntry) : Type 0 where
+pub record IsBrought (config : Config) (older : List Note) (cache : Cache) (key : List ℕ) (found : Option FlashEntry) : Type 0 where
   pub rest : Rest config older cache (items_of cache.memory.pools) none_moves
   -- where nothing was found the map has nothing
   pub has : entry_at config.flash older key ≡ option_map map_of found
@@ -68,7 +68,7 @@ pub record IsBrought (config : Config) (older : List Note) (cache : Cache) (key 
   pub stands : Stands older cache key found
 
 -- what is left then, linked or not
-pub record Brought (config : Config) (older : List Note) (cache : Cache) (key : List ℕ) (found : Option PageEntry) (told : Told) : Type 0 where
+pub record Brought (config : Config) (older : List Note) (cache : Cache) (key : List ℕ) (found : Option FlashEntry) (told : Told) : Type 0 where
   pub lawful : Lawful config older told.part
   pub rest : Rest config (past older told.part) told.cache (items_of told.cache.memory.pools) none_moves
   pub calls : SameCalls older (past older told.part) cache told.cache
@@ -76,7 +76,7 @@ pub record Brought (config : Config) (older : List Note) (cache : Cache) (key : 
   -- the charges that were open are
   pub open_ones : (c : Open) → is_open c cache.memory.charges ≡ true → is_open c told.cache.memory.charges ≡ true
   pub pools : length told.cache.memory.pools ≡ length cache.memory.pools
-  pub nvm : (queue : List PageEntry) × (told.cache.nvm ≡ with_queue queue cache.nvm)
+  pub nvm : (queue : List FlashEntry) × (told.cache.nvm ≡ with_queue queue cache.nvm)
   pub fills : fills_of told.cache.nvm ≡ fills_of cache.nvm
   pub queued : queued_at told.cache.nvm key ≡ queued_at cache.nvm key
   -- where something is told, the last note tells no large put
@@ -85,4 +85,4 @@ pub record Brought (config : Config) (older : List Note) (cache : Cache) (key : 
   pub pages : bytes_at (past older told.part) ≡ bytes_at older
 
 abbrev pub BringKeeps : Type 0
-BringKeeps = (config : Config) (older : List Note) (cache : Cache) (key : List ℕ) (found : Option PageEntry) → IsBrought config older cache key found → Brought config older cache key found (bring found cache)
+BringKeeps = (config : Config) (older : List Note) (cache : Cache) (key : List ℕ) (found : Option FlashEntry) → IsBrought config older cache key found → Brought config older cache key found (bring found cache)

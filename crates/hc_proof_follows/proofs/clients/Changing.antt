@@ -5,7 +5,7 @@ use Rattle.std.proofs.lemmas.Option.{same_Some}
 use Rattle.hc_types.specs.Tally.{count}
 use Rattle.hc_types.specs.Config.{Config}
 use Rattle.hc_types.specs.declared.config.FlashConfig.{FlashConfig}
-use Rattle.hc_bighash.specs.Page.{PageEntry}
+use Rattle.hc_types.specs.FlashEntry.{FlashEntry}
 use Rattle.hc_memory.specs.Item.{Handle}
 use Rattle.hc_memory.specs.Memory.{Memory}
 use Rattle.hc_history.specs.Note as note
@@ -54,7 +54,7 @@ pub record CallEnds (slots : List Slot) (key : List ℕ) (client : ℕ) (op : Op
   pub opens : Opens slots (adds_in (without_fill key (fills_of cache.nvm))) told.cache.memory.charges
   pub fills : fills_of told.cache.nvm ≡ without_fill key (fills_of cache.nvm)
 
-pub call_ends : (slots : List Slot) (key : List ℕ) (there : Option PageEntry) (client : ℕ) (op : Op) (reply : Reply) (cache : Cache) (told : Told)
+pub call_ends : (slots : List Slot) (key : List ℕ) (there : Option FlashEntry) (client : ℕ) (op : Op) (reply : Reply) (cache : Cache) (told : Told)
     → Aside told.part → told.cache.calls ≡ cache.calls → fills_of told.cache.nvm ≡ fills_of cache.nvm → Opens slots (adds_in (fills_of cache.nvm)) told.cache.memory.charges → count (is_fill_of key) (fills_of cache.nvm) ≤ 1
     → CallEnds slots key client op reply cache (and_then told (replies_then reply (end_fill key there)))
 call_ends slots key there client op reply cache told aside same fills opens one =

@@ -3,7 +3,7 @@ use Rattle.std.proofs.Common.{◌≡◌, ℕ, ◌+◌, Bool, true, false, List, 
 use Rattle.std.specs.Prelude.{if◌then◌else◌, is_some}
 use Rattle.hc_types.specs.Charge.{charge_of}
 use Rattle.hc_types.specs.declared.refusal.Refusal.{Refusal}
-use Rattle.hc_bighash.specs.Page.{PageEntry}
+use Rattle.hc_types.specs.FlashEntry.{FlashEntry}
 use Rattle.hc_engines.specs.Engine.{Order, IoResult}
 use Rattle.hc_memory.specs.Item.{Item, Handle}
 use Rattle.hc_memory.specs.Memory.{victims_of, after_room, linked_at}
@@ -61,16 +61,16 @@ charge_now pool key size cache = let want = charge_of key size in all_leave_now 
 clear_now : (key : List ℕ) (cache : Cache) → (clear key cache).cache.now ≡ cache.now
 clear_now key cache = flash_now (outdate key) (on_flash (unqueue key) cache).cache ∙ flash_now (unqueue key) cache
 
-serve_now : (call : ℕ) (wish : Wish) (there : Option PageEntry) (cache : Cache) → (serve call wish there cache).cache.now ≡ cache.now
+serve_now : (call : ℕ) (wish : Wish) (there : Option FlashEntry) (cache : Cache) → (serve call wish there cache).cache.now ≡ cache.now
 serve_now call ToFind there cache = refl
 serve_now call (ToAdd handle) (Some entry) cache = refl
 serve_now call (ToAdd handle) None cache = clear_now handle.key cache
 
-serve_all_now : (waiters : List Waiter) (there : Option PageEntry) (cache : Cache) → (serve_all waiters there cache).cache.now ≡ cache.now
+serve_all_now : (waiters : List Waiter) (there : Option FlashEntry) (cache : Cache) → (serve_all waiters there cache).cache.now ≡ cache.now
 serve_all_now [] there cache = refl
 serve_all_now (w ∷ ws) there cache = let told = serve w.call w.wish (live cache.now there) cache in serve_all_now ws (there_after w.wish (live cache.now there)) told.cache ∙ serve_now w.call w.wish (live cache.now there) cache
 
-end_fill_now : (key : List ℕ) (there : Option PageEntry) (cache : Cache) → (end_fill key there cache).cache.now ≡ cache.now
+end_fill_now : (key : List ℕ) (there : Option FlashEntry) (cache : Cache) → (end_fill key there cache).cache.now ≡ cache.now
 end_fill_now key there cache = go cache.nvm
   where
     served : (nvm : Nvm) (o : Option Fill) → (serve_fill o nvm there cache).cache.now ≡ cache.now
@@ -91,7 +91,7 @@ wait_now key wish cache = go cache.nvm
     go None = refl
     go (Some nvm) = refl
 
-bring_now : (entry : Option PageEntry) (cache : Cache) → (bring entry cache).cache.now ≡ cache.now
+bring_now : (entry : Option FlashEntry) (cache : Cache) → (bring entry cache).cache.now ≡ cache.now
 bring_now None cache = refl
 bring_now (Some entry) cache = now_if (can_link cache entry) cache.now _ _ (charge_now entry.pool entry.key (length entry.value) cache) refl
 

@@ -5,7 +5,7 @@ use Rattle.std.proofs.lemmas.Bool.{eqb-true}
 use Rattle.hc_types.specs.Tally.{count}
 use Rattle.hc_types.specs.Config.{Config}
 use Rattle.hc_types.specs.declared.refusal.Refusal.TheVariants.{ForeignHandle, Exists as AlreadyExists}
-use Rattle.hc_bighash.specs.Page.{PageEntry}
+use Rattle.hc_types.specs.FlashEntry.{FlashEntry}
 use Rattle.hc_memory.specs.Memory.{Memory}
 use Rattle.hc_items.specs.Items.{items_of}
 use Rattle.hc_history.specs.Note as note
@@ -42,12 +42,12 @@ use Rattle.hc_proof_follows.proofs.clients.Putting.{kept_is, nothing_matches, em
 
 -- ---- the key has an unexpired value
 
-some_value : (o : Option PageEntry) (v : Option (List ℕ)) → option_map (λ (e : PageEntry). e.value) o ≡ v → is_some o ≡ true → IsSome v
+some_value : (o : Option FlashEntry) (v : Option (List ℕ)) → option_map (λ (e : FlashEntry). e.value) o ≡ v → is_some o ≡ true → IsSome v
 some_value None v e h = absurd cc
 some_value (Some x) None e h = absurd cc
 some_value (Some x) (Some y) e h = refl
 
-no_wait : (now : ℕ) (o : Option PageEntry) (b : Bool) → is_some (live now o) ≡ true → (not (is_some o) && b) ≡ false
+no_wait : (now : ℕ) (o : Option FlashEntry) (b : Bool) → is_some (live now o) ≡ true → (not (is_some o) && b) ≡ false
 no_wait now None b h = absurd cc
 no_wait now (Some e) b h = refl
 

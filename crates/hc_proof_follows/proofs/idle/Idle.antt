@@ -3,11 +3,11 @@ use Rattle.std.proofs.Common.{◌≡◌, ◌⊎◌, inl, inr, ℕ, ◌+◌, Bool
 use Rattle.std.specs.Prelude.{if◌then◌else◌, is_some}
 use Rattle.hc_types.specs.Places.{bucket_at, is_small_by}
 use Rattle.hc_types.specs.declared.config.FlashConfig.{FlashConfig}
-use Rattle.hc_bighash.specs.Page.{PageEntry}
+use Rattle.hc_types.specs.FlashEntry.{FlashEntry}
 use Rattle.hc_engines.specs.Engine.{Put, Get, Delete, Flush, Over, Absent, Next, Busy, Io, Done, Outcome, Order, Read, Write}
 use Rattle.hc_engines.specs.small.BigHash as bighash
 use Rattle.hc_engines.specs.small.BigHash.{Reading, Moved, word_at, is_busy, could_hold}
-use Rattle.hc_bighash.specs.Page.{PageEntry}
+use Rattle.hc_types.specs.FlashEntry.{FlashEntry}
 use Rattle.hc_engines.specs.large.Entries.{entry_bytes}
 use Rattle.hc_engines.specs.large.Region.{can_go, region_at, lowest_clean}
 use Rattle.hc_engines.specs.large.Block as block
@@ -72,11 +72,11 @@ delete_works nvm stone j found = by (delete_starts nvm.pair.small (nvm.made + 1)
     by (inr e) h = let same : (launch_by (Deleting stone.key) (pairs.by_small nvm.pair (ends_so nvm.pair.small Over)) (record nvm { tombstones = taken_stone stone.key nvm.tombstones })).take ≡ Idle = subst (λ (m : Moved). (launch_by (Deleting stone.key) (pairs.by_small nvm.pair m) (record nvm { tombstones = taken_stone stone.key nvm.tombstones })).take ≡ Idle) e.0 h in absurd cc
 
 -- a large put is over at once
-over_fresh : (flash : FlashConfig) (entry : PageEntry) (s : Block) (o : Option ℕ) → (put_fresh flash entry s o).order ≡ None
+over_fresh : (flash : FlashConfig) (entry : FlashEntry) (s : Block) (o : Option ℕ) → (put_fresh flash entry s o).order ≡ None
 over_fresh flash entry s None = refl
 over_fresh flash entry s (Some r) = refl
 
-over_into : (flash : FlashConfig) (entry : PageEntry) (s : Block) (o : Option ℕ) → (put_into flash entry s o).order ≡ None
+over_into : (flash : FlashConfig) (entry : FlashEntry) (s : Block) (o : Option ℕ) → (put_into flash entry s o).order ≡ None
 over_into flash entry s None = over_fresh flash entry s (lowest_clean 0 s.regions)
 over_into flash entry s (Some r) = refl
 
@@ -92,7 +92,7 @@ picked_other : (P : pairs.Moved → Type 0) (b : Bool) (x y : pairs.Moved) → b
 picked_other P true x y e h = absurd cc
 picked_other P false x y e h = h
 
-put_works : (nvm : Nvm) (put : PageEntry) (b : Bool) → is_small_by nvm.pair.small.flash put.key (length put.value) ≡ b → JobsRun nvm → next_put nvm ≡ Some put → (take_sized b put (record nvm { queue = without_put put.key nvm.queue })).take ≡ Idle → ⊥
+put_works : (nvm : Nvm) (put : FlashEntry) (b : Bool) → is_small_by nvm.pair.small.flash put.key (length put.value) ≡ b → JobsRun nvm → next_put nvm ≡ Some put → (take_sized b put (record nvm { queue = without_put put.key nvm.queue })).take ≡ Idle → ⊥
 put_works nvm e true small j found h =
     let free = free_by (is_small_by nvm.pair.small.flash e.key (length e.value)) (pairs.is_busy_for nvm.pair e.key) (found-passes (can_be_put nvm) nvm.queue e found) small in
     let none : bighash.job_at (nvm.made + 1) nvm.pair.small.jobs ≡ None = j.small_ones (nvm.made + 1) (j.fresh (nvm.made + 1) (omega arith)) in
@@ -112,7 +112,7 @@ put_works nvm e false large j found h =
 
 -- ---- the take
 
-no_put : (nvm : Nvm) (o : Option PageEntry) → next_put nvm ≡ o → JobsRun nvm → (take_put o nvm).take ≡ Idle → o ≡ None
+no_put : (nvm : Nvm) (o : Option FlashEntry) → next_put nvm ≡ o → JobsRun nvm → (take_put o nvm).take ≡ Idle → o ≡ None
 no_put nvm None found j h = refl
 no_put nvm (Some put) found j h = absurd (put_works nvm put (is_small_by nvm.pair.small.flash put.key (length put.value)) refl j found h)
 

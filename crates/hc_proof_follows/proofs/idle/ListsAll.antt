@@ -5,7 +5,7 @@ use Rattle.std.specs.Prelude.{if◌then◌else◌, nat_lt, min}
 use Rattle.hc_types.specs.Places.{kept_of}
 use Rattle.hc_types.specs.Loss.{Cause, Reclaimed, Fault}
 use Rattle.hc_types.specs.declared.config.FlashConfig.{FlashConfig}
-use Rattle.hc_bighash.specs.Page.{PageEntry}
+use Rattle.hc_types.specs.FlashEntry.{FlashEntry}
 use Rattle.hc_engines.specs.large.Entries.{entry_bytes, entry_in}
 use Rattle.hc_engines.specs.large.Region.{Status, Clean, Open, Sealed, Flushing, OnFlash, Draining, is_clean, is_draining, Region, clean_region, opened_region, page_done, can_go, region_at, lowest_clean}
 use Rattle.hc_engines.specs.large.Index.{Place, place_at, is_place}
@@ -215,7 +215,7 @@ take_lists hash s all = same_regions s (take_index hash s) refl refl refl refl a
 answered_lists : (flash : FlashConfig) (reading : Reading) (s : Block) → AllListed s → AllListed (answered flash reading s).state
 answered_lists flash reading s all = go (is_place (place_at (kept_of flash.bits reading.key) s.index) reading.place)
   where
-    of : (o : Option PageEntry) → AllListed (answer_of (kept_of flash.bits reading.key) reading.key s o).state
+    of : (o : Option FlashEntry) → AllListed (answer_of (kept_of flash.bits reading.key) reading.key s o).state
     of None = same_regions s (take_index (kept_of flash.bits reading.key) s) refl refl refl refl all
     of (Some entry) = all
 

@@ -3,7 +3,7 @@ use Rattle.std.proofs.Common.{◌≡◌, ℕ, Bool, true, false, not, ◌&&◌, 
 use Rattle.std.specs.Prelude.{if◌then◌else◌, is_some}
 use Rattle.hc_types.specs.Loss.{Cause}
 use Rattle.hc_types.specs.Charge.{charge_of}
-use Rattle.hc_bighash.specs.Page.{PageEntry}
+use Rattle.hc_types.specs.FlashEntry.{FlashEntry}
 use Rattle.hc_engines.specs.Engine.{Loss, Outcome}
 use Rattle.hc_memory.specs.Item.{Item, Handle}
 use Rattle.hc_memory.specs.Memory.{linked_at, victims_of, after_room, after_unlink, after_link}
@@ -98,7 +98,7 @@ fewer_taken test (stone ∷ stones) k h = go (test stone) h (is_stone_of k stone
 pub both_changed : (nvm : Nvm) (first : Changed) (f : Nvm → Changed) → StillChange nvm first → ((n : Nvm) → StillChange n (f n)) → StillChange nvm (leaving.and_then first f)
 both_changed nvm first f p q = record { plain = plain-append first.part (f first.nvm).part p.plain (q first.nvm).plain; still = both_nvm nvm first.nvm (f first.nvm).nvm p.still (q first.nvm).still }
 
-evicted_still : (now pool want : ℕ) (entry : PageEntry) (nvm : Nvm) → StillChange nvm (evicted now pool want entry nvm)
+evicted_still : (now pool want : ℕ) (entry : FlashEntry) (nvm : Nvm) → StillChange nvm (evicted now pool want entry nvm)
 evicted_still now pool want entry nvm = go (cause_for now pool want entry nvm)
   where
     go : (cause : Option Cause) → StillChange nvm (waits_unless cause entry nvm)
@@ -211,17 +211,17 @@ uproot_still key cache = both_told cache (clear key cache) (λ c. tells [] (with
 pub plant_still : (handle : Handle) (cache : Cache) → StillPart cache (plant handle cache)
 plant_still handle cache = both_told cache (clear handle.key cache) (λ c. tells (Linked handle.number ∷ []) (with_memory (after_link c.memory false handle) c)) (clear_still handle.key cache) (λ c. record { plain = tt; still = same_still c.nvm })
 
-serve_still : (call : ℕ) (wish : Wish) (there : Option PageEntry) (cache : Cache) → StillPart cache (serve call wish there cache)
+serve_still : (call : ℕ) (wish : Wish) (there : Option FlashEntry) (cache : Cache) → StillPart cache (serve call wish there cache)
 serve_still call ToFind there cache = record { plain = tt; still = same_still cache.nvm }
 serve_still call (ToAdd handle) (Some entry) cache = record { plain = tt; still = same_still cache.nvm }
 serve_still call (ToAdd handle) None cache = both_told cache (plant handle cache) (answer call Stored) (plant_still handle cache) (λ c. record { plain = tt; still = same_still c.nvm })
 
-pub serve_all_still : (waiters : List Waiter) (there : Option PageEntry) (cache : Cache) → StillPart cache (serve_all waiters there cache)
+pub serve_all_still : (waiters : List Waiter) (there : Option FlashEntry) (cache : Cache) → StillPart cache (serve_all waiters there cache)
 serve_all_still [] there cache = record { plain = tt; still = same_still cache.nvm }
 serve_all_still (waiter ∷ waiters) there cache =
     both_told cache (serve waiter.call waiter.wish (live cache.now there) cache) (serve_all waiters (there_after waiter.wish (live cache.now there))) (serve_still waiter.call waiter.wish (live cache.now there) cache) (serve_all_still waiters (there_after waiter.wish (live cache.now there)))
 
-pub end_fill_still : (key : List ℕ) (there : Option PageEntry) (cache : Cache) → StillPart cache (end_fill key there cache)
+pub end_fill_still : (key : List ℕ) (there : Option FlashEntry) (cache : Cache) → StillPart cache (end_fill key there cache)
 end_fill_still key there cache = go cache.nvm refl
   where
     serves : (o : Option Fill) (nvm : Nvm) → cache.nvm ≡ Some nvm → StillPart cache (serve_fill o nvm there cache)
@@ -236,7 +236,7 @@ end_fill_still key there cache = go cache.nvm refl
     go None e = record { plain = tt; still = same_still cache.nvm }
     go (Some nvm) e = serves (fill_at key nvm.fills) nvm e
 
-pub bring_still : (entry : Option PageEntry) (cache : Cache) → StillPart cache (bring entry cache)
+pub bring_still : (entry : Option FlashEntry) (cache : Cache) → StillPart cache (bring entry cache)
 bring_still None cache = record { plain = tt; still = same_still cache.nvm }
 bring_still (Some entry) cache = go (can_link cache entry)
   where

@@ -5,7 +5,7 @@ use Rattle.std.specs.List.{list_any}
 use Rattle.std.specs.Str.{bytes_eq}
 use Rattle.hc_types.specs.Tally.{count}
 use Rattle.hc_types.specs.Places.{bucket_at, is_small_by}
-use Rattle.hc_bighash.specs.Page.{PageEntry}
+use Rattle.hc_types.specs.FlashEntry.{FlashEntry}
 use Rattle.hc_engines.specs.Engine as engine
 use Rattle.hc_engines.specs.Engine.{Put, Get, Delete, Flush, Outcome, Next, Busy, Io, Done}
 use Rattle.hc_engines.specs.small.BigHash as bighash
@@ -164,11 +164,11 @@ marked k key (stone ∷ stones) h = go (is_stone_of k stone) refl (is_stone_of k
     go true e false f v g false i more h = let rest = more (rw f at h) in (rw i at rest)
     go false e false f v g false i more h = let rest = more (rw f at h) in (rw i at rest)
 
-sized_run : (t : Bool) (put : PageEntry) (nvm : Nvm) → StonesRun nvm → StonesRun (take_sized t put nvm).nvm
+sized_run : (t : Bool) (put : FlashEntry) (nvm : Nvm) → StonesRun nvm → StonesRun (take_sized t put nvm).nvm
 sized_run true put nvm r = let m = pairs.start (nvm.made + 1) (Put put) nvm.pair in launched_run (Putting put.key) m.next (record nvm { pair = m.pair }) (λ e. r) (but_run (Putting put.key) nvm r)
 sized_run false put nvm r = let m = pairs.start (nvm.made + 1) (Put put) nvm.pair in launched_run Flushing m.next (record nvm { pair = m.pair }) (λ e. r) (but_run Flushing nvm r)
 
-put_run : (o : Option PageEntry) (nvm : Nvm) → StonesRun nvm → StonesRun (take_put o nvm).nvm
+put_run : (o : Option FlashEntry) (nvm : Nvm) → StonesRun nvm → StonesRun (take_put o nvm).nvm
 put_run None nvm r = r
 put_run (Some put) nvm r = sized_run (is_small_by nvm.pair.small.flash put.key (length put.value)) put (record nvm { queue = without_put put.key nvm.queue }) r
 

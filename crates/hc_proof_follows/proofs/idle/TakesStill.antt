@@ -1,7 +1,7 @@
 -- What each take leaves of the jobs, and what it tells.
 use Rattle.std.proofs.Common.{◌≡◌, ℕ, ◌+◌, ◌==◌, Bool, true, false, List, [], ◌∷◌, ◌++◌, length, Option, Some, None, refl, ap, sym, ◌∙◌, subst}
 use Rattle.hc_types.specs.Places.{is_small_by}
-use Rattle.hc_bighash.specs.Page.{PageEntry}
+use Rattle.hc_types.specs.FlashEntry.{FlashEntry}
 use Rattle.hc_engines.specs.Engine as engine
 use Rattle.hc_engines.specs.Engine.{Put, Get, Delete, Outcome, Next, Busy, Io, Done}
 use Rattle.hc_engines.specs.large.Block as block
@@ -90,11 +90,11 @@ same_jobs nvm other taken j m t = record { mute = t.mute; jobs = go taken.take t
     go Finished h = h ∙ j
     go (Work number order) h = (h.0, h.1 ∙ ap (λ n. n + 1) m, h.2 ∙ ap (λ jobs. jobs ++ record { number = number; task = h.0; order = order } ∷ []) j)
 
-sized_so : (t : Bool) (put : PageEntry) (nvm : Nvm) → TakenSo nvm (take_sized t put nvm)
+sized_so : (t : Bool) (put : FlashEntry) (nvm : Nvm) → TakenSo nvm (take_sized t put nvm)
 sized_so true put nvm = let m = pairs.start (nvm.made + 1) (Put put) nvm.pair in let q = same_jobs nvm (record nvm { pair = m.pair }) _ refl refl (launched_so (Putting put.key) m.next (record nvm { pair = m.pair })) in record { mute = q.mute; jobs = q.jobs }
 sized_so false put nvm = let m = pairs.start (nvm.made + 1) (Put put) nvm.pair in let q = same_jobs nvm (record nvm { pair = m.pair }) _ refl refl (launched_so Flushing m.next (record nvm { pair = m.pair })) in record { mute = q.mute; jobs = q.jobs }
 
-put_so : (o : Option PageEntry) (nvm : Nvm) → TakenSo nvm (take_put o nvm)
+put_so : (o : Option FlashEntry) (nvm : Nvm) → TakenSo nvm (take_put o nvm)
 put_so None nvm = idle_so nvm
 put_so (Some put) nvm = let less : Nvm = record nvm { queue = without_put put.key nvm.queue } in same_jobs nvm less _ refl refl (sized_so (is_small_by nvm.pair.small.flash put.key (length put.value)) put less)
 

@@ -3,7 +3,7 @@ use Rattle.std.proofs.Common.{◌≡◌, ℕ, ◌+◌, ◌≤◌, ◌==◌, Bool
 use Rattle.std.specs.Prelude.{if◌then◌else◌}
 use Rattle.hc_types.specs.Tally.{count}
 use Rattle.hc_types.proofs.Tallies.{tally-append}
-use Rattle.hc_bighash.specs.Page.{PageEntry}
+use Rattle.hc_types.specs.FlashEntry.{FlashEntry}
 use Rattle.hc_memory.specs.Item.{Open}
 use Rattle.hc_history.specs.Note.{Did, Stored}
 use Rattle.hc_machine.specs.Nvm.{Nvm, Waiter, Wish, ToFind, ToAdd, Fill, adds, is_fill_of, fill_at, without_fill, joined_by}
@@ -31,7 +31,7 @@ pub record Answered (slots : List Slot) (more : ℕ → ℕ) (cache : Cache) (le
 pub more_is : (slots : List Slot) (more other : ℕ → ℕ) (xs : List Open) → ((n : ℕ) → more n ≡ other n) → Opens slots more xs → Opens slots other xs
 more_is slots more other xs same h = record { held = λ n. omega (arith, h.held n, same n); unique = h.unique; known = h.known }
 
-wish_served : (slots : List Slot) (more : ℕ → ℕ) (call : ℕ) (wish : Wish) (there : Option PageEntry) (cache : Cache)
+wish_served : (slots : List Slot) (more : ℕ → ℕ) (call : ℕ) (wish : Wish) (there : Option FlashEntry) (cache : Cache)
     → Opens slots (λ n. cond (adds n (record { call = call; wish = wish })) 1 0 + more n) cache.memory.charges → Answered slots more cache (fills_of cache.nvm) (serve call wish there cache)
 wish_served slots more call ToFind there cache h = record { answering = tt; calls = refl; opens = more_is slots (λ n. 0 + more n) more cache.memory.charges (λ n. omega arith) h; fills = refl }
 wish_served slots more call (ToAdd handle) (Some entry) cache h = record { answering = tt; calls = refl; opens = other_goes slots handle.number (λ n. cond (handle.number == n) 1 0 + more n) more cache.memory.charges (λ n. refl) h; fills = refl }
@@ -46,7 +46,7 @@ wish_served slots more call (ToAdd handle) None cache h =
 
 -- ---- all of them
 
-pub all_served : (slots : List Slot) (more : ℕ → ℕ) (waiters : List Waiter) (there : Option PageEntry) (cache : Cache)
+pub all_served : (slots : List Slot) (more : ℕ → ℕ) (waiters : List Waiter) (there : Option FlashEntry) (cache : Cache)
     → Opens slots (λ n. count (adds n) waiters + more n) cache.memory.charges → Answered slots more cache (fills_of cache.nvm) (serve_all waiters there cache)
 all_served slots more [] there cache h = record { answering = tt; calls = refl; opens = more_is slots (λ n. 0 + more n) more cache.memory.charges (λ n. omega arith) h; fills = refl }
 all_served slots more (w ∷ ws) there cache h =
@@ -72,7 +72,7 @@ none_goes key (fill ∷ fills) e = go (is_fill_of key fill) (none_goes key fills
     go true rest e = absurd cc
     go false rest e = ap (λ l. fill ∷ l) (rest e)
 
-pub fill_ended : (slots : List Slot) (key : List ℕ) (there : Option PageEntry) (cache : Cache) → count (is_fill_of key) (fills_of cache.nvm) ≤ 1
+pub fill_ended : (slots : List Slot) (key : List ℕ) (there : Option FlashEntry) (cache : Cache) → count (is_fill_of key) (fills_of cache.nvm) ≤ 1
     → Opens slots (adds_in (fills_of cache.nvm)) cache.memory.charges → Answered slots (adds_in (without_fill key (fills_of cache.nvm))) cache (without_fill key (fills_of cache.nvm)) (end_fill key there cache)
 fill_ended slots key there cache one h = go cache.nvm refl
   where

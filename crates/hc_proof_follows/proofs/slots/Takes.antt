@@ -7,7 +7,7 @@ use Rattle.hc_history.specs.Note.{Note}
 use Rattle.hc_types.specs.Charge.{charge_of}
 use Rattle.hc_types.specs.Tally.{count}
 use Rattle.hc_types.proofs.Tallies.{tally-push, tally-append}
-use Rattle.hc_bighash.specs.Page.{PageEntry}
+use Rattle.hc_types.specs.FlashEntry.{FlashEntry}
 use Rattle.hc_engines.specs.Engine.{Get, IoResult}
 use Rattle.hc_memory.specs.Item.{Open}
 use Rattle.hc_memory.specs.Charges.{closed}
@@ -65,7 +65,7 @@ record Brought (slots : List Slot) (more : ℕ → ℕ) (old new : Cache) : Type
   opens : Opens slots more new.memory.charges
   fills : fills_of new.nvm ≡ fills_of old.nvm
 
-bring_left : (slots : List Slot) (more : ℕ → ℕ) (entry : Option PageEntry) (cache : Cache) → NoneToCome cache → Opens slots more cache.memory.charges → Brought slots more cache (bring entry cache).cache
+bring_left : (slots : List Slot) (more : ℕ → ℕ) (entry : Option FlashEntry) (cache : Cache) → NoneToCome cache → Opens slots more cache.memory.charges → Brought slots more cache (bring entry cache).cache
 bring_left slots more None cache none h = record { opens = h; fills = refl }
 bring_left slots more (Some entry) cache none h = go (can_link cache entry)
   where

@@ -5,7 +5,7 @@ use Rattle.hc_types.specs.Tally.{count}
 use Rattle.hc_types.specs.Places.{is_small_by}
 use Rattle.hc_types.proofs.Tallies.{tally-append}
 use Rattle.hc_items.proofs.Items.{bytes_eq-refl}
-use Rattle.hc_bighash.specs.Page.{PageEntry}
+use Rattle.hc_types.specs.FlashEntry.{FlashEntry}
 use Rattle.hc_engines.specs.Engine as engine
 use Rattle.hc_engines.specs.Engine.{Put, Get, Delete, Outcome, Next, Busy, Io, Done}
 use Rattle.hc_engines.specs.large.Block as block
@@ -72,11 +72,11 @@ launched_so task Busy nvm one = refl
 launched_so task (Io order outcome) nvm one = ap waiters_of (holds_fills outcome (record nvm { jobs = nvm.jobs ++ record { number = nvm.made + 1; task = task; order = order } ∷ []; made = nvm.made + 1 }))
 launched_so task (Done outcome) nvm one = ends_so (nvm.made + 1) task outcome nvm one
 
-sized_so : (t : Bool) (put : PageEntry) (nvm : Nvm) → OneEach nvm.fills → FillsTaken nvm.fills (take_sized t put nvm).filled (take_sized t put nvm).nvm.fills
+sized_so : (t : Bool) (put : FlashEntry) (nvm : Nvm) → OneEach nvm.fills → FillsTaken nvm.fills (take_sized t put nvm).filled (take_sized t put nvm).nvm.fills
 sized_so true put nvm one = let m = pairs.start (nvm.made + 1) (Put put) nvm.pair in launched_so (Putting put.key) m.next (record nvm { pair = m.pair }) one
 sized_so false put nvm one = let m = pairs.start (nvm.made + 1) (Put put) nvm.pair in launched_so Flushing m.next (record nvm { pair = m.pair }) one
 
-put_so : (o : Option PageEntry) (nvm : Nvm) → OneEach nvm.fills → FillsTaken nvm.fills (take_put o nvm).filled (take_put o nvm).nvm.fills
+put_so : (o : Option FlashEntry) (nvm : Nvm) → OneEach nvm.fills → FillsTaken nvm.fills (take_put o nvm).filled (take_put o nvm).nvm.fills
 put_so None nvm one = refl
 put_so (Some put) nvm one = sized_so (is_small_by nvm.pair.small.flash put.key (length put.value)) put (record nvm { queue = without_put put.key nvm.queue }) one
 

@@ -9,7 +9,7 @@ use Rattle.hc_types.specs.Config.{Config}
 use Rattle.hc_types.specs.Tally.{count}
 use Rattle.hc_types.specs.Places.{bucket_at, is_small_by}
 use Rattle.hc_types.specs.declared.config.FlashConfig.{FlashConfig}
-use Rattle.hc_bighash.specs.Page.{PageEntry}
+use Rattle.hc_types.specs.FlashEntry.{FlashEntry}
 use Rattle.hc_engines.specs.Engine.{Order, Read, Pages}
 use Rattle.hc_engines.specs.small.BigHash as bighash
 use Rattle.hc_engines.proofs.small.Resumed.{job_out as small_job_out}
@@ -89,7 +89,7 @@ found_any p q (y ∷ ys) x at e = go (p y) at (found_any p q ys x)
 
 -- ---- the writer: what waits
 
-waits_small : (flash : FlashConfig) (nvm : Nvm) (put : PageEntry) → nvm.pair.small.flash ≡ flash → can_be_put nvm put ≡ false → (is_small_by flash put.key (length put.value) ≡ true) × (is_busy_for nvm.pair put.key ≡ true)
+waits_small : (flash : FlashConfig) (nvm : Nvm) (put : FlashEntry) → nvm.pair.small.flash ≡ flash → can_be_put nvm put ≡ false → (is_small_by flash put.key (length put.value) ≡ true) × (is_busy_for nvm.pair put.key ≡ true)
 waits_small flash nvm put same h = let both = split (is_small_by nvm.pair.small.flash put.key (length put.value)) (is_busy_for nvm.pair put.key) h in (subst (λ (f : FlashConfig). is_small_by f put.key (length put.value) ≡ true) same both.0, both.1)
   where
     split : (a b : Bool) → (not a || not b) ≡ false → (a ≡ true) × (b ≡ true)
@@ -99,18 +99,18 @@ waits_small flash nvm put same h = let both = split (is_small_by nvm.pair.small.
 
 module _ (flash : FlashConfig) (config : Config) (is : config.flash ≡ Some flash) (desk : Desk) (cache : Cache) (nvm : Nvm) (e : cache.nvm ≡ Some nvm) (g : Agrees config desk.older cache) (f : FlashGood flash desk.older cache.memory nvm)
     (rs : List Result) (pages : Pages) (m : JobsMatch desk.jobs desk.pages nvm.jobs rs pages) where
-  queued_entry : (key : List ℕ) (put : PageEntry) → put_at key nvm.queue ≡ Some put → entry_at (Some flash) desk.older key ≡ Some (map_of put)
+  queued_entry : (key : List ℕ) (put : FlashEntry) → put_at key nvm.queue ≡ Some put → entry_at (Some flash) desk.older key ≡ Some (map_of put)
   queued_entry key put at =
       let there : queued_at cache.nvm key ≡ Some put = ap (λ (o : Option Nvm). queued_at o key) e ∙ at in
       let own : entry_at config.flash desk.older key ≡ Some (map_of put) =
       map_queued (linked_at key cache.memory.pools) put (written_at cache.nvm key) (small_at (bytes_at desk.older) cache.nvm key) (large_at (bytes_at desk.older) cache.nvm key) (entry_at config.flash desk.older key) (buried_at cache.nvm key)
-      (subst (λ (q : Option PageEntry). Placed (linked_at key cache.memory.pools) q (written_at cache.nvm key) (buried_at cache.nvm key) (small_at (bytes_at desk.older) cache.nvm key) (large_at (bytes_at desk.older) cache.nvm key) (entry_at config.flash desk.older key)) there (g.placed key)) in
+      (subst (λ (q : Option FlashEntry). Placed (linked_at key cache.memory.pools) q (written_at cache.nvm key) (buried_at cache.nvm key) (small_at (bytes_at desk.older) cache.nvm key) (large_at (bytes_at desk.older) cache.nvm key) (entry_at config.flash desk.older key)) there (g.placed key)) in
       ap (λ (c : Option FlashConfig). entry_at c desk.older key) (sym is) ∙ own
 
   waits_one : NothingToWrite nvm → (key : List ℕ) → is_among key (waiting desk.older) ≡ true → waits_for_bucket flash desk key ≡ true
   waits_one idle key h = go (put_at key nvm.queue) refl (sym (waits-is desk.older nvm key f.waits) ∙ h)
     where
-      go : (o : Option PageEntry) → put_at key nvm.queue ≡ o → is_some o ≡ true → waits_for_bucket flash desk key ≡ true
+      go : (o : Option FlashEntry) → put_at key nvm.queue ≡ o → is_some o ≡ true → waits_for_bucket flash desk key ≡ true
       go None at s = absurd cc
       go (Some put) at s =
           let own : put.key ≡ key = same_bytes put.key key (found-passes (is_put_of key) nvm.queue put at) in

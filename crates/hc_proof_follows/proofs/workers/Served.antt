@@ -4,7 +4,7 @@ use Rattle.std.specs.Prelude.{if◌then◌else◌}
 use Rattle.hc_types.specs.Tally.{count}
 use Rattle.hc_types.proofs.Tallies.{tally-push}
 use Rattle.hc_types.specs.Charge.{charge_of}
-use Rattle.hc_bighash.specs.Page.{PageEntry}
+use Rattle.hc_types.specs.FlashEntry.{FlashEntry}
 use Rattle.hc_memory.specs.Item.{Open, Handle}
 use Rattle.hc_memory.specs.Memory.{Memory}
 use Rattle.hc_items.specs.Items.{open_has}
@@ -62,7 +62,7 @@ pub record Brought (slots : List Slot) (more : ℕ → ℕ) (cache : Cache) (tol
   pub opens : Opens slots more told.cache.memory.charges
   pub fills : fills_of told.cache.nvm ≡ fills_of cache.nvm
 
-bring_so : (slots : List Slot) (more : ℕ → ℕ) (entry : Option PageEntry) (cache : Cache) → count (open_has (cache.memory.made + 1)) cache.memory.charges ≡ 0 → Opens slots more cache.memory.charges → Brought slots more cache (bring entry cache)
+bring_so : (slots : List Slot) (more : ℕ → ℕ) (entry : Option FlashEntry) (cache : Cache) → count (open_has (cache.memory.made + 1)) cache.memory.charges ≡ 0 → Opens slots more cache.memory.charges → Brought slots more cache (bring entry cache)
 bring_so slots more None cache fresh h = record { calls = refl; opens = h; fills = refl }
 bring_so slots more (Some entry) cache fresh h = go (can_link cache entry)
   where

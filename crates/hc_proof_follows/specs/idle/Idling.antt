@@ -3,7 +3,7 @@ use Rattle.std.specs.Prelude.{◌≡◌, ◌⊎◌, ℕ, nat_lt, is_some, Bool, 
 use Rattle.hc_types.specs.Config.{Config}
 use Rattle.hc_types.specs.Places.{is_small_by}
 use Rattle.hc_types.specs.Tally.{count}
-use Rattle.hc_bighash.specs.Page.{PageEntry}
+use Rattle.hc_types.specs.FlashEntry.{FlashEntry}
 use Rattle.hc_engines.specs.large.Region.{can_go, region_at}
 use Rattle.hc_engines.specs.large.Steps.{first_ready, clean_count, oldest}
 use Rattle.hc_history.specs.Note.{Note}
@@ -18,7 +18,7 @@ use Rattle.hc_invariant.specs.Good.{Agrees}
 abbrev pub is_ready : Nvm → Tombstone → Bool
 is_ready nvm stone = not stone.taken && not (is_busy_for nvm.pair stone.key)
 
-abbrev pub can_be_put : Nvm → PageEntry → Bool
+abbrev pub can_be_put : Nvm → FlashEntry → Bool
 can_be_put nvm put = not (is_small_by nvm.pair.small.flash put.key (length put.value)) || not (is_busy_for nvm.pair put.key)
 
 -- of each sealed region a page is out, and the open one has none to go early; each delete was taken, or its bucket is busy;

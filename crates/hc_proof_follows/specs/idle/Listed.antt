@@ -2,7 +2,7 @@
 -- of flushes. (A region that drains needn't be: a failed write ends a region that was never on flash, and a read may hold it.)
 use Rattle.std.specs.Prelude.{◌≡◌, ℕ, true, false, List, Some, None}
 use Rattle.hc_types.specs.declared.config.FlashConfig.{FlashConfig}
-use Rattle.hc_bighash.specs.Page.{PageEntry}
+use Rattle.hc_types.specs.FlashEntry.{FlashEntry}
 use Rattle.hc_engines.specs.large.Region.{Status, Open, Sealed, OnFlash, region_at, can_go}
 use Rattle.hc_engines.specs.Engine.{IoResult}
 use Rattle.hc_engines.specs.large.Block.{Block, Work, work_of}
@@ -20,7 +20,7 @@ abbrev pub AllListed : Block → Type 0
 AllListed s = (r : ℕ) → IsListed s r (region_at r s.regions).status
 
 abbrev pub PutListsAll : Type 0
-PutListsAll = (flash : FlashConfig) (entry : PageEntry) (s : Block) → Sound flash s → AllListed s → AllListed (put flash entry s).state
+PutListsAll = (flash : FlashConfig) (entry : FlashEntry) (s : Block) → Sound flash s → AllListed s → AllListed (put flash entry s).state
 
 abbrev pub FlushListsAll : Type 0
 FlushListsAll = (flash : FlashConfig) (number : ℕ) (s : Block) → Sound flash s → AllListed s → AllListed (flush flash number s).state

@@ -5,7 +5,7 @@ use Rattle.hc_types.specs.Loss.{Evicted, Expired}
 use Rattle.hc_types.specs.declared.loss.Why.{Why}
 use Rattle.hc_types.specs.Tally.{count}
 use Rattle.hc_types.specs.declared.config.FlashConfig.{FlashConfig}
-use Rattle.hc_bighash.specs.Page.{PageEntry}
+use Rattle.hc_types.specs.FlashEntry.{FlashEntry}
 use Rattle.hc_engines.specs.Engine.{Pages}
 use Rattle.hc_engines.specs.small.Held as small
 use Rattle.hc_engines.specs.small.Held.{StateFits}
@@ -61,16 +61,16 @@ passes_evicted older key pool want why = record { writes = refl; buries = refl; 
 -- ---- another queue
 
 -- none of these fills' keys waits in the queue
-abbrev pub AllUnqueued : List PageEntry → List Fill → Type 0
+abbrev pub AllUnqueued : List FlashEntry → List Fill → Type 0
 AllUnqueued queue [] = Unit {0}
 AllUnqueued queue (fill ∷ fills) = (put_at fill.key queue ≡ None) × AllUnqueued queue fills
 
-requeued_fills : (pages : Pages) (memory : Memory) (nvm : Nvm) (queue : List PageEntry) (fills : List Fill) → AllFill pages memory nvm fills → AllUnqueued queue fills → AllFill pages memory (record nvm { queue = queue }) fills
+requeued_fills : (pages : Pages) (memory : Memory) (nvm : Nvm) (queue : List FlashEntry) (fills : List Fill) → AllFill pages memory nvm fills → AllUnqueued queue fills → AllFill pages memory (record nvm { queue = queue }) fills
 requeued_fills pages memory nvm queue [] f u = tt
 requeued_fills pages memory nvm queue (fill ∷ fills) f u =
     (record { unlinked = f.0.unlinked; unqueued = u.0; unburied = f.0.unburied; wishes = f.0.wishes; brought = f.0.brought }, requeued_fills pages memory nvm queue fills f.1 u.1)
 
-requeued_run : (nvm : Nvm) (queue : List PageEntry) (jobs : List Job) → AllRun nvm jobs → AllRun (record nvm { queue = queue }) jobs
+requeued_run : (nvm : Nvm) (queue : List FlashEntry) (jobs : List Job) → AllRun nvm jobs → AllRun (record nvm { queue = queue }) jobs
 requeued_run nvm queue [] r = tt
 requeued_run nvm queue (job ∷ jobs) r = (r.0, requeued_run nvm queue jobs r.1)
 
@@ -79,14 +79,14 @@ own_unqueued pages memory nvm [] f = tt
 own_unqueued pages memory nvm (fill ∷ fills) f = (f.0.unqueued, own_unqueued pages memory nvm fills f.1)
 
 -- what is asked of a queue
-pub record QueueFits (flash : FlashConfig) (older : List Note) (pools : ℕ) (queue : List PageEntry) : Type 0 where
+pub record QueueFits (flash : FlashConfig) (older : List Note) (pools : ℕ) (queue : List FlashEntry) : Type 0 where
   pub keys : keys_of queue ≡ reverse (waiting older)
   pub one_put : (key : List ℕ) → count (is_put_of key) queue ≤ 1
   pub can_put : count (is_too_large flash) queue ≡ 0
   pub pools_there : InPools pools queue
 
 -- a note that passes, and a queue that fits it
-pub flash_requeued : (flash : FlashConfig) (older : List Note) (note : Note) (memory : Memory) (nvm : Nvm) (moves : List ℕ → Bool) (queue : List PageEntry) → Passes older note
+pub flash_requeued : (flash : FlashConfig) (older : List Note) (note : Note) (memory : Memory) (nvm : Nvm) (moves : List ℕ → Bool) (queue : List FlashEntry) → Passes older note
     → QueueFits nvm.pair.small.flash (note ∷ older) (length memory.pools) queue → AllUnqueued queue (still moves nvm.fills)
     → FlashInMidst flash older memory nvm moves → FlashInMidst flash (note ∷ older) memory (record nvm { queue = queue }) moves
 flash_requeued flash older note memory nvm moves queue p q u g =

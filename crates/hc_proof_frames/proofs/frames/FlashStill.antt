@@ -2,7 +2,7 @@
 use Rattle.std.proofs.Common.{◌≡◌, ℕ, Bool, true, false, not, List, [], ◌∷◌, Option, Some, None, refl, ap, sym, ◌∙◌, subst}
 use Rattle.std.specs.Prelude.{if◌then◌else◌}
 use Rattle.hc_types.specs.declared.config.FlashConfig.{FlashConfig}
-use Rattle.hc_bighash.specs.Page.{PageEntry}
+use Rattle.hc_types.specs.FlashEntry.{FlashEntry}
 use Rattle.hc_engines.specs.Engine.{Pages, Order}
 use Rattle.hc_engines.specs.small.BigHash as bighash
 use Rattle.hc_engines.specs.small.Held as small
@@ -45,10 +45,10 @@ regions_still flash older newer s q t = record {
 }
 
 -- the same engines, beside other puts, tombstones and fills
-abbrev pub beside : List PageEntry → List Tombstone → List Fill → Nvm → Nvm
+abbrev pub beside : List FlashEntry → List Tombstone → List Fill → Nvm → Nvm
 beside queue stones fills nvm = record nvm { queue = queue; tombstones = stones; fills = fills }
 
-pub engines_still : (flash : FlashConfig) (older newer : List Note) (nvm : Nvm) (queue : List PageEntry) (stones : List Tombstone) (fills : List Fill) → QuietEngines flash older newer → EnginesFit flash older nvm → EnginesFit flash newer (beside queue stones fills nvm)
+pub engines_still : (flash : FlashConfig) (older newer : List Note) (nvm : Nvm) (queue : List FlashEntry) (stones : List Tombstone) (fills : List Fill) → QuietEngines flash older newer → EnginesFit flash older nvm → EnginesFit flash newer (beside queue stones fills nvm)
 engines_still flash older newer nvm queue stones fills q e = record {
   same = e.same;
   small_fits = subst (λ (pages : Pages). StateFits nvm.pair.small pages) (sym q.bytes) e.small_fits;
@@ -56,17 +56,17 @@ engines_still flash older newer nvm queue stones fills q e = record {
   large_fits = subst (λ (pages : Pages). Fits flash pages nvm.pair.large) (sym q.bytes) e.large_fits;
   reads = subst (λ (pages : Pages). ReadsHold flash pages nvm.pair.large nvm.pair.large.jobs) (sym q.bytes) e.reads;
   regions = regions_still flash older newer nvm.pair.large q e.regions;
-  buckets = λ bucket within. ap (λ (f : ℕ → List PageEntry). f bucket) q.buckets ∙ e.buckets bucket within ∙ ap (λ (pages : Pages). small.bucket_entries nvm.pair.small pages bucket) (sym q.bytes);
+  buckets = λ bucket within. ap (λ (f : ℕ → List FlashEntry). f bucket) q.buckets ∙ e.buckets bucket within ∙ ap (λ (pages : Pages). small.bucket_entries nvm.pair.small pages bucket) (sym q.bytes);
   large_ones = λ key entry h. e.large_ones key entry (ap (λ (pages : Pages). large.held flash pages nvm.pair.large key) (sym q.bytes) ∙ h);
 }
 
 -- ---- jobs
 
 -- the state with another index, other puts, tombstones and fills
-abbrev pub changed_by : List Indexed → List PageEntry → List Tombstone → List Fill → Nvm → Nvm
+abbrev pub changed_by : List Indexed → List FlashEntry → List Tombstone → List Fill → Nvm → Nvm
 changed_by index queue stones fills nvm = record nvm { pair = record nvm.pair { large = record nvm.pair.large { index = index } }; queue = queue; tombstones = stones; fills = fills }
 
-runs_still : (index : List Indexed) (queue : List PageEntry) (stones : List Tombstone) (fills : List Fill) (nvm : Nvm) (task : Task) (order : Order) (job : Option bighash.Job) (work : Option block.Work)
+runs_still : (index : List Indexed) (queue : List FlashEntry) (stones : List Tombstone) (fills : List Fill) (nvm : Nvm) (task : Task) (order : Order) (job : Option bighash.Job) (work : Option block.Work)
     → ((k : List ℕ) → is_taken k nvm.tombstones ≡ true → is_taken k stones ≡ true) → RunsAs nvm task order job work → RunsAs (changed_by index queue stones fills nvm) task order job work
 runs_still index queue stones fills nvm (Putting key) order (Some job) None kept h = h
 runs_still index queue stones fills nvm (Deleting key) order (Some job) None kept h = (h.0, kept key h.1, h.2)
@@ -84,14 +84,14 @@ runs_still index queue stones fills nvm Flushing order (Some job) work kept h = 
 runs_still index queue stones fills nvm Flushing order None None kept h = absurd h
 runs_still index queue stones fills nvm Flushing order None (Some (block.Getting reading)) kept h = absurd h
 
-all_still : (index : List Indexed) (queue : List PageEntry) (stones : List Tombstone) (fills : List Fill) (nvm : Nvm) (jobs : List Job) → ((k : List ℕ) → is_taken k nvm.tombstones ≡ true → is_taken k stones ≡ true)
+all_still : (index : List Indexed) (queue : List FlashEntry) (stones : List Tombstone) (fills : List Fill) (nvm : Nvm) (jobs : List Job) → ((k : List ℕ) → is_taken k nvm.tombstones ≡ true → is_taken k stones ≡ true)
     → AllRun nvm jobs → AllRun (changed_by index queue stones fills nvm) jobs
 all_still index queue stones fills nvm [] kept h = tt
 all_still index queue stones fills nvm (job ∷ jobs) kept h =
     (runs_still index queue stones fills nvm job.task job.order (small_job nvm job.number) (large_work nvm job.number) kept h.0, all_still index queue stones fills nvm jobs kept h.1)
 
 -- jobs run on where no tombstone that was taken goes
-pub jobs_still : (index : List Indexed) (queue : List PageEntry) (stones : List Tombstone) (fills : List Fill) (nvm : Nvm) → ((k : List ℕ) → is_taken k nvm.tombstones ≡ true → is_taken k stones ≡ true) → JobsRun nvm → JobsRun (changed_by index queue stones fills nvm)
+pub jobs_still : (index : List Indexed) (queue : List FlashEntry) (stones : List Tombstone) (fills : List Fill) (nvm : Nvm) → ((k : List ℕ) → is_taken k nvm.tombstones ≡ true → is_taken k stones ≡ true) → JobsRun nvm → JobsRun (changed_by index queue stones fills nvm)
 jobs_still index queue stones fills nvm kept j = record {
   run = all_still index queue stones fills nvm nvm.jobs kept j.run;
   one = j.one;

@@ -2,7 +2,7 @@
 use Rattle.std.proofs.Common.{◌≡◌, ℕ, ◌+◌, Bool, true, false, not, ◌||◌, List, [], ◌∷◌, ◌++◌, Option, Some, None, refl, ap, sym, ◌∙◌, subst}
 use Rattle.std.specs.Prelude.{if◌then◌else◌, is_some}
 use Rattle.hc_types.specs.Config.{Config}
-use Rattle.hc_bighash.specs.Page.{PageEntry}
+use Rattle.hc_types.specs.FlashEntry.{FlashEntry}
 use Rattle.hc_memory.specs.Item.{Handle}
 use Rattle.hc_memory.specs.Memory.{linked_at}
 use Rattle.hc_items.proofs.Same.{eqb-same}
@@ -49,7 +49,7 @@ without_none key (x ∷ fills) e = go (is_fill_of key x) e (without_none key fil
     go true e more = absurd cc
     go false e more = ap (λ fs. x ∷ fs) (more e)
 
-end_speaks : (Q : ℕ → Type 0) (key : List ℕ) (there : Option PageEntry) (cache : Cache) → ((fill : Fill) → fill_at key (fills_of cache.nvm) ≡ Some fill → AllCalls Q fill.waiters) → EndsFill Q key cache (end_fill key there cache)
+end_speaks : (Q : ℕ → Type 0) (key : List ℕ) (there : Option FlashEntry) (cache : Cache) → ((fill : Fill) → fill_at key (fills_of cache.nvm) ≡ Some fill → AllCalls Q fill.waiters) → EndsFill Q key cache (end_fill key there cache)
 end_speaks Q key there cache h = go cache.nvm refl
   where
     serves : (o : Option Fill) (nvm : Nvm) → cache.nvm ≡ Some nvm → fill_at key nvm.fills ≡ o → EndsFill Q key cache (serve_fill o nvm there cache)
@@ -76,7 +76,7 @@ record Between (c : Cache) (told : Told) : Type 1 where
   calls : told.cache.calls ≡ c.calls
 
 -- a call that changes this key alone begins, this is done, it is answered, and the key's fill ends
-changing : (config : Config) (older : List Note) (cache : Cache) (client : ℕ) (op : Op) (key : List ℕ) (reply : Reply) (there : Option PageEntry) (m : Told) → Between (begin client op cache).cache m
+changing : (config : Config) (older : List Note) (cache : Cache) (client : ℕ) (op : Op) (key : List ℕ) (reply : Reply) (there : Option FlashEntry) (m : Told) → Between (begin client op cache).cache m
     → OpCalm key op → Agrees config older cache → AllFresh older (fills_of cache.nvm)
     → AllFresh (past (Begin (cache.calls + 1) client op ∷ older) (m.part ++ (replies_then reply (end_fill key there) m.cache).part)) (fills_of (replies_then reply (end_fill key there) m.cache).cache.nvm)
 changing config older cache client op key reply there m b calm g h =

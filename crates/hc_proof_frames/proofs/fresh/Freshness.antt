@@ -7,7 +7,7 @@ use Rattle.hc_types.specs.Places.{is_small_by}
 use Rattle.hc_types.specs.Tally.{count}
 use Rattle.hc_types.specs.declared.config.FlashConfig.{FlashConfig}
 use Rattle.hc_types.specs.declared.refusal.Refusal.{Refusal}
-use Rattle.hc_bighash.specs.Page.{PageEntry}
+use Rattle.hc_types.specs.FlashEntry.{FlashEntry}
 use Rattle.hc_engines.specs.Engine as engine
 use Rattle.hc_engines.specs.Engine.{Put, Get, Delete, IoResult, Page, Written, Failed, Order, Read, Write, Outcome, Next, Busy, Io, Done}
 use Rattle.hc_engines.specs.large.Block as block
@@ -234,11 +234,11 @@ waits_of config older cache g = go config.flash cache.nvm g.flash g.calls.open_o
     go (Some flash) (Some nvm) f asks one = record { asks = asks; one_waiter = one; one = f.fills.one; wishes = wishes_of (bytes_at older) cache.memory nvm nvm.fills f.fills.each }
 
 -- the writer's take ends no fill
-sized_end : (t : Bool) (put : PageEntry) (nvm : Nvm) → EndsSo (nvm.made + 1) nvm.fills (take_sized t put nvm)
+sized_end : (t : Bool) (put : FlashEntry) (nvm : Nvm) → EndsSo (nvm.made + 1) nvm.fills (take_sized t put nvm)
 sized_end true put nvm = let m = pairs.start (nvm.made + 1) (Put put) nvm.pair in let q = launched_end (Putting put.key) m.next (record nvm { pair = m.pair }) in record { silent = q.silent; ended = q.ended }
 sized_end false put nvm = let m = pairs.start (nvm.made + 1) (Put put) nvm.pair in let q = launched_end Flushing m.next (record nvm { pair = m.pair }) in record { silent = q.silent; ended = q.ended }
 
-put_end : (o : Option PageEntry) (nvm : Nvm) → EndsSo (nvm.made + 1) nvm.fills (take_put o nvm)
+put_end : (o : Option FlashEntry) (nvm : Nvm) → EndsSo (nvm.made + 1) nvm.fills (take_put o nvm)
 put_end None nvm = record { silent = tt; ended = refl }
 put_end (Some put) nvm = let q = sized_end (is_small_by nvm.pair.small.flash put.key (length put.value)) put (record nvm { queue = without_put put.key nvm.queue }) in record { silent = q.silent; ended = q.ended }
 

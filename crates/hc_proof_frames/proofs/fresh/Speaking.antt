@@ -1,7 +1,7 @@
 -- The parts of a step answer no call but those that are served, and leave the fills as they are.
 use Rattle.std.proofs.Common.{◌≡◌, ℕ, Bool, true, false, List, [], ◌∷◌, ◌++◌, length, map, filter, Option, Some, None, refl, ap, sym, ◌∙◌}
 use Rattle.std.specs.Prelude.{if◌then◌else◌}
-use Rattle.hc_bighash.specs.Page.{PageEntry}
+use Rattle.hc_types.specs.FlashEntry.{FlashEntry}
 use Rattle.hc_engines.specs.Engine.{Loss, Outcome}
 use Rattle.hc_memory.specs.Item.{Handle}
 use Rattle.hc_types.specs.Charge.{charge_of}
@@ -113,18 +113,18 @@ module _ (Q : ℕ → Type 0) where
   pub plant_quiet : (handle : Handle) (cache : Cache) → SpokenPart Q cache (plant handle cache)
   plant_quiet handle cache = let p = plant_aside handle cache in record { answers = answers_by (plant handle cache).part p.aside; fills = p.fills }
 
-  serve_speaks : (call : ℕ) (wish : Wish) (there : Option PageEntry) (cache : Cache) → Q call → SpokenPart Q cache (serve call wish there cache)
+  serve_speaks : (call : ℕ) (wish : Wish) (there : Option FlashEntry) (cache : Cache) → Q call → SpokenPart Q cache (serve call wish there cache)
   serve_speaks call ToFind there cache q = record { answers = (q, tt); fills = refl }
   serve_speaks call (ToAdd handle) (Some entry) cache q = record { answers = (q, tt); fills = refl }
   serve_speaks call (ToAdd handle) None cache q = both_told cache (plant handle cache) (answer call Stored) (plant_quiet handle cache) (λ c. record { answers = (q, tt); fills = refl })
 
-  pub serve_all_speaks : (waiters : List Waiter) (there : Option PageEntry) (cache : Cache) → AllCalls Q waiters → SpokenPart Q cache (serve_all waiters there cache)
+  pub serve_all_speaks : (waiters : List Waiter) (there : Option FlashEntry) (cache : Cache) → AllCalls Q waiters → SpokenPart Q cache (serve_all waiters there cache)
   serve_all_speaks [] there cache q = record { answers = tt; fills = refl }
   serve_all_speaks (waiter ∷ waiters) there cache q =
       both_told cache (serve waiter.call waiter.wish (live cache.now there) cache) (serve_all waiters (there_after waiter.wish (live cache.now there))) (serve_speaks waiter.call waiter.wish (live cache.now there) cache q.0)
       (λ c. serve_all_speaks waiters (there_after waiter.wish (live cache.now there)) c q.1)
 
-  pub bring_speaks : (entry : Option PageEntry) (cache : Cache) → SpokenPart Q cache (bring entry cache)
+  pub bring_speaks : (entry : Option FlashEntry) (cache : Cache) → SpokenPart Q cache (bring entry cache)
   bring_speaks None cache = record { answers = tt; fills = refl }
   bring_speaks (Some entry) cache = go (can_link cache entry)
     where

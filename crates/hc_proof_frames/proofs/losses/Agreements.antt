@@ -11,8 +11,9 @@ use Rattle.hc_types.specs.Fnv.{fnv_1a}
 use Rattle.hc_types.specs.Loss as loss
 use Rattle.hc_types.specs.Places.{kept_of, bucket_at}
 use Rattle.hc_types.specs.declared.config.FlashConfig.{FlashConfig}
-use Rattle.hc_bighash.specs.Page.{PageEntry, page_bytes, used}
-use Rattle.hc_bighash.proofs.Pages.{page_again}
+use Rattle.hc_types.specs.FlashEntry.{FlashEntry}
+use Rattle.hc_bucket.specs.Page.{page_bytes, used}
+use Rattle.hc_bucket.proofs.Pages.{page_again}
 use Rattle.hc_items.proofs.Same.{eqb-same}
 use Rattle.hc_engines.specs.Engine.{Loss}
 use Rattle.hc_engines.specs.small.Bloom.{bit_of, bits_of_hash as number_bits_of_hash, bits_of as number_bits_of, word_of, could_have}
@@ -26,9 +27,9 @@ use Rattle.hc_engines.proofs.small.Holding.{bucket_word}
 use Rattle.hc_engines.proofs.Keys.{same-refl}
 use Rattle.hc_history.specs.Note.{Note, Wrote, Lose}
 use Rattle.hc_history.specs.Pages.{has_key, bucket_entries, bytes_at, listed, entries_in}
-use Rattle.hc_bighash.specs.Bloom.{bits_of_hash, bits_of, has_bit, word_has}
+use Rattle.hc_bucket.specs.Bloom.{bits_of_hash, bits_of, has_bit, word_has}
 use Rattle.hc_history.specs.Lawful.{IsTrueCause, IsPushedOut}
-use Rattle.hc_bighash.specs.Putting.{from_key, last_of, entries_without, is_too_long, is_pushed_out}
+use Rattle.hc_bucket.specs.Putting.{from_key, last_of, entries_without, is_too_long, is_pushed_out}
 use Rattle.hc_machine.specs.Nvm.{Nvm}
 use Rattle.hc_machine.specs.Takes.{loss_notes}
 use Rattle.hc_invariant.specs.Good.{EnginesFit}
@@ -94,7 +95,7 @@ key_bits key i = hash_bits (fnv_1a key) i
 pub or_swap : (a b : Bool) → (a || b) ≡ (b || a)
 or_swap a b = grind arith
 
-word_bits : (es : List PageEntry) (i : ℕ) → has (word_of es) i ≡ has_bit es i
+word_bits : (es : List FlashEntry) (i : ℕ) → has (word_of es) i ≡ has_bit es i
 word_bits [] i = rw (bit_at-zero i) refl
 word_bits (e ∷ es) i = has_or (word_of es) (number_bits_of e.key) i ∙ (λ j. word_bits es i j || key_bits e.key i j) ∙ or_swap (has_bit es i) (list_any (λ other. other == i) (bits_of e.key))
 
@@ -173,17 +174,17 @@ due_is flash older nvm key g w =
     let bucket = bucket_at nvm.pair.small.flash key in
     or_both _ _ _ _ (ap (λ es. word_has es key) (bucket_is flash older nvm key g) ∙ word_step nvm.pair.small.flash bucket (word_at nvm.pair.small bucket) (bytes_at older bucket) key (g.small_fits.pages_fit bucket)) (w.writing key)
 
-pub any_under : (key : List ℕ) (es : List PageEntry) → has_key key es ≡ is_some (under key es)
+pub any_under : (key : List ℕ) (es : List FlashEntry) → has_key key es ≡ is_some (under key es)
 any_under key [] = refl
 any_under key (e ∷ es) = step (bytes_eq e.key key) (has_key key es) (under key es) (any_under key es)
   where
-    step : (t b : Bool) (o : Option PageEntry) → b ≡ is_some o → (t || b) ≡ is_some (if t then Some e else o)
+    step : (t b : Bool) (o : Option FlashEntry) → b ≡ is_some o → (t || b) ≡ is_some (if t then Some e else o)
     step true b o h = refl
     step false b o h = h
 
 -- ---- what is pushed out
 
-without_is : (key : List ℕ) (es : List PageEntry) → entries_without key es ≡ without key es
+without_is : (key : List ℕ) (es : List FlashEntry) → entries_without key es ≡ without key es
 without_is key [] = refl
 without_is key (e ∷ es) = step (bytes_eq e.key key) (without_is key es)
   where
@@ -191,21 +192,21 @@ without_is key (e ∷ es) = step (bytes_eq e.key key) (without_is key es)
     step true h = h
     step false h = ap (λ xs. e ∷ xs) h
 
-more_used : (front back : List PageEntry) → used back ≤ used (front ++ back)
+more_used : (front back : List FlashEntry) → used back ≤ used (front ++ back)
 more_used [] back = omega arith
 more_used (x ∷ front) back = omega (arith, used-cons x (front ++ back), more_used front back)
 
 less_is : (a b : ℕ) → a < b → nat_lt a b ≡ true
 less_is a b h = grind arith
 
-whole_long : (size : ℕ) (x : PageEntry) (es : List PageEntry) (put : PageEntry) → size < used (x ∷ es) + size_of put → is_too_long size (x ∷ es) put ≡ true
+whole_long : (size : ℕ) (x : FlashEntry) (es : List FlashEntry) (put : FlashEntry) → size < used (x ∷ es) + size_of put → is_too_long size (x ∷ es) put ≡ true
 whole_long size x es put h = less_is size (used ((x ∷ es) ++ put ∷ [])) (omega (arith, used-push (x ∷ es) put, h))
 
-long_step : (size : ℕ) (key : List ℕ) (x : PageEntry) (rest : List PageEntry) (put : PageEntry) (t : Bool) → size < used (x ∷ rest) + size_of put → (t ≡ false → is_too_long size (from_key key rest) put ≡ true) → is_too_long size (if t then x ∷ rest else from_key key rest) put ≡ true
+long_step : (size : ℕ) (key : List ℕ) (x : FlashEntry) (rest : List FlashEntry) (put : FlashEntry) (t : Bool) → size < used (x ∷ rest) + size_of put → (t ≡ false → is_too_long size (from_key key rest) put ≡ true) → is_too_long size (if t then x ∷ rest else from_key key rest) put ≡ true
 long_step size key x rest put true h more = whole_long size x rest put h
 long_step size key x rest put false h more = more refl
 
-too_long : (size : ℕ) (key : List ℕ) (put : PageEntry) (front : List PageEntry) (old : PageEntry) (back : List PageEntry) → bytes_eq old.key key ≡ true → size < used (old ∷ back) + size_of put → is_too_long size (from_key key (front ++ old ∷ back)) put ≡ true
+too_long : (size : ℕ) (key : List ℕ) (put : FlashEntry) (front : List FlashEntry) (old : FlashEntry) (back : List FlashEntry) → bytes_eq old.key key ≡ true → size < used (old ∷ back) + size_of put → is_too_long size (from_key key (front ++ old ∷ back)) put ≡ true
 too_long size key put [] old back e h = rw e (whole_long size old back put h)
 too_long size key put (x ∷ front) old back e h =
     let room : size < used (x ∷ (front ++ old ∷ back)) + size_of put = omega (arith, h, used-cons x (front ++ old ∷ back), more_used front (old ∷ back)) in
@@ -220,7 +221,7 @@ pushed_is size x es key h =
 -- ---- lawful losses
 
 -- behind this history each key that is pushed out may be lost, and so behind a loss
-lawful_losses : (config : Config) (flash : FlashConfig) (size : ℕ) (x : PageEntry) (es : List PageEntry) (losses : List Loss) (older tail : List Note) → config.flash ≡ Some flash
+lawful_losses : (config : Config) (flash : FlashConfig) (size : ℕ) (x : FlashEntry) (es : List FlashEntry) (losses : List Loss) (older tail : List Note) → config.flash ≡ Some flash
     → ((key : List ℕ) → small.IsPushedOut size x es key → IsPushedOut flash older key) → AllPushedOut size x es losses → LawfulIn config older (loss_notes losses) tail
 lawful_losses config flash size x es [] older tail e h all = tt
 lawful_losses config flash size x es (one ∷ losses) older tail e h all =
@@ -228,7 +229,7 @@ lawful_losses config flash size x es (one ∷ losses) older tail e h all =
     let first : IsTrueCause config older (loss.Key key) loss.BucketFull (loss_notes losses ++ tail) = rw e (h key all.0.2) in
     (subst (λ (l : Loss). IsTrueCause config older l.scope l.cause (loss_notes losses ++ tail)) (sym all.0.1) first, lawful_losses config flash size x es losses (Lose one.scope one.cause ∷ older) tail e h all.1)
 
-last_is : (es : List PageEntry) (x : PageEntry) → last_of (es ++ x ∷ []) ≡ Some x
+last_is : (es : List FlashEntry) (x : FlashEntry) → last_of (es ++ x ∷ []) ≡ Some x
 last_is [] x = refl
 last_is (e ∷ []) x = refl
 last_is (e ∷ f ∷ es) x = last_is (f ∷ es) x

@@ -5,7 +5,7 @@ use Rattle.hc_types.specs.Loss as loss
 use Rattle.hc_types.specs.Loss.{Scope, Cause}
 use Rattle.hc_types.specs.Places.{bucket_at, is_small_by}
 use Rattle.hc_types.specs.declared.config.FlashConfig.{FlashConfig}
-use Rattle.hc_bighash.specs.Page.{PageEntry}
+use Rattle.hc_types.specs.FlashEntry.{FlashEntry}
 use Rattle.hc_engines.specs.Engine.{Loss, takes_out, left_of}
 use Rattle.hc_engines.proofs.small.Losses.{left-kept}
 use Rattle.hc_memory.specs.Item.{Item}
@@ -23,7 +23,7 @@ and_not_false true = refl
 and_not_false false = refl
 
 -- what no loss covers stays
-kept_by : (flash : FlashConfig) (losses : List Loss) (e : PageEntry) → AllTakeOut losses → covers_any (Some flash) losses e.key (length e.value) ≡ false → Some e ≡ left_of flash losses (Some e)
+kept_by : (flash : FlashConfig) (losses : List Loss) (e : FlashEntry) → AllTakeOut losses → covers_any (Some flash) losses e.key (length e.value) ≡ false → Some e ≡ left_of flash losses (Some e)
 kept_by flash losses e out h = sym (left-kept flash losses e (lost-is flash losses e out ∙ h))
 
 -- ---- kept hashes
@@ -37,11 +37,11 @@ pub hash-small : (flash : FlashConfig) (losses : List Loss) (key : List ℕ) (le
 hash-small flash [] key len h small = refl
 hash-small flash (one ∷ losses) key len h small = rw (hash_step flash one.scope key len h.0 small) (hash-small flash losses key len h.1 small)
 
-small_kept : (flash : FlashConfig) (losses : List Loss) (s : Option PageEntry) → AllTakeOut losses → AllHash losses → IsSmall flash s → s ≡ left_of flash losses s
+small_kept : (flash : FlashConfig) (losses : List Loss) (s : Option FlashEntry) → AllTakeOut losses → AllHash losses → IsSmall flash s → s ≡ left_of flash losses s
 small_kept flash losses None out h small = refl
 small_kept flash losses (Some e) out h small = kept_by flash losses e out (hash-small flash losses e.key (length e.value) h small)
 
-hash_goes : (flash : FlashConfig) (losses : List Loss) (key : List ℕ) (i : Option Item) (q w s l : Option PageEntry) (m : Option Entry) (b : Bool) → AllHash losses → IsOwn key w → IsSmall flash w → Placed i q w b s l m
+hash_goes : (flash : FlashConfig) (losses : List Loss) (key : List ℕ) (i : Option Item) (q w s l : Option FlashEntry) (m : Option Entry) (b : Bool) → AllHash losses → IsOwn key w → IsSmall flash w → Placed i q w b s l m
     → b ≡ false → is_some w ≡ true → false ≡ covered (Some flash) losses key m
 hash_goes flash losses key i q None s l m b h own small p e some = absurd cc
 hash_goes flash losses key i q (Some x) s l m true h own small p e some = absurd cc
@@ -64,23 +64,23 @@ hash_losses_place flash losses older memory key q w s l l2 b mf out h held sides
 
 -- ---- a bucket
 
-pub bucket_small : (flash : FlashConfig) (bucket : ℕ) (key : List ℕ) (here : Bool) (s : Option PageEntry) → IsOwn key s → IsSmall flash s → (bucket_at flash key == bucket) ≡ here → (if here then None else s) ≡ left_of flash (bucket_loss bucket) s
+pub bucket_small : (flash : FlashConfig) (bucket : ℕ) (key : List ℕ) (here : Bool) (s : Option FlashEntry) → IsOwn key s → IsSmall flash s → (bucket_at flash key == bucket) ≡ here → (if here then None else s) ≡ left_of flash (bucket_loss bucket) s
 bucket_small flash bucket key here None own small e = both here
   where
-    both : (t : Bool) → ◌≡◌ {A = Option PageEntry} (if t then None else None) None
+    both : (t : Bool) → ◌≡◌ {A = Option FlashEntry} (if t then None else None) None
     both true = refl
     both false = refl
 bucket_small flash bucket key here (Some x) own small e = let at : (bucket_at flash x.key == bucket) ≡ here = ap (λ (k : List ℕ). bucket_at flash k == bucket) own ∙ e in rw (small, at) (both here)
   where
-    both : (t : Bool) → ◌≡◌ {A = Option PageEntry} (if t then None else Some x) (if (t || false) then None else Some x)
+    both : (t : Bool) → ◌≡◌ {A = Option FlashEntry} (if t then None else Some x) (if (t || false) then None else Some x)
     both true = refl
     both false = refl
 
-pub bucket_large : (flash : FlashConfig) (bucket : ℕ) (l : Option PageEntry) → IsLarge flash l → l ≡ left_of flash (bucket_loss bucket) l
+pub bucket_large : (flash : FlashConfig) (bucket : ℕ) (l : Option FlashEntry) → IsLarge flash l → l ≡ left_of flash (bucket_loss bucket) l
 bucket_large flash bucket None large = refl
 bucket_large flash bucket (Some x) large = rw large refl
 
-pub bucket_goes : (flash : FlashConfig) (bucket : ℕ) (key : List ℕ) (here : Bool) (i : Option Item) (q w s l : Option PageEntry) (m : Option Entry) (b : Bool) → IsOwn key w → IsSmall flash w → (bucket_at flash key == bucket) ≡ here → Placed i q w b s l m
+pub bucket_goes : (flash : FlashConfig) (bucket : ℕ) (key : List ℕ) (here : Bool) (i : Option Item) (q w s l : Option FlashEntry) (m : Option Entry) (b : Bool) → IsOwn key w → IsSmall flash w → (bucket_at flash key == bucket) ≡ here → Placed i q w b s l m
     → b ≡ false → is_some w ≡ true → here ≡ covered (Some flash) (bucket_loss bucket) key m
 bucket_goes flash bucket key here i q None s l m b own small e p f some = absurd cc
 bucket_goes flash bucket key here i q (Some x) s l m true own small e p f some = absurd cc
@@ -113,17 +113,17 @@ full_out [] h = tt
 full_out (one ∷ losses) h = (full_cause one.scope one.cause h.0, full_out losses h.1)
 
 -- where the small engine has nothing, nothing was pushed out
-unnamed : (key : List ℕ) (losses : List Loss) (s : Option PageEntry) (t : Bool) → names key losses ≡ t → (names key losses ≡ true → is_some s ≡ true) → s ≡ None → t ≡ false
-unnamed key losses s true e h n = absurd (let x : is_some s ≡ true = h e in let y : is_some s ≡ false = ap (λ (o : Option PageEntry). is_some o) n in cc (x, y))
+unnamed : (key : List ℕ) (losses : List Loss) (s : Option FlashEntry) (t : Bool) → names key losses ≡ t → (names key losses ≡ true → is_some s ≡ true) → s ≡ None → t ≡ false
+unnamed key losses s true e h n = absurd (let x : is_some s ≡ true = h e in let y : is_some s ≡ false = ap (λ (o : Option FlashEntry). is_some o) n in cc (x, y))
 unnamed key losses s false e h n = refl
 
-full_large : (flash : FlashConfig) (losses : List Loss) (key : List ℕ) (i : Option Item) (q w s l : Option PageEntry) (m : Option Entry) (b : Bool) → AllFull losses → (names key losses ≡ true → is_some s ≡ true) → IsOwn key l → Placed i q w b s l m
+full_large : (flash : FlashConfig) (losses : List Loss) (key : List ℕ) (i : Option Item) (q w s l : Option FlashEntry) (m : Option Entry) (b : Bool) → AllFull losses → (names key losses ≡ true → is_some s ≡ true) → IsOwn key l → Placed i q w b s l m
     → l ≡ left_of flash losses l
 full_large flash losses key i q w s None m b h n own p = refl
 full_large flash losses key i q w s (Some x) m b h n own p =
     kept_by flash losses x (full_out losses h) (full-names flash losses x.key (length x.value) h ∙ ap (λ (k : List ℕ). names k losses) own ∙ unnamed key losses s (names key losses) refl n (large_alone i q w s m b x p))
 
-full_goes : (flash : FlashConfig) (losses : List Loss) (key : List ℕ) (i : Option Item) (q w s l : Option PageEntry) (m : Option Entry) (b : Bool) → AllFull losses → (names key losses ≡ true → is_some s ≡ true) → Placed i q w b s l m
+full_goes : (flash : FlashConfig) (losses : List Loss) (key : List ℕ) (i : Option Item) (q w s l : Option FlashEntry) (m : Option Entry) (b : Bool) → AllFull losses → (names key losses ≡ true → is_some s ≡ true) → Placed i q w b s l m
     → b ≡ false → is_some w ≡ true → false ≡ covered (Some flash) losses key m
 full_goes flash losses key i q None s l m b h n p e some = absurd cc
 full_goes flash losses key i q (Some x) s l m true h n p e some = absurd cc

@@ -4,7 +4,7 @@ use Rattle.std.specs.Prelude.{if◌then◌else◌, option_map}
 use Rattle.std.specs.Str.{bytes_eq}
 use Rattle.hc_types.specs.Places.{bucket_at, kept_of, is_small_by}
 use Rattle.hc_types.specs.declared.config.FlashConfig.{FlashConfig}
-use Rattle.hc_bighash.specs.Page.{PageEntry}
+use Rattle.hc_types.specs.FlashEntry.{FlashEntry}
 use Rattle.hc_engines.specs.Engine.{Op, Put, Get, Delete, Flush, Reclaim, Pages}
 use Rattle.hc_engines.specs.small.BigHash as bighash
 use Rattle.hc_engines.specs.small.BigHash.{is_ours, word_at}
@@ -27,11 +27,11 @@ use Rattle.hc_proof_frames.specs.losses.Agreements.{SidesOf}
 
 -- ---- what is being written
 
-first_own : (P : Option PageEntry → Type 0) (a b : Option PageEntry) → P a → P b → P (first_of a b)
+first_own : (P : Option FlashEntry → Type 0) (a b : Option FlashEntry) → P a → P b → P (first_of a b)
 first_own P None b p q = q
 first_own P (Some x) b p q = p
 
-put_own : (key : List ℕ) (e : PageEntry) (t : Bool) → bytes_eq e.key key ≡ t → IsOwn key (if t then Some e else None)
+put_own : (key : List ℕ) (e : FlashEntry) (t : Bool) → bytes_eq e.key key ≡ t → IsOwn key (if t then Some e else None)
 put_own key e true h = same-true e.key key h
 put_own key e false h = tt
 
@@ -46,7 +46,7 @@ written_key : (key : List ℕ) (jobs : List bighash.Job) → IsOwn key (written_
 written_key key [] = tt
 written_key key (job ∷ jobs) = first_own (IsOwn key) (put_in key job.op) (written_by key jobs) (put_key key job.op) (written_key key jobs)
 
-put_fits : (flash : FlashConfig) (e : PageEntry) (t : Bool) → is_small_by flash e.key (length e.value) ≡ true → IsSmall flash (if t then Some e else None)
+put_fits : (flash : FlashConfig) (e : FlashEntry) (t : Bool) → is_small_by flash e.key (length e.value) ≡ true → IsSmall flash (if t then Some e else None)
 put_fits flash e true h = h
 put_fits flash e false h = tt
 
@@ -63,21 +63,21 @@ written_small flash words pages key (job ∷ jobs) fit = first_own (IsSmall flas
 
 -- ---- what the small engine holds
 
-held_own : (key : List ℕ) (es : List PageEntry) (o : Option PageEntry) → under key es ≡ o → IsOwn key o
+held_own : (key : List ℕ) (es : List FlashEntry) (o : Option FlashEntry) → under key es ≡ o → IsOwn key o
 held_own key es None e = tt
 held_own key es (Some x) e = same-true x.key key (under-key key es x e)
 
-held_fits : (flash : FlashConfig) (bucket : ℕ) (key : List ℕ) (es : List PageEntry) (o : Option PageEntry) → small.AllOwn flash bucket es → under key es ≡ o → IsSmall flash o
+held_fits : (flash : FlashConfig) (bucket : ℕ) (key : List ℕ) (es : List FlashEntry) (o : Option FlashEntry) → small.AllOwn flash bucket es → under key es ≡ o → IsSmall flash o
 held_fits flash bucket key es None own e = tt
 held_fits flash bucket key es (Some x) own e = (own_under flash bucket key es x own e).0
 
 -- ---- what the large engine holds
 
-own_step : (key : List ℕ) (entry : PageEntry) (t : Bool) → bytes_eq entry.key key ≡ t → IsOwn key (if t then Some entry else None)
+own_step : (key : List ℕ) (entry : FlashEntry) (t : Bool) → bytes_eq entry.key key ≡ t → IsOwn key (if t then Some entry else None)
 own_step key entry true h = same-true entry.key key h
 own_step key entry false h = tt
 
-if_own_key : (key : List ℕ) (o : Option PageEntry) → IsOwn key (if_own key o)
+if_own_key : (key : List ℕ) (o : Option FlashEntry) → IsOwn key (if_own key o)
 if_own_key key None = tt
 if_own_key key (Some entry) = own_step key entry (bytes_eq entry.key key) refl
 
@@ -85,7 +85,7 @@ read_key : (flash : FlashConfig) (pages : Pages) (s : Block) (key : List ℕ) (p
 read_key flash pages s key None = tt
 read_key flash pages s key (Some place) = if_own_key key (entry_in (large.bytes_at flash pages s place))
 
-large_fits : (flash : FlashConfig) (key : List ℕ) (o : Option PageEntry) → IsOwn key o → ((e : PageEntry) → o ≡ Some e → is_small_by flash key (length e.value) ≡ false) → IsLarge flash o
+large_fits : (flash : FlashConfig) (key : List ℕ) (o : Option FlashEntry) → IsOwn key o → ((e : FlashEntry) → o ≡ Some e → is_small_by flash key (length e.value) ≡ false) → IsLarge flash o
 large_fits flash key None own h = tt
 large_fits flash key (Some e) own h = ap (λ (k : List ℕ). is_small_by flash k (length e.value)) own ∙ h e refl
 

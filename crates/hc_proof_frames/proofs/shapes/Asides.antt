@@ -2,7 +2,7 @@
 use Rattle.std.proofs.Common.{◌≡◌, ℕ, ◌+◌, Bool, true, false, List, [], ◌∷◌, ◌++◌, Option, Some, None, refl, ap, sym, ◌∙◌}
 use Rattle.std.specs.Prelude.{if◌then◌else◌, is_some}
 use Rattle.hc_types.specs.Loss.{Cause}
-use Rattle.hc_bighash.specs.Page.{PageEntry}
+use Rattle.hc_types.specs.FlashEntry.{FlashEntry}
 use Rattle.hc_memory.specs.Item.{Item, Handle}
 use Rattle.hc_memory.specs.Charges.{closed}
 use Rattle.hc_memory.specs.Memory.{Memory, linked_at, victims_of, after_room, after_unlink, after_unmark}
@@ -53,7 +53,7 @@ answering (note ∷ notes) p = answering notes p
 both_changed : (nvm : Nvm) (first : Changed) (f : Nvm → Changed) → AsideChange nvm first → ((n : Nvm) → AsideChange n (f n)) → AsideChange nvm (leaving.and_then first f)
 both_changed nvm first f p q = record { aside = aside-append first.part (f first.nvm).part p.aside (q first.nvm).aside; fills = (q first.nvm).fills ∙ p.fills; jobs = (q first.nvm).jobs ∙ p.jobs }
 
-evicted_aside : (now pool want : ℕ) (entry : PageEntry) (nvm : Nvm) → AsideChange nvm (evicted now pool want entry nvm)
+evicted_aside : (now pool want : ℕ) (entry : FlashEntry) (nvm : Nvm) → AsideChange nvm (evicted now pool want entry nvm)
 evicted_aside now pool want entry nvm = go (cause_for now pool want entry nvm)
   where
     go : (cause : Option Cause) → AsideChange nvm (waits_unless cause entry nvm)

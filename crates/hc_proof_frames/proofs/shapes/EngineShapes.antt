@@ -3,7 +3,7 @@ use Rattle.std.proofs.Common.{◌≡◌, ℕ, ◌+◌, ◌==◌, Bool, true, fal
 use Rattle.std.specs.Prelude.{if◌then◌else◌, option_map, nat_lt, ◌⊎◌}
 use Rattle.hc_types.specs.Places.{kept_of}
 use Rattle.hc_types.specs.declared.config.FlashConfig.{FlashConfig}
-use Rattle.hc_bighash.specs.Page.{PageEntry}
+use Rattle.hc_types.specs.FlashEntry.{FlashEntry}
 use Rattle.hc_engines.specs.Engine as engine
 use Rattle.hc_engines.specs.Engine.{Op, Put, Get, Delete, Flush, Reclaim, IoResult, Page, Written, Failed, Answer, Absent, Found, Over, Nothing, Loss, Outcome, Next, Busy, Io, Done}
 use Rattle.hc_engines.specs.small.BigHash as bighash
@@ -31,7 +31,7 @@ quiet_if false a b p q = q
 answered_quiet : (flash : FlashConfig) (reading : Reading) (s : Block) → Quiet (steps.answered flash reading s)
 answered_quiet flash reading s = quiet_if (is_place (place_at (kept_of flash.bits reading.key) s.index) reading.place) _ _ (by (entry_in (steps.read_bytes flash reading))) (refl, refl)
   where
-    by : (o : Option PageEntry) → Quiet (steps.answer_of (kept_of flash.bits reading.key) reading.key s o)
+    by : (o : Option FlashEntry) → Quiet (steps.answer_of (kept_of flash.bits reading.key) reading.key s o)
     by None = (refl, refl)
     by (Some entry) = (refl, refl)
 

@@ -3,7 +3,7 @@ use Rattle.std.proofs.Common.{◌≡◌, ℕ, Bool, true, false, not, List, [], 
 use Rattle.std.specs.Prelude.{if◌then◌else◌, ◌⊎◌}
 use Rattle.hc_types.specs.Charge.{charge_of}
 use Rattle.hc_types.specs.declared.config.FlashConfig.{FlashConfig}
-use Rattle.hc_bighash.specs.Page.{PageEntry}
+use Rattle.hc_types.specs.FlashEntry.{FlashEntry}
 use Rattle.hc_engines.specs.Engine.{Loss, Outcome}
 use Rattle.hc_memory.specs.Item.{Handle}
 use Rattle.hc_history.specs.Note.{Note, Reply, Stored, Raised, Did, End, Linked, Unqueued, Opened, Flushed, Cleared, Begin, Read, Wrote}
@@ -217,29 +217,29 @@ uproot_shaped key cache = let u = uproot_aside key cache in shaped_by cache (upr
 pub plant_shaped : (handle : Handle) (cache : Cache) → ShapedPart cache (plant handle cache)
 plant_shaped handle cache = let p = plant_aside handle cache in shaped_by cache (plant handle cache) p.aside p.fills
 
-serve_shaped : (call : ℕ) (wish : Wish) (there : Option PageEntry) (cache : Cache) → ShapedPart cache (serve call wish there cache)
+serve_shaped : (call : ℕ) (wish : Wish) (there : Option FlashEntry) (cache : Cache) → ShapedPart cache (serve call wish there cache)
 serve_shaped call ToFind there cache = record { unflushed = refl; fewer = λ k h. h }
 serve_shaped call (ToAdd handle) (Some entry) cache = record { unflushed = refl; fewer = λ k h. h }
 serve_shaped call (ToAdd handle) None cache = both_told cache (plant handle cache) (answer call Stored) (plant_shaped handle cache) (λ c. record { unflushed = refl; fewer = λ k h. h })
 
 -- each call that is served ends with its Did
-serve_ends : (call : ℕ) (wish : Wish) (there : Option PageEntry) (cache : Cache) → rests_from true (serve call wish there cache).part ≡ true
+serve_ends : (call : ℕ) (wish : Wish) (there : Option FlashEntry) (cache : Cache) → rests_from true (serve call wish there cache).part ≡ true
 serve_ends call ToFind there cache = refl
 serve_ends call (ToAdd handle) (Some entry) cache = refl
 serve_ends call (ToAdd handle) None cache = ends-last true (plant handle cache).part (Did call Stored ∷ []) refl
 
-pub serve_all_shaped : (waiters : List Waiter) (there : Option PageEntry) (cache : Cache) → ShapedPart cache (serve_all waiters there cache)
+pub serve_all_shaped : (waiters : List Waiter) (there : Option FlashEntry) (cache : Cache) → ShapedPart cache (serve_all waiters there cache)
 serve_all_shaped [] there cache = none_told cache
 serve_all_shaped (waiter ∷ waiters) there cache =
     both_told cache (serve waiter.call waiter.wish (live cache.now there) cache) (serve_all waiters (there_after waiter.wish (live cache.now there))) (serve_shaped waiter.call waiter.wish (live cache.now there) cache) (serve_all_shaped waiters (there_after waiter.wish (live cache.now there)))
 
-pub serve_all_ends : (waiters : List Waiter) (there : Option PageEntry) (cache : Cache) → rests_from true (serve_all waiters there cache).part ≡ true
+pub serve_all_ends : (waiters : List Waiter) (there : Option FlashEntry) (cache : Cache) → rests_from true (serve_all waiters there cache).part ≡ true
 serve_all_ends [] there cache = refl
 serve_all_ends (waiter ∷ waiters) there cache =
     let first = serve waiter.call waiter.wish (live cache.now there) cache in
     ends-both first.part (serve_all waiters (there_after waiter.wish (live cache.now there)) first.cache).part (serve_ends waiter.call waiter.wish (live cache.now there) cache) (serve_all_ends waiters (there_after waiter.wish (live cache.now there)) first.cache)
 
-pub end_fill_shaped : (key : List ℕ) (there : Option PageEntry) (cache : Cache) → ShapedPart cache (end_fill key there cache)
+pub end_fill_shaped : (key : List ℕ) (there : Option FlashEntry) (cache : Cache) → ShapedPart cache (end_fill key there cache)
 end_fill_shaped key there cache = go cache.nvm refl
   where
     serves : (o : Option Fill) (nvm : Nvm) → cache.nvm ≡ Some nvm → ShapedPart cache (serve_fill o nvm there cache)
@@ -260,7 +260,7 @@ replies_shaped reply f q cache = let b = both_told cache (f cache) (tells (End c
 pub replies_end : (reply : Reply) (f : Cache → Told) (cache : Cache) → rests_from false (replies_then reply f cache).part ≡ true
 replies_end reply f cache = ends-last true (f cache).part (End cache.calls ∷ []) refl
 
-pub bring_shaped : (entry : Option PageEntry) (cache : Cache) → ShapedPart cache (bring entry cache)
+pub bring_shaped : (entry : Option FlashEntry) (cache : Cache) → ShapedPart cache (bring entry cache)
 bring_shaped None cache = none_told cache
 bring_shaped (Some entry) cache = go (can_link cache entry)
   where
@@ -268,7 +268,7 @@ bring_shaped (Some entry) cache = go (can_link cache entry)
     go true = both_told cache (make_charge entry.pool entry.key (length entry.value) cache) (link_clean (handle_for cache entry.pool entry.key entry.value entry.expiry)) (make_charge_shaped entry.pool entry.key (length entry.value) cache) (λ c. record { unflushed = refl; fewer = λ k h. h })
     go false = none_told cache
 
-pub bring_ends : (entry : Option PageEntry) (cache : Cache) → rests_from true (bring entry cache).part ≡ true
+pub bring_ends : (entry : Option FlashEntry) (cache : Cache) → rests_from true (bring entry cache).part ≡ true
 bring_ends None cache = refl
 bring_ends (Some entry) cache = go (can_link cache entry)
   where

@@ -2,16 +2,17 @@
 use Rattle.std.specs.Prelude.{◌≡◌, ℕ, ◌<◌, ◌||◌, true, false, List, ◌∷◌, Some, None, is_some}
 use Rattle.hc_types.specs.Config.{Config}
 use Rattle.hc_types.specs.declared.config.FlashConfig.{FlashConfig}
-use Rattle.hc_bighash.specs.Page.{PageEntry, Fits, page_bytes}
+use Rattle.hc_types.specs.FlashEntry.{FlashEntry}
+use Rattle.hc_bucket.specs.Page.{Fits, page_bytes}
 use Rattle.hc_engines.specs.small.Bloom.{word_of, could_have}
 use Rattle.hc_engines.specs.small.BigHash.{could_hold}
 use Rattle.hc_engines.specs.small.Entries.{page_put, put_losses}
 use Rattle.hc_engines.specs.small.Held as small
 use Rattle.hc_history.specs.Note.{Note, Wrote}
 use Rattle.hc_history.specs.Pages.{bytes_at, bucket_entries}
-use Rattle.hc_bighash.specs.Bloom.{word_has}
+use Rattle.hc_bucket.specs.Bloom.{word_has}
 use Rattle.hc_history.specs.Lawful.{is_due}
-use Rattle.hc_bighash.specs.Putting.{is_pushed_out}
+use Rattle.hc_bucket.specs.Putting.{is_pushed_out}
 use Rattle.hc_machine.specs.Nvm.{Nvm, is_written_now}
 use Rattle.hc_machine.specs.Takes.{loss_notes}
 use Rattle.hc_invariant.specs.Tells.{WaitsTell}
@@ -22,7 +23,7 @@ use Rattle.hc_proof_frames.specs.losses.Losses.{Sides}
 
 -- the word of a page has the bits of a key exactly where the page's keys set them
 abbrev pub WordIs : Type 0
-WordIs = (es : List PageEntry) (key : List ℕ) → word_has es key ≡ could_have (word_of es) key
+WordIs = (es : List FlashEntry) (key : List ℕ) → word_has es key ≡ could_have (word_of es) key
 
 -- a tombstone is due where the engines' word says so
 abbrev pub DueIs : Type 0
@@ -30,11 +31,11 @@ DueIs = (flash : FlashConfig) (older : List Note) (nvm : Nvm) (key : List ℕ) �
 
 -- what the engine pushes out is pushed out
 abbrev pub PushedIs : Type 0
-PushedIs = (size : ℕ) (x : PageEntry) (es : List PageEntry) (key : List ℕ) → small.IsPushedOut size x es key → is_pushed_out size es (Some x) key ≡ true
+PushedIs = (size : ℕ) (x : FlashEntry) (es : List FlashEntry) (key : List ℕ) → small.IsPushedOut size x es key → is_pushed_out size es (Some x) key ≡ true
 
 -- the losses of a put that was written are lawful behind the note of its page
 abbrev pub FullIsLawful : Type 0
-FullIsLawful = (config : Config) (flash : FlashConfig) (older tail : List Note) (page : ℕ) (x : PageEntry) (es : List PageEntry) → config.flash ≡ Some flash → page < flash.buckets
+FullIsLawful = (config : Config) (flash : FlashConfig) (older tail : List Note) (page : ℕ) (x : FlashEntry) (es : List FlashEntry) → config.flash ≡ Some flash → page < flash.buckets
     → bucket_entries flash older page ≡ es → Fits flash.page (page_put flash.page x es)
     → LawfulIn config (Wrote page (page_bytes flash.page (page_put flash.page x es)) true ∷ older) (loss_notes (put_losses flash.page x es)) tail
 

@@ -6,7 +6,7 @@ use Rattle.hc_types.specs.Loss as loss
 use Rattle.hc_types.specs.Loss.{Scope}
 use Rattle.hc_types.specs.Places.{is_small_by}
 use Rattle.hc_types.specs.declared.config.FlashConfig.{FlashConfig}
-use Rattle.hc_bighash.specs.Page.{PageEntry}
+use Rattle.hc_types.specs.FlashEntry.{FlashEntry}
 use Rattle.hc_engines.specs.Engine.{Pages, Loss, takes_out, left_of}
 use Rattle.hc_memory.specs.Item.{Item, Open}
 use Rattle.hc_memory.specs.Pool.{Pool, item_at}
@@ -118,7 +118,7 @@ LossesKeepMemory = (losses : List Loss) (memory : Memory) → SameButMarks memor
 -- What losses leave of what is being written, buried and held at a key, where the map had m. An engine lets go of what
 -- they cover of what it holds. What is being written goes where they cover the key, and only there, unless the key is
 -- buried. A tombstone may end where nothing stale is left.
-pub record Left (flash : FlashConfig) (losses : List Loss) (key : List ℕ) (m : Option Entry) (w s l : Option PageEntry) (b : Bool) (w2 s2 l2 : Option PageEntry) (b2 : Bool) : Type 0 where
+pub record Left (flash : FlashConfig) (losses : List Loss) (key : List ℕ) (m : Option Entry) (w s l : Option FlashEntry) (b : Bool) (w2 s2 l2 : Option FlashEntry) (b2 : Bool) : Type 0 where
   pub ends : Bool
   pub raised : Bool
   pub written : w2 ≡ (if ends then None else w)
@@ -129,7 +129,7 @@ pub record Left (flash : FlashConfig) (losses : List Loss) (key : List ℕ) (m :
   pub bare : raised ≡ true → b ≡ true → (is_some w2 ≡ false) × (is_some s2 ≡ false)
 
 -- what an engine holds under a key has it
-abbrev pub IsOwn : List ℕ → Option PageEntry → Type 0
+abbrev pub IsOwn : List ℕ → Option FlashEntry → Type 0
 IsOwn key None = Unit {0}
 IsOwn key (Some e) = e.key ≡ key
 
@@ -141,7 +141,7 @@ IsOwnItem key (Some i) = i.key ≡ key
 -- THE law: where each key stands after losses, all told at once. The state before is what is said at the key before them
 -- (q, w, b, s, l), the history `older` ends right before them.
 abbrev pub LossesPlace : Type 0
-LossesPlace = (flash : FlashConfig) (losses : List Loss) (older : List Note) (memory : Memory) (key : List ℕ) (q w s l : Option PageEntry) (b : Bool) (w2 s2 l2 : Option PageEntry) (b2 : Bool)
+LossesPlace = (flash : FlashConfig) (losses : List Loss) (older : List Note) (memory : Memory) (key : List ℕ) (q w s l : Option FlashEntry) (b : Bool) (w2 s2 l2 : Option FlashEntry) (b2 : Bool)
     → memory.flash ≡ Some flash → AllTakeOut losses → is_held older key ≡ (is_some (linked_at key memory.pools) || is_some q) → IsOwn key s → IsOwn key l
     → Left flash losses key (entry_at (Some flash) older key) w s l b w2 s2 l2 b2
     → Placed (linked_at key memory.pools) q w b s l (entry_at (Some flash) older key)
@@ -149,16 +149,16 @@ LossesPlace = (flash : FlashConfig) (losses : List Loss) (older : List Note) (me
 
 -- ---- and for each kind of loss
 
-abbrev pub IsSmall : FlashConfig → Option PageEntry → Type 0
+abbrev pub IsSmall : FlashConfig → Option FlashEntry → Type 0
 IsSmall flash None = Unit {0}
 IsSmall flash (Some e) = is_small_by flash e.key (length e.value) ≡ true
 
-abbrev pub IsLarge : FlashConfig → Option PageEntry → Type 0
+abbrev pub IsLarge : FlashConfig → Option FlashEntry → Type 0
 IsLarge flash None = Unit {0}
 IsLarge flash (Some e) = is_small_by flash e.key (length e.value) ≡ false
 
 -- what is written or held at a key: each has the key, and is of the engine that has it
-pub record Sides (flash : FlashConfig) (key : List ℕ) (w s l : Option PageEntry) : Type 0 where
+pub record Sides (flash : FlashConfig) (key : List ℕ) (w s l : Option FlashEntry) : Type 0 where
   pub written_key : IsOwn key w
   pub small_key : IsOwn key s
   pub large_key : IsOwn key l
@@ -168,7 +168,7 @@ pub record Sides (flash : FlashConfig) (key : List ℕ) (w s l : Option PageEntr
 
 -- losses of kept hashes (reclaimed, failed, collided): only the large engine lets go
 abbrev pub HashLossesPlace : Type 0
-HashLossesPlace = (flash : FlashConfig) (losses : List Loss) (older : List Note) (memory : Memory) (key : List ℕ) (q w s l l2 : Option PageEntry) (b : Bool)
+HashLossesPlace = (flash : FlashConfig) (losses : List Loss) (older : List Note) (memory : Memory) (key : List ℕ) (q w s l l2 : Option FlashEntry) (b : Bool)
     → memory.flash ≡ Some flash → AllTakeOut losses → AllHash losses → is_held older key ≡ (is_some (linked_at key memory.pools) || is_some q)
     → Sides flash key w s l → l2 ≡ left_of flash losses l
     → Placed (linked_at key memory.pools) q w b s l (entry_at (Some flash) older key)
@@ -195,7 +195,7 @@ abbrev pub names : List ℕ → List Loss → Bool
 names key losses = list_any (λ (one : Loss). is_named key one.scope) losses
 
 abbrev pub FullLossesPlace : Type 0
-FullLossesPlace = (flash : FlashConfig) (losses : List Loss) (older : List Note) (memory : Memory) (key : List ℕ) (q w s l s2 : Option PageEntry) (b : Bool)
+FullLossesPlace = (flash : FlashConfig) (losses : List Loss) (older : List Note) (memory : Memory) (key : List ℕ) (q w s l s2 : Option FlashEntry) (b : Bool)
     → memory.flash ≡ Some flash → AllFull losses → (names key losses ≡ true → is_some s ≡ true) → is_held older key ≡ (is_some (linked_at key memory.pools) || is_some q)
     → Sides flash key w s l → s2 ≡ left_of flash losses s
     → Placed (linked_at key memory.pools) q w b s l (entry_at (Some flash) older key)

@@ -8,7 +8,7 @@ use Rattle.hc_types.specs.Loss as loss
 use Rattle.hc_types.specs.Loss.{NoCleanRegion}
 use Rattle.hc_types.specs.Places.{kept_of, is_small_by}
 use Rattle.hc_types.specs.declared.config.FlashConfig.{FlashConfig}
-use Rattle.hc_bighash.specs.Page.{PageEntry}
+use Rattle.hc_types.specs.FlashEntry.{FlashEntry}
 use Rattle.hc_engines.specs.large.Entries.{entry_bytes}
 use Rattle.hc_engines.specs.large.Region.{Sealed, is_clean, Region, opened_region, filled_to, region_at, lowest_clean}
 use Rattle.hc_engines.specs.large.Index.{Place, place_at, leading}
@@ -33,10 +33,10 @@ use Rattle.hc_proof_regions.proofs.books.RegionsInUse.{used_count, used-set, use
 
 -- ---- the put that the log tells
 
-abbrev pub the_put : PageEntry → Put
+abbrev pub the_put : FlashEntry → Put
 the_put e = record { key = e.key; bytes = length (entry_bytes e) }
 
-pub put-is : (flash : FlashConfig) (older : List Note) (e : PageEntry) → begins older e.key ≡ false → entry_at (Some flash) older e.key ≡ Some (map_of e) → is_small_by flash e.key (length e.value) ≡ false → put_from flash older e.key ≡ Some (the_put e)
+pub put-is : (flash : FlashConfig) (older : List Note) (e : FlashEntry) → begins older e.key ≡ false → entry_at (Some flash) older e.key ≡ Some (map_of e) → is_small_by flash e.key (length e.value) ≡ false → put_from flash older e.key ≡ Some (the_put e)
 put-is flash older e b m small = rw (b, m, small) (ap (λ (n : ℕ). Some (record { key = e.key; bytes = n })) (sym (entry_long e)))
 
 -- ---- a region's status changes, or none
@@ -53,7 +53,7 @@ clean-still regions r q x lt e = rw (region_at-set regions r q x lt) (go (q == r
 
 -- ---- the entry goes behind what the region has
 
-pub record Appending (flash : FlashConfig) (r : ℕ) (entry : PageEntry) (older : List Note) (s : Block) : Type 0 where
+pub record Appending (flash : FlashConfig) (r : ℕ) (entry : FlashEntry) (older : List Note) (s : Block) : Type 0 where
   pub there : r < length s.regions
   pub number : length s.regions ≡ flash.regions
   pub used : (q : ℕ) → is_one_of q (in_use older) ≡ not (is_clean (region_at q s.regions).status)
@@ -64,7 +64,7 @@ pub record Appending (flash : FlashConfig) (r : ℕ) (entry : PageEntry) (older 
   pub is_current : s.current ≡ Some r
   pub filled : filling flash older ≡ filled_to flash (region_at r s.regions) + length (entry_bytes entry)
 
-pub appended_tells : (flash : FlashConfig) (r : ℕ) (entry : PageEntry) (older : List Note) (s : Block) → Appending flash r entry older s → RegionsTell flash older (append flash r entry s)
+pub appended_tells : (flash : FlashConfig) (r : ℕ) (entry : FlashEntry) (older : List Note) (s : Block) → Appending flash r entry older s → RegionsTell flash older (append flash r entry s)
 appended_tells flash r entry older s a = record {
   number = length-set s.regions r new ∙ a.number;
   used = λ q. a.used q ∙ ap not (sym (clean-still s.regions r q new a.there refl));
@@ -113,7 +113,7 @@ pub record PutOut (config : Config) (flash : FlashConfig) (older part : List Not
   pub once : flushed (past older part) ≡ flushed older
 
 -- what is asked
-pub record PutAsked (config : Config) (flash : FlashConfig) (older : List Note) (e : PageEntry) : Type 0 where
+pub record PutAsked (config : Config) (flash : FlashConfig) (older : List Note) (e : FlashEntry) : Type 0 where
   pub flash_is : config.flash ≡ Some flash
   pub waits : is_among e.key (waiting older) ≡ true
   pub put : put_from flash older e.key ≡ Some (the_put e)
@@ -137,7 +137,7 @@ hash_filed : (flash : FlashConfig) (older : List Note) (s : Block) (key : List �
 hash_filed flash older s key t place e = as-filed (kept_of flash.bits key) place (filed flash older) s.index t.filings e
 
 -- the entry fits the region in use
-pub put_fits : (config : Config) (flash : FlashConfig) (older : List Note) (e : PageEntry) (s : Block) (r : ℕ) → PutAsked config flash older e → RegionsTell flash older s → Sound flash s → s.current ≡ Some r → is_passed flash older (length (entry_bytes e)) ≡ false
+pub put_fits : (config : Config) (flash : FlashConfig) (older : List Note) (e : FlashEntry) (s : Block) (r : ℕ) → PutAsked config flash older e → RegionsTell flash older s → Sound flash s → s.current ≡ Some r → is_passed flash older (length (entry_bytes e)) ≡ false
     → PutOut config flash older (Unqueued e.key ∷ collision flash e.key (place_at (kept_of flash.bits e.key) s.index)) (append flash r e s)
 put_fits config flash older e s r asked t sound cur room =
     let both = collision_keeps config flash e.key (place_at (kept_of flash.bits e.key) s.index) (Unqueued e.key ∷ older) (the_put e) (append flash r e s) asked.flash_is asked.put refl (hash_filed flash older s e.key t)
@@ -170,7 +170,7 @@ put_fits config flash older e s r asked t sound cur room =
     }
 
 -- a region is opened for it
-pub put_opens : (config : Config) (flash : FlashConfig) (older : List Note) (e : PageEntry) (s : Block) (r : ℕ) → PutAsked config flash older e → RegionsTell flash older s → Sound flash s
+pub put_opens : (config : Config) (flash : FlashConfig) (older : List Note) (e : FlashEntry) (s : Block) (r : ℕ) → PutAsked config flash older e → RegionsTell flash older s → Sound flash s
     → is_passed flash older (length (entry_bytes e)) ≡ true → IsLowest s.regions r
     → PutOut config flash older (Unqueued e.key ∷ Opened r ∷ collision flash e.key (place_at (kept_of flash.bits e.key) s.index)) (append flash r e (open_next r s))
 put_opens config flash older e s r asked t sound passed low =
@@ -227,7 +227,7 @@ put_opens config flash older e s r asked t sound passed low =
     }
 
 -- no region is clean for it
-pub put_lost : (config : Config) (flash : FlashConfig) (older : List Note) (e : PageEntry) (s : Block) → PutAsked config flash older e → RegionsTell flash older s
+pub put_lost : (config : Config) (flash : FlashConfig) (older : List Note) (e : FlashEntry) (s : Block) → PutAsked config flash older e → RegionsTell flash older s
     → is_passed flash older (length (entry_bytes e)) ≡ true → lowest_clean 0 s.regions ≡ None
     → PutOut config flash older (Unqueued e.key ∷ Lose (loss.Key e.key) NoCleanRegion ∷ []) s
 put_lost config flash older e s asked t passed none = record {

@@ -5,7 +5,7 @@ use Rattle.hc_types.specs.Config.{Config}
 use Rattle.hc_types.specs.Loss as loss
 use Rattle.hc_types.specs.Places.{kept_of}
 use Rattle.hc_types.specs.declared.config.FlashConfig.{FlashConfig}
-use Rattle.hc_bighash.specs.Page.{PageEntry}
+use Rattle.hc_types.specs.FlashEntry.{FlashEntry}
 use Rattle.hc_engines.specs.small.Held as small
 use Rattle.hc_engines.proofs.small.Apart.{kept_by_others}
 use Rattle.hc_engines.specs.large.Block.{Block, work_of}
@@ -52,7 +52,7 @@ large_fits flash older memory nvm f = record { sound = f.engines.large_sound; fi
 pub turned : (a b : ℕ) → (a == b) ≡ (b == a)
 turned a b = grind arith
 
-joined : (t u more : Bool) (o : Option PageEntry) → t ≡ u → (if more then None else (if t then None else o)) ≡ (if (if u then true else more) then None else o)
+joined : (t u more : Bool) (o : Option FlashEntry) → t ≡ u → (if more then None else (if t then None else o)) ≡ (if (if u then true else more) then None else o)
 joined true true true o e = refl
 joined true true false o e = refl
 joined false false true o e = refl
@@ -160,7 +160,7 @@ module _ (config : Config) (older part : List Note) (cache : Cache) (nvm : Nvm) 
   placed_after : (key : List ℕ) → Placed (linked_at key (unmarked_by part cache.memory).pools) (put_at key nvm.queue) (written_by key nvm.pair.small.jobs) (is_buried nvm key) (small.held nvm.pair.small (bytes_at (past older part)) key)
       (large.held nvm.pair.small.flash (bytes_at (past older part)) new key) (entry_at (Some nvm.pair.small.flash) (past older part) key)
   placed_after key =
-      subst (λ (l : Option PageEntry). Placed (linked_at key (unmarked_by part cache.memory).pools) (put_at key nvm.queue) (written_by key nvm.pair.small.jobs) (is_buried nvm key) (small.held nvm.pair.small (bytes_at (past older part)) key) l (entry_at (Some nvm.pair.small.flash) (past older part) key))
+      subst (λ (l : Option FlashEntry). Placed (linked_at key (unmarked_by part cache.memory).pools) (put_at key nvm.queue) (written_by key nvm.pair.small.jobs) (is_buried nvm key) (small.held nvm.pair.small (bytes_at (past older part)) key) l (entry_at (Some nvm.pair.small.flash) (past older part) key))
       (now_held key) (after.placed key)
 
   -- all but the calls of what left the fills

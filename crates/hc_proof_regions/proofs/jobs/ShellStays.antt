@@ -6,7 +6,7 @@ use Rattle.hc_types.specs.Loss as loss
 use Rattle.hc_types.specs.Loss.{Scope, Cause}
 use Rattle.hc_types.specs.Places.{kept_of, is_small_by}
 use Rattle.hc_types.specs.declared.config.FlashConfig.{FlashConfig}
-use Rattle.hc_bighash.specs.Page.{PageEntry}
+use Rattle.hc_types.specs.FlashEntry.{FlashEntry}
 use Rattle.hc_engines.specs.small.Held as small
 use Rattle.hc_memory.specs.Item.{Item}
 use Rattle.hc_memory.specs.Memory.{Memory, linked_at, all_unmarked, after_unmark}
@@ -111,7 +111,7 @@ module _ (config : Config) (flash : FlashConfig) (older : List Note) (memory : M
         flash_is = g.flash_is;
         sound = g.sound;
         charges = charges_same older (Wrote page bytes done ∷ older) (items_of memory.pools) memory.charges memory.made (wrote_books older page bytes done) g.charges;
-        placed = λ key. subst (λ (s : Option PageEntry). Placed (linked_at key memory.pools) (put_at key nvm.queue) (written_by key nvm.pair.small.jobs) (is_buried nvm key) s (holds key) (entry_at (Some flash) older key)) (sym (apart.held key)) (g.placed key);
+        placed = λ key. subst (λ (s : Option FlashEntry). Placed (linked_at key memory.pools) (put_at key nvm.queue) (written_by key nvm.pair.small.jobs) (is_buried nvm key) s (holds key) (entry_at (Some flash) older key)) (sym (apart.held key)) (g.placed key);
         sized = g.sized;
         calls = calls_same older (Wrote page bytes done ∷ older) asked all nvm.fills (wrote_books older page bytes done) g.calls;
         clock = g.clock;
@@ -140,7 +140,7 @@ module _ (config : Config) (flash : FlashConfig) (older : List Note) (memory : M
         (λ x e. map_linked x _ _ _ _ _ _ (rw e at (g.placed key)))
         (λ x e. linked_key key memory.pools x e)
 
-    lost_large : (here : Bool) (o : Option PageEntry) → (if here then None else o) ≡ (if here then None else o)
+    lost_large : (here : Bool) (o : Option FlashEntry) → (if here then None else o) ≡ (if here then None else o)
     lost_large true o = refl
     lost_large false o = refl
 
@@ -157,35 +157,35 @@ module _ (config : Config) (flash : FlashConfig) (older : List Note) (memory : M
         i : Option Item
         i = linked_at key memory.pools
 
-        q : Option PageEntry
+        q : Option FlashEntry
         q = put_at key nvm.queue
 
-        w : Option PageEntry
+        w : Option FlashEntry
         w = written_by key nvm.pair.small.jobs
 
         b : Bool
         b = is_buried nvm key
 
-        s : Option PageEntry
+        s : Option FlashEntry
         s = small.held nvm.pair.small (bytes_at older) key
 
-        l : Option PageEntry
+        l : Option FlashEntry
         l = (holds key)
 
         m : Option Entry
         m = entry_at (Some flash) older key
 
-        of_small : is_buried nvm key ≡ false → (o : Option PageEntry) → small.held nvm.pair.small (bytes_at older) key ≡ o → is_some o ≡ true → covers (Some flash) (loss.Hash hash None) key (entry_at (Some flash) older key) ≡ false
+        of_small : is_buried nvm key ≡ false → (o : Option FlashEntry) → small.held nvm.pair.small (bytes_at older) key ≡ o → is_some o ≡ true → covers (Some flash) (loss.Hash hash None) key (entry_at (Some flash) older key) ≡ false
         of_small nb None e some = absurd (cc)
         of_small nb (Some x) e some =
             uncovered flash hash None key x (entry_at (Some flash) older key) (map_of_small _ _ _ _ x _ (rw (nb, e) at (g.placed key))) (rw g.same at (held_small nvm.pair.small (bytes_at older) key x g.small_fits e))
 
-        of_written : is_buried nvm key ≡ false → (o : Option PageEntry) → written_by key nvm.pair.small.jobs ≡ o → is_some o ≡ true → covers (Some flash) (loss.Hash hash None) key (entry_at (Some flash) older key) ≡ false
+        of_written : is_buried nvm key ≡ false → (o : Option FlashEntry) → written_by key nvm.pair.small.jobs ≡ o → is_some o ≡ true → covers (Some flash) (loss.Hash hash None) key (entry_at (Some flash) older key) ≡ false
         of_written nb None e some = absurd (cc)
         of_written nb (Some x) e some =
             uncovered flash hash None key x (entry_at (Some flash) older key) (map_of_written _ _ _ _ x _ (rw (nb, e) at (g.placed key))) (rw g.same at (written_small nvm.pair.small (bytes_at older) key x g.small_fits e))
 
-        of_large : (kept_of flash.bits key == hash) ≡ true → (o : Option PageEntry) → holds key ≡ o → is_some o ≡ true → covers (Some flash) (loss.Hash hash None) key (entry_at (Some flash) older key) ≡ true
+        of_large : (kept_of flash.bits key == hash) ≡ true → (o : Option FlashEntry) → holds key ≡ o → is_some o ≡ true → covers (Some flash) (loss.Hash hash None) key (entry_at (Some flash) older key) ≡ true
         of_large h None e some = absurd (cc)
         of_large h (Some x) e some =
             covered flash hash key x (entry_at (Some flash) older key) (map_of_large _ _ _ _ x _ _ (rw e at (g.placed key))) (g.large_ones key x e) h
@@ -194,7 +194,7 @@ module _ (config : Config) (flash : FlashConfig) (older : List Note) (memory : M
     sized_left true key m h = tt
     sized_left false key m h = h
 
-    large_left : (t : Bool) (key : List ℕ) (o : Option PageEntry) (e : PageEntry) → ((e : PageEntry) → o ≡ Some e → is_small_by flash key (length e.value) ≡ false) → (if t then None else o) ≡ Some e → is_small_by flash key (length e.value) ≡ false
+    large_left : (t : Bool) (key : List ℕ) (o : Option FlashEntry) (e : FlashEntry) → ((e : FlashEntry) → o ≡ Some e → is_small_by flash key (length e.value) ≡ false) → (if t then None else o) ≡ Some e → is_small_by flash key (length e.value) ≡ false
     large_left true key o e h f = absurd (cc)
     large_left false key o e h f = h e f
 

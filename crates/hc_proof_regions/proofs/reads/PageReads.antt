@@ -8,7 +8,7 @@ use Rattle.hc_types.specs.Loss.{Hash, Fault}
 use Rattle.hc_types.specs.Tally.{count}
 use Rattle.hc_types.specs.Places.{kept_of}
 use Rattle.hc_types.specs.declared.config.FlashConfig.{FlashConfig}
-use Rattle.hc_bighash.specs.Page.{PageEntry}
+use Rattle.hc_types.specs.FlashEntry.{FlashEntry}
 use Rattle.hc_engines.specs.large.Region.{is_clean, is_draining, clean_region, Region, region_at}
 use Rattle.hc_engines.specs.large.Index.{place_at, is_place, region_in}
 use Rattle.hc_engines.specs.large.Block.{Reading, Getting, Block, Moved, finished, work_of, without_job, end_job}
@@ -125,7 +125,7 @@ over_does config flash older page result number reading s t a hashes here b = re
         ∙ b.held key ∙ ap (λ (c : Bool). if c then None else held flash (bytes_at older) s key) (sym (loses-all (kept_of flash.bits key) Fault hashes cleared));
     index = λ hash. ap (place_at hash) g.index ∙ b.index hash ∙ ap (λ (c : Bool). if c then None else place_at hash s.index) (sym (loses-all hash Fault hashes cleared));
     pages = λ page lt. ap (λ (pages : ℕ → Option (List ℕ)). pages page) pages;
-    entries = λ bucket lt. ap (λ (entries : ℕ → List PageEntry). entries bucket) (ap (bucket_entries flash) joined ∙ g.entries ∙ but_so.entries);
+    entries = λ bucket lt. ap (λ (entries : ℕ → List FlashEntry). entries bucket) (ap (bucket_entries flash) joined ∙ g.entries ∙ but_so.entries);
     once = λ once. subst OneFlush (sym joined) (g.once (subst (λ (xs : List ℕ). (q : ℕ) → count (λ (x : ℕ). x == q) xs ≤ 1) (sym but_so.flushed) once));
   });
   others = record {

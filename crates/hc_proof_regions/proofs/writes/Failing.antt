@@ -9,7 +9,7 @@ use Rattle.hc_types.specs.Config.{Config}
 use Rattle.hc_types.specs.Loss.{Hash, Fault}
 use Rattle.hc_types.specs.Tally.{count}
 use Rattle.hc_types.specs.declared.config.FlashConfig.{FlashConfig}
-use Rattle.hc_bighash.specs.Page.{PageEntry}
+use Rattle.hc_types.specs.FlashEntry.{FlashEntry}
 use Rattle.hc_engines.specs.large.Region.{clean_region, next_page, region_at, page_no}
 use Rattle.hc_types.specs.Places.{kept_of}
 use Rattle.hc_engines.specs.large.Block.{Writing, Block, work_of, without_job, end_job}
@@ -133,10 +133,10 @@ module _ (config : Config) (flash : FlashConfig) (older : List Note) (number r :
     fit = record { sound = d.sound; fits = rest.fits; reads = rest.reads; regions = d.regions };
     held = λ key.
         held_over flash (bytes_at (Wrote (page_of flash r s) bytes false ∷ older)) (bytes_at (past older (Wrote (page_of flash r s) bytes false ∷ ended_part Fault r (end_job number s)))) (end_region Fault r (end_job number s)).state key d.pages
-        ∙ d.held key ∙ ap (λ (h : Option PageEntry). if loses (kept_of flash.bits key) (ended_part Fault r (end_job number s)) then None else h) (failed_held key);
+        ∙ d.held key ∙ ap (λ (h : Option FlashEntry). if loses (kept_of flash.bits key) (ended_part Fault r (end_job number s)) then None else h) (failed_held key);
     index = d.index;
     pages = λ page lt. ap (λ (pages : ℕ → Option (List ℕ)). pages page) d.pages ∙ other_bucket flash older r (region_at r s.regions).written page bytes false lt;
-    entries = λ bucket lt. ap (λ (entries : ℕ → List PageEntry). entries bucket) d.entries ∙ other_entries flash older r (region_at r s.regions).written bucket bytes false lt;
+    entries = λ bucket lt. ap (λ (entries : ℕ → List FlashEntry). entries bucket) d.entries ∙ other_entries flash older r (region_at r s.regions).written bucket bytes false lt;
     once = d.once;
   }
     where

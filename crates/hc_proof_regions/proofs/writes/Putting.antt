@@ -5,7 +5,7 @@ use Rattle.std.specs.Prelude.{if◌then◌else◌, nat_lt, nat_le, is_some}
 use Rattle.hc_types.specs.Config.{Config}
 use Rattle.hc_types.specs.Places.{kept_of}
 use Rattle.hc_types.specs.declared.config.FlashConfig.{FlashConfig}
-use Rattle.hc_bighash.specs.Page.{PageEntry}
+use Rattle.hc_types.specs.FlashEntry.{FlashEntry}
 use Rattle.hc_engines.specs.large.Entries.{IsLarge, entry_bytes}
 use Rattle.hc_engines.specs.large.Region.{Open, Sealed, is_clean, Region, clean_region, opened_region, region_len, filled_to, region_at, lowest_clean}
 use Rattle.hc_engines.specs.large.Index.{Place, place_at}
@@ -92,7 +92,7 @@ is_opened : (s : Block) (r : ℕ) → Opens s r → region_at r (open_next r s).
 is_opened s r o = rw (region_at-set (seal s.current s.regions) r r opened_region o.there, same_num r) refl
 
 -- what a put leaves of the engine by itself, and of what it holds
-pub record PutLeaves (flash : FlashConfig) (pages : ℕ → Option (List ℕ)) (entry : PageEntry) (s new : Block) (room : Bool) : Type 0 where
+pub record PutLeaves (flash : FlashConfig) (pages : ℕ → Option (List ℕ)) (entry : FlashEntry) (s new : Block) (room : Bool) : Type 0 where
   pub sound : Sound flash new
   pub rest : Rest flash pages new
   pub holds : (key : List ℕ) → held flash pages new key ≡ (if room then after_put flash entry key (held flash pages s key) else held flash pages s key)
@@ -100,7 +100,7 @@ pub record PutLeaves (flash : FlashConfig) (pages : ℕ → Option (List ℕ)) (
   pub jobs : new.jobs ≡ s.jobs
   pub written : (q : ℕ) → (region_at q new.regions).written ≡ (region_at q s.regions).written
 
-index_else : (flash : FlashConfig) (r : ℕ) (entry : PageEntry) (s : Block) (hash : ℕ) → (hash == kept_of flash.bits entry.key) ≡ false → place_at hash (append flash r entry s).index ≡ place_at hash s.index
+index_else : (flash : FlashConfig) (r : ℕ) (entry : FlashEntry) (s : Block) (hash : ℕ) → (hash == kept_of flash.bits entry.key) ≡ false → place_at hash (append flash r entry s).index ≡ place_at hash s.index
 index_else flash r entry s hash o = place_at-leading (kept_of flash.bits entry.key) hash (new_place flash r entry s) s.index ∙ (rw o refl)
 
 written_set : (regions : List Region) (r q : ℕ) (x : Region) → r < length regions → x.written ≡ (region_at r regions).written → (region_at q (set regions r x)).written ≡ (region_at q regions).written
@@ -110,7 +110,7 @@ written_set regions r q x lt e = rw (region_at-set regions r q x lt) (go (q == r
     go true t = let same : q ≡ r = eqb-true q r t in rw same e
     go false t = refl
 
-fits_leaves : (flash : FlashConfig) (pages : ℕ → Option (List ℕ)) (entry : PageEntry) (s : Block) (r : ℕ) → IsLarge entry → Sound flash s → Rest flash pages s → s.current ≡ Some r → PutLeaves flash pages entry s (append flash r entry s) true
+fits_leaves : (flash : FlashConfig) (pages : ℕ → Option (List ℕ)) (entry : FlashEntry) (s : Block) (r : ℕ) → IsLarge entry → Sound flash s → Rest flash pages s → s.current ≡ Some r → PutLeaves flash pages entry s (append flash r entry s) true
 fits_leaves flash pages entry s r large sound rest cur = record {
   sound = append_sound flash r entry s (sound.current r cur) sound;
   rest = append_rest flash pages r entry s (sound.current r cur) large sound.works rest;
@@ -120,7 +120,7 @@ fits_leaves flash pages entry s r large sound rest cur = record {
   written = λ q. written_set s.regions r q (with_entry flash entry (region_at r s.regions)) (in_range s.regions r (rw (sound.current r cur) refl)) refl;
 }
 
-opens_leaves : (flash : FlashConfig) (pages : ℕ → Option (List ℕ)) (entry : PageEntry) (s : Block) (r : ℕ) → 0 < flash.region_pages → IsLarge entry → Sound flash s → Rest flash pages s → Opens s r → PutLeaves flash pages entry s (append flash r entry (open_next r s)) true
+opens_leaves : (flash : FlashConfig) (pages : ℕ → Option (List ℕ)) (entry : FlashEntry) (s : Block) (r : ℕ) → 0 < flash.region_pages → IsLarge entry → Sound flash s → Rest flash pages s → Opens s r → PutLeaves flash pages entry s (append flash r entry (open_next r s)) true
 opens_leaves flash pages entry s r some large sound rest o = record {
   sound = append_sound flash r entry (open_next r s) is_open opened;
   rest = append_rest flash pages r entry (open_next r s) is_open large opened.works opened_one;
@@ -157,7 +157,7 @@ opens_leaves flash pages entry s r some large sound rest o = record {
 
 -- ---- what is told
 
-abbrev moved_part : PageEntry → Moved → List Note
+abbrev moved_part : FlashEntry → Moved → List Note
 moved_part e moved = Unqueued e.key ∷ (region_note Opened moved.outcome.opened ++ loss_notes moved.outcome.losses)
 
 -- the losses of an index entry
@@ -170,13 +170,13 @@ if_indexed flash key None = refl
 if_indexed flash key (Some place) = refl
 
 -- all that is said of a put that moves so
-record PutDoes (config : Config) (flash : FlashConfig) (older : List Note) (e : PageEntry) (s : Block) (moved : Moved) : Type 0 where
+record PutDoes (config : Config) (flash : FlashConfig) (older : List Note) (e : FlashEntry) (s : Block) (moved : Moved) : Type 0 where
   leaves : PutLeaves flash (bytes_at older) e s moved.state (has_room flash e s)
   out : PutOut config flash older (moved_part e moved) moved.state
   order : moved.order ≡ None
   way : moved.state ≡ (put flash e s).state → PutWay flash e s (moved_part e moved)
 
-module _ (config : Config) (flash : FlashConfig) (older : List Note) (e : PageEntry) (s : Block) (asked : PutAsked config flash older e) (some : 0 < flash.region_pages) (large : IsLarge e) (t : RegionsTell flash older s) (sound : Sound flash s) (rest : Rest flash (bytes_at older) s) where
+module _ (config : Config) (flash : FlashConfig) (older : List Note) (e : FlashEntry) (s : Block) (asked : PutAsked config flash older e) (some : 0 < flash.region_pages) (large : IsLarge e) (t : RegionsTell flash older s) (sound : Sound flash s) (rest : Rest flash (bytes_at older) s) where
   place : Option Place
   place = place_at (kept_of flash.bits e.key) s.index
 

@@ -5,7 +5,7 @@ use Rattle.std.specs.Prelude.{if◌then◌else◌, nat_lt}
 use Rattle.hc_types.specs.Config.{Config}
 use Rattle.hc_types.specs.Loss.{Reclaimed}
 use Rattle.hc_types.specs.declared.config.FlashConfig.{FlashConfig}
-use Rattle.hc_bighash.specs.Page.{PageEntry}
+use Rattle.hc_types.specs.FlashEntry.{FlashEntry}
 use Rattle.hc_engines.proofs.large.Stays.{Rest}
 use Rattle.hc_engines.specs.large.Region.{Status, Clean, Open, Sealed, Flushing, OnFlash, Draining, is_draining, Region, region_at}
 use Rattle.hc_engines.specs.large.Index.{Place, place_at, region_in}
@@ -97,7 +97,7 @@ reclaims_one config flash older s r here once f few old = record {
     held = λ key. held_over flash (bytes_at older) (bytes_at (past older (ended_part (Reclaimed r) r s))) (reclaim_of s (Some r)).state key d.pages ∙ d.held key;
     index = d.index;
     pages = λ page lt. ap (λ (pages : ℕ → Option (List ℕ)). pages page) d.pages;
-    entries = λ bucket lt. ap (λ (entries : ℕ → List PageEntry). entries bucket) d.entries;
+    entries = λ bucket lt. ap (λ (entries : ℕ → List FlashEntry). entries bucket) d.entries;
     once = d.once;
   };
 }

@@ -7,7 +7,7 @@ use Rattle.hc_types.specs.Loss as loss
 use Rattle.hc_types.specs.Loss.{NoCleanRegion, Collision}
 use Rattle.hc_types.specs.Places.{kept_of, is_small_by}
 use Rattle.hc_types.specs.declared.config.FlashConfig.{FlashConfig}
-use Rattle.hc_bighash.specs.Page.{PageEntry}
+use Rattle.hc_types.specs.FlashEntry.{FlashEntry}
 use Rattle.hc_engines.specs.Engine.{Page, Written, Failed, Read, Write, Absent, Loss, Outcome, nothing}
 use Rattle.hc_engines.specs.large.Entries.{IsLarge}
 use Rattle.hc_engines.specs.large.Region.{region_at, page_no}
@@ -93,17 +93,17 @@ TakeTells = (config : Config) (flash : FlashConfig) (older rest : List Note) (ke
 -- ---- a large put
 
 -- what it tells: its key leaves the queue, a region may be opened, and what it loses
-abbrev pub put_part : FlashConfig → PageEntry → Block → List Note
+abbrev pub put_part : FlashConfig → FlashEntry → Block → List Note
 put_part flash e s =
     Unqueued e.key ∷ (region_note Opened (steps.put flash e s).outcome.opened ++ loss_notes (steps.put flash e s).outcome.losses)
 
 -- the three ways: the part is one of these
-pub data PutWay (flash : FlashConfig) (e : PageEntry) (s : Block) (part : List Note) : Type 0 where
+pub data PutWay (flash : FlashConfig) (e : FlashEntry) (s : Block) (part : List Note) : Type 0 where
   Fitting : has_room flash e s ≡ true → part ≡ Unqueued e.key ∷ (if is_some (place_at (kept_of flash.bits e.key) s.index) then taken_note flash e.key ∷ [] else []) → PutWay flash e s part
   Opening : (r : ℕ) → has_room flash e s ≡ true → part ≡ Unqueued e.key ∷ Opened r ∷ (if is_some (place_at (kept_of flash.bits e.key) s.index) then taken_note flash e.key ∷ [] else []) → PutWay flash e s part
   Unplaced : has_room flash e s ≡ false → part ≡ Unqueued e.key ∷ Lose (loss.Key e.key) NoCleanRegion ∷ [] → (steps.put flash e s).state ≡ s → PutWay flash e s part
 
-pub record PutTold (config : Config) (flash : FlashConfig) (older : List Note) (e : PageEntry) (s : Block) : Type 0 where
+pub record PutTold (config : Config) (flash : FlashConfig) (older : List Note) (e : FlashEntry) (s : Block) : Type 0 where
   pub lawful : Lawful config older (put_part flash e s)
   pub tells : RegionsTell flash (past older (put_part flash e s)) (steps.put flash e s).state
   pub sound : Sound flash (steps.put flash e s).state
@@ -122,7 +122,7 @@ pub record PutTold (config : Config) (flash : FlashConfig) (older : List Note) (
   pub order : (steps.put flash e s).order ≡ None
 
 abbrev pub PutTells : Type 0
-PutTells = (config : Config) (flash : FlashConfig) (older : List Note) (e : PageEntry) (s : Block) → config.flash ≡ Some flash → 0 < flash.region_pages
+PutTells = (config : Config) (flash : FlashConfig) (older : List Note) (e : FlashEntry) (s : Block) → config.flash ≡ Some flash → 0 < flash.region_pages
     → is_among e.key (waiting older) ≡ true → begins older e.key ≡ false → entry_at (Some flash) older e.key ≡ Some (map_of e) → is_small_by flash e.key (length e.value) ≡ false → IsLarge e
     → RegionsTell flash older s → Sound flash s → Fits flash (bytes_at older) s → ReadsHold flash (bytes_at older) s s.jobs → PutTold config flash older e s
 

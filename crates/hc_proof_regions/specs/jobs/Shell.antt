@@ -9,7 +9,7 @@ use Rattle.hc_engines.specs.small.Held.{StateFits}
 use Rattle.hc_memory.specs.Pool.{Pool}
 use Rattle.hc_memory.specs.Memory.{Memory, linked_at}
 use Rattle.hc_memory.specs.Sound.{Sound}
-use Rattle.hc_bighash.specs.Page.{PageEntry}
+use Rattle.hc_types.specs.FlashEntry.{FlashEntry}
 use Rattle.hc_items.specs.Items.{items_of}
 use Rattle.hc_history.specs.Note.{Note, Lose, Read, Wrote, Flushed, Cleared}
 use Rattle.hc_history.specs.Books.{entry_at, now_at, charges, waiting, writing, buried, begun, open_calls, owed}
@@ -33,7 +33,7 @@ pub record SameBooks (older newer : List Note) : Type 0 where
 
 -- what the large engine holds
 abbrev pub Holding : Type 0
-Holding = List ℕ → Option PageEntry
+Holding = List ℕ → Option FlashEntry
 
 pub record Shell (config : Config) (flash : FlashConfig) (older : List Note) (memory : Memory) (now asked : ℕ) (all : List Owed) (nvm : Nvm) (holds : Holding) : Type 0 where
   pub sizes : map (λ (pool : Pool). pool.size) memory.pools ≡ config.pools
@@ -49,7 +49,7 @@ pub record Shell (config : Config) (flash : FlashConfig) (older : List Note) (me
   pub small_fits : StateFits nvm.pair.small (bytes_at older)
   pub buckets : (bucket : ℕ) → bucket < flash.buckets → bucket_entries flash older bucket ≡ small.bucket_entries nvm.pair.small (bytes_at older) bucket
   pub waits : WaitsTell older nvm
-  pub large_ones : (key : List ℕ) (e : PageEntry) → holds key ≡ Some e → is_small_by flash key (length e.value) ≡ false
+  pub large_ones : (key : List ℕ) (e : FlashEntry) → holds key ≡ Some e → is_small_by flash key (length e.value) ≡ false
 
 -- ---- parts of region steps
 

@@ -6,7 +6,7 @@ use Rattle.std.specs.List.{list_any}
 use Rattle.std.specs.Str.{bytes_eq}
 use Rattle.hc_types.specs.Config.{Config}
 use Rattle.hc_types.specs.declared.config.FlashConfig.{FlashConfig}
-use Rattle.hc_bighash.specs.Page.{PageEntry}
+use Rattle.hc_types.specs.FlashEntry.{FlashEntry}
 use Rattle.hc_engines.specs.Engine.{Op, Delete, Over, changed}
 use Rattle.hc_engines.specs.small.BigHash as bighash
 use Rattle.hc_engines.specs.small.BigHash.{BigHash, Job, Writing}
@@ -33,7 +33,7 @@ use Rattle.hc_proof_workers.proofs.buckets.FirstNote.{first-wrote, first-apart, 
 use Rattle.hc_proof_workers.proofs.buckets.PageWritten.{written-still, bytes, wrote, kept, Kept, kept_by, kept_buckets}
 
 -- what is held of a buried key is stale
-placed_stale : (i : Option Item) (q w s s2 l : Option PageEntry) (m : Option Entry) (b : Bool) → b ≡ true → Placed i q w b s l m → Placed i q w b s2 l m
+placed_stale : (i : Option Item) (q w s s2 l : Option FlashEntry) (m : Option Entry) (b : Bool) → b ≡ true → Placed i q w b s l m → Placed i q w b s2 l m
 placed_stale i q w s s2 l m b t h = grind arith
 
 taken-buried : (key : List ℕ) (stones : List Tombstone) → is_taken key stones ≡ true → list_any (is_stone_of key) stones ≡ true
@@ -81,14 +81,14 @@ module _ (config : Config) (flash : FlashConfig) (older : List Note) (memory : M
 
   -- ---- the page was written without a key
 
-  module _ (k : List ℕ) (es : List PageEntry) where
+  module _ (k : List ℕ) (es : List FlashEntry) where
     abbrev pub shed : BigHash
     shed = kept flash older nvm number sj es []
 
     pub held_without : Kept flash older nvm number sj es [] → sj.op ≡ Delete k → (key : List ℕ) → small.held (kept flash older nvm number sj es []) (bytes_at (wrote flash older nvm number sj es [])) key ≡ (if bytes_eq k key then None else small.held nvm.pair.small (bytes_at older) key)
     held_without h op key = h.held key ∙ left-none nvm.pair.small.flash (changed sj.op Over key (small.held nvm.pair.small (bytes_at older) key)) ∙ ap (λ (x : Op). changed x Over key (small.held nvm.pair.small (bytes_at older) key)) op
 
-    placed_without : (key : List ℕ) (s s2 l : Option PageEntry) (i : Option Item) (q w : Option PageEntry) (m : Option Entry) (t : Bool) → bytes_eq k key ≡ t → (bytes_eq k key ≡ true → is_buried nvm key ≡ true) → s2 ≡ (if t then None else s) → Placed i q w (is_buried nvm key) s l m → Placed i q w (is_buried nvm key) s2 l m
+    placed_without : (key : List ℕ) (s s2 l : Option FlashEntry) (i : Option Item) (q w : Option FlashEntry) (m : Option Entry) (t : Bool) → bytes_eq k key ≡ t → (bytes_eq k key ≡ true → is_buried nvm key ≡ true) → s2 ≡ (if t then None else s) → Placed i q w (is_buried nvm key) s l m → Placed i q w (is_buried nvm key) s2 l m
     placed_without key s s2 l i q w m true t h e p = placed_stale i q w s s2 l m (is_buried nvm key) (h t) p
     placed_without key s s2 l i q w m false t h e p = rw e p
 
@@ -123,7 +123,7 @@ module _ (config : Config) (flash : FlashConfig) (older : List Note) (memory : M
         rw (l2, written-still flash older nvm number sj key e o at (rw op refl))
         (placed_without key (small.held nvm.pair.small (bytes_at older) key) (small.held (kept flash older nvm number sj es []) (bytes_at newer) key) _ _ _ _ _ (bytes_eq k key) refl (λ t. buried_at key t) (held key) (b.placed key))) b.sized
       where
-        both : (t : Bool) (o : Option PageEntry) → o ≡ None → (if t then None else o) ≡ None
+        both : (t : Bool) (o : Option FlashEntry) → o ≡ None → (if t then None else o) ≡ None
         both true o h = refl
         both false o h = h
 

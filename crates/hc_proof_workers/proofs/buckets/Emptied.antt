@@ -7,7 +7,7 @@ use Rattle.hc_types.specs.Loss as loss
 use Rattle.hc_types.specs.Loss.{Fault}
 use Rattle.hc_types.specs.Places.{bucket_at}
 use Rattle.hc_types.specs.declared.config.FlashConfig.{FlashConfig}
-use Rattle.hc_bighash.specs.Page.{PageEntry}
+use Rattle.hc_types.specs.FlashEntry.{FlashEntry}
 use Rattle.hc_engines.specs.small.BigHash.{BigHash, Job}
 use Rattle.hc_engines.specs.small.Entries.{under}
 use Rattle.hc_engines.specs.small.Held as small
@@ -38,7 +38,7 @@ use Rattle.hc_proof_workers.proofs.buckets.FirstNote.{First, first-held, first-a
 use Rattle.hc_proof_frames.proofs.losses.EachLoss.{and_not_false, bucket_small, bucket_large, bucket_goes}
 
 -- what the bucket holds and what is being written to it go; its tombstones are still to end
-emptied_places : (flash : FlashConfig) (bucket : ℕ) (here : Bool) (older : List Note) (memory : Memory) (key : List ℕ) (q w s l w2 s2 : Option PageEntry) (b : Bool) → memory.flash ≡ Some flash → is_held older key ≡ (is_some (linked_at key memory.pools) || is_some q)
+emptied_places : (flash : FlashConfig) (bucket : ℕ) (here : Bool) (older : List Note) (memory : Memory) (key : List ℕ) (q w s l w2 s2 : Option FlashEntry) (b : Bool) → memory.flash ≡ Some flash → is_held older key ≡ (is_some (linked_at key memory.pools) || is_some q)
     → Sides flash key w s l → (bucket_at flash key == bucket) ≡ here → w2 ≡ (if here then None else w) → s2 ≡ (if here then None else s)
     → Placed (linked_at key memory.pools) q w b s l (entry_at (Some flash) older key)
     → Placed (linked_at key (unmarked (bucket_loss bucket) memory).pools) q w2 b s2 l (entry_at (Some flash) (lost (bucket_loss bucket) older) key)
@@ -115,7 +115,7 @@ module _ (config : Config) (flash : FlashConfig) (older : List Note) (first : No
         comes = λ key w s. held_then e o f key (bucket_at flash key == bucket) refl ∙ both (bucket_at flash key == bucket) (small.held nvm.pair.small (bytes_at older) key) s;
       }
     where
-      both : (t : Bool) (o : Option PageEntry) → o ≡ None → (if t then None else o) ≡ None
+      both : (t : Bool) (o : Option FlashEntry) → o ≡ None → (if t then None else o) ≡ None
       both true o h = refl
       both false o h = h
 

@@ -4,7 +4,7 @@ use Rattle.std.specs.Prelude.{if◌then◌else◌, option_map}
 use Rattle.hc_types.specs.Config.{Config}
 use Rattle.hc_types.specs.declared.config.FlashConfig.{FlashConfig}
 use Rattle.hc_types.proofs.Tallies.{tally-append}
-use Rattle.hc_bighash.specs.Page.{PageEntry}
+use Rattle.hc_types.specs.FlashEntry.{FlashEntry}
 use Rattle.hc_engines.specs.Engine.{Pages}
 use Rattle.hc_engines.specs.small.BigHash as bighash
 use Rattle.hc_engines.specs.small.Held as small
@@ -66,18 +66,18 @@ sized-less pools key (x ∷ fills) h = let s = sized_parts pools x.waiters (wait
 
 -- ---- what the map has of a key that stands on flash alone
 
-map_found : (i : Option Item) (q w s l : Option PageEntry) (b : Bool) (m : Option Entry) → i ≡ None → q ≡ None → w ≡ None → b ≡ false → Placed i q w b s l m → m ≡ option_map map_of (first_of s l)
+map_found : (i : Option Item) (q w s l : Option FlashEntry) (b : Bool) (m : Option Entry) → i ≡ None → q ≡ None → w ≡ None → b ≡ false → Placed i q w b s l m → m ≡ option_map map_of (first_of s l)
 map_found i q w (Some e) (Some x) b m ei eq ew eb p = let h : Placed None None None false (Some e) (Some x) m = rw (ei, eq, ew, eb) at p in absurd h
 map_found i q w (Some e) None b m ei eq ew eb p = let h : Placed None None None false (Some e) None m = rw (ei, eq, ew, eb) at p in h
 map_found i q w None (Some x) b m ei eq ew eb p = let h : Placed None None None false None (Some x) m = rw (ei, eq, ew, eb) at p in h
 map_found i q w None None b m ei eq ew eb p = let h : Placed None None None false None None m = rw (ei, eq, ew, eb) at p in h
 
-source-is : (key : List ℕ) (s l : Option PageEntry) (x : PageEntry) → IsOwn key s → IsOwn key l → Some x ≡ first_of s l → (x.key ≡ key) × ((s ≡ Some x) ⊎ (l ≡ Some x))
-source-is key (Some e) l x os ol h = let same : x ≡ e = cc h in (ap (λ (y : PageEntry). y.key) same ∙ os, inl (sym h))
-source-is key None (Some e) x os ol h = let same : x ≡ e = cc h in (ap (λ (y : PageEntry). y.key) same ∙ ol, inr (sym h))
+source-is : (key : List ℕ) (s l : Option FlashEntry) (x : FlashEntry) → IsOwn key s → IsOwn key l → Some x ≡ first_of s l → (x.key ≡ key) × ((s ≡ Some x) ⊎ (l ≡ Some x))
+source-is key (Some e) l x os ol h = let same : x ≡ e = cc h in (ap (λ (y : FlashEntry). y.key) same ∙ os, inl (sym h))
+source-is key None (Some e) x os ol h = let same : x ≡ e = cc h in (ap (λ (y : FlashEntry). y.key) same ∙ ol, inr (sym h))
 source-is key None None x os ol h = absurd (cc h)
 
-module _ (config : Config) (flash : FlashConfig) (older : List Note) (cache : Cache) (memory : Memory) (nvm : Nvm) (number : ℕ) (task : Task) (fill : Fill) (found : Option PageEntry) where
+module _ (config : Config) (flash : FlashConfig) (older : List Note) (cache : Cache) (memory : Memory) (nvm : Nvm) (number : ℕ) (task : Task) (fill : Fill) (found : Option FlashEntry) where
   abbrev pub less : Nvm
   less = with_fills (without_fill fill.key nvm.fills) nvm
 
@@ -142,7 +142,7 @@ module _ (config : Config) (flash : FlashConfig) (older : List Note) (cache : Ca
         rested = rested;
       }
     where
-      stands : (o : Option PageEntry) → o ≡ first_of (small.held nvm.pair.small (bytes_at older) fill.key) (large.held nvm.pair.small.flash (bytes_at older) nvm.pair.large fill.key)
+      stands : (o : Option FlashEntry) → o ≡ first_of (small.held nvm.pair.small (bytes_at older) fill.key) (large.held nvm.pair.small.flash (bytes_at older) nvm.pair.large fill.key)
           → IsOwn fill.key (small.held nvm.pair.small (bytes_at older) fill.key) → IsOwn fill.key (large.held nvm.pair.small.flash (bytes_at older) nvm.pair.large fill.key) → is_buried nvm fill.key ≡ false
           → Stands older (with_both memory (with_fills (without_fill fill.key nvm.fills) nvm) cache) fill.key o
       stands None h os ol b = tt

@@ -4,7 +4,7 @@ use Rattle.std.specs.Prelude.{is_some}
 use Rattle.std.proofs.lemmas.Bool.{eqb-true}
 use Rattle.hc_types.specs.Config.{Config}
 use Rattle.hc_types.specs.declared.config.FlashConfig.{FlashConfig}
-use Rattle.hc_bighash.specs.Page.{PageEntry}
+use Rattle.hc_types.specs.FlashEntry.{FlashEntry}
 use Rattle.hc_memory.specs.Memory.{Memory}
 use Rattle.hc_engines.specs.Engine.{Op, Put, Get, Delete, Flush, Reclaim, Order, IoResult, Page, Written, Failed, Loss}
 use Rattle.hc_engines.specs.small.BigHash as bighash
@@ -49,7 +49,7 @@ module _ (ends : FillEnds) (tells : GetTells) (gives : GetGives) (config : Confi
   abbrev Here : Task → Op → Phase → Type 0
   Here task op phase = With config flash older cache nvm number bucket task (order_of nvm.pair.small.flash.page bucket phase) op phase
 
-  put_result : (k : List ℕ) (e : PageEntry) (phase : Phase) (result : IoResult) → Here (Putting k) (Put e) phase → Result phase result → Keeps config older (workers.finish number result cache)
+  put_result : (k : List ℕ) (e : FlashEntry) (phase : Phase) (result : IoResult) → Here (Putting k) (Put e) phase → Result phase result → Keeps config older (workers.finish number result cache)
   put_result k e Reading (Page bytes) w i = put_reads config flash older cache nvm number bucket k e bytes w i
   put_result k e Reading Failed w i = put_read_failed config flash older cache nvm number bucket k e w
   put_result k e Reading Written w i = absurd i
@@ -58,7 +58,7 @@ module _ (ends : FillEnds) (tells : GetTells) (gives : GetGives) (config : Confi
   put_result k e (Writing es losses) (Page bytes) w i = absurd i
 
   -- what a delete writes loses nothing
-  no-loss : (k : List ℕ) (es : List PageEntry) (losses : List Loss) → Here (Deleting k) (Delete k) (Writing es losses) → losses ≡ []
+  no-loss : (k : List ℕ) (es : List FlashEntry) (losses : List Loss) → Here (Deleting k) (Delete k) (Writing es losses) → losses ≡ []
   no-loss k es losses w =
       let b = before-good config flash older cache nvm w.on w.nvm_is w.good in
       let o = own-job flash older nvm number (make_job number bucket (Delete k) (Writing es losses)) b.good.engines w.there in

@@ -7,7 +7,7 @@ use Rattle.std.proofs.lemmas.Bool.{eqb-true, eq-eqb}
 use Rattle.hc_types.specs.Config.{Config}
 use Rattle.hc_types.specs.Places.{bucket_at}
 use Rattle.hc_types.specs.declared.config.FlashConfig.{FlashConfig}
-use Rattle.hc_bighash.specs.Page.{PageEntry}
+use Rattle.hc_types.specs.FlashEntry.{FlashEntry}
 use Rattle.hc_engines.specs.Engine as engine
 use Rattle.hc_engines.specs.Engine.{Pages, Get, Read, Page, Failed, Answer, Nothing, Absent, Found, found}
 use Rattle.hc_engines.specs.small.Entries.{under}
@@ -100,7 +100,7 @@ module _ (ends : FillEnds) (tells : GetTells) (gives : GetGives) (config : Confi
       let o = own-job flash older nvm number sj b.good.engines w.there in
       ap (λ (c : ℕ). under k (small.bucket_entries nvm.pair.small (bytes_at older) c)) (sym o.out.fit.2)
 
-  get_goes : (bytes : List ℕ) (o : Option PageEntry) → under k (small.bucket_entries nvm.pair.small (bytes_at older) bucket) ≡ o → Reads
+  get_goes : (bytes : List ℕ) (o : Option FlashEntry) → under k (small.bucket_entries nvm.pair.small (bytes_at older) bucket) ≡ o → Reads
       → Keeps config older (workers.after_take (taken_by nvm number bucket Filling (Read bucket) (Get k) (Page bytes) (ToEnd (found o))) cache)
   get_goes bytes (Some e) p w =
       let b = before-good config flash older cache nvm w.on w.nvm_is w.good in

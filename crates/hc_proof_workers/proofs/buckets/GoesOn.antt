@@ -5,7 +5,8 @@ use Rattle.std.proofs.lemmas.Bool.{eqb-true}
 use Rattle.hc_types.specs.Config.{Config}
 use Rattle.hc_types.specs.Places.{bucket_at}
 use Rattle.hc_types.specs.declared.config.FlashConfig.{FlashConfig}
-use Rattle.hc_bighash.specs.Page.{PageEntry, page_bytes}
+use Rattle.hc_types.specs.FlashEntry.{FlashEntry}
+use Rattle.hc_bucket.specs.Page.{page_bytes}
 use Rattle.hc_engines.specs.Engine.{Order, Write, Loss}
 use Rattle.hc_engines.specs.small.BigHash as bighash
 use Rattle.hc_engines.specs.small.BigHash.{BigHash, Writing, make_job, word_at, key_of}
@@ -59,7 +60,7 @@ none-ordered n number order jobs h = none-of (job_at n (ordered number order job
 pub none-before : (n number : ℕ) (order : Order) (jobs : List Job) → job_at n (ordered number order jobs) ≡ None → job_at n jobs ≡ None
 none-before n number order jobs h = none-of (job_at n jobs) (sym (some-ordered n number order jobs) ∙ (rw h refl))
 
-module _ (config : Config) (flash : FlashConfig) (older : List Note) (memory : Memory) (nvm : Nvm) (number : ℕ) (sj : bighash.Job) (es : List PageEntry) (losses : List Loss) (result : Option (List ℕ)) where
+module _ (config : Config) (flash : FlashConfig) (older : List Note) (memory : Memory) (nvm : Nvm) (number : ℕ) (sj : bighash.Job) (es : List FlashEntry) (losses : List Loss) (result : Option (List ℕ)) where
   abbrev next : bighash.Job
   next = make_job number sj.bucket sj.op (Writing es losses)
 

@@ -5,7 +5,7 @@ use Rattle.std.proofs.lemmas.Bool.{eqb-true}
 use Rattle.hc_types.specs.Config.{Config}
 use Rattle.hc_types.specs.Tally.{count}
 use Rattle.hc_types.specs.declared.config.FlashConfig.{FlashConfig}
-use Rattle.hc_bighash.specs.Page.{PageEntry}
+use Rattle.hc_types.specs.FlashEntry.{FlashEntry}
 use Rattle.hc_engines.specs.Engine.{Pages}
 use Rattle.hc_engines.specs.small.BigHash as bighash
 use Rattle.hc_engines.specs.small.BigHash.{BigHash, word_at}
@@ -111,7 +111,7 @@ module _ (config : Config) (flash : FlashConfig) (older newer : List Note) (memo
       less [] h = refl
       less (x ∷ jobs) h = step (put_in key x.op) refl (x.number == number) refl (less jobs)
         where
-          step : (o : Option PageEntry) → put_in key x.op ≡ o → (b : Bool) → (x.number == number) ≡ b → (written_by key jobs ≡ None → written_by key (bighash.without_job number jobs) ≡ None) → written_by key (bighash.without_job number (x ∷ jobs)) ≡ None
+          step : (o : Option FlashEntry) → put_in key x.op ≡ o → (b : Bool) → (x.number == number) ≡ b → (written_by key jobs ≡ None → written_by key (bighash.without_job number jobs) ≡ None) → written_by key (bighash.without_job number (x ∷ jobs)) ≡ None
           step None e true t more = rw t (rw e at h)
           step None e false t more = rw t (rw e (more (rw e at h)))
           step (Some x) e b t more = absurd (let h2 = rw e at h in cc h2)

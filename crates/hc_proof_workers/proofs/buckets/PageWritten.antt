@@ -4,8 +4,9 @@ use Rattle.std.specs.Prelude.{if◌then◌else◌}
 use Rattle.std.proofs.lemmas.Bool.{eqb-true, eq-eqb}
 use Rattle.hc_types.specs.Places.{bucket_at}
 use Rattle.hc_types.specs.declared.config.FlashConfig.{FlashConfig}
-use Rattle.hc_bighash.specs.Page.{PageEntry, page_bytes}
-use Rattle.hc_bighash.specs.Reading.{page_at}
+use Rattle.hc_types.specs.FlashEntry.{FlashEntry}
+use Rattle.hc_bucket.specs.Page.{page_bytes}
+use Rattle.hc_bucket.specs.Reading.{page_at}
 use Rattle.hc_engines.specs.Engine.{Over, Loss, left_of, changed}
 use Rattle.hc_engines.specs.small.BigHash as bighash
 use Rattle.hc_engines.specs.small.BigHash.{BigHash, Job, Writing, word_at, is_busy}
@@ -22,7 +23,7 @@ use Rattle.hc_invariant.specs.Good.{EnginesFit}
 use Rattle.hc_proof_workers.proofs.buckets.SmallJobs.{written-free, written-here, written-apart}
 use Rattle.hc_proof_workers.proofs.buckets.FirstNote.{First, first-wrote, OwnJob, with_word, entries-here, entries-other}
 
-listed-read : (o : Option (List PageEntry)) → listed o ≡ read_in o
+listed-read : (o : Option (List FlashEntry)) → listed o ≡ read_in o
 listed-read None = refl
 listed-read (Some es) = refl
 
@@ -47,7 +48,7 @@ written-still flash older nvm number sj key e o at none = go (bucket_at flash ke
     go true h = written-out flash older nvm number sj key true e o at h ∙ sym (written-in flash older nvm number sj key e at h ∙ none)
     go false h = written-out flash older nvm number sj key false e o at h
 
-module _ (flash : FlashConfig) (older : List Note) (nvm : Nvm) (number : ℕ) (sj : Job) (es : List PageEntry) (losses : List Loss) where
+module _ (flash : FlashConfig) (older : List Note) (nvm : Nvm) (number : ℕ) (sj : Job) (es : List FlashEntry) (losses : List Loss) where
   abbrev pub bytes : List ℕ
   bytes = page_bytes nvm.pair.small.flash.page es
 

@@ -7,10 +7,11 @@ use Rattle.hc_types.specs.Config.{Config}
 use Rattle.hc_types.specs.Loss as loss
 use Rattle.hc_types.specs.Places.{bucket_at}
 use Rattle.hc_types.specs.declared.config.FlashConfig.{FlashConfig}
-use Rattle.hc_bighash.specs.Page.{PageEntry, page_bytes}
-use Rattle.hc_bighash.specs.Reading.{page_at}
-use Rattle.hc_bighash.proofs.Numbers.{some_is}
-use Rattle.hc_bighash.proofs.Pages.{page_again}
+use Rattle.hc_types.specs.FlashEntry.{FlashEntry}
+use Rattle.hc_bucket.specs.Page.{page_bytes}
+use Rattle.hc_bucket.specs.Reading.{page_at}
+use Rattle.hc_bucket.proofs.Numbers.{some_is}
+use Rattle.hc_bucket.proofs.Pages.{page_again}
 use Rattle.hc_items.proofs.Items.{bytes_eq-refl}
 use Rattle.hc_engines.specs.Engine.{Op, Put, Delete, Order, Page, Answer, Over as IsOver, Loss, outcome_of}
 use Rattle.hc_engines.specs.small.Entries.{under, without, pushed_out, full_losses}
@@ -53,7 +54,7 @@ pub page-read : (flash : FlashConfig) (bucket : ℕ) (word : Option ℕ) (page :
 page-read flash bucket None page bytes h w p = absurd (cc)
 page-read flash bucket (Some word) page bytes h w p =
     let same : page_bytes flash.page h.0 ≡ bytes = some_is (page_bytes flash.page h.0) bytes (sym h.1 ∙ p) in
-    ap (page_at flash.page) (sym same) ∙ page_again flash.page h.0 h.2 ∙ ap (λ (es : List PageEntry). Some es) (sym (read_again flash.page h.0 page h.1 h.2))
+    ap (page_at flash.page) (sym same) ∙ page_again flash.page h.0 h.2 ∙ ap (λ (es : List FlashEntry). Some es) (sym (read_again flash.page h.0 page h.1 h.2))
 
 some-known : (o : Option (List ℕ)) (page : List ℕ) → o ≡ Some page → IsSome o
 some-known o page e = rw e refl
@@ -62,7 +63,7 @@ abbrev pub lost_note : ℕ → Note
 lost_note bucket = Lose (loss.Bucket bucket) loss.Fault
 
 module _ (config : Config) (flash : FlashConfig) (older : List Note) (memory : Memory) (nvm : Nvm) (number bucket : ℕ) where
-  abbrev pub entries : List PageEntry
+  abbrev pub entries : List FlashEntry
   entries = small.bucket_entries nvm.pair.small (bytes_at older) bucket
 
   pub read-allowed : config.flash ≡ Some flash → (result : Option (List ℕ)) → IsSome (bytes_at older bucket) → (rest : List Note) → Allowed config older (Read bucket result) rest
@@ -82,7 +83,7 @@ module _ (config : Config) (flash : FlashConfig) (older : List Note) (memory : M
       → went_on nvm.pair.small.flash.page op Reading (Page bytes) ≡ Some (was_read nvm.pair.small.flash.page op (small.bucket_entries nvm.pair.small (bytes_at older) bucket))
   reads-entries b op bytes there read =
       let o = own-job flash older nvm number (make_job number bucket op Reading) b.good.engines there in
-      ap (λ (es : Option (List PageEntry)). Some (read_as nvm.pair.small.flash.page op es)) (page-read nvm.pair.small.flash bucket (word_at nvm.pair.small bucket) (bytes_at older bucket) bytes (b.good.engines.small_fits.pages_fit bucket) o.out.fit.3 read)
+      ap (λ (es : Option (List FlashEntry)). Some (read_as nvm.pair.small.flash.page op es)) (page-read nvm.pair.small.flash bucket (word_at nvm.pair.small bucket) (bytes_at older bucket) bytes (b.good.engines.small_fits.pages_fit bucket) o.out.fit.3 read)
 
   -- ---- a bucket is given up
 
@@ -134,7 +135,7 @@ module _ (config : Config) (flash : FlashConfig) (older : List Note) (memory : M
       (settled_none config flash h memory n number (Deleting k) on ending (may_end h n memory k (free-at b (Delete k) Reading k refl there) gone))
 
   -- the page was written without the key
-  pub delete_written_over : Before config flash older memory nvm → config.flash ≡ Some flash → (order : Order) (k : List ℕ) (es : List PageEntry) → job_at number nvm.jobs ≡ Some (own number (Deleting k) order) → small_job nvm number ≡ Some (make_job number bucket (Delete k) (Writing es [])) → large_work nvm number ≡ None
+  pub delete_written_over : Before config flash older memory nvm → config.flash ≡ Some flash → (order : Order) (k : List ℕ) (es : List FlashEntry) → job_at number nvm.jobs ≡ Some (own number (Deleting k) order) → small_job nvm number ≡ Some (make_job number bucket (Delete k) (Writing es [])) → large_work nvm number ≡ None
       → is_taken k nvm.tombstones ≡ true
       → Over config flash older (Wrote bucket (page_bytes nvm.pair.small.flash.page es) true) memory (settled (Deleting k) (outcome_of IsOver []) (job_gone (bighash.carried_out nvm.pair.small number bucket (Delete k) (ToKeep (word_of es) [])) number nvm)) number (Deleting k)
   delete_written_over b on order k es at there none taken =
@@ -152,11 +153,11 @@ module _ (config : Config) (flash : FlashConfig) (older : List Note) (memory : M
 
   -- ---- a put is over
 
-  no-bucket-lost : (gone : List PageEntry) → bucket_lost (full_losses gone) ≡ None
+  no-bucket-lost : (gone : List FlashEntry) → bucket_lost (full_losses gone) ≡ None
   no-bucket-lost [] = refl
   no-bucket-lost (e ∷ gone) = refl
 
-  pub put_written_over : Before config flash older memory nvm → config.flash ≡ Some flash → (order : Order) (k : List ℕ) (e : PageEntry) (es : List PageEntry) (losses : List Loss) → job_at number nvm.jobs ≡ Some (own number (Putting k) order) → small_job nvm number ≡ Some (make_job number bucket (Put e) (Writing es losses)) → large_work nvm number ≡ None
+  pub put_written_over : Before config flash older memory nvm → config.flash ≡ Some flash → (order : Order) (k : List ℕ) (e : FlashEntry) (es : List FlashEntry) (losses : List Loss) → job_at number nvm.jobs ≡ Some (own number (Putting k) order) → small_job nvm number ≡ Some (make_job number bucket (Put e) (Writing es losses)) → large_work nvm number ≡ None
       → Over config flash older (Wrote bucket (page_bytes nvm.pair.small.flash.page es) true) memory (settled (Putting k) (outcome_of IsOver losses) (job_gone (bighash.carried_out nvm.pair.small number bucket (Put e) (ToKeep (word_of es) losses)) number nvm)) number (Putting k)
   put_written_over b on order k e es losses at there none =
       let job = own number (Putting k) order in

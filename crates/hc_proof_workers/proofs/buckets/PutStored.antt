@@ -6,7 +6,8 @@ use Rattle.std.proofs.lemmas.Bool.{eq-eqb}
 use Rattle.hc_types.specs.Config.{Config}
 use Rattle.hc_types.specs.Places.{bucket_at, is_small_by}
 use Rattle.hc_types.specs.declared.config.FlashConfig.{FlashConfig}
-use Rattle.hc_bighash.specs.Page.{PageEntry, Fits, page_bytes}
+use Rattle.hc_types.specs.FlashEntry.{FlashEntry}
+use Rattle.hc_bucket.specs.Page.{Fits, page_bytes}
 use Rattle.hc_engines.specs.Engine.{Pages, Op, Put, Over, Loss, left_of, changed}
 use Rattle.hc_engines.specs.small.Entries.{under, without, pushed_out, full_losses, page_put, put_losses}
 use Rattle.hc_engines.specs.small.BigHash as bighash
@@ -49,19 +50,19 @@ use Rattle.hc_proof_workers.proofs.buckets.PageWritten.{written-out, written-in,
 
 -- ---- losses of a full bucket
 
-all-full : (gone : List PageEntry) → AllFull (full_losses gone)
+all-full : (gone : List FlashEntry) → AllFull (full_losses gone)
 all-full [] = tt
 all-full (e ∷ gone) = (tt, all-full gone)
 
-no-bucket : (gone : List PageEntry) → NoBucket (full_losses gone)
+no-bucket : (gone : List FlashEntry) → NoBucket (full_losses gone)
 no-bucket [] = tt
 no-bucket (e ∷ gone) = (tt, no-bucket gone)
 
-small-full : (flash : FlashConfig) (gone : List PageEntry) → AllSmall flash (loss_notes (full_losses gone))
+small-full : (flash : FlashConfig) (gone : List FlashEntry) → AllSmall flash (loss_notes (full_losses gone))
 small-full flash [] = tt
 small-full flash (e ∷ gone) = (tt, small-full flash gone)
 
-names-has : (key : List ℕ) (gone : List PageEntry) → names key (full_losses gone) ≡ has key gone
+names-has : (key : List ℕ) (gone : List FlashEntry) → names key (full_losses gone) ≡ has key gone
 names-has key [] = refl
 names-has key (e ∷ gone) = go (bytes_eq e.key key) (names-has key gone)
   where
@@ -69,8 +70,8 @@ names-has key (e ∷ gone) = go (bytes_eq e.key key) (names-has key gone)
     go true h = refl
     go false h = h
 
-module _ (config : Config) (flash : FlashConfig) (older : List Note) (memory : Memory) (nvm : Nvm) (number : ℕ) (job : nvms.Job) (sj : Job) (e : PageEntry) (es : List PageEntry) (losses : List Loss) where
-  abbrev old : List PageEntry
+module _ (config : Config) (flash : FlashConfig) (older : List Note) (memory : Memory) (nvm : Nvm) (number : ℕ) (job : nvms.Job) (sj : Job) (e : FlashEntry) (es : List FlashEntry) (losses : List Loss) where
+  abbrev old : List FlashEntry
   old = small.bucket_entries nvm.pair.small (bytes_at older) sj.bucket
 
   abbrev pub stored : BigHash
@@ -100,10 +101,10 @@ module _ (config : Config) (flash : FlashConfig) (older : List Note) (memory : M
       let here : sj.bucket ≡ bucket_at flash e.key = o.here ∙ ap (λ (op : Op). bucket_at flash (key_of op)) p.op in
       eq-eqb _ _ (ap (bucket_at flash) (sym (same_bytes e.key key t)) ∙ sym here)
 
-  abbrev pub was_written : List ℕ → Option PageEntry
+  abbrev pub was_written : List ℕ → Option FlashEntry
   was_written key = written_by key nvm.pair.small.jobs
 
-  abbrev pub is_held_now : List ℕ → Option PageEntry
+  abbrev pub is_held_now : List ℕ → Option FlashEntry
   is_held_now key = small.held nvm.pair.small (bytes_at older) key
 
   -- what is written at the key of the put
@@ -125,10 +126,10 @@ module _ (config : Config) (flash : FlashConfig) (older : List Note) (memory : M
       go false h = written-out flash older nvm number sj key false f o at h
 
   -- held before the losses
-  abbrev pub before_losses : List ℕ → Option PageEntry
+  abbrev pub before_losses : List ℕ → Option FlashEntry
   before_losses key = changed (Put e) Over key (small.held nvm.pair.small (bytes_at older) key)
 
-  placed_before : EnginesFit flash older nvm → OwnJob flash older nvm number sj → small_job nvm number ≡ Some sj → Puts → (key : List ℕ) (t : Bool) → bytes_eq e.key key ≡ t → (i : Option Item) (q l : Option PageEntry) (m : Option Entry) (b : Bool)
+  placed_before : EnginesFit flash older nvm → OwnJob flash older nvm number sj → small_job nvm number ≡ Some sj → Puts → (key : List ℕ) (t : Bool) → bytes_eq e.key key ≡ t → (i : Option Item) (q l : Option FlashEntry) (m : Option Entry) (b : Bool)
       → Placed i q (written_by key nvm.pair.small.jobs) b (small.held nvm.pair.small (bytes_at older) key) l m → Placed i q (written_by key (bighash.without_job number nvm.pair.small.jobs)) b (before_losses key) l m
   placed_before f o at p key true t i q l m b h = rw (then_none f o at p key t, t) (placed_put i e q (small.held nvm.pair.small (bytes_at older) key) l m b (rw (was_put f o at p key t) at h))
   placed_before f o at p key false t i q l m b h = rw (then_same f o at p key t, t) h
@@ -145,21 +146,21 @@ module _ (config : Config) (flash : FlashConfig) (older : List Note) (memory : M
   pushed_held : EnginesFit flash older nvm → Puts → (key : List ℕ) → names key losses ≡ true → is_some (before_losses key) ≡ true
   pushed_held f p key named = both (bytes_eq e.key key) (small.held nvm.pair.small (bytes_at older) key) held
     where
-      both : (t : Bool) (o : Option PageEntry) → is_some o ≡ true → is_some (if t then Some e else o) ≡ true
+      both : (t : Bool) (o : Option FlashEntry) → is_some o ≡ true → is_some (if t then Some e else o) ≡ true
       both true o h = refl
       both false o h = h
 
       there : is_some (under key (without e.key old)) ≡ true
       there = has-there key nvm.pair.small.flash.page e (without e.key old) (sym (names-has key (pushed_out nvm.pair.small.flash.page e (without e.key old))) ∙ ap (names key) (sym p.full) ∙ named)
 
-      less : (t : Bool) (o : Option PageEntry) → is_some (if t then None else o) ≡ true → is_some o ≡ true
+      less : (t : Bool) (o : Option FlashEntry) → is_some (if t then None else o) ≡ true → is_some o ≡ true
       less true o h = absurd (cc h)
       less false o h = h
 
       found : is_some (under key old) ≡ true
-      found = less (bytes_eq key e.key) (under key old) (ap (λ (o : Option PageEntry). is_some o) (sym (under-without e.key key old)) ∙ there)
+      found = less (bytes_eq key e.key) (under key old) (ap (λ (o : Option FlashEntry). is_some o) (sym (under-without e.key key old)) ∙ there)
 
-      at_own : (o : Option PageEntry) → under key old ≡ o → is_some o ≡ true → bucket_at nvm.pair.small.flash key ≡ sj.bucket
+      at_own : (o : Option FlashEntry) → under key old ≡ o → is_some o ≡ true → bucket_at nvm.pair.small.flash key ≡ sj.bucket
       at_own None h s = absurd (cc s)
       at_own (Some x) h s =
           let own = own_under nvm.pair.small.flash sj.bucket key old x (has_entries nvm.pair.small (bytes_at older) sj.bucket f.small_fits).own h in
@@ -248,4 +249,4 @@ module _ (config : Config) (flash : FlashConfig) (older : List Note) (memory : M
       let law = full_is_lawful config flash older tail sj.bucket e old on o.below (f.buckets sj.bucket o.below) (subst (λ (c : FlashConfig). Fits c.page (page_put c.page e old)) f.same fits) in
       subst (λ (c : FlashConfig). LawfulIn config (Wrote sj.bucket (page_bytes c.page es) true ∷ older) (loss_notes losses) tail) (sym f.same)
       (subst (λ (ls : List Loss). LawfulIn config (Wrote sj.bucket (page_bytes flash.page es) true ∷ older) (loss_notes ls) tail) (sym (p.full ∙ ap (λ (c : FlashConfig). put_losses c.page e old) f.same))
-      (subst (λ (xs : List PageEntry). LawfulIn config (Wrote sj.bucket (page_bytes flash.page xs) true ∷ older) (loss_notes (put_losses flash.page e old)) tail) (sym (p.page ∙ ap (λ (c : FlashConfig). page_put c.page e old) f.same)) law))
+      (subst (λ (xs : List FlashEntry). LawfulIn config (Wrote sj.bucket (page_bytes flash.page xs) true ∷ older) (loss_notes (put_losses flash.page e old)) tail) (sym (p.page ∙ ap (λ (c : FlashConfig). page_put c.page e old) f.same)) law))

@@ -5,7 +5,8 @@ use Rattle.std.proofs.lemmas.Bool.{eq-eqb}
 use Rattle.hc_types.specs.Config.{Config}
 use Rattle.hc_types.specs.Places.{bucket_at}
 use Rattle.hc_types.specs.declared.config.FlashConfig.{FlashConfig}
-use Rattle.hc_bighash.specs.Page.{PageEntry, page_bytes}
+use Rattle.hc_types.specs.FlashEntry.{FlashEntry}
+use Rattle.hc_bucket.specs.Page.{page_bytes}
 use Rattle.hc_memory.proofs.Keyed.{same_bytes}
 use Rattle.hc_engines.specs.Engine.{Op, Put, Get, Delete, Order, Read, Write, IoResult, Page, Written, Failed, Answer, Over as IsOver, Loss, outcome_of}
 use Rattle.hc_engines.specs.small.Entries.{under, without, page_put, put_losses}
@@ -69,7 +70,7 @@ module _ (config : Config) (flash : FlashConfig) (older : List Note) (cache : Ca
       let b = before-good config flash older cache nvm w.on w.nvm_is w.good in
       given_up_over config flash older cache.memory nvm number bucket b w.on task (Read bucket) op Reading (notes.Read bucket None) answer w.at w.there w.none ends (first-read flash older bucket None) refl (λ rest. refl) (read-allowed config flash older cache.memory nvm number bucket w.on None (reads-known config flash older cache.memory nvm number bucket b op w.there))
 
-  write_failed : (task : Task) (op : Op) (es : List PageEntry) (losses : List Loss) → With task (Write bucket (page_bytes nvm.pair.small.flash.page es)) op (Writing es losses) → EndsIn flash task bucket → (answer : Answer)
+  write_failed : (task : Task) (op : Op) (es : List FlashEntry) (losses : List Loss) → With task (Write bucket (page_bytes nvm.pair.small.flash.page es)) op (Writing es losses) → EndsIn flash task bucket → (answer : Answer)
       → Over config flash older (notes.Wrote bucket (page_bytes nvm.pair.small.flash.page es) false) cache.memory (settled task (outcome_of answer (bucket_loss bucket)) (job_gone (bighash.carried_out nvm.pair.small number bucket op ToGiveUp) number nvm)) number task
   write_failed task op es losses w ends answer =
       let b = before-good config flash older cache nvm w.on w.nvm_is w.good in
@@ -79,7 +80,7 @@ module _ (config : Config) (flash : FlashConfig) (older : List Note) (cache : Ca
 
   -- ---- puts
 
-  pub put_reads : (k : List ℕ) (e : PageEntry) (bytes : List ℕ) → With (Putting k) (Read bucket) (Put e) Reading → bytes_at older bucket ≡ Some bytes → Keeps config older (workers.finish number (Page bytes) cache)
+  pub put_reads : (k : List ℕ) (e : FlashEntry) (bytes : List ℕ) → With (Putting k) (Read bucket) (Put e) Reading → bytes_at older bucket ≡ Some bytes → Keeps config older (workers.finish number (Page bytes) cache)
   put_reads k e bytes w read =
       let b = before-good config flash older cache nvm w.on w.nvm_is w.good in
       let es = small.bucket_entries nvm.pair.small (bytes_at older) bucket in
@@ -89,14 +90,14 @@ module _ (config : Config) (flash : FlashConfig) (older : List Note) (cache : Ca
       (keeps-going config flash older cache nvm taken w.on w.nvm_is w.good refl refl (tt, tt) (read-allowed config flash older cache.memory nvm number bucket w.on (Some bytes) (reads-known config flash older cache.memory nvm number bucket b (Put e) w.there) [], tt)
       (goes_on_before config flash older cache.memory nvm number (make_job number bucket (Put e) Reading) (page_put size e es) (put_losses size e es) (Some bytes) b w.there (refl, refl)))
 
-  pub put_read_failed : (k : List ℕ) (e : PageEntry) → With (Putting k) (Read bucket) (Put e) Reading → Keeps config older (workers.finish number Failed cache)
+  pub put_read_failed : (k : List ℕ) (e : FlashEntry) → With (Putting k) (Read bucket) (Put e) Reading → Keeps config older (workers.finish number Failed cache)
   put_read_failed k e w =
       let taken = taken_by nvm number bucket (Putting k) (Read bucket) (Put e) Failed ToGiveUp in
       let over = read_failed (Putting k) (Put e) w (ends_none (Putting k) (λ stone. refl)) IsOver in
       keeps-from config older cache nvm number Failed taken w.nvm_is (finish-at nvm number bucket (Putting k) (Read bucket) (Put e) Reading Failed ToGiveUp w.at w.there refl)
       (keeps-over config flash older cache nvm taken number Flushing w.on w.nvm_is w.good refl refl (none_for (Putting k) (Read bucket) (Put e) Reading w (λ k e. absurd (cc e))) (no-put (Putting k)) over.small over.lawful over.ending)
 
-  pub put_written : (k : List ℕ) (e : PageEntry) (es : List PageEntry) (losses : List Loss) → With (Putting k) (Write bucket (page_bytes nvm.pair.small.flash.page es)) (Put e) (Writing es losses) → Keeps config older (workers.finish number Written cache)
+  pub put_written : (k : List ℕ) (e : FlashEntry) (es : List FlashEntry) (losses : List Loss) → With (Putting k) (Write bucket (page_bytes nvm.pair.small.flash.page es)) (Put e) (Writing es losses) → Keeps config older (workers.finish number Written cache)
   put_written k e es losses w =
       let b = before-good config flash older cache nvm w.on w.nvm_is w.good in
       let order = Write bucket (page_bytes nvm.pair.small.flash.page es) in
@@ -105,7 +106,7 @@ module _ (config : Config) (flash : FlashConfig) (older : List Note) (cache : Ca
       keeps-from config older cache nvm number Written taken w.nvm_is (finish-at nvm number bucket (Putting k) order (Put e) (Writing es losses) Written (ToKeep (word_of es) losses) w.at w.there refl)
       (keeps-over config flash older cache nvm taken number Flushing w.on w.nvm_is w.good refl (raise-fills (bucket_lost losses) (job_gone (bighash.carried_out nvm.pair.small number bucket (Put e) (ToKeep (word_of es) losses)) number nvm)) (none_for (Putting k) order (Put e) (Writing es losses) w (λ k e. absurd (cc e))) (no-put (Putting k)) over.small over.lawful over.ending)
 
-  pub put_write_failed : (k : List ℕ) (e : PageEntry) (es : List PageEntry) (losses : List Loss) → With (Putting k) (Write bucket (page_bytes nvm.pair.small.flash.page es)) (Put e) (Writing es losses) → Keeps config older (workers.finish number Failed cache)
+  pub put_write_failed : (k : List ℕ) (e : FlashEntry) (es : List FlashEntry) (losses : List Loss) → With (Putting k) (Write bucket (page_bytes nvm.pair.small.flash.page es)) (Put e) (Writing es losses) → Keeps config older (workers.finish number Failed cache)
   put_write_failed k e es losses w =
       let order = Write bucket (page_bytes nvm.pair.small.flash.page es) in
       let taken = taken_by nvm number bucket (Putting k) order (Put e) Failed ToGiveUp in
@@ -115,7 +116,7 @@ module _ (config : Config) (flash : FlashConfig) (older : List Note) (cache : Ca
 
   -- ---- deletes
 
-  delete_goes : (k bytes : List ℕ) (o : Option PageEntry) → under k (small.bucket_entries nvm.pair.small (bytes_at older) bucket) ≡ o → With (Deleting k) (Read bucket) (Delete k) Reading → bytes_at older bucket ≡ Some bytes
+  delete_goes : (k bytes : List ℕ) (o : Option FlashEntry) → under k (small.bucket_entries nvm.pair.small (bytes_at older) bucket) ≡ o → With (Deleting k) (Read bucket) (Delete k) Reading → bytes_at older bucket ≡ Some bytes
       → Keeps config older (workers.after_take (taken_by nvm number bucket (Deleting k) (Read bucket) (Delete k) (Page bytes) (if is_some o then ToWrite (without k (small.bucket_entries nvm.pair.small (bytes_at older) bucket)) [] else ToEnd IsOver)) cache)
   delete_goes k bytes None p w read =
       let b = before-good config flash older cache nvm w.on w.nvm_is w.good in
@@ -143,7 +144,7 @@ module _ (config : Config) (flash : FlashConfig) (older : List Note) (cache : Ca
       keeps-from config older cache nvm number Failed taken w.nvm_is (finish-at nvm number bucket (Deleting k) (Read bucket) (Delete k) Reading Failed ToGiveUp w.at w.there refl)
       (keeps-over config flash older cache nvm taken number (Deleting k) w.on w.nvm_is w.good refl refl (none_for (Deleting k) (Read bucket) (Delete k) Reading w (λ k e. absurd (cc e))) (no-put (Deleting k)) over.small over.lawful over.ending)
 
-  pub delete_written : (k : List ℕ) (es : List PageEntry) → With (Deleting k) (Write bucket (page_bytes nvm.pair.small.flash.page es)) (Delete k) (Writing es []) → is_taken k nvm.tombstones ≡ true → Keeps config older (workers.finish number Written cache)
+  pub delete_written : (k : List ℕ) (es : List FlashEntry) → With (Deleting k) (Write bucket (page_bytes nvm.pair.small.flash.page es)) (Delete k) (Writing es []) → is_taken k nvm.tombstones ≡ true → Keeps config older (workers.finish number Written cache)
   delete_written k es w stone =
       let b = before-good config flash older cache nvm w.on w.nvm_is w.good in
       let order = Write bucket (page_bytes nvm.pair.small.flash.page es) in
@@ -152,7 +153,7 @@ module _ (config : Config) (flash : FlashConfig) (older : List Note) (cache : Ca
       keeps-from config older cache nvm number Written taken w.nvm_is (finish-at nvm number bucket (Deleting k) order (Delete k) (Writing es []) Written (ToKeep (word_of es) []) w.at w.there refl)
       (keeps-over config flash older cache nvm taken number (Deleting k) w.on w.nvm_is w.good refl refl (none_for (Deleting k) order (Delete k) (Writing es []) w (λ k e. absurd (cc e))) (no-put (Deleting k)) over.small over.lawful over.ending)
 
-  pub delete_write_failed : (k : List ℕ) (es : List PageEntry) (losses : List Loss) → With (Deleting k) (Write bucket (page_bytes nvm.pair.small.flash.page es)) (Delete k) (Writing es losses) → Keeps config older (workers.finish number Failed cache)
+  pub delete_write_failed : (k : List ℕ) (es : List FlashEntry) (losses : List Loss) → With (Deleting k) (Write bucket (page_bytes nvm.pair.small.flash.page es)) (Delete k) (Writing es losses) → Keeps config older (workers.finish number Failed cache)
   delete_write_failed k es losses w =
       let order = Write bucket (page_bytes nvm.pair.small.flash.page es) in
       let taken = taken_by nvm number bucket (Deleting k) order (Delete k) Failed ToGiveUp in

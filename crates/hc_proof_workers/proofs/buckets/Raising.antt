@@ -6,7 +6,7 @@ use Rattle.hc_types.specs.Config.{Config}
 use Rattle.hc_types.specs.Places.{bucket_at, kept_of}
 use Rattle.hc_types.specs.Tally.{count}
 use Rattle.hc_types.specs.declared.config.FlashConfig.{FlashConfig}
-use Rattle.hc_bighash.specs.Page.{PageEntry}
+use Rattle.hc_types.specs.FlashEntry.{FlashEntry}
 use Rattle.hc_engines.specs.Engine.{Pages, Op, Delete}
 use Rattle.hc_engines.specs.small.BigHash as bighash
 use Rattle.hc_engines.specs.small.BigHash.{is_busy, word_at}
@@ -120,7 +120,7 @@ module _ (config : Config) (flash : FlashConfig) (older : List Note) (memory : M
       buried_is : is_buried left key ≡ (is_buried nvm key && not (stands_in key gone))
       buried_is = stays-any key test nvm.tombstones (e.one_stone key)
 
-      moved : (w : Option PageEntry) (b : Bool) (s : Option PageEntry) → written_by key nvm.pair.small.jobs ≡ w → is_buried left key ≡ b → small.held nvm.pair.small (bytes_at older) key ≡ s
+      moved : (w : Option FlashEntry) (b : Bool) (s : Option FlashEntry) → written_by key nvm.pair.small.jobs ≡ w → is_buried left key ≡ b → small.held nvm.pair.small (bytes_at older) key ≡ s
           → Placed (linked_at key memory.pools) (put_at key nvm.queue) w b s (large.held nvm.pair.small.flash (bytes_at older) nvm.pair.large key) (entry_at (Some flash) older key) → PlacedOn flash newer memory left key
       moved w b s ew eb es p =
           placed_eq (linked_at key memory.pools) (linked_at key memory.pools) (put_at key nvm.queue) (put_at key nvm.queue) w (written_by key nvm.pair.small.jobs) b (is_buried left key) s (small.held nvm.pair.small (bytes_at newer) key)

@@ -5,7 +5,7 @@ use Rattle.std.specs.Str.{bytes_eq}
 use Rattle.std.proofs.lemmas.Bool.{eq-eqb}
 use Rattle.hc_types.specs.Places.{bucket_at}
 use Rattle.hc_types.specs.declared.config.FlashConfig.{FlashConfig}
-use Rattle.hc_bighash.proofs.Numbers.{some_is}
+use Rattle.hc_bucket.proofs.Numbers.{some_is}
 use Rattle.hc_engines.specs.Engine.{Pages, Op, Put, Get, Delete, Flush, Reclaim}
 use Rattle.hc_engines.specs.small.BigHash.{Job, is_busy, job_at, without_job, key_of}
 use Rattle.hc_engines.specs.small.Held.{JobsFit}

@@ -3,7 +3,7 @@ use Rattle.std.proofs.Common.{◌≡◌, ◌⊎◌, inl, inr, ℕ, ◌<◌, List
 use Rattle.std.specs.Prelude.{option_map}
 use Rattle.hc_types.specs.Config.{Config}
 use Rattle.hc_types.specs.declared.config.FlashConfig.{FlashConfig}
-use Rattle.hc_bighash.specs.Page.{PageEntry}
+use Rattle.hc_types.specs.FlashEntry.{FlashEntry}
 use Rattle.hc_engines.specs.Engine as engine
 use Rattle.hc_engines.specs.Engine.{Pages, Order, Read, Nothing, Absent, Loss, nothing}
 use Rattle.hc_engines.specs.small.BigHash as bighash
@@ -49,7 +49,7 @@ pub large-fits : (flash : FlashConfig) (older : List Note) (nvm : Nvm) → Engin
 large-fits flash older nvm e = record { sound = e.large_sound; fits = e.large_fits; reads = e.reads; regions = e.regions }
 
 -- what was found in the large engine
-found-large : (o : Option PageEntry) → found_in (answer_by o) ≡ o
+found-large : (o : Option FlashEntry) → found_in (answer_by o) ≡ o
 found-large None = refl
 found-large (Some e) = refl
 
@@ -96,7 +96,7 @@ module _ (ends : FillEnds) (tells : GetTells) (gives : GetGives) (config : Confi
   later = past older (first ∷ (holds (engine.outcome_of Nothing losses) (job_gone s number nvm)).part)
 
   -- it is answered at once
-  went_ended : Going → (a : Option PageEntry) → a ≡ large.held flash (bytes_at (past older (first ∷ (settled Filling (engine.outcome_of Absent losses) (job_gone s number nvm)).part))) nvm.pair.large k
+  went_ended : Going → (a : Option FlashEntry) → a ≡ large.held flash (bytes_at (past older (first ∷ (settled Filling (engine.outcome_of Absent losses) (job_gone s number nvm)).part))) nvm.pair.large k
       → Keeps config older (workers.after_take (went None (record nothing { answer = answer_by a }) nvm.pair.large) cache)
   went_ended g a is =
       let answer = (answer_by a) in
@@ -108,7 +108,7 @@ module _ (ends : FillEnds) (tells : GetTells) (gives : GetGives) (config : Confi
       let nowhere : small.held s (bytes_at after) k ≡ None = ap (λ (p : Pages). small.held s p k) pages ∙ g.nowhere in
       let in_large : (large.held s.flash (bytes_at after) nvm.pair.large k) ≡ a = ap (λ (c : FlashConfig). (large.held c (bytes_at after) nvm.pair.large k)) g.same ∙ (sym is) in
       let source : found_in answer ≡ first_of (small.held change.nvm.pair.small (bytes_at after) k) (large.held change.nvm.pair.small.flash (bytes_at after) change.nvm.pair.large k) =
-      found-large a ∙ sym in_large ∙ ap (λ (o : Option PageEntry). first_of o (large.held s.flash (bytes_at after) nvm.pair.large k)) (sym nowhere)
+      found-large a ∙ sym in_large ∙ ap (λ (o : Option FlashEntry). first_of o (large.held s.flash (bytes_at after) nvm.pair.large k)) (sym nowhere)
       ∙ ap (λ (p : Pair). first_of (small.held p.small (bytes_at after) k) (large.held p.small.flash (bytes_at after) p.large k)) (sym pair) in
       let unwritten : written_by k change.nvm.pair.small.jobs ≡ None = ap (λ (p : Pair). written_by k p.small.jobs) pair ∙ g.unwritten in
       let done : Keeps config older (workers.after_take (ended_take first number answer (settled Filling (engine.outcome_of answer losses) (job_gone s number nvm))) cache) =

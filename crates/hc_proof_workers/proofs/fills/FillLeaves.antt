@@ -3,7 +3,7 @@ use Rattle.std.proofs.Common.{◌≡◌, inr, ℕ, Bool, true, false, List, [], 
 use Rattle.std.specs.Prelude.{if◌then◌else◌, option_map}
 use Rattle.hc_types.specs.Config.{Config}
 use Rattle.hc_types.specs.declared.config.FlashConfig.{FlashConfig}
-use Rattle.hc_bighash.specs.Page.{PageEntry}
+use Rattle.hc_types.specs.FlashEntry.{FlashEntry}
 use Rattle.hc_engines.specs.large.Held as large
 use Rattle.hc_engines.specs.Engine.{Pages}
 use Rattle.hc_engines.specs.small.Held as small
@@ -48,7 +48,7 @@ key_at key (x ∷ fills) fill e = step (is_fill_of key x) refl e (λ f. key_at k
 
 -- ---- what the map has of a key that may be in the large engine alone
 
-map_large_alone : (i : Option Item) (q w s l : Option PageEntry) (b : Bool) (m : Option Entry) → i ≡ None → q ≡ None → w ≡ None → b ≡ false → s ≡ None → Placed i q w b s l m → m ≡ option_map map_of l
+map_large_alone : (i : Option Item) (q w s l : Option FlashEntry) (b : Bool) (m : Option Entry) → i ≡ None → q ≡ None → w ≡ None → b ≡ false → s ≡ None → Placed i q w b s l m → m ≡ option_map map_of l
 map_large_alone i q w s None b m ei eq ew eb es p = let h : Placed None None None false None None m = rw (ei, eq, ew, eb, es) at p in h
 map_large_alone i q w s (Some e) b m ei eq ew eb es p = let h : Placed None None None false None (Some e) m = rw (ei, eq, ew, eb, es) at p in h
 
@@ -58,9 +58,9 @@ flash_left (Some flash) older memory nvm key f = fill_leaves flash older memory 
 
 -- ---- the fill leaves
 
-pub fill_over : (config : Config) (older : List Note) (cache : Cache) (nvm : Nvm) (key : List ℕ) (fill : Fill) (found : Option PageEntry) → cache.nvm ≡ Some nvm → Agrees config older cache → fill_at key nvm.fills ≡ Some fill
+pub fill_over : (config : Config) (older : List Note) (cache : Cache) (nvm : Nvm) (key : List ℕ) (fill : Fill) (found : Option FlashEntry) → cache.nvm ≡ Some nvm → Agrees config older cache → fill_at key nvm.fills ≡ Some fill
     → written_by key nvm.pair.small.jobs ≡ None → small.held nvm.pair.small (bytes_at older) key ≡ None → found ≡ (large.held nvm.pair.small.flash (bytes_at older) nvm.pair.large key)
-    → ((e : PageEntry) → found ≡ Some e → e.key ≡ key) → RestsFrom config.flash older key
+    → ((e : FlashEntry) → found ≡ Some e → e.key ≡ key) → RestsFrom config.flash older key
     → Ends config older (refilled (without_fill key nvm.fills) nvm cache) key found fill.waiters
 fill_over config older cache nvm key fill found n g at unwritten nowhere is_large own rested =
     let o = opened config older cache nvm n g in
@@ -99,7 +99,7 @@ fill_over config older cache nvm key fill found n g at unwritten nowhere is_larg
       rested = rested;
     }
   where
-    stands : (o : Option PageEntry) → o ≡ (large.held nvm.pair.small.flash (bytes_at older) nvm.pair.large key) → ((e : PageEntry) → o ≡ Some e → e.key ≡ key) → is_buried nvm key ≡ false
+    stands : (o : Option FlashEntry) → o ≡ (large.held nvm.pair.small.flash (bytes_at older) nvm.pair.large key) → ((e : FlashEntry) → o ≡ Some e → e.key ≡ key) → is_buried nvm key ≡ false
         → Stands older (refilled (without_fill key nvm.fills) nvm cache) key o
     stands None e own b = tt
     stands (Some x) e own b = (own x refl, b, inr (sym e))

@@ -6,7 +6,7 @@ use Rattle.hc_types.specs.Places.{bucket_at}
 use Rattle.hc_types.specs.Tally.{count}
 use Rattle.hc_types.specs.declared.config.PoolSize.{PoolSize}
 use Rattle.hc_types.specs.declared.config.FlashConfig.{FlashConfig}
-use Rattle.hc_bighash.specs.Page.{PageEntry}
+use Rattle.hc_types.specs.FlashEntry.{FlashEntry}
 use Rattle.hc_engines.specs.Engine.{Get, Absent, Read, nothing}
 use Rattle.hc_engines.specs.small.BigHash as bighash
 use Rattle.hc_engines.specs.small.BigHash.{could_hold, is_busy}
@@ -73,7 +73,7 @@ fill_there test (x ∷ fills) fill e one = by (test x) e (λ f. fill_there test 
     by false e ih = behind (is_fill_of fill.key x) refl e one (ih e)
 
 -- what a get answers of what is held
-answered : (o : Option PageEntry) → found_in (answer_by o) ≡ o
+answered : (o : Option FlashEntry) → found_in (answer_by o) ≡ o
 answered None = refl
 answered (Some entry) = refl
 

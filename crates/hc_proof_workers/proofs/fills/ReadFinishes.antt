@@ -7,7 +7,7 @@ use Rattle.hc_types.specs.Loss as loss
 use Rattle.hc_types.specs.Places.{kept_of}
 use Rattle.hc_types.specs.Tally.{count}
 use Rattle.hc_types.specs.declared.config.FlashConfig.{FlashConfig}
-use Rattle.hc_bighash.specs.Page.{PageEntry}
+use Rattle.hc_types.specs.FlashEntry.{FlashEntry}
 use Rattle.hc_engines.specs.Engine as engine
 use Rattle.hc_engines.specs.large.Block as block
 use Rattle.hc_engines.specs.large.Block.{Block, Getting, work_of}
@@ -63,7 +63,7 @@ steady_join config older part more cache l s = record {
 
 -- ---- what the large engine holds has its key
 
-pub found_key : (flash : FlashConfig) (pages : Pages) (s : Block) (key : List ℕ) (found : Option PageEntry) (e : PageEntry) → found ≡ large.held flash pages s key → found ≡ Some e → e.key ≡ key
+pub found_key : (flash : FlashConfig) (pages : Pages) (s : Block) (key : List ℕ) (found : Option FlashEntry) (e : FlashEntry) → found ≡ large.held flash pages s key → found ≡ Some e → e.key ≡ key
 found_key flash pages s key found e is some = held_own flash pages s key e (sym is ∙ some)
 
 -- ---- the fill that a job brings is that of its key
@@ -226,12 +226,12 @@ module _ (ends : FillEnds) (config : Config) (older : List Note) (cache : Cache)
 
 -- ---- what it finds
 
-over_finds : (t : Bool) (held : Option PageEntry) (answer : engine.Answer) → answer ≡ (if t then answer_by held else engine.Absent) → (t ≡ false → held ≡ None) → found_in answer ≡ held
+over_finds : (t : Bool) (held : Option FlashEntry) (answer : engine.Answer) → answer ≡ (if t then answer_by held else engine.Absent) → (t ≡ false → held ≡ None) → found_in answer ≡ held
 over_finds true None answer e none = rw e refl
 over_finds true (Some x) answer e none = rw e refl
 over_finds false held answer e none = rw (e, none refl) refl
 
-kept_if : (b : Bool) (held : Option PageEntry) → b ≡ false → (if b then None else held) ≡ held
+kept_if : (b : Bool) (held : Option FlashEntry) → b ≡ false → (if b then None else held) ≡ held
 kept_if b held e = rw e refl
 
 -- ---- each result

@@ -6,7 +6,7 @@ use Rattle.hc_types.specs.declared.config.FlashConfig.{FlashConfig}
 use Rattle.hc_engines.specs.Engine as engine
 use Rattle.hc_engines.specs.large.Region.{Region, clean_region, is_draining, region_at}
 use Rattle.hc_types.specs.Places.{kept_of}
-use Rattle.hc_bighash.specs.Page.{PageEntry}
+use Rattle.hc_types.specs.FlashEntry.{FlashEntry}
 use Rattle.hc_engines.specs.Engine.{Failed, nothing}
 use Rattle.hc_engines.specs.large.Entries.{entry_in}
 use Rattle.hc_engines.specs.large.Index.{place_at, is_place}
@@ -57,7 +57,7 @@ none_lost s answer = record { cause = Fault; hashes = []; losses = refl; opened 
 answered_plain : (flash : FlashConfig) (reading : block.Reading) (s : Block) → Plain (steps.answered flash reading s).outcome
 answered_plain flash reading s = go (is_place (place_at (kept_of flash.bits reading.key) s.index) reading.place)
   where
-    by : (o : Option PageEntry) → Plain (steps.answer_of (kept_of flash.bits reading.key) reading.key s o).outcome
+    by : (o : Option FlashEntry) → Plain (steps.answer_of (kept_of flash.bits reading.key) reading.key s o).outcome
     by None = record { cause = Fault; hashes = kept_of flash.bits reading.key ∷ []; losses = refl; opened = refl }
     by (Some entry) = none_lost s (steps.own_entry reading.key entry)
 

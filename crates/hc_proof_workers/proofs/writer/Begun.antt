@@ -4,7 +4,7 @@ use Rattle.std.specs.Prelude.{if◌then◌else◌, option_map}
 use Rattle.hc_types.specs.Tally.{count}
 use Rattle.hc_types.specs.Places.{is_small_by}
 use Rattle.hc_types.specs.declared.config.FlashConfig.{FlashConfig}
-use Rattle.hc_bighash.specs.Page.{PageEntry}
+use Rattle.hc_types.specs.FlashEntry.{FlashEntry}
 use Rattle.hc_engines.specs.Engine.{Pages}
 use Rattle.hc_engines.proofs.large.Lists.{same_num}
 use Rattle.hc_engines.specs.large.Region.{region_len}
@@ -58,7 +58,7 @@ begun_key (Begin call client op ∷ older) key pages memory nvm calls all c fill
     subst (λ (k : List ℕ). put_at k nvm.queue ≡ None) same (asked_unqueued pages memory nvm call nvm.fills op fills asked)
 begun_key older key pages memory nvm calls all c fills h = absurd cc
 
-pub not-begun : (older : List Note) (key : List ℕ) (put : PageEntry) (pages : Pages) (memory : Memory) (nvm : Nvm) (calls : ℕ) (all : List Owed) → CallsTell older calls all nvm.fills → AllFill pages memory nvm nvm.fills → put_at key nvm.queue ≡ Some put → begins older key ≡ false
+pub not-begun : (older : List Note) (key : List ℕ) (put : FlashEntry) (pages : Pages) (memory : Memory) (nvm : Nvm) (calls : ℕ) (all : List Owed) → CallsTell older calls all nvm.fills → AllFill pages memory nvm nvm.fills → put_at key nvm.queue ≡ Some put → begins older key ≡ false
 not-begun older key put pages memory nvm calls all c fills here = go (begins older key) refl
   where
     go : (b : Bool) → begins older key ≡ b → b ≡ false
@@ -71,7 +71,7 @@ some_pages : (n page key value : ℕ) → nat_lt (n * page) (14 + key + value) �
 some_pages zero page key value h = absurd (grind (arith, h))
 some_pages (suc n) page key value h = omega arith
 
-pub large-fits : (flash : FlashConfig) (queue : List PageEntry) (put : PageEntry) → count (is_too_large flash) queue ≡ 0 → put_at put.key queue ≡ Some put → is_small_by flash put.key (length put.value) ≡ false → 0 < flash.region_pages
+pub large-fits : (flash : FlashConfig) (queue : List FlashEntry) (put : FlashEntry) → count (is_too_large flash) queue ≡ 0 → put_at put.key queue ≡ Some put → is_small_by flash put.key (length put.value) ≡ false → 0 < flash.region_pages
 large-fits flash queue put none here large = go (is_too_large flash put) refl
   where
     go : (b : Bool) → is_too_large flash put ≡ b → 0 < flash.region_pages

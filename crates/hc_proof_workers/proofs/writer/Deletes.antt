@@ -8,7 +8,7 @@ use Rattle.hc_types.specs.Places.{bucket_at, kept_of}
 use Rattle.hc_types.proofs.Tallies.{tally-push}
 use Rattle.hc_types.specs.declared.config.PoolSize.{PoolSize}
 use Rattle.hc_types.specs.declared.config.FlashConfig.{FlashConfig}
-use Rattle.hc_bighash.specs.Page.{PageEntry}
+use Rattle.hc_types.specs.FlashEntry.{FlashEntry}
 use Rattle.hc_engines.specs.Engine.{Delete, Over}
 use Rattle.hc_engines.specs.small.Entries.{under}
 use Rattle.hc_engines.specs.small.BigHash as bighash
@@ -120,7 +120,7 @@ fresh_holds : (nvm : Nvm) (older : List Note) (key : List ℕ) → word_at nvm.p
 fresh_holds nvm older key fresh = ap (λ (o : Option ℕ). under key (small.entries_at nvm.pair.small.flash.page o (bytes_at older (bucket_at nvm.pair.small.flash key)))) fresh
 
 -- at the key
-raised_there : (i : Option Item) (q w s l : Option PageEntry) (m : Option Entry) (b b2 : Bool) → b ≡ true → w ≡ None → s ≡ None → b2 ≡ false → Placed i q w b s l m → Placed i q w b2 s l m
+raised_there : (i : Option Item) (q w s l : Option FlashEntry) (m : Option Entry) (b b2 : Bool) → b ≡ true → w ≡ None → s ≡ None → b2 ≡ false → Placed i q w b s l m → Placed i q w b2 s l m
 raised_there i q w s l m b b2 eb ew es eb2 h =
     let before : Placed i q None true s l m = rw (eb, ew) at h in
     let after : Placed i q None false None l m = placed_raised i q s l m before in

@@ -9,7 +9,7 @@ use Rattle.hc_types.specs.Loss.{Collision}
 use Rattle.hc_types.specs.Places.{kept_of, is_small_by}
 use Rattle.hc_types.specs.declared.config.PoolSize.{PoolSize}
 use Rattle.hc_types.specs.declared.config.FlashConfig.{FlashConfig}
-use Rattle.hc_bighash.specs.Page.{PageEntry}
+use Rattle.hc_types.specs.FlashEntry.{FlashEntry}
 use Rattle.hc_engines.specs.Engine.{Pages, Loss, is_lost, left_of}
 use Rattle.hc_engines.specs.small.Held as small
 use Rattle.hc_engines.specs.large.Index.{Place, place_at}
@@ -46,7 +46,7 @@ none_left : {X : Type 0} (b : Bool) → ◌≡◌ {A = Option X} None (if b then
 none_left true = refl
 none_left false = refl
 
-lost_large : (flash : FlashConfig) (key k : List ℕ) (e : PageEntry) → e.key ≡ k → is_small_by flash e.key (length e.value) ≡ false → bytes_eq key k ≡ false → is_lost flash (collision flash key ∷ []) e ≡ (kept_of flash.bits k == kept_of flash.bits key)
+lost_large : (flash : FlashConfig) (key k : List ℕ) (e : FlashEntry) → e.key ≡ k → is_small_by flash e.key (length e.value) ≡ false → bytes_eq key k ≡ false → is_lost flash (collision flash key ∷ []) e ≡ (kept_of flash.bits k == kept_of flash.bits key)
 lost_large flash key k e own big o =
     let apart : bytes_eq key e.key ≡ false = ap (bytes_eq key) own ∙ o in
     let hash : (kept_of flash.bits e.key == kept_of flash.bits key) ≡ (kept_of flash.bits k == kept_of flash.bits key) = ap (λ (c : List ℕ). kept_of flash.bits c == kept_of flash.bits key) own in
@@ -55,13 +55,13 @@ lost_large flash key k e own big o =
     by : (s h o : Bool) → s ≡ false → o ≡ false → ((true && ((not s && h) && not o)) || false) ≡ h
     by s h o e f = grind arith
 
-pub collision_left : (flash : FlashConfig) (key k : List ℕ) (l : Option PageEntry) → IsOwn k l → IsLarge flash l → bytes_eq key k ≡ false → (if kept_of flash.bits k == kept_of flash.bits key then None else l) ≡ left_of flash (collision flash key ∷ []) l
+pub collision_left : (flash : FlashConfig) (key k : List ℕ) (l : Option FlashEntry) → IsOwn k l → IsLarge flash l → bytes_eq key k ≡ false → (if kept_of flash.bits k == kept_of flash.bits key then None else l) ≡ left_of flash (collision flash key ∷ []) l
 collision_left flash key k None own big o = sym (none_left (kept_of flash.bits k == kept_of flash.bits key))
 collision_left flash key k (Some e) own big o = ap (λ (b : Bool). if b then None else Some e) (sym (lost_large flash key k e own big o))
 
 -- ---- what the large engine holds under other keys
 
-pub other_held : (flash : FlashConfig) (entry : PageEntry) (k : List ℕ) (was : Option PageEntry) → bytes_eq entry.key k ≡ false → after_put flash entry k was ≡ (if kept_of flash.bits k == kept_of flash.bits entry.key then None else was)
+pub other_held : (flash : FlashConfig) (entry : FlashEntry) (k : List ℕ) (was : Option FlashEntry) → bytes_eq entry.key k ≡ false → after_put flash entry k was ≡ (if kept_of flash.bits k == kept_of flash.bits entry.key then None else was)
 other_held flash entry k was o = rw o refl
 
 pub no_place : (flash : FlashConfig) (pages : Pages) (s : Block) (key k : List ℕ) → place_at (kept_of flash.bits key) s.index ≡ None → (if kept_of flash.bits k == kept_of flash.bits key then None else large.held flash pages s k) ≡ large.held flash pages s k
@@ -75,13 +75,13 @@ no_place flash pages s key k none = by (kept_of flash.bits k == kept_of flash.bi
 
 -- ---- at the key
 
-large_there : (i i2 : Option Item) (q q2 w s l l2 : Option PageEntry) (m m2 : Option Entry) (b : Bool) (put : PageEntry) → q ≡ Some put → q2 ≡ None → l2 ≡ Some put → i2 ≡ i → m2 ≡ m → Placed i q w b s l m → Placed i2 q2 w b s l2 m2
+large_there : (i i2 : Option Item) (q q2 w s l l2 : Option FlashEntry) (m m2 : Option Entry) (b : Bool) (put : FlashEntry) → q ≡ Some put → q2 ≡ None → l2 ≡ Some put → i2 ≡ i → m2 ≡ m → Placed i q w b s l m → Placed i2 q2 w b s l2 m2
 large_there i i2 q q2 w s l l2 m m2 b put eq eq2 el2 ei em h =
     let before : Placed i (Some put) w b s l m = rw eq at h in
     let after : Placed i None w b s (Some put) m = placed_large i put w s l m b before in
     rw (eq2, el2, ei, em) after
 
-pub unplaced_there : (i i2 : Option Item) (q q2 w s l : Option PageEntry) (m m2 : Option Entry) (b : Bool) (put : PageEntry) → q ≡ Some put → q2 ≡ None → (i ≡ None → i2 ≡ None) → (i ≡ None → m2 ≡ None) → Placed i q w b s l m → Placed i2 q2 w b s l m2
+pub unplaced_there : (i i2 : Option Item) (q q2 w s l : Option FlashEntry) (m m2 : Option Entry) (b : Bool) (put : FlashEntry) → q ≡ Some put → q2 ≡ None → (i ≡ None → i2 ≡ None) → (i ≡ None → m2 ≡ None) → Placed i q w b s l m → Placed i2 q2 w b s l m2
 unplaced_there i i2 q q2 w s l m m2 b put eq eq2 ei em h =
     let before : Placed i (Some put) w b s l m = rw eq at h in
     let none : i ≡ None = none_of i (queued_alone i put w s l m b before).0 in
@@ -95,7 +95,7 @@ unplaced_there i i2 q q2 w s l m m2 b put eq eq2 ei em h =
 
 -- ---- all together
 
-module _ (pools : List PoolSize) (flash : FlashConfig) (older after : List Note) (losses : List Loss) (cache : Cache) (nvm : Nvm) (put : PageEntry) (new : Block) where
+module _ (pools : List PoolSize) (flash : FlashConfig) (older after : List Note) (losses : List Loss) (cache : Cache) (nvm : Nvm) (put : FlashEntry) (new : Block) where
   abbrev newer : List Note
   newer = lost losses after
 

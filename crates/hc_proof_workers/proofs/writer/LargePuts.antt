@@ -8,7 +8,7 @@ use Rattle.hc_types.specs.Loss.{NoCleanRegion}
 use Rattle.hc_types.specs.Places.{kept_of, is_small_by}
 use Rattle.hc_types.specs.declared.config.PoolSize.{PoolSize}
 use Rattle.hc_types.specs.declared.config.FlashConfig.{FlashConfig}
-use Rattle.hc_bighash.specs.Page.{PageEntry}
+use Rattle.hc_types.specs.FlashEntry.{FlashEntry}
 use Rattle.hc_engines.specs.Engine.{Pages, Loss, left_of, Put}
 use Rattle.hc_engines.specs.small.BigHash as bighash
 use Rattle.hc_engines.proofs.small.Losses.{left-none}
@@ -60,9 +60,9 @@ opened_is key older r = record { charges = refl; waiting = refl; writing = refl;
 
 -- ---- what is held after it is large
 
-large_of : (flash : FlashConfig) (k : List ℕ) (put e : PageEntry) (was : Option PageEntry) (room hash own : Bool) → (own ≡ true → is_small_by flash k (length put.value) ≡ false) → (was ≡ Some e → is_small_by flash k (length e.value) ≡ false)
+large_of : (flash : FlashConfig) (k : List ℕ) (put e : FlashEntry) (was : Option FlashEntry) (room hash own : Bool) → (own ≡ true → is_small_by flash k (length put.value) ≡ false) → (was ≡ Some e → is_small_by flash k (length e.value) ≡ false)
     → (if room then (if hash then (if own then Some put else None) else was) else was) ≡ Some e → is_small_by flash k (length e.value) ≡ false
-large_of flash k put e was true true true mine theirs h = let same : put ≡ e = cc in subst (λ (x : PageEntry). is_small_by flash k (length x.value) ≡ false) same (mine refl)
+large_of flash k put e was true true true mine theirs h = let same : put ≡ e = cc in subst (λ (x : FlashEntry). is_small_by flash k (length x.value) ≡ false) same (mine refl)
 large_of flash k put e was true true false mine theirs h = absurd cc
 large_of flash k put e was true false own mine theirs h = theirs h
 large_of flash k put e was false hash own mine theirs h = theirs h
@@ -70,7 +70,7 @@ large_of flash k put e was false hash own mine theirs h = theirs h
 not_covered : (a b c : Bool) → c ≡ true → (((a && b) && not c) || false) ≡ false
 not_covered a b c e = grind arith
 
-module _ (pools : List PoolSize) (flash : FlashConfig) (older : List Note) (cache : Cache) (nvm : Nvm) (put : PageEntry) where
+module _ (pools : List PoolSize) (flash : FlashConfig) (older : List Note) (cache : Cache) (nvm : Nvm) (put : FlashEntry) where
   abbrev s : Block
   s = nvm.pair.large
 
@@ -235,14 +235,14 @@ put_is_of flash key k false (Some entry) h = by (is_small_by flash key (length e
     by false h = h
 
 -- no fill is of a key that waits
-no_fill : (pages : Pages) (memory : Memory) (nvm : Nvm) (put : PageEntry) (key : List ℕ) (fills : List Fill) → put_at key nvm.queue ≡ Some put → AllFill pages memory nvm fills → fill_at key fills ≡ None
+no_fill : (pages : Pages) (memory : Memory) (nvm : Nvm) (put : FlashEntry) (key : List ℕ) (fills : List Fill) → put_at key nvm.queue ≡ Some put → AllFill pages memory nvm fills → fill_at key fills ≡ None
 no_fill pages memory nvm put key [] here h = refl
 no_fill pages memory nvm put key (fill ∷ fills) here h = by (bytes_eq fill.key key) (bytes_eq-sym fill.key key ∙ differs key fill.key nvm.queue put here h.0.unqueued) (no_fill pages memory nvm put key fills here h.1)
   where
     by : (b : Bool) → b ≡ false → fill_at key fills ≡ None → (if b then Some fill else fill_at key fills) ≡ None
     by b e rest = rw e rest
 
-module _ (pools : List PoolSize) (flash : FlashConfig) (older : List Note) (cache : Cache) (nvm : Nvm) (put : PageEntry) where
+module _ (pools : List PoolSize) (flash : FlashConfig) (older : List Note) (cache : Cache) (nvm : Nvm) (put : FlashEntry) where
   own_rested : FlashGood flash older cache.memory nvm → put_at put.key nvm.queue ≡ Some put → (key : List ℕ) → is_large_of key (put_from flash older put.key) ≡ true → fill_at key nvm.fills ≡ None
   own_rested f here key h =
       let same : put.key ≡ key = same_bytes put.key key (put_is_of flash put.key key (begins older put.key) (entry_at (Some flash) older put.key) h) in
@@ -273,7 +273,7 @@ module _ (put_tells : PutTells) where
       let big : is_small_by flash put.key (length put.value) ≡ false = subst (λ (c : FlashConfig). is_small_by c put.key (length put.value) ≡ false) same is_large in
       let sized = put-sized pools flash older cache nvm put g.agrees here in
       let entry = put-entry pools flash older cache nvm put g.agrees here in
-      let among : is_among put.key (waiting older) ≡ true = waits-is older nvm put.key f.waits ∙ ap (λ (o : Option PageEntry). is_some o) here in
+      let among : is_among put.key (waiting older) ≡ true = waits-is older nvm put.key f.waits ∙ ap (λ (o : Option FlashEntry). is_some o) here in
       let some : 0 < flash.region_pages = subst (λ (c : FlashConfig). 0 < c.region_pages) same (large-fits nvm.pair.small.flash nvm.queue put f.waits.can_put here is_large) in
       let told : PutTold (conf pools flash) flash older put nvm.pair.large =
       put_tells (conf pools flash) flash older put nvm.pair.large refl some among (not-begun older put.key put (bytes_at older) cache.memory nvm cache.calls cache.owed g.agrees.calls f.fills.each here) (put-mapped pools flash older cache nvm put.key put g.agrees here) big

@@ -7,7 +7,7 @@ use Rattle.hc_types.specs.Places.{kept_of, is_small_by}
 use Rattle.hc_types.specs.Tally.{tally}
 use Rattle.hc_types.specs.declared.config.PoolSize.{PoolSize}
 use Rattle.hc_types.specs.declared.config.FlashConfig.{FlashConfig}
-use Rattle.hc_bighash.specs.Page.{PageEntry}
+use Rattle.hc_types.specs.FlashEntry.{FlashEntry}
 use Rattle.hc_engines.specs.Engine.{Pages, Loss, Order, Write}
 use Rattle.hc_engines.specs.small.BigHash as bighash
 use Rattle.hc_engines.specs.small.Held as small
@@ -58,7 +58,7 @@ pub record LargeAfter (flash : FlashConfig) (older newer : List Note) (key : Lis
   pub sound : Sound flash new
   pub fits : Fits flash (bytes_at older) new
   pub reads : ReadsHold flash (bytes_at older) new new.jobs
-  pub large_ones : (k : List ℕ) (e : PageEntry) → large.held flash (bytes_at older) new k ≡ Some e → is_small_by flash k (length e.value) ≡ false
+  pub large_ones : (k : List ℕ) (e : FlashEntry) → large.held flash (bytes_at older) new k ≡ Some e → is_small_by flash k (length e.value) ≡ false
   pub pages : bytes_at newer ≡ bytes_at older
   pub entries : bucket_entries flash newer ≡ bucket_entries flash older
   pub others : OthersStay each s new
@@ -89,7 +89,7 @@ jobs_large nvm key new o j = record { run = all nvm.jobs j.run; one = j.one; fre
 
 -- ---- all together
 
-module _ (pools : List PoolSize) (flash : FlashConfig) (older after : List Note) (losses : List Loss) (cache : Cache) (nvm : Nvm) (put : PageEntry) (new : Block) where
+module _ (pools : List PoolSize) (flash : FlashConfig) (older after : List Note) (losses : List Loss) (cache : Cache) (nvm : Nvm) (put : FlashEntry) (new : Block) where
   abbrev pub nvm_after : Nvm
   nvm_after = with_large nvm put.key new
 
@@ -188,7 +188,7 @@ module _ (pools : List PoolSize) (flash : FlashConfig) (older after : List Note)
             large_fits = subst (λ (pages : Pages). Fits flash pages new) (sym l.pages) l.fits;
             reads = subst (λ (pages : Pages). ReadsHold flash pages new new.jobs) (sym l.pages) l.reads;
             regions = l.tells;
-            buckets = λ bucket within. ap (λ (of : ℕ → List PageEntry). of bucket) l.entries ∙ f.engines.buckets bucket within ∙ ap (λ (pages : Pages). small.bucket_entries nvm.pair.small pages bucket) (sym l.pages);
+            buckets = λ bucket within. ap (λ (of : ℕ → List FlashEntry). of bucket) l.entries ∙ f.engines.buckets bucket within ∙ ap (λ (pages : Pages). small.bucket_entries nvm.pair.small pages bucket) (sym l.pages);
             large_ones = λ key e h. l.large_ones key e (ap (λ (pages : Pages). large.held flash pages new key) (sym l.pages) ∙ h);
           };
           waits = waits_pass after newer nvm_after b (waits_after g u);

@@ -8,7 +8,7 @@ use Rattle.hc_types.specs.declared.config.FlashConfig.{FlashConfig}
 use Rattle.hc_types.specs.Places.{bucket_at}
 use Rattle.hc_types.specs.Tally.{count}
 use Rattle.hc_types.proofs.Tallies.{tally-push}
-use Rattle.hc_bighash.specs.Page.{PageEntry}
+use Rattle.hc_types.specs.FlashEntry.{FlashEntry}
 use Rattle.hc_engines.specs.Engine.{Op, Put, Get, Delete, Flush, Reclaim, Order, Pages}
 use Rattle.hc_engines.specs.small.BigHash as bighash
 use Rattle.hc_engines.specs.small.BigHash.{Phase, is_busy, key_of}
@@ -31,7 +31,7 @@ abbrev pub own_job : Nvm → Task → Op → Phase → Job
 own_job nvm task op phase = record { number = nvm.made + 1; task = task; order = small_order nvm.pair (job_for nvm.pair.small (nvm.made + 1) op phase) }
 
 -- the state with one job more, with these puts, tombstones and fills
-abbrev pub with_job : Nvm → List PageEntry → List Tombstone → List Fill → Task → Op → Phase → Nvm
+abbrev pub with_job : Nvm → List FlashEntry → List Tombstone → List Fill → Task → Op → Phase → Nvm
 with_job nvm queue stones fills task op phase = record {
   pair = record { small = with_one nvm.pair.small (nvm.made + 1) op phase; large = nvm.pair.large };
   queue = queue;
@@ -52,7 +52,7 @@ job-push n (j ∷ jobs) job = step (j.number == n) (job-push n jobs job)
     step true h = refl
     step false h = h
 
-first-first : (a b c : Option PageEntry) → first_of a (first_of b c) ≡ first_of (first_of a b) c
+first-first : (a b c : Option FlashEntry) → first_of a (first_of b c) ≡ first_of (first_of a b) c
 first-first None b c = refl
 first-first (Some x) b c = refl
 
@@ -81,10 +81,10 @@ pub not-written : (flash : FlashConfig) (words : ℕ → Option ℕ) (pages : Pa
 not-written flash words pages key [] fit free = refl
 not-written flash words pages key (job ∷ jobs) fit free =
     let two = or_false (job.bucket == bucket_at flash key) (is_busy (bucket_at flash key) jobs) free in
-    ap (λ (o : Option PageEntry). first_of o (written_by key jobs)) (put_busy flash key job.op job.bucket fit.0.2 two.0) ∙ not-written flash words pages key jobs fit.3 two.1
+    ap (λ (o : Option FlashEntry). first_of o (written_by key jobs)) (put_busy flash key job.op job.bucket fit.0.2 two.0) ∙ not-written flash words pages key jobs fit.3 two.1
 
 -- a put that is under way by its number is being written
-some_first : (a b : Option PageEntry) → (is_some a ≡ true) ⊎ (is_some b ≡ true) → is_some (first_of a b) ≡ true
+some_first : (a b : Option FlashEntry) → (is_some a ≡ true) ⊎ (is_some b ≡ true) → is_some (first_of a b) ≡ true
 some_first None b (inl h) = absurd cc
 some_first None b (inr h) = h
 some_first (Some x) b h = refl
@@ -121,7 +121,7 @@ both-none : {X : Type 0} (a b : Option X) → first_of a b ≡ None → (a ≡ N
 both-none None b h = (refl, h)
 both-none (Some x) b h = absurd cc
 
-runs_still : (nvm : Nvm) (queue : List PageEntry) (stones : List Tombstone) (fills : List Fill) (task : Task) (op : Op) (phase : Phase) → ((key : List ℕ) → is_taken key nvm.tombstones ≡ true → is_taken key stones ≡ true)
+runs_still : (nvm : Nvm) (queue : List FlashEntry) (stones : List Tombstone) (fills : List Fill) (task : Task) (op : Op) (phase : Phase) → ((key : List ℕ) → is_taken key nvm.tombstones ≡ true → is_taken key stones ≡ true)
     → (t : Task) (order : Order) (job : Option bighash.Job) (work : Option block.Work) → RunsAs nvm t order job work → RunsAs (with_job nvm queue stones fills task op phase) t order job work
 runs_still nvm queue stones fills task op phase taken (Putting key) order (Some job) None h = h
 runs_still nvm queue stones fills task op phase taken (Deleting key) order (Some job) None h = (h.0, taken key h.1, h.2)
@@ -135,7 +135,7 @@ run-push nvm [] job all one = (one, tt)
 run-push nvm (j ∷ jobs) job all one = (all.0, run-push nvm jobs job all.1 one)
 
 -- the job that begins is the engine's, and the others go on
-pub jobs_more : (nvm : Nvm) (queue : List PageEntry) (stones : List Tombstone) (fills : List Fill) (task : Task) (op : Op) (phase : Phase) → JobsRun nvm → ((key : List ℕ) → is_taken key nvm.tombstones ≡ true → is_taken key stones ≡ true)
+pub jobs_more : (nvm : Nvm) (queue : List FlashEntry) (stones : List Tombstone) (fills : List Fill) (task : Task) (op : Op) (phase : Phase) → JobsRun nvm → ((key : List ℕ) → is_taken key nvm.tombstones ≡ true → is_taken key stones ≡ true)
     → RunsAs (with_job nvm queue stones fills task op phase) task (small_order nvm.pair (job_for nvm.pair.small (nvm.made + 1) op phase)) (Some (job_for nvm.pair.small (nvm.made + 1) op phase)) None
     → JobsRun (with_job nvm queue stones fills task op phase)
 jobs_more nvm queue stones fills task op phase j taken mine = record {
@@ -201,7 +201,7 @@ jobs_more nvm queue stones fills task op phase j taken mine = record {
 
 -- ---- the fills
 
-brings_still : (pages : Pages) (nvm : Nvm) (queue : List PageEntry) (stones : List Tombstone) (fills : List Fill) (task : Task) (op : Op) (phase : Phase) (key : List ℕ) (number : ℕ) → JobsRun nvm → put_in key op ≡ None
+brings_still : (pages : Pages) (nvm : Nvm) (queue : List FlashEntry) (stones : List Tombstone) (fills : List Fill) (task : Task) (op : Op) (phase : Phase) (key : List ℕ) (number : ℕ) → JobsRun nvm → put_in key op ≡ None
     → (a : Option bighash.Job) (w : Option block.Work) → small_job nvm number ≡ a → large_work nvm number ≡ w → Brings pages nvm key a w
     → Brings pages (with_job nvm queue stones fills task op phase) key (small_job (with_job nvm queue stones fills task op phase) number) w
 brings_still pages nvm queue stones fills task op phase key number j no_put (Some x) None e f h =
@@ -226,12 +226,12 @@ brings_still pages nvm queue stones fills task op phase key number j no_put None
 brings_still pages nvm queue stones fills task op phase key number j no_put None None e f h = absurd h
 brings_still pages nvm queue stones fills task op phase key number j no_put (Some x) (Some w) e f h = absurd h
 
-brings_if : (pages : Pages) (nvm : Nvm) (queue : List PageEntry) (stones : List Tombstone) (fills : List Fill) (task : Task) (op : Op) (phase : Phase) (key : List ℕ) (job : Option ℕ) → JobsRun nvm → put_in key op ≡ None → BringsIf pages nvm key job → BringsIf pages (with_job nvm queue stones fills task op phase) key job
+brings_if : (pages : Pages) (nvm : Nvm) (queue : List FlashEntry) (stones : List Tombstone) (fills : List Fill) (task : Task) (op : Op) (phase : Phase) (key : List ℕ) (job : Option ℕ) → JobsRun nvm → put_in key op ≡ None → BringsIf pages nvm key job → BringsIf pages (with_job nvm queue stones fills task op phase) key job
 brings_if pages nvm queue stones fills task op phase key None j no_put h = tt
 brings_if pages nvm queue stones fills task op phase key (Some number) j no_put h = brings_still pages nvm queue stones fills task op phase key number j no_put (small_job nvm number) (large_work nvm number) refl refl h
 
 -- the fills stay, where their keys still don't wait and aren't buried, and none of them is written
-pub fills_more : (pages : Pages) (memory : Memory) (nvm : Nvm) (queue : List PageEntry) (stones : List Tombstone) (task : Task) (op : Op) (phase : Phase) → JobsRun nvm → FillsHold pages memory nvm
+pub fills_more : (pages : Pages) (memory : Memory) (nvm : Nvm) (queue : List FlashEntry) (stones : List Tombstone) (task : Task) (op : Op) (phase : Phase) → JobsRun nvm → FillsHold pages memory nvm
     → ((key : List ℕ) → put_at key nvm.queue ≡ None → put_at key queue ≡ None) → ((key : List ℕ) → stands_in key nvm.tombstones ≡ false → stands_in key stones ≡ false) → ((key : List ℕ) → put_at key nvm.queue ≡ None → put_in key op ≡ None)
     → FillsHold pages memory (with_job nvm queue stones nvm.fills task op phase)
 fills_more pages memory nvm queue stones task op phase j f unqueued unburied unwritten = record { each = each nvm.fills f.each; one = f.one; one_each = f.one_each; one_add = f.one_add }

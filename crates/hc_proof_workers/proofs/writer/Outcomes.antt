@@ -3,7 +3,7 @@ use Rattle.std.proofs.Common.{◌≡◌, ℕ, not, List, [], ◌∷◌, ◌++◌
 use Rattle.std.proofs.lemmas.List.{append-nil}
 use Rattle.hc_types.specs.declared.config.FlashConfig.{FlashConfig}
 use Rattle.hc_types.specs.Places.{kept_of}
-use Rattle.hc_bighash.specs.Page.{PageEntry}
+use Rattle.hc_types.specs.FlashEntry.{FlashEntry}
 use Rattle.hc_engines.specs.Engine as engine
 use Rattle.hc_engines.specs.Engine.{Outcome, Done}
 use Rattle.hc_engines.specs.large.Entries.{entry_bytes}
@@ -26,20 +26,20 @@ pub record IsQuiet (outcome : Outcome) : Type 0 where
   pub cleared : outcome.cleared ≡ None
   pub given_up : bucket_lost outcome.losses ≡ None
 
-quiet_stored : (flash : FlashConfig) (entry : PageEntry) (old : Block) (opened : Option ℕ) (s : Block) (o : Option Place) → place_at (kept_of flash.bits entry.key) old.index ≡ o
+quiet_stored : (flash : FlashConfig) (entry : FlashEntry) (old : Block) (opened : Option ℕ) (s : Block) (o : Option Place) → place_at (kept_of flash.bits entry.key) old.index ≡ o
     → IsQuiet (record engine.nothing { answer = engine.Over; losses = collided (kept_of flash.bits entry.key) entry.key o; opened = opened })
 quiet_stored flash entry old opened s None e = record { flushed = refl; cleared = refl; given_up = refl }
 quiet_stored flash entry old opened s (Some place) e = record { flushed = refl; cleared = refl; given_up = refl }
 
-quiet_fresh : (flash : FlashConfig) (entry : PageEntry) (s : Block) (o : Option ℕ) → IsQuiet (put_fresh flash entry s o).outcome
+quiet_fresh : (flash : FlashConfig) (entry : FlashEntry) (s : Block) (o : Option ℕ) → IsQuiet (put_fresh flash entry s o).outcome
 quiet_fresh flash entry s None = record { flushed = refl; cleared = refl; given_up = refl }
 quiet_fresh flash entry s (Some r) = quiet_stored flash entry s (Some r) (append flash r entry (open_next r s)) (place_at (kept_of flash.bits entry.key) s.index) refl
 
-quiet_into : (flash : FlashConfig) (entry : PageEntry) (s : Block) (o : Option ℕ) → IsQuiet (put_into flash entry s o).outcome
+quiet_into : (flash : FlashConfig) (entry : FlashEntry) (s : Block) (o : Option ℕ) → IsQuiet (put_into flash entry s o).outcome
 quiet_into flash entry s None = quiet_fresh flash entry s (lowest_clean 0 s.regions)
 quiet_into flash entry s (Some r) = quiet_stored flash entry s None (append flash r entry s) (place_at (kept_of flash.bits entry.key) s.index) refl
 
-pub put-quiet : (flash : FlashConfig) (entry : PageEntry) (s : Block) → IsQuiet (put flash entry s).outcome
+pub put-quiet : (flash : FlashConfig) (entry : FlashEntry) (s : Block) → IsQuiet (put flash entry s).outcome
 put-quiet flash entry s = quiet_into flash entry s (fitting flash s (length (entry_bytes entry)) s.current)
 
 part_is : (pre : List Note) (gone : List Tombstone) (flushed cleared : Option ℕ) → gone ≡ [] → flushed ≡ None → cleared ≡ None

@@ -7,7 +7,7 @@ use Rattle.hc_types.specs.Tally.{count}
 use Rattle.hc_types.proofs.Tallies.{tally-push}
 use Rattle.hc_types.specs.declared.config.PoolSize.{PoolSize}
 use Rattle.hc_types.specs.declared.config.FlashConfig.{FlashConfig}
-use Rattle.hc_bighash.specs.Page.{PageEntry}
+use Rattle.hc_types.specs.FlashEntry.{FlashEntry}
 use Rattle.hc_engines.specs.Engine.{Put}
 use Rattle.hc_engines.specs.small.Sound.{IsEntry}
 use Rattle.hc_engines.specs.small.BigHash as bighash
@@ -47,18 +47,18 @@ use Rattle.hc_proof_frames.proofs.losses.Agreements.{or_swap}
 -- ---- what the state says of a put that waits
 
 -- what the map has of it
-pub put-mapped : (pools : List PoolSize) (flash : FlashConfig) (older : List Note) (cache : Cache) (nvm : Nvm) (key : List ℕ) (put : PageEntry) → Agrees (conf pools flash) older (with_nvm nvm cache) → put_at key nvm.queue ≡ Some put → entry_at (Some flash) older key ≡ Some (map_of put)
+pub put-mapped : (pools : List PoolSize) (flash : FlashConfig) (older : List Note) (cache : Cache) (nvm : Nvm) (key : List ℕ) (put : FlashEntry) → Agrees (conf pools flash) older (with_nvm nvm cache) → put_at key nvm.queue ≡ Some put → entry_at (Some flash) older key ≡ Some (map_of put)
 put-mapped pools flash older cache nvm key put g here =
     by (linked_at key cache.memory.pools) (put_at key nvm.queue) (written_at (Some nvm) key) (small_at (bytes_at older) (Some nvm) key) (large_at (bytes_at older) (Some nvm) key) (entry_at (Some flash) older key) (is_buried nvm key) here (g.placed key)
   where
-    by : (i : Option Item) (q w s l : Option PageEntry) (m : Option Entry) (b : Bool) → q ≡ Some put → Placed i q w b s l m → m ≡ Some (map_of put)
+    by : (i : Option Item) (q w s l : Option FlashEntry) (m : Option Entry) (b : Bool) → q ≡ Some put → Placed i q w b s l m → m ≡ Some (map_of put)
     by i q w s l m b e h = let p : Placed i (Some put) w b s l m = rw e at h in map_queued i put w s l m b p
 
 -- it can be put
-pub put-sized : (pools : List PoolSize) (flash : FlashConfig) (older : List Note) (cache : Cache) (nvm : Nvm) (put : PageEntry) → Agrees (conf pools flash) older (with_nvm nvm cache) → put_at put.key nvm.queue ≡ Some put → IsSized put.key put.value put.expiry
+pub put-sized : (pools : List PoolSize) (flash : FlashConfig) (older : List Note) (cache : Cache) (nvm : Nvm) (put : FlashEntry) → Agrees (conf pools flash) older (with_nvm nvm cache) → put_at put.key nvm.queue ≡ Some put → IsSized put.key put.value put.expiry
 put-sized pools flash older cache nvm put g here = subst (EntrySized put.key) (put-mapped pools flash older cache nvm put.key put g here) (g.sized put.key)
 
-pub put-entry : (pools : List PoolSize) (flash : FlashConfig) (older : List Note) (cache : Cache) (nvm : Nvm) (put : PageEntry) → Agrees (conf pools flash) older (with_nvm nvm cache) → put_at put.key nvm.queue ≡ Some put → IsEntry put
+pub put-entry : (pools : List PoolSize) (flash : FlashConfig) (older : List Note) (cache : Cache) (nvm : Nvm) (put : FlashEntry) → Agrees (conf pools flash) older (with_nvm nvm cache) → put_at put.key nvm.queue ≡ Some put → IsEntry put
 put-entry pools flash older cache nvm put g here =
     let f : FlashGood flash older cache.memory nvm = g.flash in
     let sized = put-sized pools flash older cache nvm put g here in
@@ -69,11 +69,11 @@ put-entry pools flash older cache nvm put g here =
 -- ---- what the books say of a small put that was taken
 
 -- it is no large put
-small_of : (flash : FlashConfig) (key : List ℕ) (put : PageEntry) (o : Option Entry) (b : Bool) → o ≡ Some (map_of put) → is_small_by flash key (length put.value) ≡ true → ◌≡◌ {A = Option Filed} (if b then None else put_of flash key o) None
+small_of : (flash : FlashConfig) (key : List ℕ) (put : FlashEntry) (o : Option Entry) (b : Bool) → o ≡ Some (map_of put) → is_small_by flash key (length put.value) ≡ true → ◌≡◌ {A = Option Filed} (if b then None else put_of flash key o) None
 small_of flash key put o true e s = refl
 small_of flash key put o false e s = rw (e, s) refl
 
-pub small-unfiled : (flash : FlashConfig) (older : List Note) (key : List ℕ) (put : PageEntry) → entry_at (Some flash) older key ≡ Some (map_of put) → is_small_by flash key (length put.value) ≡ true → put_from flash older key ≡ None
+pub small-unfiled : (flash : FlashConfig) (older : List Note) (key : List ℕ) (put : FlashEntry) → entry_at (Some flash) older key ≡ Some (map_of put) → is_small_by flash key (length put.value) ≡ true → put_from flash older key ≡ None
 small-unfiled flash older key put e s = small_of flash key put (entry_at (Some flash) older key) (begins older key) e s
 
 -- so the regions' books stay
@@ -92,13 +92,13 @@ not_some : {X : Type 0} (o : Option X) → o ≡ None → is_some o ≡ true →
 not_some o e h = absurd (cc)
 
 -- at the key
-taken_there : (i : Option Item) (q w s l q2 w2 : Option PageEntry) (m : Option Entry) (b : Bool) (put : PageEntry) → q ≡ Some put → q2 ≡ None → w2 ≡ Some put → Placed i q w b s l m → Placed i q2 w2 b s l m
+taken_there : (i : Option Item) (q w s l q2 w2 : Option FlashEntry) (m : Option Entry) (b : Bool) (put : FlashEntry) → q ≡ Some put → q2 ≡ None → w2 ≡ Some put → Placed i q w b s l m → Placed i q2 w2 b s l m
 taken_there i q w s l q2 w2 m b put eq eq2 ew2 h =
     let before : Placed i (Some put) w b s l m = rw eq at h in
     let after : Placed i None (Some put) b s l m = placed_take i put w s l m b before in
     rw (eq2, ew2) after
 
-module _ (pools : List PoolSize) (flash : FlashConfig) (older : List Note) (cache : Cache) (nvm : Nvm) (put : PageEntry) (phase : Phase) where
+module _ (pools : List PoolSize) (flash : FlashConfig) (older : List Note) (cache : Cache) (nvm : Nvm) (put : FlashEntry) (phase : Phase) where
   abbrev written : Nvm
   written = with_job nvm (without_put put.key nvm.queue) nvm.tombstones nvm.fills (Putting put.key) (Put put) phase
 
@@ -185,7 +185,7 @@ module _ (pools : List PoolSize) (flash : FlashConfig) (older : List Note) (cach
       small_entry = rw mapped small_by
 
       among : is_among put.key (waiting older) ≡ true
-      among = waits-is older nvm put.key w ∙ ap (λ (o : Option PageEntry). is_some o) here
+      among = waits-is older nvm put.key w ∙ ap (λ (o : Option FlashEntry). is_some o) here
 
       unwritten : written_by put.key nvm.pair.small.jobs ≡ None
       unwritten = not-written nvm.pair.small.flash (word_at nvm.pair.small) (bytes_at older) put.key nvm.pair.small.jobs f.engines.small_fits.jobs_fit free
@@ -210,8 +210,8 @@ module _ (pools : List PoolSize) (flash : FlashConfig) (older : List Note) (cach
       other_written k o = ap (first_of (written_by k nvm.pair.small.jobs)) (not_put k (bytes_eq-sym put.key k ∙ o)) ∙ first-none (written_by k nvm.pair.small.jobs)
 
 -- the put that is taken is the one that waits under its key
-pub next-put-there : (older : List Note) (nvm : Nvm) (put : PageEntry) → WaitsTell older nvm → next_put nvm ≡ Some put → put_at put.key nvm.queue ≡ Some put
-next-put-there older nvm put w found = found-only (λ (put : PageEntry). not (is_small_by nvm.pair.small.flash put.key (length put.value)) || not (pairs.is_busy_for nvm.pair put.key)) (is_put_of put.key) nvm.queue put found (bytes_eq-refl put.key) (w.one_put put.key)
+pub next-put-there : (older : List Note) (nvm : Nvm) (put : FlashEntry) → WaitsTell older nvm → next_put nvm ≡ Some put → put_at put.key nvm.queue ≡ Some put
+next-put-there older nvm put w found = found-only (λ (put : FlashEntry). not (is_small_by nvm.pair.small.flash put.key (length put.value)) || not (pairs.is_busy_for nvm.pair put.key)) (is_put_of put.key) nvm.queue put found (bytes_eq-refl put.key) (w.one_put put.key)
 
 pub free_by : (a b : Bool) → (not a || not b) ≡ true → a ≡ true → b ≡ false
 free_by true true h e = absurd cc
@@ -222,7 +222,7 @@ pub small_put_keeps : PutKeeps true
 small_put_keeps pools flash older cache nvm put g found is_small =
     let f : FlashGood flash older cache.memory nvm = g.agrees.flash in
     let here = next-put-there older nvm put f.waits found in
-    let test = found-passes (λ (put : PageEntry). not (is_small_by nvm.pair.small.flash put.key (length put.value)) || not (pairs.is_busy_for nvm.pair put.key)) nvm.queue put found in
+    let test = found-passes (λ (put : FlashEntry). not (is_small_by nvm.pair.small.flash put.key (length put.value)) || not (pairs.is_busy_for nvm.pair put.key)) nvm.queue put found in
     let free = free_by (is_small_by nvm.pair.small.flash put.key (length put.value)) (pairs.is_busy_for nvm.pair put.key) test is_small in
     let none : bighash.job_at (nvm.made + 1) nvm.pair.small.jobs ≡ None = f.jobs.small_ones (nvm.made + 1) (f.jobs.fresh (nvm.made + 1) (omega arith)) in
     let starts = put_starts nvm.pair.small (nvm.made + 1) put is_small free none in

@@ -3,7 +3,7 @@
 use Rattle.std.proofs.Common.{◌≡◌, ◌⊎◌, inl, inr, length, ℕ, Bool, true, false, List, [], ◌∷◌, ◌++◌, Option, Some, None, refl, ◌∙◌, subst}
 use Rattle.std.specs.Prelude.{if◌then◌else◌}
 use Rattle.hc_types.specs.Places.{bucket_at, is_small_by}
-use Rattle.hc_bighash.specs.Page.{PageEntry}
+use Rattle.hc_types.specs.FlashEntry.{FlashEntry}
 use Rattle.hc_engines.specs.Engine.{Op, Put, Get, Delete, Busy, Io, Done, Answer, Over, Absent, Pages, nothing, outcome_of}
 use Rattle.hc_engines.specs.small.Bloom.{could_have}
 use Rattle.hc_engines.specs.small.BigHash as bighash
@@ -37,7 +37,7 @@ reads_so : (s : BigHash) (number : ℕ) (op : Op) (jobs : List bighash.Job) → 
     → record { state = record { flash = s.flash; words = s.words; jobs = jobs ++ job_for s number op Reading ∷ [] }; next = Io (order_of s.flash.page (bucket_for s op) Reading) nothing } ≡ waits_so s number op Reading
 reads_so s number op jobs e = rw e refl
 
-writes_so : (s : BigHash) (number : ℕ) (op : Op) (es : List PageEntry) (jobs : List bighash.Job) → jobs ≡ s.jobs
+writes_so : (s : BigHash) (number : ℕ) (op : Op) (es : List FlashEntry) (jobs : List bighash.Job) → jobs ≡ s.jobs
     → record { state = record { flash = s.flash; words = s.words; jobs = jobs ++ job_for s number op (Writing es []) ∷ [] }; next = Io (order_of s.flash.page (bucket_for s op) (Writing es [])) nothing } ≡ waits_so s number op (Writing es [])
 writes_so s number op es jobs e = rw e refl
 
@@ -48,15 +48,15 @@ over_so s answer jobs e = rw e refl
 moves_so : (s : BigHash) (number : ℕ) (op : Op) (b : Bool) → b ≡ false → (if b then record { state = s; next = Busy } else moved s number (bucket_for s op) op (begun (word_at s (bucket_for s op)) op)) ≡ moved s number (bucket_for s op) op (begun (word_at s (bucket_for s op)) op)
 moves_so s number op b e = rw e refl
 
-put_by_word : (s : BigHash) (number : ℕ) (e : PageEntry) (word : Option ℕ) → bighash.job_at number s.jobs ≡ None → (phase : Phase) × (moved s number (bucket_for s (Put e)) (Put e) (begun word (Put e)) ≡ waits_so s number (Put e) phase)
+put_by_word : (s : BigHash) (number : ℕ) (e : FlashEntry) (word : Option ℕ) → bighash.job_at number s.jobs ≡ None → (phase : Phase) × (moved s number (bucket_for s (Put e)) (Put e) (begun word (Put e)) ≡ waits_so s number (Put e) phase)
 put_by_word s number e None new = (Writing (e ∷ []) [], writes_so s number (Put e) (e ∷ []) (bighash.without_job number s.jobs) (none_is_there number s.jobs new))
 put_by_word s number e (Some word) new = (Reading, reads_so s number (Put e) (bighash.without_job number s.jobs) (none_is_there number s.jobs new))
 
-ours_so : (s : BigHash) (number : ℕ) (e : PageEntry) (b : Bool) → b ≡ true → bighash.start_at s number (Put e) (if b then Some (bucket_for s (Put e)) else None) ≡ bighash.start_at s number (Put e) (Some (bucket_for s (Put e)))
+ours_so : (s : BigHash) (number : ℕ) (e : FlashEntry) (b : Bool) → b ≡ true → bighash.start_at s number (Put e) (if b then Some (bucket_for s (Put e)) else None) ≡ bighash.start_at s number (Put e) (Some (bucket_for s (Put e)))
 ours_so s number e b h = rw h refl
 
 -- a small put waits for its page: to be read, or to be written where the bucket is fresh
-pub put_starts : (s : BigHash) (number : ℕ) (e : PageEntry) → is_small_by s.flash e.key (length e.value) ≡ true → is_busy (bucket_at s.flash e.key) s.jobs ≡ false → bighash.job_at number s.jobs ≡ None
+pub put_starts : (s : BigHash) (number : ℕ) (e : FlashEntry) → is_small_by s.flash e.key (length e.value) ≡ true → is_busy (bucket_at s.flash e.key) s.jobs ≡ false → bighash.job_at number s.jobs ≡ None
     → (phase : Phase) × (start s number (Put e) ≡ waits_so s number (Put e) phase)
 put_starts s number e ours free new =
     let by = put_by_word s number e (word_at s (bucket_for s (Put e))) new in

@@ -4,7 +4,7 @@ use Rattle.hc_types.specs.Config.{Config}
 use Rattle.hc_types.specs.Places.{is_small_by}
 use Rattle.hc_types.specs.declared.config.PoolSize.{PoolSize}
 use Rattle.hc_types.specs.declared.config.FlashConfig.{FlashConfig}
-use Rattle.hc_bighash.specs.Page.{PageEntry}
+use Rattle.hc_types.specs.FlashEntry.{FlashEntry}
 use Rattle.hc_engines.specs.Engine.{Flush, Order, Outcome, Next, Busy, Io, Done}
 use Rattle.hc_history.specs.Note.{Note}
 use Rattle.hc_history.specs.Lawful.{past}
@@ -27,7 +27,7 @@ use Rattle.hc_proof_workers.proofs.writer.LargePuts.{large_put_keeps}
 -- The take of a region's page is given, and each other way is one of three.
 module _ (flush : (config : Config) (older : List Note) (cache : Cache) (nvm : Nvm) (order : Order) (outcome : Outcome) → cache.nvm ≡ Some nvm → (pairs.start (nvm.made + 1) Flush nvm.pair).next ≡ Io order outcome → Orderly config older cache → KeptBy Orderly config older (workers.writer_take cache))
     (deletes : DeleteKeeps) (smalls : PutKeeps true) (larges : PutKeeps false) where
-  put_taken : (pools : List PoolSize) (flash : FlashConfig) (older : List Note) (cache : Cache) (nvm : Nvm) (put : PageEntry) (small : Bool) → is_small_by nvm.pair.small.flash put.key (length put.value) ≡ small
+  put_taken : (pools : List PoolSize) (flash : FlashConfig) (older : List Note) (cache : Cache) (nvm : Nvm) (put : FlashEntry) (small : Bool) → is_small_by nvm.pair.small.flash put.key (length put.value) ≡ small
       → Orderly (conf pools flash) older (with_nvm nvm cache) → next_put nvm ≡ Some put
       → KeptBy Orderly (conf pools flash) older (after_take (take_sized small put (record nvm { queue = without_put put.key nvm.queue })) (with_nvm nvm cache))
   put_taken pools flash older cache nvm put true e g found = smalls pools flash older cache nvm put g found e
@@ -36,7 +36,7 @@ module _ (flush : (config : Config) (older : List Note) (cache : Cache) (nvm : N
   idle_kept : (config : Config) (older : List Note) (cache : Cache) → Orderly config older cache → KeptBy Orderly config older (stays (Took Idle) cache)
   idle_kept config older cache g = record { lawful = tt; good = g }
 
-  puts_taken : (pools : List PoolSize) (flash : FlashConfig) (older : List Note) (cache : Cache) (nvm : Nvm) (o : Option PageEntry) → next_put nvm ≡ o → Orderly (conf pools flash) older (with_nvm nvm cache)
+  puts_taken : (pools : List PoolSize) (flash : FlashConfig) (older : List Note) (cache : Cache) (nvm : Nvm) (o : Option FlashEntry) → next_put nvm ≡ o → Orderly (conf pools flash) older (with_nvm nvm cache)
       → KeptBy Orderly (conf pools flash) older (after_take (take_put o nvm) (with_nvm nvm cache))
   puts_taken pools flash older cache nvm None found g = idle_kept (conf pools flash) older (with_nvm nvm cache) g
   puts_taken pools flash older cache nvm (Some put) found g = put_taken pools flash older cache nvm put (is_small_by nvm.pair.small.flash put.key (length put.value)) refl g found

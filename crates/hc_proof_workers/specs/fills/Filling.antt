@@ -2,7 +2,7 @@
 use Rattle.std.specs.Prelude.{◌≡◌, ℕ, ◌≤◌, List, ◌∷◌, ◌++◌, length, Option, Some, None}
 use Rattle.hc_types.specs.Config.{Config}
 use Rattle.hc_types.specs.Tally.{count}
-use Rattle.hc_bighash.specs.Page.{PageEntry}
+use Rattle.hc_types.specs.FlashEntry.{FlashEntry}
 use Rattle.hc_history.specs.Note.{Note}
 use Rattle.hc_machine.specs.Nvm.{Waiter, adds}
 use Rattle.hc_machine.specs.Cache.{Cache}
@@ -17,7 +17,7 @@ use Rattle.hc_proof_calls.specs.calls.Planting.{RestsFrom}
 use Rattle.hc_proof_calls.specs.calls.Serving.{ghost}
 
 -- Before: the fill has left nvm.fills, and these calls waited for it.
-pub record Ends (config : Config) (older : List Note) (cache : Cache) (key : List ℕ) (found : Option PageEntry) (waiters : List Waiter) : Type 0 where
+pub record Ends (config : Config) (older : List Note) (cache : Cache) (key : List ℕ) (found : Option FlashEntry) (waiters : List Waiter) : Type 0 where
   pub brought : IsBrought config older cache key found
   pub calls : CallsTell older cache.calls cache.owed (ghost key waiters ∷ fills_of cache.nvm)
   pub wishes : AllWish cache.memory key waiters
@@ -28,5 +28,5 @@ pub record Ends (config : Config) (older : List Note) (cache : Cache) (key : Lis
 
 -- After: it is linked where it can be, the calls are served, and the cache is good.
 abbrev pub FillEnds : Type 0
-FillEnds = (config : Config) (older : List Note) (cache : Cache) (key : List ℕ) (found : Option PageEntry) (waiters : List Waiter) → Ends config older cache key found waiters
+FillEnds = (config : Config) (older : List Note) (cache : Cache) (key : List ℕ) (found : Option FlashEntry) (waiters : List Waiter) → Ends config older cache key found waiters
     → Steady config older (fill (Some (record { entry = found; waiters = waiters })) cache).part (fill (Some (record { entry = found; waiters = waiters })) cache).cache

@@ -4,7 +4,7 @@ use Rattle.hc_types.specs.Places.{is_small_by}
 use Rattle.hc_types.specs.declared.config.PoolSize.{PoolSize}
 use Rattle.hc_types.specs.declared.config.FlashConfig.{FlashConfig}
 use Rattle.hc_types.specs.Config.{Config}
-use Rattle.hc_bighash.specs.Page.{PageEntry}
+use Rattle.hc_types.specs.FlashEntry.{FlashEntry}
 use Rattle.hc_history.specs.Note.{Note}
 use Rattle.hc_machine.specs.Nvm.{Nvm, Tombstone, without_put, next_put, next_delete}
 use Rattle.hc_machine.specs.Takes.{take_sized, take_delete}
@@ -24,6 +24,6 @@ DeleteKeeps = (pools : List PoolSize) (flash : FlashConfig) (older : List Note) 
     → KeptBy Orderly (conf pools flash) older (after_take (take_delete (Some stone) nvm) (with_nvm nvm cache))
 
 abbrev pub PutKeeps : Bool → Type 0
-PutKeeps small = (pools : List PoolSize) (flash : FlashConfig) (older : List Note) (cache : Cache) (nvm : Nvm) (put : PageEntry) → Orderly (conf pools flash) older (with_nvm nvm cache) → next_put nvm ≡ Some put
+PutKeeps small = (pools : List PoolSize) (flash : FlashConfig) (older : List Note) (cache : Cache) (nvm : Nvm) (put : FlashEntry) → Orderly (conf pools flash) older (with_nvm nvm cache) → next_put nvm ≡ Some put
     → is_small_by nvm.pair.small.flash put.key (length put.value) ≡ small
     → KeptBy Orderly (conf pools flash) older (after_take (take_sized small put (record nvm { queue = without_put put.key nvm.queue })) (with_nvm nvm cache))

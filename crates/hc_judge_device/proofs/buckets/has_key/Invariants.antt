@@ -1,5 +1,5 @@
 use Rattle.std.proofs.Common.{◌≡◌, drop}
-use Rattle.hc_bighash.specs.Page.{entries_of}
+use Rattle.hc_types.specs.FlashEntry.{entries_of}
 use Rattle.hc_history.specs.Pages.{has_key}
 use Rattle.hc_judge_device.proofs.buckets.has_key.Given as goal
 

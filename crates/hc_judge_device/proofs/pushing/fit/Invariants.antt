@@ -1,7 +1,8 @@
 use Rattle.std.proofs.Common.{◌≡◌, drop, length}
 use Rattle.std.specs.Prelude.{nat_le}
-use Rattle.hc_bighash.specs.Page.{entries_of, entries_bytes}
-use Rattle.hc_bighash.specs.Putting.{entries_without}
+use Rattle.hc_types.specs.FlashEntry.{entries_of}
+use Rattle.hc_bucket.specs.Page.{entries_bytes}
+use Rattle.hc_bucket.specs.Putting.{entries_without}
 use Rattle.hc_judge_device.proofs.pushing.fit.Given as goal
 
 abbrev pub invariant-loop-entry : goal.invariant-loop-entry

@@ -1,6 +1,6 @@
 use Rattle.std.proofs.Common.{◌≡◌, drop}
-use Rattle.hc_bighash.specs.Page.{entries_of}
-use Rattle.hc_bighash.specs.Putting as spec
+use Rattle.hc_types.specs.FlashEntry.{entries_of}
+use Rattle.hc_bucket.specs.Putting as spec
 use Rattle.hc_judge_device.proofs.pushing.from_key.Given as goal
 
 abbrev pub invariant-loop-place : goal.invariant-loop-place

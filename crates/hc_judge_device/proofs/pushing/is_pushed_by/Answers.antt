@@ -1,5 +1,5 @@
 use Rattle.std.proofs.Common.{◌∙◌, sym}
-use Rattle.hc_bighash.specs.Page.{entry_of, entries_of}
+use Rattle.hc_types.specs.FlashEntry.{entry_of, entries_of}
 use Rattle.hc_judge_device.proofs.Pushed.{pushed, unfound, own}
 use Rattle.hc_judge_device.proofs.pushing.is_pushed_by.Goals as goal
 

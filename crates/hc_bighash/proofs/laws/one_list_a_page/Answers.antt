@@ -1,5 +1,0 @@
-use Rattle.hc_bighash.proofs.Pages.{holds_one_list}
-use Rattle.hc_bighash.proofs.laws.one_list_a_page.Goals as goal
-
-pub returns : goal.returns
-returns c = holds_one_list

@@ -1,0 +1,81 @@
+-- Reading a page from left to right, as the code does.
+use Rattle.std.specs.Prelude.{◌≡◌, ℕ, zero, suc, ◌-◌, List, [], ◌∷◌, length, take, drop, Option, Some, None, Result, Ok, Err, nat_eq, nat_lt, Bool, true, not, ◌==◌, ◌&&◌, if◌then◌else◌}
+use Rattle.std.specs.List.{list_all, list_any}
+use Rattle.std.specs.Int.{Width, w16, w64, byte_len, from_be_bytes}
+use Rattle.std.specs.Cmp.Lexicographic.{pointwise}
+use Rattle.hc_types.specs.declared.entry.Entry.{Entry}
+use Rattle.hc_bucket.specs.declared.read_error.ReadError.{ReadError}
+use Rattle.hc_bucket.specs.declared.read_error.ReadError.TheVariants.{NoMemory, NoPage}
+use Rattle.hc_types.specs.FlashEntry.{FlashEntry}
+use Rattle.hc_bucket.specs.Page.{distinct}
+
+infixl 10 ◌>>=◌
+abbrev pub ◌>>=◌ : {A B : Type 0} → Option A → (A → Option B) → Option B
+(Some x) >>= f = f x
+None >>= f = None
+
+-- what a function returned, seen by `view`, is what reading gives, unless memory was refused
+abbrev pub Fails : {Y : Type 0} → ReadError → Option Y → Type 0
+Fails NoMemory read = Unit {0}
+Fails NoPage read = read ≡ None
+
+abbrev pub Gives : {X Y : Type 0} → (X → Y) → Result X ReadError → Option Y → Type 0
+Gives view (Ok x) read = read ≡ Some (view x)
+Gives view (Err e) read = Fails e read
+
+-- a field is a value and the bytes behind it
+abbrev pub byte_at : List ℕ → Option (ℕ × List ℕ)
+byte_at [] = None
+byte_at (byte ∷ rest) = Some (byte, rest)
+
+abbrev pub part_at : ℕ → List ℕ → Option (List ℕ × List ℕ)
+part_at n bytes = if nat_lt (length bytes) n then None else Some (take n bytes, drop n bytes)
+
+abbrev pub number_at : Width → List ℕ → Option (ℕ × List ℕ)
+number_at w bytes = if nat_lt (length bytes) (byte_len w) then None else Some (from_be_bytes w (take (byte_len w) bytes), drop (byte_len w) bytes)
+
+abbrev pub key_at : List ℕ → Option (List ℕ)
+key_at bytes = if length bytes == 0 then None else Some bytes
+
+unfoldable pub entry_at : List ℕ → Option (FlashEntry × List ℕ)
+entry_at bytes = do
+  k ← byte_at bytes
+  p ← byte_at k.1
+  v ← number_at w16 p.1
+  x ← number_at w64 v.1
+  text ← part_at k.0 x.1
+  value ← part_at v.0 text.1
+  key ← key_at text.0
+  Some (record { key = key; value = value.0; pool = p.0; expiry = x.0 }, value.1)
+
+unfoldable pub entries_at : ℕ → List ℕ → Option (List FlashEntry × List ℕ)
+entries_at zero bytes = Some ([], bytes)
+entries_at (suc n) bytes = do
+  first ← entry_at bytes
+  others ← entries_at n first.1
+  Some (first.0 ∷ others.0, others.1)
+
+-- no key stands twice, of the code's entries
+abbrev pub keys_differ : {A : Type 0} → List (Entry A) → Bool
+keys_differ [] = true
+keys_differ (e ∷ es) = not (list_any (λ other. pointwise nat_eq other.key e.key) es) && keys_differ es
+
+-- the bytes that are used, and the rest
+unfoldable pub body_at : ℕ → List ℕ → Option (List ℕ × List ℕ)
+body_at used bytes = if nat_lt used 4 then None else part_at (used - 4) bytes
+
+-- so many entries, which are all that is used, and zeros behind it
+unfoldable pub whole_at : ℕ → List ℕ → List ℕ → Option (List FlashEntry)
+whole_at count used unused = do
+  es ← entries_at count used
+  if length es.1 == 0 && list_all (λ b. b == 0) unused && distinct es.0 then Some es.0 else None
+
+unfoldable pub content_at : List ℕ → Option (List FlashEntry)
+content_at bytes = do
+  n ← number_at w16 bytes
+  u ← number_at w16 n.1
+  body ← body_at u.0 u.1
+  whole_at n.0 body.0 body.1
+
+unfoldable pub page_at : ℕ → List ℕ → Option (List FlashEntry)
+page_at size bytes = if length bytes == size then content_at bytes else None
