@@ -1,5 +1,4 @@
 -- Proofs. The steps of the workers and of the device follow.
-pub mod Known
 pub mod Made
 pub mod Filled
 pub mod Served

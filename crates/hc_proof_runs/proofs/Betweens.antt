@@ -1,7 +1,6 @@
 -- What is true between two steps.
-use Rattle.std.proofs.Common.{◌≡◌, ◌≢◌, ℕ, ◌+◌, ◌==◌, Bool, true, false, List, [], ◌∷◌, Option, Some, None, refl, ap, sym, ◌∙◌, subst, arith}
+use Rattle.std.proofs.Common.{◌≡◌, ◌≢◌, ℕ, Bool, true, false, List, [], ◌∷◌, Option, Some, None, refl, ap, sym, ◌∙◌, subst, arith}
 use Rattle.std.specs.Prelude.{if◌then◌else◌, is_some, reverse}
-use Rattle.std.specs.Str.{bytes_eq}
 use Rattle.hc_types.specs.declared.config.FlashConfig.{FlashConfig}
 use Rattle.hc_engines.specs.Engine.{Order, Read, Write, Pages}
 use Rattle.hc_engines.specs.large.Region.{region_at, is_clean}
@@ -25,6 +24,7 @@ use Rattle.hc_proof_frames.proofs.frames.BetweenSteps.{wishes_of}
 use Rattle.hc_proof_runs.specs.Alone.{page_of, IsWrite, Alone}
 use Rattle.hc_proof_runs.proofs.Devices.{some_order, untouched}
 use Rattle.hc_proof_runs.proofs.WritesAlone.{orders_alone}
+use Rattle.hc_proof_runs.proofs.Known.{books_known, unwritten}
 use Rattle.hc_proof_runs.specs.Between.{ReadsKeepRegions, queued_keys, RunsAreBetween}
 
 -- ---- fills
@@ -85,6 +85,8 @@ parts_of (Some flash) older memory (Some nvm) f = record {
 pub runs_are_between : RunsAreBetween
 runs_are_between config log world r =
     let p = parts_of config.flash (past [] log) world.cache.memory world.cache.nvm r.good.agrees.flash in
+    let device : (page : ℕ) → ((n : ℕ) (bytes : List ℕ) → order_in world.cache.nvm n ≢ Some (Write page bytes)) → world.pages page ≡ bytes_at (past [] log) page =
+        λ page none. r.device.pages page ∙ agrees world.cache.nvm (bytes_at (past [] log)) (bytes_at (past [] log)) world.results page none r.device.results in
     record {
       placed = r.good.agrees.placed;
       waits = p.waits;
@@ -96,5 +98,8 @@ runs_are_between config log world r =
       adds = p.adds;
       alone = p.alone;
       reads = p.reads;
-      device = λ page none. r.device.pages page ∙ agrees world.cache.nvm (bytes_at (past [] log)) (bytes_at (past [] log)) world.results page none r.device.results;
+      device = device;
+      known = λ n page h.
+          let told = books_known config.flash (past [] log) world.cache.memory world.cache.nvm n page r.good.agrees.flash h in
+          (told.0, device page (unwritten world.cache.nvm n page p.alone h) ∙ told.1);
     }

@@ -2,6 +2,7 @@
 pub mod Devices
 pub mod OrdersStay
 pub mod WritesAlone
+pub mod Known
 pub mod Betweens
 pub mod ResultsSuit
 pub mod SilentParts

@@ -1,8 +1,7 @@
 -- What is true between two steps: it follows from the invariant of a run.
-use Rattle.std.specs.Prelude.{◌≡◌, ◌≢◌, ℕ, Bool, true, false, List, [], reverse, Option, Some, None, is_some}
+use Rattle.std.specs.Prelude.{◌≡◌, ◌≢◌, ℕ, true, false, List, [], reverse, Option, Some, None, is_some}
 use Rattle.hc_types.specs.Config.{Config}
-use Rattle.hc_types.specs.declared.config.FlashConfig.{FlashConfig}
-use Rattle.hc_engines.specs.Engine.{Write}
+use Rattle.hc_engines.specs.Engine.{Read, Write}
 use Rattle.hc_engines.specs.large.Region.{lowest_clean}
 use Rattle.hc_engines.specs.large.Block.{Reading, Getting, work_of}
 use Rattle.hc_memory.specs.Memory.{linked_at}
@@ -30,6 +29,10 @@ abbrev pub queued_keys : Option Nvm → List (List ℕ)
 queued_keys None = []
 queued_keys (Some nvm) = keys_of nvm.queue
 
+-- the page is known
+abbrev pub IsKnown : Option (List ℕ) → Type 0
+IsKnown page = (bytes : List ℕ) × (page ≡ Some bytes)
+
 pub record Between (config : Config) (log : List Note) (world : World) : Type 0 where
   -- each key stands in one place, with the map's value
   pub placed : (key : List ℕ) → PlacedAt config.flash (past [] log) world.cache key
@@ -53,6 +56,8 @@ pub record Between (config : Config) (log : List Note) (world : World) : Type 0 
   pub reads : ReadsKeepRegions world.cache.nvm
   -- page by page the device agrees with the log, except where a write is out
   pub device : (page : ℕ) → ((n : ℕ) (bytes : List ℕ) → order_in world.cache.nvm n ≢ Some (Write page bytes)) → world.pages page ≡ bytes_at (past [] log) page
+  -- a page that is to be read is known: none is ordered that was never written, or whose last write failed
+  pub known : (n page : ℕ) → order_in world.cache.nvm n ≡ Some (Read page) → IsKnown (world.pages page)
 
 abbrev pub RunsAreBetween : Type 0
 RunsAreBetween = (config : Config) (log : List Note) (world : World) → GoodRun config log world → Between config log world

@@ -1,6 +1,6 @@
 -- A job's operation is made: what the device answers, and what stands on it then.
-use Rattle.std.proofs.Common.{◌≡◌, ℕ, ◌+◌, ◌==◌, Bool, true, false, ◌||◌, List, [], ◌∷◌, ◌++◌, map, Option, Some, None, refl, ap, sym, ◌∙◌, subst, arith}
-use Rattle.std.specs.Prelude.{if◌then◌else◌, is_some, IsSome, option_map}
+use Rattle.std.proofs.Common.{◌≡◌, ℕ, ◌+◌, ◌==◌, Bool, true, false, ◌||◌, List, [], ◌∷◌, ◌++◌, map, Option, Some, None, refl, ap, sym, ◌∙◌, subst}
+use Rattle.std.specs.Prelude.{if◌then◌else◌, IsSome, option_map}
 use Rattle.std.proofs.lemmas.Bool.{eqb-true, eq-eqb}
 use Rattle.std.proofs.lemmas.List.{append-nil}
 use Rattle.hc_types.specs.Config.{Config}
@@ -14,12 +14,13 @@ use Rattle.hc_machine.specs.Schedule.{Scene, Io, Tells, in_world}
 use Rattle.hc_proof_frames.proofs.frames.ByNumber.{find-map, found-passes}
 use Rattle.hc_machine.specs.Quiet.{jobs_in}
 use Rattle.hc_proof_runs.specs.Scene.{SceneHolds}
+use Rattle.hc_proof_runs.specs.Between.{IsKnown}
+use Rattle.hc_proof_runs.proofs.Betweens.{runs_are_between}
 use Rattle.hc_proof_runs.proofs.OrdersStay.{order-is}
 use Rattle.hc_follows.specs.Desk.{Out, Sheet, Desk, job_out}
 use Rattle.hc_follows.specs.Workers.{sheet_at, IsResultOf, IoPart, pages_by, pages_made}
 use Rattle.hc_proof_follows.specs.clients.Matches.{JobsMatch, Matches}
 use Rattle.hc_proof_follows.specs.clients.Deeds.{Followed, DeedFollows}
-use Rattle.hc_proof_follows.proofs.workers.Known.{IsKnown, device_knows}
 use Rattle.hc_proof_regions.proofs.jobs.LargeFrame.{turned}
 
 -- ---- the result
@@ -132,7 +133,7 @@ module _ (job : ℕ) (fails : Bool) (config : Config) (log : List Note) (scene :
       let result = result_of order (fails || breaks_next w.breaks) w.pages in
       let failures = failures_after fails w.breaks w.failures in
       let out = is_out order e in
-      let known : (page : ℕ) → order ≡ Read page → IsKnown (w.pages page) = λ page same. device_knows config log w job page h.holds (e ∙ ap Some same) in
+      let known : (page : ℕ) → order ≡ Read page → IsKnown (w.pages page) = λ page same. (runs_are_between config log w h.holds).known job page (e ∙ ap Some same) in
       let its : IsResultOf order fails desk.pages w.failures result failures = subst (λ (n : ℕ). IsResultOf order fails desk.pages w.failures result n) (sym (counted fails w.breaks w.failures)) (is_result order fails (breaks_next w.breaks) desk.pages w.pages w.failures m.jobs.sheets known) in
       let mine : IsResultOf order fails desk.pages desk.failures result failures = subst (λ (n : ℕ). IsResultOf order fails desk.pages n result failures) (sym m.failures) its in
       let jobs = made_jobs desk.jobs desk.pages (jobs_in w.cache.nvm) w.results w.pages job order result m.jobs in

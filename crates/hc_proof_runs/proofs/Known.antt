@@ -1,8 +1,7 @@
 -- A page that is to be read is known: no read is ordered of a page that was never written, or whose last write failed.
-use Rattle.std.proofs.Common.{◌≡◌, ◌≢◌, ℕ, ◌+◌, ◌<◌, ◌≤◌, ◌==◌, Bool, true, false, List, [], ◌∷◌, length, Option, Some, None, refl, ap, sym, ◌∙◌, subst, arith}
+use Rattle.std.proofs.Common.{◌≡◌, ◌≢◌, ℕ, ◌≤◌, ◌==◌, Bool, true, false, List, length, Option, Some, None, refl, ap, sym, ◌∙◌, subst, arith}
 use Rattle.std.specs.Prelude.{is_some}
-use Rattle.std.proofs.lemmas.Bool.{eq-eqb, eqb-true}
-use Rattle.hc_types.specs.Config.{Config}
+use Rattle.std.proofs.lemmas.Bool.{eqb-true}
 use Rattle.hc_types.specs.declared.config.FlashConfig.{FlashConfig}
 use Rattle.hc_engines.specs.Engine.{Op, Order, Read, Write, Pages}
 use Rattle.hc_engines.specs.small.BigHash as bighash
@@ -18,18 +17,13 @@ use Rattle.hc_engines.proofs.large.GetStays.{read_unclean}
 use Rattle.hc_memory.specs.Memory.{Memory}
 use Rattle.hc_history.specs.Note.{Note}
 use Rattle.hc_history.specs.Pages.{bytes_at}
-use Rattle.hc_history.specs.Lawful.{past}
 use Rattle.hc_machine.specs.Nvm.{Nvm}
-use Rattle.hc_machine.specs.World.{World, order_in}
+use Rattle.hc_machine.specs.World.{order_in}
 use Rattle.hc_invariant.specs.Jobs.{small_job, large_work, small_order, large_order}
-use Rattle.hc_invariant.specs.Good.{EnginesFit, FlashPart, GoodRun}
+use Rattle.hc_invariant.specs.Good.{EnginesFit, FlashPart}
 use Rattle.hc_proof_runs.specs.Alone.{Alone}
+use Rattle.hc_proof_runs.specs.Between.{IsKnown}
 use Rattle.hc_proof_runs.proofs.WritesAlone.{Runs, OfSmall, OfLarge, runs_of}
-use Rattle.hc_proof_runs.proofs.Betweens.{runs_are_between}
-
--- the page is known
-abbrev pub IsKnown : Option (List ℕ) → Type 0
-IsKnown page = (bytes : List ℕ) × (page ≡ Some bytes)
 
 -- ---- by the books
 
@@ -78,15 +72,9 @@ books_known (Some flash) older memory (Some nvm) n page g h = read_known flash o
 -- ---- on the device
 
 -- no write is out of a page that a job reads
-unwritten : (nvm : Option Nvm) (n page : ℕ) → Alone nvm → order_in nvm n ≡ Some (Read page) → (m : ℕ) (bytes : List ℕ) → order_in nvm m ≢ Some (Write page bytes)
+pub unwritten : (nvm : Option Nvm) (n page : ℕ) → Alone nvm → order_in nvm n ≡ Some (Read page) → (m : ℕ) (bytes : List ℕ) → order_in nvm m ≢ Some (Write page bytes)
 unwritten nvm n page alone h m bytes w = go (m == n) refl
   where
     go : (t : Bool) → (m == n) ≡ t → ⊥
     go true e = absurd (let same : m ≡ n = eqb-true m n e in let both : order_in nvm n ≡ Some (Write page bytes) = subst (λ (k : ℕ). order_in nvm k ≡ Some (Write page bytes)) same w in let none : Some (Read page) ≡ Some (Write page bytes) = sym h ∙ both in cc)
     go false e = alone m n (Write page bytes) (Read page) e w h tt refl
-
-pub device_knows : (config : Config) (log : List Note) (world : World) (n page : ℕ) → GoodRun config log world → order_in world.cache.nvm n ≡ Some (Read page) → IsKnown (world.pages page)
-device_knows config log world n page r h =
-    let b = runs_are_between config log world r in
-    let k = books_known config.flash (past [] log) world.cache.memory world.cache.nvm n page r.good.agrees.flash h in
-    (k.0, b.device page (unwritten world.cache.nvm n page b.alone h) ∙ k.1)
