@@ -40,9 +40,29 @@ out_sound flash number r x s sealed sound g current sealed_too flushed = changed
     new : Block
     new = (write_out flash number r x (record s { sealed = sealed })).state
 
-sealed_goes : (flash : FlashConfig) (number r : ℕ) (s : Block) → Sound flash s → IsFree number s → IsReady s.regions s.sealed r → Sound flash (flush_of flash number s (Some r)).state
-sealed_goes flash number r s sound free ready =
-    out_sound flash number r x s (minus r s.sealed) sound goes
+-- a sealed region goes out
+pub sealed_goes : (flash : FlashConfig) (number r : ℕ) (s : Block) → Sound flash s → IsFree number s → IsReady s.regions s.sealed r → Goes flash number r (record (region_at r s.regions) { status = Flushing }) s
+sealed_goes flash number r s sound free ready = record {
+  idle = rw (is_sealed, ready.still) refl;
+  there = in_range s.regions r (rw is_sealed refl);
+  goes = refl;
+  written = refl;
+  buffer = refl;
+  appended = refl;
+  pins = refl;
+  live = refl;
+  filling = refl;
+  unwritten = (sound.regions r).unwritten (rw is_sealed refl);
+  early = λ e. absurd (not_both (region_at r s.regions).early e ready.still);
+  free = free;
+}
+  where
+    is_sealed : (region_at r s.regions).status ≡ Sealed
+    is_sealed = sound.sealed r ready.there
+
+pub sealed_sound : (flash : FlashConfig) (number r : ℕ) (s : Block) → Sound flash s → IsFree number s → IsReady s.regions s.sealed r → Sound flash (flush_of flash number s (Some r)).state
+sealed_sound flash number r s sound free ready =
+    out_sound flash number r x s (minus r s.sealed) sound (sealed_goes flash number r s sound free ready)
     (λ q c. status_kept (λ status. status ≡ Open) s.regions r x q (λ o. absurd (let e : Sealed ≡ Open = sym is_sealed ∙ o in cc)) (sound.current q c))
     (λ q i. let k = kept_out (q == r) (is_in q s.sealed) (sym (is_in-minus q r s.sealed) ∙ i) in status_other (λ status. status ≡ Sealed) s.regions r x q k.0 (sound.sealed q k.1))
     (λ q i. status_kept (λ status. is_stored status ≡ true) s.regions r x q (λ o. absurd (let e : is_stored Sealed ≡ true = (rw is_sealed at o) in cc)) (sound.flushed q i))
@@ -53,26 +73,30 @@ sealed_goes flash number r s sound free ready =
     is_sealed : (region_at r s.regions).status ≡ Sealed
     is_sealed = sound.sealed r ready.there
 
-    goes : Goes flash number r x s
-    goes = record {
-      idle = rw (is_sealed, ready.still) refl;
-      there = in_range s.regions r (rw is_sealed refl);
-      goes = refl;
-      written = refl;
-      buffer = refl;
-      appended = refl;
-      pins = refl;
-      live = refl;
-      filling = refl;
-      unwritten = (sound.regions r).unwritten (rw is_sealed refl);
-      early = λ e. absurd (not_both (region_at r s.regions).early e ready.still);
-      free = free;
-    }
+-- the open one does, early
+pub open_goes : (flash : FlashConfig) (number r : ℕ) (s : Block) → Sound flash s → IsFree number s → s.current ≡ Some r → CanGo flash (region_at r s.regions) → Goes flash number r (record (region_at r s.regions) { early = true }) s
+open_goes flash number r s sound free cur can = record {
+  idle = rw (is_open, can.still) refl;
+  there = in_range s.regions r (rw is_open refl);
+  goes = (rw is_open refl);
+  written = refl;
+  buffer = refl;
+  appended = refl;
+  pins = refl;
+  live = (rw is_open refl);
+  filling = (rw is_open refl);
+  unwritten = (sound.regions r).unwritten (rw is_open refl);
+  early = λ e. record { waiting = (rw is_open refl); full = can.full; not_last = can.not_last };
+  free = free;
+}
+  where
+    is_open : (region_at r s.regions).status ≡ Open
+    is_open = sound.current r cur
 
-open_goes : (flash : FlashConfig) (number r : ℕ) (s : Block) → Sound flash s → IsFree number s → s.current ≡ Some r → CanGo flash (region_at r s.regions)
+pub open_sound : (flash : FlashConfig) (number r : ℕ) (s : Block) → Sound flash s → IsFree number s → s.current ≡ Some r → CanGo flash (region_at r s.regions)
     → Sound flash (write_out flash number r (record (region_at r s.regions) { early = true }) s).state
-open_goes flash number r s sound free cur can =
-    out_sound flash number r x s s.sealed sound goes
+open_sound flash number r s sound free cur can =
+    out_sound flash number r x s s.sealed sound (open_goes flash number r s sound free cur can)
     (λ q c. status_kept (λ status. status ≡ Open) s.regions r x q (λ o. o) (sound.current q c))
     (λ q i. status_kept (λ status. status ≡ Sealed) s.regions r x q (λ o. o) (sound.sealed q i))
     (λ q i. status_kept (λ status. is_stored status ≡ true) s.regions r x q (λ o. o) (sound.flushed q i))
@@ -80,31 +104,12 @@ open_goes flash number r s sound free cur can =
     x : Region
     x = record (region_at r s.regions) { early = true }
 
-    is_open : (region_at r s.regions).status ≡ Open
-    is_open = sound.current r cur
-
-    goes : Goes flash number r x s
-    goes = record {
-      idle = rw (is_open, can.still) refl;
-      there = in_range s.regions r (rw is_open refl);
-      goes = (rw is_open refl);
-      written = refl;
-      buffer = refl;
-      appended = refl;
-      pins = refl;
-      live = (rw is_open refl);
-      filling = (rw is_open refl);
-      unwritten = (sound.regions r).unwritten (rw is_open refl);
-      early = λ e. record { waiting = (rw is_open refl); full = can.full; not_last = can.not_last };
-      free = free;
-    }
-
 pub flush_sound : (flash : FlashConfig) (number : ℕ) (s : Block) → IsFree number s → Sound flash s → Sound flash (flush flash number s).state
 flush_sound flash number s free sound = go (first_ready s.regions s.sealed) refl
   where
     open_one : (r : ℕ) → s.current ≡ Some r → (t : Bool) → can_go flash (region_at r s.regions) ≡ t
         → Sound flash (if t then write_out flash number r (record (region_at r s.regions) { early = true }) s else unmoved s).state
-    open_one r c true t = open_goes flash number r s sound free c (can_go_is flash (region_at r s.regions) t)
+    open_one r c true t = open_sound flash number r s sound free c (can_go_is flash (region_at r s.regions) t)
     open_one r c false t = sound
 
     early : (o : Option ℕ) → s.current ≡ o → Sound flash (early_of flash number s o).state
@@ -113,14 +118,38 @@ flush_sound flash number s free sound = go (first_ready s.regions s.sealed) refl
 
     go : (o : Option ℕ) → first_ready s.regions s.sealed ≡ o → Sound flash (flush_of flash number s o).state
     go None e = early s.current refl
-    go (Some r) e = sealed_goes flash number r s sound free (ready_is s.regions s.sealed r e)
+    go (Some r) e = sealed_sound flash number r s sound free (ready_is s.regions s.sealed r e)
 
 -- ---- a page was written
 
+pub waiting_unclean : (status : Status) → is_waiting status ≡ true → is_clean status ≡ false
+waiting_unclean Clean h = absurd (cc)
+waiting_unclean Open h = refl
+waiting_unclean Sealed h = refl
+waiting_unclean Flushing h = refl
+waiting_unclean OnFlash h = refl
+waiting_unclean Draining h = refl
+
+waiting_live : (status : Status) → is_waiting status ≡ true → is_live status ≡ true
+waiting_live Clean h = absurd (cc)
+waiting_live Open h = refl
+waiting_live Sealed h = refl
+waiting_live Flushing h = refl
+waiting_live OnFlash h = refl
+waiting_live Draining h = absurd (cc)
+
+waiting_still : (status : Status) → is_waiting status ≡ true → is_flushing status ≡ false
+waiting_still Clean h = refl
+waiting_still Open h = refl
+waiting_still Sealed h = refl
+waiting_still Flushing h = absurd (cc)
+waiting_still OnFlash h = refl
+waiting_still Draining h = refl
+
 module _ (flash : FlashConfig) (number r : ℕ) (bytes : List ℕ) (s : Block) (sound : Sound flash s) (w : Wrote1 flash number r bytes s) where
-  flush_more : (region_at r s.regions).status ≡ Flushing → (region_at r s.regions).written + 1 < flash.region_pages
+  pub more_sound : (region_at r s.regions).status ≡ Flushing → (region_at r s.regions).written + 1 < flash.region_pages
       → Sound flash (write_out flash number r (page_done flash (region_at r s.regions)) (end_job number s)).state
-  flush_more f lt = changed_sound flash r x s new sound (record {
+  more_sound f lt = changed_sound flash r x s new sound (record {
     there = there;
     regions = refl;
     index = refl;
@@ -152,9 +181,9 @@ module _ (flash : FlashConfig) (number r : ℕ) (bytes : List ℕ) (s : Block) (
       there : r < length s.regions
       there = in_range s.regions r (rw f refl)
 
-  flush_last : (region_at r s.regions).status ≡ Flushing
+  pub last_sound : (region_at r s.regions).status ≡ Flushing
       → Sound flash (record (with_region r (record (page_done flash (region_at r s.regions)) { status = OnFlash }) (end_job number s)) { flushed = s.flushed ++ r ∷ [] })
-  flush_last f = changed_sound flash r x s new sound (record {
+  last_sound f = changed_sound flash r x s new sound (record {
     there = there;
     regions = refl;
     index = refl;
@@ -193,8 +222,8 @@ module _ (flash : FlashConfig) (number r : ℕ) (bytes : List ℕ) (s : Block) (
       stored q true t i = rw t refl
       stored q false t i = rw t (sound.flushed q i)
 
-  early_ends : (region_at r s.regions).early ≡ true → Sound flash (with_region r (record (page_done flash (region_at r s.regions)) { early = false }) (end_job number s))
-  early_ends e = changed_sound flash r x s new sound (record {
+  pub early_sound : (region_at r s.regions).early ≡ true → Sound flash (with_region r (record (page_done flash (region_at r s.regions)) { early = false }) (end_job number s))
+  early_sound e = changed_sound flash r x s new sound (record {
     there = there;
     regions = refl;
     index = refl;
@@ -226,30 +255,6 @@ module _ (flash : FlashConfig) (number r : ℕ) (bytes : List ℕ) (s : Block) (
       early : EarlyHolds flash (region_at r s.regions)
       early = (sound.regions r).early e
 
-      waiting_unclean : (status : Status) → is_waiting status ≡ true → is_clean status ≡ false
-      waiting_unclean Clean h = absurd (cc)
-      waiting_unclean Open h = refl
-      waiting_unclean Sealed h = refl
-      waiting_unclean Flushing h = refl
-      waiting_unclean OnFlash h = refl
-      waiting_unclean Draining h = refl
-
-      waiting_live : (status : Status) → is_waiting status ≡ true → is_live status ≡ true
-      waiting_live Clean h = absurd (cc)
-      waiting_live Open h = refl
-      waiting_live Sealed h = refl
-      waiting_live Flushing h = refl
-      waiting_live OnFlash h = refl
-      waiting_live Draining h = absurd (cc)
-
-      waiting_still : (status : Status) → is_waiting status ≡ true → is_flushing status ≡ false
-      waiting_still Clean h = refl
-      waiting_still Open h = refl
-      waiting_still Sealed h = refl
-      waiting_still Flushing h = absurd (cc)
-      waiting_still OnFlash h = refl
-      waiting_still Draining h = refl
-
       there : r < length s.regions
       there = in_range s.regions r (waiting_unclean (region_at r s.regions).status early.waiting)
 
@@ -267,16 +272,16 @@ wrote_sound flash number r bytes s sound at = go (region_at r s.regions).status 
         rest false t o = absurd (not_both (is_out (region_at r s.regions)) o (rw (e, n, t) refl))
 
     go : (status : Status) → (region_at r s.regions).status ≡ status → Sound flash (wrote_page flash number r status (end_job number s)).state
-    go Clean e = early_ends flash number r bytes s sound w (early Clean e refl)
-    go Open e = early_ends flash number r bytes s sound w (early Open e refl)
-    go Sealed e = early_ends flash number r bytes s sound w (early Sealed e refl)
-    go OnFlash e = early_ends flash number r bytes s sound w (early OnFlash e refl)
-    go Draining e = early_ends flash number r bytes s sound w (early Draining e refl)
+    go Clean e = early_sound flash number r bytes s sound w (early Clean e refl)
+    go Open e = early_sound flash number r bytes s sound w (early Open e refl)
+    go Sealed e = early_sound flash number r bytes s sound w (early Sealed e refl)
+    go OnFlash e = early_sound flash number r bytes s sound w (early OnFlash e refl)
+    go Draining e = early_sound flash number r bytes s sound w (early Draining e refl)
     go Flushing e = split (nat_lt ((region_at r s.regions).written + 1) flash.region_pages) refl
       where
         split : (t : Bool) → nat_lt ((region_at r s.regions).written + 1) flash.region_pages ≡ t → Sound flash (go_on flash number r (page_done flash (region_at r s.regions)) (end_job number s)).state
-        split true t = rw t (flush_more flash number r bytes s sound w e (ltb-true ((region_at r s.regions).written + 1) flash.region_pages t))
-        split false t = rw t (flush_last flash number r bytes s sound w e)
+        split true t = rw t (more_sound flash number r bytes s sound w e (ltb-true ((region_at r s.regions).written + 1) flash.region_pages t))
+        split false t = rw t (last_sound flash number r bytes s sound w e)
 
 -- the page couldn't be written: its region ends
 pub failed_write_sound : (flash : FlashConfig) (number r : ℕ) (bytes : List ℕ) (s : Block) → Sound flash s → work_of number s.jobs ≡ Some (Writing r bytes) → Sound flash (resume flash number (Writing r bytes) Failed s).state

@@ -65,15 +65,39 @@ on_sound flash number reading bytes s sound w more = record {
 
 -- ---- a region is let go
 
+pub drained_bare : (status : Status) → is_draining status ≡ true → is_live status ≡ false
+drained_bare Clean d = absurd (cc)
+drained_bare Open d = absurd (cc)
+drained_bare Sealed d = absurd (cc)
+drained_bare Flushing d = absurd (cc)
+drained_bare OnFlash d = absurd (cc)
+drained_bare Draining d = refl
+
+not_waiting : (status : Status) → is_draining status ≡ true → (is_waiting status ≡ false) × (is_flushing status ≡ false)
+not_waiting Clean d = absurd (cc)
+not_waiting Open d = absurd (cc)
+not_waiting Sealed d = absurd (cc)
+not_waiting Flushing d = absurd (cc)
+not_waiting OnFlash d = absurd (cc)
+not_waiting Draining d = (refl, refl)
+
 module _ (flash : FlashConfig) (number : ℕ) (reading : Reading) (s : Block) (sound : Sound flash s) (p : Pinned flash number reading s) where
+  -- no write of a region that drains is out
+  pub none_written : is_draining (region_at reading.place.region s.regions).status ≡ true → writers reading.place.region (without_job number s.jobs) ≡ 0
+  none_written d = p.writers_kept reading.place.region ∙ (sound.regions reading.place.region).out ∙ rw (out_not (region_at reading.place.region s.regions).early refl) refl
+    where
+      out_not : (t : Bool) → (region_at reading.place.region s.regions).early ≡ t → is_out (region_at reading.place.region s.regions) ≡ false
+      out_not true t = absurd (not_both (is_waiting (region_at reading.place.region s.regions).status) ((sound.regions reading.place.region).early t).waiting (not_waiting (region_at reading.place.region s.regions).status d).0)
+      out_not false t = rw ((not_waiting (region_at reading.place.region s.regions).status d).1, t) refl
+
   -- the last read of a region that drains
-  last_goes : is_draining (region_at reading.place.region s.regions).status ≡ true → (region_at reading.place.region s.regions).pins ≡ 1
+  pub last_sound : is_draining (region_at reading.place.region s.regions).status ≡ true → (region_at reading.place.region s.regions).pins ≡ 1
       → Sound flash (record (with_region reading.place.region clean_region (end_job number s)) { flushed = minus reading.place.region s.flushed })
-  last_goes d one = changed_sound flash r clean_region s new sound (record {
+  last_sound d one = changed_sound flash r clean_region s new sound (record {
     there = there;
     regions = refl;
     index = refl;
-    appended = sym ((sound.regions r).bare (drained (region_at r s.regions).status d));
+    appended = sym ((sound.regions r).bare (drained_bare (region_at r s.regions).status d));
     current = λ q c. status_kept (λ status. status ≡ Open) s.regions r clean_region q (λ o. absurd (let e : is_draining Open ≡ true = (rw o at d) in cc)) (sound.current q c);
     sealed = λ q i. status_kept (λ status. status ≡ Sealed) s.regions r clean_region q (λ o. absurd (let e : is_draining Sealed ≡ true = (rw o at d) in cc)) (sound.sealed q i);
     flushed = λ q i. let k = kept_out (q == r) (is_in q s.flushed) (sym (is_in-minus q r s.flushed) ∙ i) in rw k.0 (sound.flushed q k.1);
@@ -83,12 +107,12 @@ module _ (flash : FlashConfig) (number : ℕ) (reading : Reading) (s : Block) (s
       rising = omega arith;
       pinned = omega (arith, p.pins);
       drains = λ c. absurd (cc);
-      out = p.writers_kept r ∙ (sound.regions r).out ∙ still;
+      out = none_written d;
       unwritten = λ c. absurd (cc);
       early = λ c. absurd (cc);
     };
     others = λ q n. (p.others q n, p.writers_kept q);
-    works = works-set flash s.regions r clean_region (without_job number s.jobs) there p.left.works (λ w. absurd (idle w)) (λ w. absurd (omega (arith, p.pins)));
+    works = works-set flash s.regions r clean_region (without_job number s.jobs) there p.left.works (λ w. absurd (omega (arith, none_written d))) (λ w. absurd (omega (arith, p.pins)));
     single = p.left.single;
   })
     where
@@ -101,36 +125,10 @@ module _ (flash : FlashConfig) (number : ℕ) (reading : Reading) (s : Block) (s
       there : r < length s.regions
       there = in_range s.regions r p.unclean
 
-      drained : (status : Status) → is_draining status ≡ true → is_live status ≡ false
-      drained Clean d = absurd (cc)
-      drained Open d = absurd (cc)
-      drained Sealed d = absurd (cc)
-      drained Flushing d = absurd (cc)
-      drained OnFlash d = absurd (cc)
-      drained Draining d = refl
-
-      not_waiting : (status : Status) → is_draining status ≡ true → (is_waiting status ≡ false) × (is_flushing status ≡ false)
-      not_waiting Clean d = absurd (cc)
-      not_waiting Open d = absurd (cc)
-      not_waiting Sealed d = absurd (cc)
-      not_waiting Flushing d = absurd (cc)
-      not_waiting OnFlash d = absurd (cc)
-      not_waiting Draining d = (refl, refl)
-
-      out_not : (t : Bool) → (region_at r s.regions).early ≡ t → is_out (region_at r s.regions) ≡ false
-      out_not true t = absurd (not_both (is_waiting (region_at r s.regions).status) ((sound.regions r).early t).waiting (not_waiting (region_at r s.regions).status d).0)
-      out_not false t = rw ((not_waiting (region_at r s.regions).status d).1, t) refl
-
-      still : ◌≡◌ {A = ℕ} (if is_out (region_at r s.regions) then 1 else 0) 0
-      still = rw (out_not (region_at r s.regions).early refl) refl
-
-      idle : 0 < writers r (without_job number s.jobs) → ⊥
-      idle w = omega (arith, p.writers_kept r, (sound.regions r).out, still)
-
   -- a read of a region that others still read, or that doesn't drain
-  one_goes : (is_draining (region_at reading.place.region s.regions).status ≡ true → (region_at reading.place.region s.regions).pins ≢ 1)
+  pub unpinned_sound : (is_draining (region_at reading.place.region s.regions).status ≡ true → (region_at reading.place.region s.regions).pins ≢ 1)
       → Sound flash (with_region reading.place.region (record (region_at reading.place.region s.regions) { pins = (region_at reading.place.region s.regions).pins - 1 }) (end_job number s))
-  one_goes more = changed_sound flash r x s new sound (record {
+  unpinned_sound more = changed_sound flash r x s new sound (record {
     there = there;
     regions = refl;
     index = refl;
@@ -182,9 +180,9 @@ let_go_sound flash number reading s outcome sound w = go (is_draining (region_at
 
     stays : (is_draining (region_at r s.regions).status ≡ true → (region_at r s.regions).pins ≢ 1) → (is_draining (region_at r s.regions).status && ((region_at r s.regions).pins == 1)) ≡ false
         → Sound flash (let_go r (finished (end_job number s) outcome)).state
-    stays more off = rw off (one_goes flash number reading s sound p more)
+    stays more off = rw off (unpinned_sound flash number reading s sound p more)
 
     go : (d : Bool) → is_draining (region_at r s.regions).status ≡ d → (o : Bool) → ((region_at r s.regions).pins == 1) ≡ o → Sound flash (let_go r (finished (end_job number s) outcome)).state
-    go true d true o = rw (d, o) (last_goes flash number reading s sound p d (is-one (region_at r s.regions).pins o))
+    go true d true o = rw (d, o) (last_sound flash number reading s sound p d (is-one (region_at r s.regions).pins o))
     go true d false o = stays (λ t e. absurd (let k : ((region_at r s.regions).pins == 1) ≡ true = (rw e refl) in cc)) (rw (d, o) refl)
     go false d o e = stays (λ t. absurd (cc)) (rw d refl)

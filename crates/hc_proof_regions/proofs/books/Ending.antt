@@ -15,11 +15,9 @@ use Rattle.hc_engines.specs.large.Block.{Block}
 use Rattle.hc_engines.specs.large.Steps.{lost, emptied, cleared_by, end_region}
 use Rattle.hc_engines.specs.large.Numbers.{is_in, minus}
 use Rattle.hc_engines.specs.large.Held.{held}
-use Rattle.hc_engines.specs.large.Sound.{is_live, is_listed, Sound}
-use Rattle.hc_engines.proofs.large.Lists.{same_num, in_range, region_at-set, place_at-without, is_at-true}
+use Rattle.hc_engines.specs.large.Sound.{is_listed, Sound}
+use Rattle.hc_engines.proofs.large.Lists.{same_num, in_range, region_at-set, is_at-true}
 use Rattle.hc_engines.proofs.large.Ends.{Ending, not-current-is, same_other, still_there, ended_sound, closed}
-use Rattle.hc_engines.proofs.large.FitsSteps.{ended_fits}
-use Rattle.hc_engines.proofs.large.Goods.{reads_stay}
 use Rattle.hc_engines.proofs.large.Holding.{held_ended}
 use Rattle.hc_engines.proofs.large.Stays.{Rest}
 use Rattle.hc_history.specs.Note.{Note, Lose, Cleared}

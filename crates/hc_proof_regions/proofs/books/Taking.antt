@@ -1,14 +1,11 @@
 -- An index entry is taken.
-use Rattle.std.proofs.Common.{◌≡◌, ℕ, ◌==◌, Bool, true, false, List, [], ◌∷◌, Option, Some, None, refl, sym, ◌∙◌, inr}
-use Rattle.std.specs.Prelude.{if◌then◌else◌, is_some}
+use Rattle.std.proofs.Common.{◌≡◌, ℕ, true, false, List, ◌∷◌, Option, Some, None, refl, inr}
+use Rattle.std.specs.Prelude.{is_some}
 use Rattle.hc_types.specs.Places.{kept_of}
 use Rattle.hc_types.specs.declared.config.FlashConfig.{FlashConfig}
-use Rattle.hc_engines.specs.large.Index.{Place, Indexed, place_at, without}
-use Rattle.hc_engines.specs.large.Block.{Block, Work, Writing, Getting, Job}
+use Rattle.hc_engines.specs.large.Index.{Place, place_at, without}
+use Rattle.hc_engines.specs.large.Block.{Block}
 use Rattle.hc_engines.specs.large.Steps.{take_index}
-use Rattle.hc_engines.specs.large.Sound.{Sound}
-use Rattle.hc_engines.specs.large.Fits.{WorkReads, ReadsHold}
-use Rattle.hc_engines.proofs.large.Lists.{place_at-without}
 use Rattle.hc_engines.proofs.large.Puts.{same_bytes}
 use Rattle.hc_engines.proofs.large.Holding.{held_taken}
 use Rattle.hc_engines.proofs.large.Stays.{Rest}
@@ -19,7 +16,6 @@ use Rattle.hc_proof_regions.specs.books.RegionBooks.{taken_note, TakeTells}
 use Rattle.hc_proof_regions.proofs.books.Filings.{FiledAs, as-without, as-filed}
 use Rattle.hc_engines.proofs.large.GetStays.{take_rest}
 use Rattle.hc_engines.proofs.large.GetStays.{take_sound}
-use Rattle.hc_engines.proofs.large.GetStays.{taken_place}
 
 -- ---- the books
 

@@ -1,6 +1,6 @@
 -- The whole invariant after a step of regions: the frame of all of them.
 use Rattle.std.proofs.Common.{◌≡◌, ℕ, ◌==◌, Bool, true, false, List, [], ◌∷◌, length, Option, Some, None, refl, sym, ap, arith, ◌∙◌, subst}
-use Rattle.std.specs.Prelude.{if◌then◌else◌, option_map}
+use Rattle.std.specs.Prelude.{if◌then◌else◌}
 use Rattle.hc_types.specs.Config.{Config}
 use Rattle.hc_types.specs.Loss as loss
 use Rattle.hc_types.specs.Places.{kept_of}

@@ -1,6 +1,6 @@
 -- Each note of a region step keeps the shell.
 use Rattle.std.proofs.Common.{◌≡◌, ℕ, ◌==◌, ◌≤◌, Bool, true, false, not, ◌&&◌, List, [], ◌∷◌, length, Option, Some, None, refl, sym, ap, ◌∙◌, subst}
-use Rattle.std.specs.Prelude.{if◌then◌else◌, is_some, option_map}
+use Rattle.std.specs.Prelude.{if◌then◌else◌, is_some}
 use Rattle.hc_types.specs.Config.{Config}
 use Rattle.hc_types.specs.Loss as loss
 use Rattle.hc_types.specs.Loss.{Scope, Cause}

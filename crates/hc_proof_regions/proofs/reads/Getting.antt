@@ -6,18 +6,15 @@ use Rattle.std.specs.Prelude.{if◌then◌else◌, nat_lt, min, IsSome, ◌⊎�
 use Rattle.hc_types.specs.Places.{kept_of}
 use Rattle.hc_types.specs.declared.config.FlashConfig.{FlashConfig}
 use Rattle.hc_engines.specs.Engine.{nothing}
-use Rattle.hc_engines.specs.large.Region.{Open, Sealed, is_clean, Region, region_at, page_no}
+use Rattle.hc_engines.specs.large.Region.{is_clean, Region, region_at, page_no}
 use Rattle.hc_engines.specs.large.Index.{Place, place_at, is_place}
 use Rattle.hc_engines.specs.large.Block.{Reading, Getting, Block, Moved, finished}
 use Rattle.hc_engines.specs.large.Steps.{first_page, end_page, reading_of, answered, read_next, pinned, get_at, get}
 use Rattle.hc_engines.specs.large.Held.{bytes_or_none, held}
-use Rattle.hc_engines.specs.large.Sound.{is_live, is_stored, readers, writers, Holds}
+use Rattle.hc_engines.specs.large.Sound.{is_live}
 use Rattle.hc_engines.specs.large.Fits.{Fits, ReadHolds, ReadsHold, answer_by}
 use Rattle.hc_engines.specs.large.Laws.{IsFree}
 use Rattle.hc_engines.proofs.large.Lists.{same_num, in_range, region_at-set}
-use Rattle.hc_engines.proofs.large.Regions.{works-set}
-use Rattle.hc_engines.proofs.large.Jobs.{single_more, changed_sound}
-use Rattle.hc_engines.proofs.large.Flushes.{status_kept, one_more, not_more, not_both}
 use Rattle.hc_engines.proofs.large.Fitting.{Grows, pages_long, same_region}
 use Rattle.hc_engines.proofs.large.Promise.{read_begins, read_at_once, answers_held, absent_held, read_stays}
 use Rattle.hc_engines.proofs.large.Stays.{out_rest}
@@ -29,7 +26,7 @@ use Rattle.hc_history.specs.Pages.{bytes_at}
 use Rattle.hc_proof_regions.specs.books.RegionBooks.{LargeFits, but, GetTells, GetReads, GetGives}
 use Rattle.hc_proof_regions.proofs.books.Changing.{changed_regions, others_same, work-added, work-own}
 use Rattle.hc_proof_regions.proofs.writes.Flushing.{Leaves, quiet_keeps}
-use Rattle.hc_engines.proofs.large.Gets.{pinned_holds}
+use Rattle.hc_engines.proofs.large.GetsSound.{begins_sound}
 
 -- a page of a region that isn't clean is known where it is written
 pub known_page : (flash : FlashConfig) (pages : ℕ → Option (List ℕ)) (s : Block) (r i : ℕ) → 0 < flash.page → Fits flash pages s → is_clean (region_at r s.regions).status ≡ false → i < (region_at r s.regions).written → IsSome (pages (page_no flash r i))
@@ -46,19 +43,7 @@ begins_leaves : (flash : FlashConfig) (older : List Note) (number : ℕ) (readin
     → reading.next < reading.until → reading.until ≤ (region_at reading.place.region s.regions).written → Leaves flash older number s (read_next flash number reading (pinned reading.place.region s)).state
 begins_leaves flash older number reading s f free live h below within = record {
   fit = record {
-    sound = changed_sound flash r x s new f.sound (record {
-      there = there;
-      regions = refl;
-      index = refl;
-      appended = refl;
-      current = λ q c. status_kept (λ status. status ≡ Open) s.regions r x q (λ o. o) (f.sound.current q c);
-      sealed = λ q i. status_kept (λ status. status ≡ Sealed) s.regions r x q (λ o. o) (f.sound.sealed q i);
-      flushed = λ q i. status_kept (λ status. is_stored status ≡ true) s.regions r x q (λ o. o) (f.sound.flushed q i);
-      holds = subst (λ (n : ℕ). Holds flash n (0 + writers r s.jobs) x) (sym (one_more r (readers r s.jobs))) (subst (λ (n : ℕ). Holds flash (1 + readers r s.jobs) n x) (omega arith) (pinned_holds flash (readers r s.jobs) (writers r s.jobs) (region_at r s.regions) u (f.sound.regions r)));
-      others = λ q n. (not_more r q (readers q s.jobs) n, omega arith);
-      works = ((below, (rw (region_at-set s.regions r r x there, same_num r) within)), works-set flash s.regions r x s.jobs there f.sound.works (λ w. refl) (λ w. omega arith));
-      single = λ n. single_more number n (Getting reading) s.jobs free f.sound.single;
-    });
+    sound = begins_sound flash number reading s f.sound free u below within;
     fits = rest.0;
     reads = (read_stays flash (bytes_at older) (bytes_at older) s new reading h (omega arith) (λ i lt. refl) (λ l. (live, same)), rest.1);
     regions = changed_regions flash older r x s new f.regions there refl refl refl refl refl (λ c. refl);
@@ -81,7 +66,7 @@ begins_leaves flash older number reading s f free live h below within = record {
     u = live_unclean (region_at reading.place.region s.regions).status live
 
     there : reading.place.region < length s.regions
-    there = in_range s.regions reading.place.region (live_unclean (region_at reading.place.region s.regions).status live)
+    there = in_range s.regions reading.place.region u
 
     rest : Fits flash (bytes_at older) (read_next flash number reading (pinned reading.place.region s)).state × ReadsHold flash (bytes_at older) (read_next flash number reading (pinned reading.place.region s)).state s.jobs
     rest = out_rest flash (bytes_at older) reading.place.region (pinned_region reading.place.region s) s (read_next flash number reading (pinned reading.place.region s)).state s.jobs live u refl refl refl refl f.sound.works f.fits f.reads

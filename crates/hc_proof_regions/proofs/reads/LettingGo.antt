@@ -1,5 +1,5 @@
 -- A read is over, and lets its region go.
-use Rattle.std.proofs.Common.{◌≡◌, ℕ, zero, suc, ◌+◌, ◌-◌, ◌<◌, ◌==◌, ◌&&◌, Bool, true, false, List, [], ◌∷◌, length, set, Some, None, refl, sym, subst, arith, ◌∙◌}
+use Rattle.std.proofs.Common.{◌≡◌, ℕ, ◌-◌, ◌<◌, ◌==◌, ◌&&◌, Bool, true, false, List, [], ◌∷◌, length, set, Some, None, refl, sym, subst, arith, ◌∙◌}
 use Rattle.std.proofs.lemmas.Bool.{eqb-true}
 use Rattle.std.proofs.lemmas.List.{length-set}
 use Rattle.std.specs.Prelude.{if◌then◌else◌, ◌≢◌}
@@ -7,18 +7,16 @@ use Rattle.hc_types.specs.Config.{Config}
 use Rattle.hc_types.specs.Tally.{count}
 use Rattle.hc_types.specs.declared.config.FlashConfig.{FlashConfig}
 use Rattle.hc_engines.specs.Engine.{Outcome}
-use Rattle.hc_engines.specs.large.Region.{Status, Clean, Open, Sealed, Flushing, OnFlash, Draining, is_clean, is_draining, Region, clean_region, filled_to, region_at}
+use Rattle.hc_engines.specs.large.Region.{Open, is_draining, Region, clean_region, filled_to, region_at}
 use Rattle.hc_engines.specs.large.Index.{Place, place_at}
 use Rattle.hc_engines.specs.large.Block.{Reading, Getting, Block, Moved, finished, work_of, without_job, with_region, end_job}
 use Rattle.hc_engines.specs.large.Steps.{let_go}
-use Rattle.hc_engines.specs.large.Numbers.{is_in, minus}
-use Rattle.hc_engines.specs.large.Sound.{is_live, is_stored, is_out, is_flushing, is_waiting, writers, readers, AllHold, Sound}
+use Rattle.hc_engines.specs.large.Numbers.{minus}
+use Rattle.hc_engines.specs.large.Sound.{is_live, AllHold, Sound}
 use Rattle.hc_engines.specs.large.Fits.{ReadsHold}
-use Rattle.hc_engines.proofs.large.Lists.{same_num, in_range, region_at-set, is_in-minus}
-use Rattle.hc_engines.proofs.large.Regions.{works-set}
-use Rattle.hc_engines.proofs.large.Ends.{kept_out}
-use Rattle.hc_engines.proofs.large.Jobs.{Left, ended_left, works_left, changed_sound}
-use Rattle.hc_engines.proofs.large.Flushes.{status_kept, one_more, not_more, not_both}
+use Rattle.hc_engines.proofs.large.Lists.{same_num, in_range, region_at-set}
+use Rattle.hc_engines.proofs.large.Jobs.{works_left}
+use Rattle.hc_engines.proofs.large.Flushes.{not_both}
 use Rattle.hc_engines.proofs.large.Fitting.{same_region}
 use Rattle.hc_engines.proofs.large.FitsSteps.{refits, same_fits}
 use Rattle.hc_engines.proofs.large.Goods.{reads_stay}
@@ -36,22 +34,9 @@ use Rattle.hc_invariant.specs.Good.{OneFlush}
 use Rattle.hc_proof_regions.proofs.books.Filings.{as-none, none-of}
 use Rattle.hc_proof_regions.proofs.books.Changing.{changed_regions, others_same, others_alone, work-without, work-ended}
 use Rattle.hc_proof_regions.proofs.books.Ending.{Cleaned, cleaned}
-use Rattle.hc_proof_regions.proofs.writes.Reclaiming.{none_drained, drained_bare}
-use Rattle.hc_engines.proofs.large.Gets.{Pinned}
-use Rattle.hc_engines.proofs.large.Gets.{pinned_by}
-
-not_waiting : (status : Status) → is_draining status ≡ true → (is_waiting status ≡ false) × (is_flushing status ≡ false)
-not_waiting Clean d = absurd (cc)
-not_waiting Open d = absurd (cc)
-not_waiting Sealed d = absurd (cc)
-not_waiting Flushing d = absurd (cc)
-not_waiting OnFlash d = absurd (cc)
-not_waiting Draining d = (refl, refl)
-
-left_over : (n : ℕ) → n ≢ 1 → 0 < n → 0 < n - 1
-left_over zero f h = absurd (omega arith)
-left_over (suc zero) f h = absurd (f refl)
-left_over (suc (suc n)) f h = omega arith
+use Rattle.hc_engines.proofs.large.GetsSound.{drained_bare, none_written, last_sound, unpinned_sound}
+use Rattle.hc_proof_regions.proofs.writes.Reclaiming.{none_drained}
+use Rattle.hc_engines.proofs.large.Gets.{Pinned, pinned_by}
 
 -- what is then
 pub record Gone (config : Config) (flash : FlashConfig) (mid : List Note) (number : ℕ) (s : Block) (moved : Moved) : Type 0 where
@@ -88,28 +73,7 @@ module _ (config : Config) (flash : FlashConfig) (mid : List Note) (number : ℕ
       → Gone config flash mid number s (finished (record (with_region reading.place.region clean_region (end_job number s)) { flushed = minus reading.place.region s.flushed }) (record o { cleared = Some reading.place.region }))
   last_goes d one = record {
     lawful_in = clear.lawful;
-    sound = changed_sound flash r clean_region s new sound (record {
-      there = there;
-      regions = refl;
-      index = refl;
-      appended = sym ((sound.regions r).bare (drained_bare (region_at r s.regions).status d));
-      current = λ q c. status_kept (λ status. status ≡ Open) s.regions r clean_region q (λ o. absurd (let e : is_draining Open ≡ true = (rw o at d) in cc)) (sound.current q c);
-      sealed = λ q i. status_kept (λ status. status ≡ Sealed) s.regions r clean_region q (λ o. absurd (let e : is_draining Sealed ≡ true = (rw o at d) in cc)) (sound.sealed q i);
-      flushed = λ q i. let k = kept_out (q == r) (is_in q s.flushed) (sym (is_in-minus q r s.flushed) ∙ i) in rw k.0 (sound.flushed q k.1);
-      holds = record {
-        blank = λ c. refl;
-        bare = λ c. refl;
-        rising = omega arith;
-        pinned = omega (arith, p.pins);
-        drains = λ c. absurd (cc);
-        out = p.writers_kept r ∙ (sound.regions r).out ∙ still;
-        unwritten = λ c. absurd (cc);
-        early = λ c. absurd (cc);
-      };
-      others = λ q n. (p.others q n, p.writers_kept q);
-      works = works-set flash s.regions r clean_region (without_job number s.jobs) there p.left.works (λ w. absurd (idle w)) (λ w. absurd (omega (arith, p.pins)));
-      single = p.left.single;
-    });
+    sound = last_sound flash number reading s sound p d one;
     rest = record {
       fits = refits flash (bytes_at mid) (bytes_at mid) r clean_region s new rest.fits (record {
         there = there;
@@ -140,7 +104,7 @@ module _ (config : Config) (flash : FlashConfig) (mid : List Note) (number : ℕ
     entries = refl;
     once = clear.once;
     index = refl;
-    others = others_alone (but number) r clean_region s new (without_job number s.jobs) there refl (p.writers_kept r ∙ (sound.regions r).out ∙ still) (λ n o. work-without number n s.jobs o) (λ n o. work-without number n s.jobs o);
+    others = others_alone (but number) r clean_region s new (without_job number s.jobs) there refl (none_written flash number reading s sound p d) (λ n o. work-without number n s.jobs o) (λ n o. work-without number n s.jobs o);
     over = record { order = refl; work = work-ended number s.jobs };
   }
     where
@@ -161,23 +125,13 @@ module _ (config : Config) (flash : FlashConfig) (mid : List Note) (number : ℕ
             (as-none reading.place.region (filed flash mid) s.index t.filings (none_drained flash s sound reading.place.region d) h));
       })
 
-      out_not : (t : Bool) → (region_at r s.regions).early ≡ t → is_out (region_at r s.regions) ≡ false
-      out_not true t = absurd (not_both (is_waiting (region_at r s.regions).status) ((sound.regions r).early t).waiting (not_waiting (region_at r s.regions).status d).0)
-      out_not false t = rw ((not_waiting (region_at r s.regions).status d).1, t) refl
-
-      still : ◌≡◌ {A = ℕ} (if is_out (region_at r s.regions) then 1 else 0) 0
-      still = rw (out_not (region_at r s.regions).early refl) refl
-
-      idle : 0 < writers r (without_job number s.jobs) → ⊥
-      idle w = omega (arith, p.writers_kept r, (sound.regions r).out, still)
-
       none_there : (h : ℕ) (q : Place) → place_at h s.index ≡ Some q → (q.region == r) ≡ true → ⊥
       none_there h q e t =
           let same : q.region ≡ r = eqb-true q.region r t in
           let live = indexed_live flash s h q sound e in
           not_both (is_live (region_at r s.regions).status) (rw same at live) (drained_bare (region_at r s.regions).status d)
 
-      -- the current region isn't the one that drained_bare
+      -- the current region isn't the one that drained
       filled : (q : ℕ) → s.current ≡ Some q → (t : Bool) → (q == r) ≡ t → filled_to flash (region_at q s.regions) ≡ filled_to flash (if t then clean_region else region_at q s.regions)
       filled q c true t =
           let e : q ≡ r = eqb-true q r t in
@@ -190,28 +144,7 @@ module _ (config : Config) (flash : FlashConfig) (mid : List Note) (number : ℕ
       → Gone config flash mid number s (finished (with_region reading.place.region (unpinned (region_at reading.place.region s.regions)) (end_job number s)) o)
   one_goes quiet more = record {
     lawful_in = λ tail. rw quiet tt;
-    sound = changed_sound flash r x s new sound (record {
-      there = there;
-      regions = refl;
-      index = refl;
-      appended = refl;
-      current = λ q c. status_kept (λ status. status ≡ Open) s.regions r x q (λ o. o) (sound.current q c);
-      sealed = λ q i. status_kept (λ status. status ≡ Sealed) s.regions r x q (λ o. o) (sound.sealed q i);
-      flushed = λ q i. status_kept (λ status. is_stored status ≡ true) s.regions r x q (λ o. o) (sound.flushed q i);
-      holds = record {
-        blank = λ c. absurd (not_both (is_clean (region_at r s.regions).status) c p.unclean);
-        bare = (sound.regions r).bare;
-        rising = (sound.regions r).rising;
-        pinned = omega (arith, p.pins);
-        drains = λ d. left_over (region_at r s.regions).pins (more d) ((sound.regions r).drains d);
-        out = p.writers_kept r ∙ (sound.regions r).out;
-        unwritten = (sound.regions r).unwritten;
-        early = λ e. let was = (sound.regions r).early e in record { waiting = was.waiting; full = was.full; not_last = was.not_last };
-      };
-      others = λ q n. (p.others q n, p.writers_kept q);
-      works = works-set flash s.regions r x (without_job number s.jobs) there p.left.works (λ w. refl) (λ w. omega arith);
-      single = p.left.single;
-    });
+    sound = unpinned_sound flash number reading s sound p more;
     rest = record {
       fits = same_fits flash (bytes_at mid) r x s new rest.fits p.unclean refl refl refl refl;
       reads = reads_stay flash (bytes_at mid) (bytes_at mid) r x s new (without_job number s.jobs) (record {

@@ -15,16 +15,17 @@ use Rattle.hc_engines.specs.large.Block.{Reading, Getting, Block, Moved, finishe
 use Rattle.hc_engines.specs.large.Steps.{lost, answered, absent, unreadable, read_next, let_go, resume, take_index}
 use Rattle.hc_engines.specs.large.Numbers.{is_in}
 use Rattle.hc_engines.specs.large.Held.{bytes_of, held}
-use Rattle.hc_engines.specs.large.Sound.{readers, writers, Holds, Sound}
+use Rattle.hc_engines.specs.large.Sound.{readers, Sound}
 use Rattle.hc_engines.specs.large.Fits.{ReadHolds, answer_by}
 use Rattle.hc_engines.proofs.large.Lists.{same_num, in_range, place_at-without}
-use Rattle.hc_engines.proofs.large.Jobs.{Left, ended_left, works_left, work_holds, single_more}
+use Rattle.hc_engines.proofs.large.Jobs.{works_left, work_holds}
 use Rattle.hc_engines.proofs.large.Goods.{Others, reads_stay}
 use Rattle.hc_engines.proofs.large.Promise.{is-place, read_stays, read_more}
 use Rattle.hc_engines.proofs.large.Stays.{Rest, reads_left}
 use Rattle.hc_engines.proofs.large.GetStays.{read_unclean}
 use Rattle.hc_engines.proofs.large.Holding.{held_taken}
 use Rattle.hc_engines.proofs.large.ReadEnds.{let_go_held, LetGo, let_go_is, last_read}
+use Rattle.hc_engines.proofs.large.GetsSound.{on_sound}
 use Rattle.hc_engines.proofs.large.Gets.{read_on}
 use Rattle.hc_engines.proofs.large.GetStays.{own_read}
 use Rattle.hc_history.specs.Note.{Note, Lose, Read as WasRead, Cleared}
@@ -300,25 +301,13 @@ module _ (config : Config) (flash : FlashConfig) (older : List Note) (number : �
   k : ReadKnown flash older reading s
   k = read_known flash older number reading s some at f
 
-  left : Left flash number (Getting reading) s (without_job number s.jobs)
-  left = ended_left flash number (Getting reading) s f.sound at
-
   goes_on : reading.next + 1 < reading.until → ReadDoes config flash older number reading bytes s (read_next flash number (read_on reading bytes) (end_job number s))
   goes_on more = record {
     keeps = record {
       lawful = (read_allowed config flash older [] (read_page flash reading) (Some bytes) here k.known, tt);
       lawful_in = λ tail. (read_allowed config flash older tail (read_page flash reading) (Some bytes) here k.known, tt);
       fit = record {
-        sound = record {
-          current = f.sound.current;
-          sealed = f.sound.sealed;
-          flushed = f.sound.flushed;
-          listed = f.sound.listed;
-          regions = λ q. subst (λ (n : ℕ). Holds flash n (0 + writers q (without_job number s.jobs)) (region_at q s.regions)) (left.readers_then q)
-              (subst (λ (n : ℕ). Holds flash (readers q s.jobs) n (region_at q s.regions)) (left.writers_then q) (f.sound.regions q));
-          works = ((more, left.own.1), left.works);
-          single = λ n. single_more number n (Getting (read_on reading bytes)) (without_job number s.jobs) left.free left.single;
-        };
+        sound = on_sound flash number reading bytes s f.sound at more;
         fits = record { known = f.fits.known; within = f.fits.within; places = λ h p e. let k = f.fits.places h p e in record { entry = k.entry; read = k.read; own = k.own; within = k.within } };
         reads = (
           read_stays flash (bytes_at older) (bytes_at older) s new (read_on reading bytes) holds (omega arith) (λ i lt. refl) (λ l. (l, record { more = []; grown = sym (append-nil (bytes_of flash (bytes_at older) s reading.place.region)) })),

@@ -1,5 +1,5 @@
 -- A large put: the engine by itself, what it holds, and what is told.
-use Rattle.std.proofs.Common.{◌≡◌, ℕ, ◌+◌, ◌*◌, ◌<◌, ◌==◌, Bool, true, false, List, [], ◌∷◌, ◌++◌, length, map, set, Option, Some, None, refl, sym, ap, subst, arith, ◌∙◌, append-nil}
+use Rattle.std.proofs.Common.{◌≡◌, ℕ, ◌+◌, ◌*◌, ◌<◌, ◌==◌, Bool, true, false, List, [], ◌∷◌, ◌++◌, length, set, Option, Some, None, refl, sym, ap, subst, arith, ◌∙◌}
 use Rattle.std.proofs.lemmas.Bool.{eqb-true}
 use Rattle.std.specs.Prelude.{if◌then◌else◌, nat_lt, nat_le, is_some}
 use Rattle.hc_types.specs.Config.{Config}
@@ -7,22 +7,18 @@ use Rattle.hc_types.specs.Places.{kept_of}
 use Rattle.hc_types.specs.declared.config.FlashConfig.{FlashConfig}
 use Rattle.hc_types.specs.FlashEntry.{FlashEntry}
 use Rattle.hc_engines.specs.large.Entries.{IsLarge, entry_bytes}
-use Rattle.hc_engines.specs.large.Region.{Open, Sealed, is_clean, Region, clean_region, opened_region, region_len, filled_to, region_at, lowest_clean}
+use Rattle.hc_engines.specs.large.Region.{Open, Sealed, Region, clean_region, opened_region, region_len, filled_to, region_at, lowest_clean}
 use Rattle.hc_engines.specs.large.Index.{Place, place_at}
 use Rattle.hc_engines.specs.large.Block.{Block, Moved, work_of}
 use Rattle.hc_engines.specs.large.Steps.{collided, fitting, append, seal, open_next, put_fresh, put_into, put}
-use Rattle.hc_engines.specs.large.Held.{bytes_of, held}
-use Rattle.hc_engines.specs.large.Sound.{Sound, AllHold}
+use Rattle.hc_engines.specs.large.Held.{held}
+use Rattle.hc_engines.specs.large.Sound.{Sound}
 use Rattle.hc_engines.specs.large.Laws.{has_room, after_put}
 use Rattle.hc_engines.proofs.large.Lists.{same_num, in_range, region_at-set, place_at-leading}
-use Rattle.hc_engines.proofs.large.Regions.{IsLowest, lowest_is}
-use Rattle.hc_engines.proofs.large.Puts.{append_sound, seal_step, seal_sound, open_sound, sealed_clean, seal-length}
-use Rattle.hc_engines.proofs.large.Fitting.{Grows, with_entry, new_place, appended_grows, append_fits}
-use Rattle.hc_engines.proofs.large.Flushes.{not_both}
-use Rattle.hc_engines.proofs.large.Goods.{reads_stay}
+use Rattle.hc_engines.proofs.large.Puts.{append_sound, seal_step, seal_sound, open_sound}
+use Rattle.hc_engines.proofs.large.Fitting.{with_entry, new_place}
 use Rattle.hc_engines.proofs.large.Stays.{Rest, seal_rest, open_rest}
-use Rattle.hc_engines.proofs.large.GetStays.{indexed_live}
-use Rattle.hc_engines.proofs.large.Flushes.{live_unclean}
+use Rattle.hc_engines.proofs.large.PutsSound.{in_use, Opens, opens}
 use Rattle.hc_engines.proofs.large.Holding.{held_same, held_put}
 use Rattle.hc_history.specs.Note.{Note, Unqueued, Opened}
 use Rattle.hc_history.specs.Pages.{bytes_at}
@@ -35,15 +31,6 @@ use Rattle.hc_engines.proofs.large.Stays.{append_rest}
 use Rattle.hc_engines.proofs.large.Changes.{opened_grows}
 
 -- ---- which way it goes
-
--- the region in use takes it
-fits_in : (flash : FlashConfig) (s : Block) (len r : ℕ) (o : Option ℕ) → fitting flash s len o ≡ Some r → o ≡ Some r
-fits_in flash s len r None e = absurd (cc)
-fits_in flash s len r (Some c) e = pick (nat_le (filled_to flash (region_at c s.regions) + len) (region_len flash)) e
-  where
-    pick : (b : Bool) → (if b then Some c else None) ≡ Some r → Some c ≡ Some r
-    pick true e = e
-    pick false e = absurd (cc)
 
 le-not-lt : (a b c d : ℕ) → nat_le a (b * c) ≡ false → nat_lt (c * b) a ≡ true
 le-not-lt a b c d h = let e : b * c ≡ c * b = omega arith in rw (← e) (grind (arith, h))
@@ -74,19 +61,6 @@ roomy flash older s len r t e = rw t.current (go s.current refl e)
     go : (o : Option ℕ) → s.current ≡ o → fitting flash s len o ≡ Some r → has_no_room flash o (filling flash older) len ≡ false
     go None c e = absurd (cc)
     go (Some c) k e = rw (t.filled c k) (le-holds (filled_to flash (region_at c s.regions) + len) flash.region_pages flash.page (fits (nat_le (filled_to flash (region_at c s.regions) + len) (region_len flash)) c e))
-
--- what is known of the region that is opened
-record Opens (s : Block) (r : ℕ) : Type 0 where
-  low : IsLowest s.regions r
-  there : r < length (seal s.current s.regions)
-  clean : is_clean (region_at r (seal s.current s.regions)).status ≡ true
-
-opens : (flash : FlashConfig) (s : Block) (r : ℕ) → Sound flash s → lowest_clean 0 s.regions ≡ Some r → Opens s r
-opens flash s r sound e =
-    let low = lowest_is s.regions 0 r e in
-    let same : low.0 ≡ r = omega (arith, low.1) in
-    let l : IsLowest s.regions r = (rw same at low.2) in
-    record { low = l; there = omega (arith, seal-length s.current s.regions, l.there); clean = sealed_clean s r sound.current ∙ l.clean }
 
 is_opened : (s : Block) (r : ℕ) → Opens s r → region_at r (open_next r s).regions ≡ opened_region
 is_opened s r o = rw (region_at-set (seal s.current s.regions) r r opened_region o.there, same_num r) refl
@@ -182,7 +156,7 @@ module _ (config : Config) (flash : FlashConfig) (older : List Note) (e : FlashE
 
   put_in_use : (r : ℕ) → fitting flash s (length (entry_bytes e)) s.current ≡ Some r → PutDoes config flash older e s (put_into flash e s (Some r))
   put_in_use r f =
-      let cur = fits_in flash s (length (entry_bytes e)) r s.current f in
+      let cur = in_use flash s (length (entry_bytes e)) r s.current f in
       let told = told_collision flash e.key (place_at (kept_of flash.bits e.key) s.index) in
       let room : has_room flash e s ≡ true = (rw f refl) in
       record {

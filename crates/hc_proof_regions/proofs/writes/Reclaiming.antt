@@ -1,23 +1,24 @@
 -- Reclaim: the region that was flushed first ends.
-use Rattle.std.proofs.Common.{◌≡◌, ℕ, ◌<◌, ◌==◌, Bool, true, false, List, [], Option, Some, None, refl, sym, ap, subst, arith, ◌∙◌}
-use Rattle.std.proofs.lemmas.Bool.{eqb-true, ltb-true}
+use Rattle.std.proofs.Common.{◌≡◌, ℕ, ◌<◌, Bool, true, false, List, [], Option, Some, None, refl, sym, ap, subst, arith, ◌∙◌}
+use Rattle.std.proofs.lemmas.Bool.{ltb-true}
 use Rattle.std.specs.Prelude.{if◌then◌else◌, nat_lt}
 use Rattle.hc_types.specs.Config.{Config}
 use Rattle.hc_types.specs.Loss.{Reclaimed}
 use Rattle.hc_types.specs.declared.config.FlashConfig.{FlashConfig}
 use Rattle.hc_types.specs.FlashEntry.{FlashEntry}
 use Rattle.hc_engines.proofs.large.Stays.{Rest}
-use Rattle.hc_engines.specs.large.Region.{Status, Clean, Open, Sealed, Flushing, OnFlash, Draining, is_draining, Region, region_at}
+use Rattle.hc_engines.specs.large.Region.{is_draining, region_at}
 use Rattle.hc_engines.specs.large.Index.{Place, place_at, region_in}
 use Rattle.hc_engines.specs.large.Block.{Block, Moved, unmoved}
 use Rattle.hc_engines.specs.large.Steps as steps
 use Rattle.hc_engines.specs.large.Steps.{emptied, not_current, oldest, reclaim_of, reclaim}
 use Rattle.hc_engines.specs.large.Numbers.{is_in, is_before}
-use Rattle.hc_engines.specs.large.Sound.{is_live, is_listed, Sound}
+use Rattle.hc_engines.specs.large.Sound.{is_listed, Sound}
 use Rattle.hc_engines.proofs.large.Lists.{in_range}
 use Rattle.hc_engines.proofs.large.Ends.{Ending, not-current-is, closed}
 use Rattle.hc_engines.proofs.large.Regions.{IsOldest, oldest_is}
 use Rattle.hc_engines.proofs.large.Reclaims.{oldest_ending}
+use Rattle.hc_engines.proofs.large.GetsSound.{drained_bare}
 use Rattle.hc_history.specs.Note.{Note}
 use Rattle.hc_history.specs.Regions.{is_one_of, clean_count, flushed, behind, filed}
 use Rattle.hc_history.specs.Pages.{bytes_at}
@@ -34,14 +35,6 @@ use Rattle.hc_engines.proofs.large.Reclaims.{not_current_one}
 -- what makes the losses true
 abbrev pub IsReclaiming : FlashConfig → ℕ → List Note → Type 0
 IsReclaiming flash r older = (is_one_of r (flushed older) ≡ true) × (clean_count flash older < flash.clean) × (of_regions (λ x. is_one_of x (behind r (flushed older))) (filed flash older) ≡ 0)
-
-pub drained_bare : (status : Status) → is_draining status ≡ true → is_live status ≡ false
-drained_bare Clean d = absurd (cc)
-drained_bare Open d = absurd (cc)
-drained_bare Sealed d = absurd (cc)
-drained_bare Flushing d = absurd (cc)
-drained_bare OnFlash d = absurd (cc)
-drained_bare Draining d = refl
 
 -- the index leads into no region that drains
 pub none_drained : (flash : FlashConfig) (s : Block) → Sound flash s → (x : ℕ) → is_draining (region_at x s.regions).status ≡ true → (h : ℕ) → region_in (place_at h s.index) ≡ Some x → ⊥

@@ -11,7 +11,7 @@ use Rattle.hc_engines.specs.large.Block.{Writing, Block, Moved, finished, work_o
 use Rattle.hc_engines.specs.large.Steps.{write_out, go_on, wrote_page, resume}
 use Rattle.hc_engines.specs.large.Numbers.{is_in}
 use Rattle.hc_engines.specs.large.Held.{held}
-use Rattle.hc_engines.specs.large.Sound.{is_live, is_stored, is_out, is_flushing, is_filling, writers, readers}
+use Rattle.hc_engines.specs.large.Sound.{is_stored, is_out, is_flushing, is_filling, writers, readers}
 use Rattle.hc_engines.specs.large.Fits.{Fits, ReadsHold}
 use Rattle.hc_engines.proofs.large.Lists.{same_num, in_range, region_at-set}
 use Rattle.hc_engines.proofs.large.Flushes.{not_both, Wrote1, wrote_one, out_unclean}
@@ -28,7 +28,8 @@ use Rattle.hc_proof_regions.specs.books.RegionBooks.{LargeFits, LargeKeeps, Othe
 use Rattle.hc_invariant.specs.Good.{OneFlush}
 use Rattle.hc_proof_regions.proofs.books.RegionsInUse.{turned, in-reverse}
 use Rattle.hc_proof_regions.proofs.books.Changing.{changed_regions, others_alone, work-added, work-own, work-without, work-ended}
-use Rattle.hc_proof_regions.proofs.writes.WrittenSound.{full_same, done_region, eased_region, more_sound, last_sound, early_sound, written_rest, written_holds}
+use Rattle.hc_engines.proofs.large.FlushesSound.{more_sound, last_sound, early_sound}
+use Rattle.hc_proof_regions.proofs.writes.WrittenPages.{full_same, done_region, eased_region, written_rest, written_holds}
 use Rattle.hc_engines.proofs.large.Stays.{filling_live}
 
 -- a region's page is no bucket's

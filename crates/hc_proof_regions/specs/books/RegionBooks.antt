@@ -1,7 +1,7 @@
 -- What each step of the large engine keeps of itself and of the region books, what it tells, and what it
 use Rattle.hc_engines.specs.large.Laws.{read_page}
 -- holds before and after at each key.
-use Rattle.std.specs.Prelude.{◌≡◌, ◌⊎◌, ℕ, ◌<◌, ◌≤◌, ◌==◌, Bool, true, false, List, [], ◌∷◌, ◌++◌, length, map, Some, None, IsSome, is_some, if◌then◌else◌}
+use Rattle.std.specs.Prelude.{◌≡◌, ◌⊎◌, ℕ, ◌<◌, ◌==◌, Bool, true, false, List, [], ◌∷◌, ◌++◌, length, map, Some, None, IsSome, is_some, if◌then◌else◌}
 use Rattle.hc_types.specs.Config.{Config}
 use Rattle.hc_types.specs.Loss as loss
 use Rattle.hc_types.specs.Loss.{NoCleanRegion, Collision}

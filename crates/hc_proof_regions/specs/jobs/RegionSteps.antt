@@ -1,5 +1,5 @@
 -- What each step of regions keeps: reclaim, a result of a region's write, and the writer's take of a page.
-use Rattle.std.specs.Prelude.{◌≡◌, ℕ, ◌+◌, true, List, Option, Some, None}
+use Rattle.std.specs.Prelude.{◌≡◌, ℕ, ◌+◌, true, List, Some}
 use Rattle.hc_types.specs.Config.{Config}
 use Rattle.hc_types.specs.declared.config.FlashConfig.{FlashConfig}
 use Rattle.hc_engines.specs.Engine.{Flush, Order, IoResult, Outcome, Io}
