@@ -11,7 +11,7 @@ use Rattle.hc_history.specs.Books as books
 use Rattle.hc_history.specs.Lawful.{past, is_full}
 use Rattle.hc_machine.specs.Cache.{Refused, Discarded, Replied, Waits, Moment}
 use Rattle.hc_machine.specs.World.{Says}
-use Rattle.hc_machine.specs.Schedule.{Deed, Open, Put, PutNew, Discard, Find, Remove, Told, Tells, NoSlot, Filled}
+use Rattle.hc_machine.specs.Schedule.{Deed, Open, Put, PutNew, Discard, Told, Tells, NoSlot, Filled}
 use Rattle.hc_follows.specs.Desk.{Kept, Adding, kept_at, without_kept, with_kept, open_charges}
 use Rattle.hc_follows.specs.Telling.{NoCall, Answers, Waiting, IsCharged}
 

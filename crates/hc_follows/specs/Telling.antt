@@ -1,7 +1,6 @@
 -- What a part of a step tells: of calls, of charges, of reads and writes.
 use Rattle.std.specs.Prelude.{◌≡◌, ℕ, ◌+◌, ◌==◌, false, List, [], ◌∷◌, Option, Some, None, IsSome, if◌then◌else◌}
 use Rattle.hc_types.specs.Config.{Config}
-use Rattle.hc_engines.specs.Engine.{Read}
 use Rattle.hc_history.specs.Note as note
 use Rattle.hc_history.specs.Note.{Note, Op, Reply, Begin, Did, End, Charged}
 use Rattle.hc_history.specs.Books.{buried, is_among, is_held, begun}

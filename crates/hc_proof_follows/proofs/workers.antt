@@ -9,5 +9,6 @@ pub mod Busy
 pub mod Searching
 pub mod Lines
 pub mod Draining
+pub mod Regions
 pub mod Workers
 pub mod Schedules

@@ -1,7 +1,6 @@
 -- An insert, an add that doesn't wait, a remove: what is told of the call, and what is left.
-use Rattle.std.proofs.Common.{◌≡◌, ℕ, ◌+◌, ◌≤◌, ◌==◌, Bool, true, false, not, ◌&&◌, List, [], ◌∷◌, ◌++◌, Option, Some, None, refl, ap, sym, ◌∙◌, subst, arith, cond}
-use Rattle.std.specs.Prelude.{if◌then◌else◌, map}
-use Rattle.std.proofs.lemmas.Option.{same_Some}
+use Rattle.std.proofs.Common.{◌≡◌, ℕ, ◌+◌, ◌≤◌, ◌==◌, true, false, not, ◌&&◌, List, [], ◌∷◌, ◌++◌, Option, Some, None, refl, ap, sym, ◌∙◌, subst, arith, cond}
+use Rattle.std.specs.Prelude.{map}
 use Rattle.hc_types.specs.Tally.{count}
 use Rattle.hc_types.specs.Config.{Config}
 use Rattle.hc_types.specs.declared.config.FlashConfig.{FlashConfig}
@@ -12,7 +11,7 @@ use Rattle.hc_history.specs.Note as note
 use Rattle.hc_history.specs.Note.{Note, Op, Reply, Begin, Did, End}
 use Rattle.hc_history.specs.Books.{begun}
 use Rattle.hc_machine.specs.Nvm.{Nvm, Fill, is_fill_of, without_fill, adds}
-use Rattle.hc_machine.specs.Cache.{Cache, Told, and_then, answers}
+use Rattle.hc_machine.specs.Cache.{Cache, Told, and_then}
 use Rattle.hc_machine.specs.Waiting.{plant, entry_of_handle, end_fill}
 use Rattle.hc_machine.specs.Calls.{begin, replies_then, store, is_known, is_kept_in}
 use Rattle.hc_machine.specs.Schedule.{Slot, Scene, is_slot, slot_at, without_slot}
@@ -27,7 +26,7 @@ use Rattle.hc_follows.specs.Desk.{Desk, Kept, without_kept}
 use Rattle.hc_follows.specs.Telling.{did_in, Answers}
 use Rattle.hc_proof_frames.specs.shapes.Asides.{Aside, Answering}
 use Rattle.hc_proof_follows.specs.clients.Matches.{kept_of, AllTold, SlotsMatch, AddsMatch, Matches}
-use Rattle.hc_proof_follows.specs.slots.Opens.{holds, AllOpen, Opens, adds_in}
+use Rattle.hc_proof_follows.specs.slots.Opens.{holds, Opens, adds_in}
 use Rattle.hc_proof_frames.proofs.shapes.Asides.{answering, plant_aside}
 use Rattle.hc_proof_follows.proofs.slots.Opens.{slot_goes}
 use Rattle.hc_proof_follows.proofs.clients.Telling.{quiet_before, did_behind}

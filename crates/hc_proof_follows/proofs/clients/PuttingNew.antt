@@ -17,7 +17,6 @@ use Rattle.hc_machine.specs.Cache.{Cache, Owed, Moved, Refused, Replied, Waits, 
 use Rattle.hc_machine.specs.World.{Says, by_call}
 use Rattle.hc_machine.specs.Waiting.{live}
 use Rattle.hc_machine.specs.Calls.{begin, wait_for, store, is_known, in_memory, must_wait, must_wait_in}
-use Rattle.hc_machine.specs.Calls as calls
 use Rattle.hc_machine.specs.Schedule.{Slot, Scene, PutNew, NoSlot, Tells, slot_at, without_slot, in_world, left_after, puts_new}
 use Rattle.hc_invariant.specs.Tells.{CallsTell, waiters_of, asked_in, is_unanswered, is_call}
 use Rattle.hc_invariant.specs.Good.{Agrees, fills_of}

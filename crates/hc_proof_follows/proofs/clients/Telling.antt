@@ -1,5 +1,5 @@
 -- What pieces tell, joined: calls that begin, are answered and end, reads and writes.
-use Rattle.std.proofs.Common.{◌≡◌, ℕ, ◌+◌, List, [], ◌∷◌, ◌++◌, refl}
+use Rattle.std.proofs.Common.{◌≡◌, ℕ, List, [], ◌∷◌, ◌++◌, refl}
 use Rattle.hc_history.specs.Note.{Note, Begin, Did, End, Read, Wrote, Flushed}
 use Rattle.hc_history.specs.Books.{begun}
 use Rattle.hc_follows.specs.Telling.{did_in, ended_in, io_in, NoCall}

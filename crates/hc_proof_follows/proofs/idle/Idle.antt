@@ -1,5 +1,5 @@
 -- A worker is idle only where there is nothing for it to do.
-use Rattle.std.proofs.Common.{◌≡◌, ◌⊎◌, inl, inr, ℕ, ◌+◌, Bool, true, false, not, ◌&&◌, ◌||◌, nat_lt, List, [], length, Option, Some, None, refl, ap, ◌∙◌, arith, subst}
+use Rattle.std.proofs.Common.{◌≡◌, ◌⊎◌, inl, inr, ℕ, ◌+◌, Bool, true, false, not, ◌&&◌, nat_lt, List, [], length, Option, Some, None, refl, ap, ◌∙◌, arith, subst}
 use Rattle.std.specs.Prelude.{if◌then◌else◌, is_some}
 use Rattle.hc_types.specs.Places.{bucket_at, is_small_by}
 use Rattle.hc_types.specs.declared.config.FlashConfig.{FlashConfig}
@@ -9,11 +9,11 @@ use Rattle.hc_engines.specs.small.BigHash as bighash
 use Rattle.hc_engines.specs.small.BigHash.{Reading, Moved, word_at, is_busy, could_hold}
 use Rattle.hc_types.specs.FlashEntry.{FlashEntry}
 use Rattle.hc_engines.specs.large.Entries.{entry_bytes}
-use Rattle.hc_engines.specs.large.Region.{can_go, region_at, lowest_clean}
+use Rattle.hc_engines.specs.large.Region.{lowest_clean}
 use Rattle.hc_engines.specs.large.Block as block
 use Rattle.hc_engines.specs.large.Block.{Block}
 use Rattle.hc_engines.specs.large.Steps as steps
-use Rattle.hc_engines.specs.large.Steps.{first_ready, fitting, put_fresh, put_into, put}
+use Rattle.hc_engines.specs.large.Steps.{fitting, put_fresh, put_into, put}
 use Rattle.hc_memory.specs.Memory.{Memory}
 use Rattle.hc_history.specs.Note.{Note}
 use Rattle.hc_engines.specs.pair.Pair as pairs
@@ -34,19 +34,6 @@ flush_next : (outcome : Outcome) (order : Option Order) (nvm : Nvm) (pair : pair
 flush_next outcome None nvm pair h = refl
 flush_next outcome (Some (Read page)) nvm pair h = absurd cc
 flush_next outcome (Some (Write page bytes)) nvm pair h = absurd cc
-
-early_none : (flash : FlashConfig) (number : ℕ) (s : Block) (r : ℕ) (o : Option ℕ) → (steps.early_of flash number s o).order ≡ None → o ≡ Some r → can_go flash (region_at r s.regions) ≡ false
-early_none flash number s r None h e = absurd cc
-early_none flash number s r (Some q) h e = let same : q ≡ r = cc in subst (λ (x : ℕ). can_go flash (region_at x s.regions) ≡ false) same (by (can_go flash (region_at q s.regions)) h)
-  where
-    by : (b : Bool) → (if b then steps.write_out flash number q (record (region_at q s.regions) { early = true }) s else block.unmoved s).order ≡ None → b ≡ false
-    by true h = absurd cc
-    by false h = refl
-
--- none is ready, and none goes early
-flush_none : (flash : FlashConfig) (number : ℕ) (s : Block) (o : Option ℕ) → (steps.flush_of flash number s o).order ≡ None → (o ≡ None) × ((r : ℕ) → s.current ≡ Some r → can_go flash (region_at r s.regions) ≡ false)
-flush_none flash number s None h = (refl, λ r e. early_none flash number s r s.current h e)
-flush_none flash number s (Some r) h = absurd cc
 
 -- ---- a delete, and a put
 
@@ -136,9 +123,8 @@ writer_idles config older cache nvm g n h =
     let j = jobs_in config.flash older cache.memory cache.nvm nvm n g.flash in
     let moved = steps.flush nvm.pair.small.flash (nvm.made + 1) nvm.pair.large in
     let none : moved.order ≡ None = flush_next moved.outcome moved.order nvm (record nvm.pair { large = moved.state }) h in
-    let flush = flush_none nvm.pair.small.flash (nvm.made + 1) nvm.pair.large (first_ready nvm.pair.large.regions nvm.pair.large.sealed) none in
     let rest = no_delete nvm (next_delete nvm) refl j (behind_flush nvm (pairs.start (nvm.made + 1) Flush nvm.pair).next (pairs.start (nvm.made + 1) Flush nvm.pair).pair h) in
-    record { sealed = flush.0; early = flush.1; deletes = none-counted (is_ready nvm) nvm.tombstones rest.0; puts = none-counted (can_be_put nvm) nvm.queue rest.1 }
+    record { pages = none; deletes = none-counted (is_ready nvm) nvm.tombstones rest.0; puts = none-counted (can_be_put nvm) nvm.queue rest.1 }
 
 -- ---- the filler
 

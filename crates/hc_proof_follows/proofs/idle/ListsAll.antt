@@ -19,7 +19,7 @@ use Rattle.hc_engines.proofs.large.Regions.{oldest_is}
 use Rattle.hc_engines.proofs.large.Reclaims.{oldest_ending}
 use Rattle.hc_engines.proofs.large.Flushes.{written_ending}
 use Rattle.hc_engines.proofs.large.Fitting.{with_entry}
-use Rattle.hc_proof_follows.specs.idle.Listed.{IsListed, AllListed, PutListsAll, FlushListsAll, ReclaimListsAll, GetListsAll, ResumeListsAll, TakeListsAll, FlushMissesNone}
+use Rattle.hc_proof_follows.specs.idle.Listed.{IsListed, AllListed, PutListsAll, FlushListsAll, ReclaimListsAll, GetListsAll, ResumeListsAll, FlushMissesNone}
 
 -- ---- one region changes
 
@@ -61,7 +61,7 @@ listed_too s new r Flushing c e f h = tt
 listed_too s new r OnFlash c e f h = ap (is_in r) f ∙ h
 listed_too s new r Draining c e f h = tt
 
-same_regions : (s new : Block) → new.regions ≡ s.regions → new.current ≡ s.current → new.sealed ≡ s.sealed → new.flushed ≡ s.flushed → AllListed s → AllListed new
+pub same_regions : (s new : Block) → new.regions ≡ s.regions → new.current ≡ s.current → new.sealed ≡ s.sealed → new.flushed ≡ s.flushed → AllListed s → AllListed new
 same_regions s new e c d f all q = rw e (listed_too s new q (region_at q s.regions).status c d f (all q))
 
 -- a region's other fields change
@@ -124,7 +124,7 @@ put_lists flash entry s sound all = go (fitting flash s (length (entry_bytes ent
 
 -- ---- pages
 
-kept-in : (q r : ℕ) (rs : List ℕ) → (q == r) ≡ false → is_in q rs ≡ true → is_in q (minus r rs) ≡ true
+pub kept-in : (q r : ℕ) (rs : List ℕ) → (q == r) ≡ false → is_in q rs ≡ true → is_in q (minus r rs) ≡ true
 kept-in q r rs n h = is_in-minus q r rs ∙ (rw n h)
 
 pub flush_lists : FlushListsAll
@@ -209,9 +209,6 @@ reclaim_lists flash s sound all = go (nat_lt (clean_count s.regions) flash.clean
 
 -- ---- reads
 
-pub take_lists : TakeListsAll
-take_lists hash s all = same_regions s (take_index hash s) refl refl refl refl all
-
 answered_lists : (flash : FlashConfig) (reading : Reading) (s : Block) → AllListed s → AllListed (answered flash reading s).state
 answered_lists flash reading s all = go (is_place (place_at (kept_of flash.bits reading.key) s.index) reading.place)
   where
@@ -230,7 +227,7 @@ failed_lists flash reading s all = go (is_place (place_at (kept_of flash.bits re
     go true = same_regions s (take_index (kept_of flash.bits reading.key) s) refl refl refl refl all
     go false = all
 
-drains-unclean : (status : Status) → is_draining status ≡ true → is_clean status ≡ false
+pub drains-unclean : (status : Status) → is_draining status ≡ true → is_clean status ≡ false
 drains-unclean Clean d = absurd (cc)
 drains-unclean Open d = refl
 drains-unclean Sealed d = refl

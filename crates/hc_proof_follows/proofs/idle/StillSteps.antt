@@ -1,5 +1,5 @@
 -- Each call of a client leaves jobs and regions as they are.
-use Rattle.std.proofs.Common.{◌≡◌, ℕ, ◌+◌, Bool, true, false, List, [], ◌∷◌, ◌++◌, length, Option, Some, None, refl, ap, sym, ◌∙◌, subst}
+use Rattle.std.proofs.Common.{◌≡◌, ℕ, Bool, true, false, List, [], ◌∷◌, ◌++◌, length, Option, Some, None, refl}
 use Rattle.std.specs.Prelude.{if◌then◌else◌, is_some, nat_lt}
 use Rattle.hc_types.specs.declared.refusal.Refusal.{Refusal}
 use Rattle.hc_memory.specs.Item.{Handle}
@@ -22,7 +22,7 @@ record CalmPart (cache : Cache) (told : Told) : Type 0 where
   calm : AllCalm told.part
   still : StillOption cache.nvm told.cache.nvm
 
-calm-plain : (part : List Note) → AllPlain part → AllCalm part
+pub calm-plain : (part : List Note) → AllPlain part → AllCalm part
 calm-plain [] h = tt
 calm-plain (notes.Begin call client op ∷ part) h = absurd h
 calm-plain (notes.End call ∷ part) h = absurd h

@@ -1,7 +1,7 @@
 -- A key whose tombstone is taken is being deleted: each step keeps that.
-use Rattle.std.proofs.Common.{◌≡◌, inl, inr, ℕ, ◌+◌, ◌≤◌, ◌==◌, Bool, true, false, not, ◌&&◌, ◌||◌, List, [], ◌∷◌, ◌++◌, length, map, filter, Option, Some, None, refl, ap, sym, ◌∙◌, subst, arith}
+use Rattle.std.proofs.Common.{◌≡◌, inl, inr, ℕ, ◌+◌, ◌≤◌, Bool, true, false, not, ◌&&◌, ◌||◌, List, [], ◌∷◌, ◌++◌, length, filter, Option, Some, None, refl, ap, sym, ◌∙◌, arith}
+use Rattle.std.proofs.lemmas.Bool.{or_right}
 use Rattle.std.specs.Prelude.{if◌then◌else◌, ◌⊎◌}
-use Rattle.std.specs.List.{list_any}
 use Rattle.std.specs.Str.{bytes_eq}
 use Rattle.hc_types.specs.Tally.{count}
 use Rattle.hc_types.specs.Places.{bucket_at, is_small_by}
@@ -9,7 +9,6 @@ use Rattle.hc_types.specs.FlashEntry.{FlashEntry}
 use Rattle.hc_engines.specs.Engine as engine
 use Rattle.hc_engines.specs.Engine.{Put, Get, Delete, Flush, Outcome, Next, Busy, Io, Done}
 use Rattle.hc_engines.specs.small.BigHash as bighash
-use Rattle.hc_engines.specs.large.Block as block
 use Rattle.hc_engines.specs.large.Steps as steps
 use Rattle.hc_engines.specs.pair.Pair as pairs
 use Rattle.hc_engines.specs.pair.Pair.{Pair}
@@ -23,16 +22,10 @@ use Rattle.hc_memory.proofs.Keyed.{same_bytes}
 use Rattle.hc_proof_frames.proofs.frames.ByNumber.{found-passes}
 use Rattle.hc_proof_workers.proofs.writer.SmallStarts.{waits_so, ends_so, delete_starts}
 use Rattle.hc_proof_follows.specs.idle.Idling.{is_ready}
-use Rattle.hc_proof_follows.specs.idle.Still.{StillNvm, StillOption}
+use Rattle.hc_proof_follows.specs.idle.Still.{StillNvm}
 use Rattle.hc_proof_follows.specs.idle.Stones.{deletes, is_deleting, StonesRun, StonesBut}
 use Rattle.hc_proof_follows.proofs.idle.StillParts.{holds_still, settled_still}
 use Rattle.hc_proof_follows.proofs.idle.Idle.{both-not}
-
--- ---- Bools
-
-pub or_right : (a b : Bool) → b ≡ true → (a || b) ≡ true
-or_right true b h = refl
-or_right false b h = h
 
 -- ---- what leaves jobs and tombstones as they are
 

@@ -1,18 +1,18 @@
 -- What is under way in an engine has its order out at the desk.
-use Rattle.std.proofs.Common.{◌≡◌, ℕ, ◌+◌, ◌<◌, ◌≤◌, ◌==◌, Bool, true, false, not, ◌&&◌, ◌||◌, List, [], ◌∷◌, Option, Some, None, refl, ap, sym, ◌∙◌, subst, arith}
-use Rattle.std.specs.Prelude.{if◌then◌else◌, is_some, option_map, nat_le}
+use Rattle.std.proofs.Common.{◌≡◌, ℕ, ◌+◌, ◌≤◌, ◌==◌, Bool, true, false, ◌||◌, List, [], ◌∷◌, Option, Some, None, refl, ap, sym, ◌∙◌, subst, arith}
+use Rattle.std.specs.Prelude.{if◌then◌else◌, option_map}
 use Rattle.std.specs.List.{list_any}
 use Rattle.std.proofs.lemmas.Bool.{eqb-true, eq-eqb}
 use Rattle.hc_types.specs.Places.{bucket_at}
+use Rattle.hc_types.specs.Tally.{count}
 use Rattle.hc_types.specs.declared.config.FlashConfig.{FlashConfig}
 use Rattle.hc_engines.specs.Engine.{Order, Pages}
 use Rattle.hc_engines.specs.small.BigHash as bighash
-use Rattle.hc_engines.specs.small.Held as small
 use Rattle.hc_engines.specs.small.Held.{JobsFit}
 use Rattle.hc_engines.specs.large.Block as block
 use Rattle.hc_history.specs.Note.{Note}
 use Rattle.hc_history.specs.Pages.{bytes_at}
-use Rattle.hc_engines.specs.pair.Pair.{Pair, is_busy_for}
+use Rattle.hc_engines.specs.pair.Pair.{is_busy_for}
 use Rattle.hc_machine.specs.Nvm.{Nvm, Job, job_at}
 use Rattle.hc_machine.specs.World.{Result, order_in}
 use Rattle.hc_invariant.specs.Jobs.{JobsRun, small_job, large_work, small_order, large_order}
@@ -79,6 +79,39 @@ large_out nvm n work j at = go (job_at n nvm.jobs) refl
     go : (o : Option Job) → job_at n nvm.jobs ≡ o → IsOut nvm n (large_order nvm.pair work)
     go None e = absurd (let none = j.large_ones n e in let clash : None ≡ Some work = sym none ∙ at in cc)
     go (Some job) e = let ordered : order_in (Some nvm) n ≡ Some job.order = rw e refl in record { job = job; at = e; order_is = large_runs nvm n job.order work at (runs_of nvm n job.order j ordered) }
+
+-- an operation of the large engine that passes the test
+pub record WorkWith (test : block.Work → Bool) (jobs : List block.Job) : Type 0 where
+  pub number : ℕ
+  pub work : block.Work
+  pub at : block.work_of number jobs ≡ Some work
+  pub passes : test work ≡ true
+
+counted : (n : ℕ) (jobs : List block.Job) (work : block.Work) → block.work_of n jobs ≡ Some work → 1 ≤ count (λ (job : block.Job). job.number == n) jobs
+counted n [] work at = absurd cc
+counted n (x ∷ jobs) work at = go (x.number == n) at (counted n jobs work)
+  where
+    go : (t : Bool) → (if t then Some x.work else block.work_of n jobs) ≡ Some work → (block.work_of n jobs ≡ Some work → 1 ≤ count (λ (job : block.Job). job.number == n) jobs) → 1 ≤ (if t then 1 else 0) + count (λ (job : block.Job). job.number == n) jobs
+    go true at more = omega arith
+    go false at more = omega (arith, more at)
+
+pub work_with : (test : block.Work → Bool) (jobs : List block.Job) → ((n : ℕ) → count (λ (job : block.Job). job.number == n) jobs ≤ 1) → 1 ≤ count (λ (job : block.Job). test job.work) jobs → WorkWith test jobs
+work_with test [] one h = absurd (omega (arith, h))
+work_with test (x ∷ jobs) one h = go (test x.work) refl h (work_with test jobs (λ n. omega (arith, one n)))
+  where
+    own : (x.number == x.number) ≡ true
+    own = eq-eqb x.number x.number refl
+
+    later : WorkWith test jobs → WorkWith test (x ∷ jobs)
+    later b = by (x.number == b.number) refl
+      where
+        by : (t : Bool) → (x.number == b.number) ≡ t → WorkWith test (x ∷ jobs)
+        by true e = absurd (let here : ◌≡◌ {A = ℕ} (if x.number == b.number then 1 else 0) 1 = ap {B = ℕ} (λ b. if b then 1 else 0) e in omega (arith, one b.number, here, counted b.number jobs b.work b.at))
+        by false e = record { number = b.number; work = b.work; at = rw e b.at; passes = b.passes }
+
+    go : (t : Bool) → test x.work ≡ t → 1 ≤ (if t then 1 else 0) + count (λ (job : block.Job). test job.work) jobs → (1 ≤ count (λ (job : block.Job). test job.work) jobs → WorkWith test jobs) → WorkWith test (x ∷ jobs)
+    go true e h more = record { number = x.number; work = x.work; at = (rw own refl); passes = e }
+    go false e h more = later (more (omega (arith, h)))
 
 record OnBucket (bucket : ℕ) (jobs : List bighash.Job) : Type 0 where
   number : ℕ

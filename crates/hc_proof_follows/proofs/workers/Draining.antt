@@ -1,7 +1,7 @@
 -- Where nothing is reclaimed, enough regions are clean, or each that is flushed drains: nothing is filed there, and a read holds it.
-use Rattle.std.proofs.Common.{◌≡◌, ◌⊎◌, inl, inr, ℕ, ◌+◌, ◌-◌, ◌<◌, ◌≤◌, ◌==◌, nat_lt, Bool, true, false, not, ◌&&◌, ◌||◌, List, [], ◌∷◌, length, reverse, Option, Some, None, refl, ap, sym, ◌∙◌, subst, arith}
-use Rattle.std.specs.Prelude.{if◌then◌else◌, is_some}
-use Rattle.std.specs.List.{list_any, list_all}
+use Rattle.std.proofs.Common.{◌≡◌, ◌⊎◌, inl, inr, ℕ, ◌+◌, ◌<◌, ◌≤◌, ◌==◌, nat_lt, Bool, true, false, not, ◌&&◌, ◌||◌, List, [], ◌∷◌, Option, Some, None, refl, ap, sym, ◌∙◌, subst, arith}
+use Rattle.std.specs.Prelude.{if◌then◌else◌}
+use Rattle.std.specs.List.{list_all}
 use Rattle.std.proofs.lemmas.Bool.{eqb-true, eq-eqb}
 use Rattle.hc_types.specs.Tally.{count}
 use Rattle.hc_types.specs.Places.{is_page_of}
@@ -27,7 +27,7 @@ use Rattle.hc_proof_regions.proofs.writes.Failing.{page-is}
 use Rattle.hc_follows.specs.Desk.{Desk}
 use Rattle.hc_follows.specs.Idle.{page_of, is_read, is_being_read, wants_clean, may_drain, is_clean_enough}
 use Rattle.hc_proof_follows.specs.clients.Matches.{JobsMatch}
-use Rattle.hc_proof_follows.proofs.workers.Busy.{any_order, large_out}
+use Rattle.hc_proof_follows.proofs.workers.Busy.{any_order, work_with, large_out}
 use Rattle.hc_proof_follows.proofs.workers.Lines.{and_both, all_ones}
 
 -- ---- regions
@@ -58,34 +58,12 @@ record ReadOf (r : ℕ) (jobs : List block.Job) : Type 0 where
   at : block.work_of number jobs ≡ Some (Getting reading)
   here : reading.place.region ≡ r
 
-counted : (n : ℕ) (jobs : List block.Job) (work : Work) → block.work_of n jobs ≡ Some work → 1 ≤ count (λ (job : block.Job). job.number == n) jobs
-counted n [] work at = absurd cc
-counted n (x ∷ jobs) work at = go (x.number == n) at (counted n jobs work)
-  where
-    go : (t : Bool) → (if t then Some x.work else block.work_of n jobs) ≡ Some work → (block.work_of n jobs ≡ Some work → 1 ≤ count (λ (job : block.Job). job.number == n) jobs) → 1 ≤ (if t then 1 else 0) + count (λ (job : block.Job). job.number == n) jobs
-    go true at more = omega arith
-    go false at more = omega (arith, more at)
-
 read_of : (r : ℕ) (jobs : List block.Job) → ((n : ℕ) → count (λ (job : block.Job). job.number == n) jobs ≤ 1) → 1 ≤ readers r jobs → ReadOf r jobs
-read_of r [] one h = absurd (omega (arith, h))
-read_of r (x ∷ jobs) one h = go x.work refl (reads r x.work) refl (λ more. read_of r jobs (λ n. omega (arith, one n)) more)
+read_of r jobs one h = let found = work_with (reads r) jobs one h in go found.number found.work found.at found.passes
   where
-    own : (x.number == x.number) ≡ true
-    own = eq-eqb x.number x.number refl
-
-    later : ReadOf r jobs → ReadOf r (x ∷ jobs)
-    later b = by (x.number == b.number) refl
-      where
-        by : (t : Bool) → (x.number == b.number) ≡ t → ReadOf r (x ∷ jobs)
-        by true e = absurd (let here : ◌≡◌ {A = ℕ} (if x.number == b.number then 1 else 0) 1 = ap {B = ℕ} (λ b. if b then 1 else 0) e in omega (arith, one b.number, here, counted b.number jobs (Getting b.reading) b.at))
-        by false e = record { number = b.number; reading = b.reading; at = rw e b.at; here = b.here }
-
-    go : (w : Work) → x.work ≡ w → (t : Bool) → reads r x.work ≡ t → (1 ≤ readers r jobs → ReadOf r jobs) → ReadOf r (x ∷ jobs)
-    go w e false t more = later (more (let none : ◌≡◌ {A = ℕ} (if reads r x.work then 1 else 0) 0 = ap {B = ℕ} (λ b. if b then 1 else 0) t in omega (arith, h, none)))
-    go (Writing q bytes) e true t more = absurd (let none : reads r x.work ≡ false = ap (reads r) e in cc (none, t))
-    go (Getting reading) e true t more =
-        let its : (reading.place.region == r) ≡ true = sym (ap (reads r) e) ∙ t in
-        record { number = x.number; reading = reading; at = (rw own (ap Some e)); here = eqb-true reading.place.region r its }
+    go : (n : ℕ) (work : Work) → block.work_of n jobs ≡ Some work → reads r work ≡ true → ReadOf r jobs
+    go n (Writing q bytes) at p = absurd cc
+    go n (Getting reading) at p = record { number = n; reading = reading; at = at; here = eqb-true reading.place.region r p }
 
 -- ---- what is filed
 
@@ -105,7 +83,7 @@ module _ (flash : FlashConfig) (desk : Desk) (memory : Memory) (nvm : Nvm) (f : 
   pub clean_same : clean_count flash desk.older ≡ steps.clean_count nvm.pair.large.regions
   clean_same = omega (arith, f.engines.regions.used_number, used-clean nvm.pair.large.regions, f.engines.regions.number)
 
-  flushed_in : (r : ℕ) → is_in r nvm.pair.large.flushed ≡ is_one_of r (flushed desk.older)
+  pub flushed_in : (r : ℕ) → is_in r nvm.pair.large.flushed ≡ is_one_of r (flushed desk.older)
   flushed_in r = ap (is_in r) f.engines.regions.in_order ∙ in-reverse r (flushed desk.older)
 
   nothing_filed : (r : ℕ) → is_draining (region_at r nvm.pair.large.regions).status ≡ true → count (λ (filing : Filing). filing.region == r) (filed flash desk.older) ≡ 0

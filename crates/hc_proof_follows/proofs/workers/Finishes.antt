@@ -1,8 +1,7 @@
 -- A result is handed in: it is told first, and the job is over or goes on.
-use Rattle.std.proofs.Common.{◌≡◌, ℕ, ◌+◌, ◌<◌, ◌≤◌, Bool, true, false, List, [], ◌∷◌, ◌++◌, Option, Some, None, refl, ap, sym, ◌∙◌, subst, arith}
+use Rattle.std.proofs.Common.{◌≡◌, ℕ, Bool, true, false, List, [], ◌∷◌, ◌++◌, Option, Some, None, refl, ap, sym, ◌∙◌, subst}
 use Rattle.std.specs.Prelude.{is_some, option_map, if◌then◌else◌}
 use Rattle.hc_types.specs.Config.{Config}
-use Rattle.hc_types.specs.declared.refusal.Refusal.TheVariants.{UnknownJob}
 use Rattle.hc_engines.specs.Engine.{Op, Pages, Order, Read, Write, IoResult, Page, Written, Failed, Next, Busy, Io, Done, Outcome, Answer, Nothing, Over, Absent, Found, Get, Put, Delete, Flush, Reclaim}
 use Rattle.hc_engines.specs.small.BigHash as bighash
 use Rattle.hc_engines.specs.small.BigHash.{Plan, ToRead, ToWrite, ToEnd, ToKeep, ToGiveUp}

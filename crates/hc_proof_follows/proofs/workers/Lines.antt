@@ -1,9 +1,9 @@
 -- At an idle take, and where nothing is reclaimed, there is nothing to do by the notes and the orders that are out.
-use Rattle.std.proofs.Common.{◌≡◌, ◌⊎◌, inl, inr, ℕ, ◌+◌, ◌-◌, ◌*◌, ◌<◌, ◌≤◌, ◌==◌, cond, nat_lt, find, Bool, true, false, not, ◌&&◌, ◌||◌, List, [], ◌∷◌, length, map, reverse, Option, Some, None, refl, ap, sym, ◌∙◌, subst, arith}
+use Rattle.std.proofs.Common.{◌≡◌, ℕ, ◌+◌, ◌*◌, ◌≤◌, ◌==◌, find, Bool, true, false, not, ◌&&◌, ◌||◌, List, [], ◌∷◌, length, map, Option, Some, None, refl, ap, sym, ◌∙◌, subst, arith}
 use Rattle.std.specs.Prelude.{if◌then◌else◌, is_some, option_map, nat_le}
 use Rattle.std.specs.List.{list_any, list_all}
 use Rattle.std.specs.Str.{bytes_eq}
-use Rattle.std.proofs.lemmas.Bool.{eqb-true, eq-eqb}
+use Rattle.std.proofs.lemmas.Bool.{eq-eqb, or_left, or_right}
 use Rattle.std.proofs.lemmas.Grind.{common_steps}
 use Rattle.hc_types.specs.Config.{Config}
 use Rattle.hc_types.specs.Tally.{count}
@@ -16,7 +16,6 @@ use Rattle.hc_engines.proofs.small.Resumed.{job_out as small_job_out}
 use Rattle.hc_engines.specs.large.Block as block
 use Rattle.hc_engines.specs.large.Block.{Writing, Getting}
 use Rattle.hc_engines.specs.large.Region.{page_no}
-use Rattle.hc_engines.specs.large.Sound.{reads}
 use Rattle.hc_items.proofs.Items.{bytes_eq-refl}
 use Rattle.hc_memory.specs.Memory.{linked_at}
 use Rattle.hc_memory.proofs.Keyed.{same_bytes}
@@ -37,8 +36,6 @@ use Rattle.hc_invariant.proofs.Placing.{map_queued}
 use Rattle.hc_proof_frames.proofs.frames.ByNumber.{found-passes}
 use Rattle.hc_proof_frames.proofs.frames.Lists.{found-counts, found-only}
 use Rattle.hc_proof_frames.proofs.frames.JobLists.{run_at}
-use Rattle.hc_proof_regions.proofs.books.RegionsInUse.{used-clean, in-reverse}
-use Rattle.hc_proof_regions.proofs.writes.Failing.{page-is}
 use Rattle.hc_proof_follows.specs.idle.Idling.{is_ready, can_be_put, can_be_filled, NothingToWrite}
 use Rattle.hc_proof_follows.specs.idle.Stones.{deletes, is_deleting, StonesRun}
 use Rattle.hc_follows.specs.Desk.{Out, Desk}
@@ -47,13 +44,8 @@ use Rattle.hc_proof_follows.specs.clients.Matches.{JobsMatch}
 use Rattle.hc_proof_follows.proofs.workers.Busy.{any_order, out_with, small_out, large_out, busy_out}
 use Rattle.hc_proof_runs.proofs.WritesAlone.{small_page}
 use Rattle.hc_proof_follows.proofs.workers.Searching.{ReadsFor, few_free}
-use Rattle.hc_proof_follows.proofs.idle.StonesRun.{or_right}
 
 -- ---- lists
-
-or_left : (a b : Bool) → a ≡ true → (a || b) ≡ true
-or_left true b h = refl
-or_left false b h = absurd cc
 
 pub and_both : (a b : Bool) → a ≡ true → b ≡ true → (a && b) ≡ true
 and_both true b e h = h

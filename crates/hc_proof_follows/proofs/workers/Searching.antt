@@ -1,9 +1,8 @@
 -- At an idle filler each key that a call waits for has a busy bucket, or a read behind the buckets of its own.
-use Rattle.std.proofs.Common.{◌≡◌, ℕ, ◌+◌, ◌<◌, ◌≤◌, ◌==◌, cond, Bool, true, false, not, ◌&&◌, ◌||◌, List, [], ◌∷◌, length, map, filter, Option, Some, None, refl, ap, sym, ◌∙◌, subst, arith}
-use Rattle.std.specs.Prelude.{if◌then◌else◌, is_some, option_map, nat_le}
-use Rattle.std.specs.List.{list_any}
+use Rattle.std.proofs.Common.{◌≡◌, ℕ, ◌+◌, ◌≤◌, ◌==◌, Bool, true, false, not, ◌&&◌, ◌||◌, List, [], ◌∷◌, length, map, filter, Option, Some, None, refl, ap, sym, ◌∙◌, subst, arith}
+use Rattle.std.specs.Prelude.{if◌then◌else◌, nat_le}
 use Rattle.std.specs.Str.{bytes_eq}
-use Rattle.std.proofs.lemmas.Bool.{eqb-true, eq-eqb}
+use Rattle.std.proofs.lemmas.Bool.{eqb-true, eq-eqb, or_left, or_right}
 use Rattle.hc_types.specs.Tally.{count}
 use Rattle.hc_types.specs.declared.config.FlashConfig.{FlashConfig}
 use Rattle.hc_items.proofs.Items.{bytes_eq-refl}
@@ -16,17 +15,12 @@ use Rattle.hc_follows.specs.Idle.{page_of, is_read, is_busy, each_once, reads_be
 use Rattle.hc_proof_frames.proofs.frames.ByNumber.{found-passes}
 use Rattle.hc_proof_frames.proofs.frames.Lists.{found-only}
 use Rattle.hc_proof_follows.proofs.workers.JobsOut.{out_less}
-use Rattle.hc_proof_follows.proofs.idle.StonesRun.{or_right}
 
 -- ---- keys, each once
 
 abbrev Once : List (List ℕ) → Type 0
 Once [] = Unit {0}
 Once (key ∷ keys) = (is_among key keys ≡ false) × Once keys
-
-or_left : (a b : Bool) → a ≡ true → (a || b) ≡ true
-or_left true b h = refl
-or_left false b h = absurd cc
 
 pub among_filter : (p : List ℕ → Bool) (keys : List (List ℕ)) (key : List ℕ) → is_among key (filter p keys) ≡ true → (is_among key keys ≡ true) × (p key ≡ true)
 among_filter p [] key h = absurd cc

@@ -12,7 +12,7 @@ use Rattle.hc_history.specs.Note.{Note, Lose}
 use Rattle.hc_machine.specs.Nvm.{Nvm, Fill, adds}
 use Rattle.hc_machine.specs.Takes.{Filled, Taken}
 use Rattle.hc_machine.specs.Cache.{Cache, Told, tells, and_then, unmarked_by, takes_in}
-use Rattle.hc_machine.specs.Evicting.{make_room, charge, make_charge, handle_for}
+use Rattle.hc_machine.specs.Evicting.{make_room, make_charge, handle_for}
 use Rattle.hc_machine.specs.Workers.{can_link, link_clean, bring, fill, after_take}
 use Rattle.hc_machine.specs.Schedule.{Slot}
 use Rattle.hc_invariant.specs.Tells.{waiters_of}

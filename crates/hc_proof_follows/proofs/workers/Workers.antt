@@ -1,5 +1,5 @@
 -- The takes follow, and reclaim does.
-use Rattle.std.proofs.Common.{◌≡◌, ◌⊎◌, inl, inr, ℕ, ◌==◌, nat_lt, Bool, true, false, not, ◌&&◌, ◌||◌, List, [], ◌∷◌, ◌++◌, Option, Some, None, refl, ap, sym, ◌∙◌, subst}
+use Rattle.std.proofs.Common.{◌≡◌, ℕ, ◌==◌, nat_lt, Bool, true, false, ◌&&◌, List, [], ◌∷◌, ◌++◌, Option, Some, None, refl, ap, sym, ◌∙◌, subst}
 use Rattle.std.specs.Prelude.{if◌then◌else◌}
 use Rattle.std.proofs.lemmas.Bool.{eq-eqb}
 use Rattle.std.proofs.lemmas.List.{append-nil}
@@ -19,7 +19,7 @@ use Rattle.hc_machine.specs.Takes.{Take, Idle, Finished, Work, Taken}
 use Rattle.hc_machine.specs.Cache.{Cache, Took, Reclaimed}
 use Rattle.hc_machine.specs.Workers.{after_take, take_on, after_reclaim, reclaim_on}
 use Rattle.hc_machine.specs.World.{Says, by_call}
-use Rattle.hc_machine.specs.Schedule.{Scene, WriterTake, FillerTake, Reclaim, Tells, in_world, does}
+use Rattle.hc_machine.specs.Schedule.{Scene, WriterTake, FillerTake, Reclaim, Tells, in_world}
 use Rattle.hc_invariant.specs.Tells.{CallsTell, waiters_of}
 use Rattle.hc_invariant.specs.Good.{Agrees, FlashGood, fills_of}
 use Rattle.hc_proof_regions.proofs.books.RegionsInUse.{in-reverse}
@@ -27,8 +27,9 @@ use Rattle.hc_proof_runs.specs.Scene.{SceneHolds}
 use Rattle.hc_follows.specs.Desk.{Out, Desk}
 use Rattle.hc_follows.specs.Idle.{is_written_out, is_looked_up, is_clean_enough, wants_clean}
 use Rattle.hc_follows.specs.Workers.{ReclaimPart, jobs_after}
-use Rattle.hc_proof_follows.specs.idle.Takings.{TakenSo}
 use Rattle.hc_proof_follows.specs.idle.Stones.{StonesRun, StonesOf}
+use Rattle.hc_proof_follows.specs.idle.Accounted.{Accounted}
+use Rattle.hc_proof_follows.specs.idle.AccountsKept.{AccountsOf}
 use Rattle.hc_proof_follows.proofs.idle.Idle.{writer_idles, filler_idles, reclaim_idles, writer_rests, filler_rests, reclaim_rests}
 use Rattle.hc_proof_follows.proofs.idle.TakesStill.{writer_so, filler_so, reclaim_so}
 use Rattle.hc_proof_follows.specs.clients.Matches.{Matches}
@@ -40,6 +41,7 @@ use Rattle.hc_proof_follows.proofs.workers.Made.{still_matches, io_follows}
 use Rattle.hc_proof_follows.proofs.workers.Takes.{OnFlash, no_flash, flash_at, jobs_match, taken_matches, taken_part, mute_calls}
 use Rattle.hc_proof_follows.proofs.workers.Lines.{and_both, waiting_line, buried_line, filler_line}
 use Rattle.hc_proof_follows.proofs.workers.Draining.{clean_same, reclaim_line}
+use Rattle.hc_proof_follows.proofs.workers.Regions.{regions_line}
 use Rattle.hc_proof_follows.proofs.workers.Finishes.{finish_follows}
 
 -- ---- lists
@@ -91,15 +93,19 @@ module _ (config : Config) (log : List Note) (scene : Scene) (desk : Desk) (clie
     fit : FlashGood on.config desk.older scene.world.cache.memory nvm
     fit = subst (λ (older : List Note). FlashGood on.config older scene.world.cache.memory nvm) (sym m.older) on.good
 
-    writer_line : StonesRun nvm → (takes.writer_take nvm).take ≡ Idle → is_written_out config.flash desk ≡ true
-    writer_line run idle =
+    accounts_at : AccountsOf config.flash desk.older scene.world.cache.nvm → Accounted on.config desk.older nvm.pair.large
+    accounts_at told = subst (AccountsOf (Some on.config) desk.older) e_nvm (subst (λ (flash : Option FlashConfig). AccountsOf flash desk.older scene.world.cache.nvm) on.is told)
+
+    writer_line : StonesRun nvm → AccountsOf config.flash desk.older scene.world.cache.nvm → (takes.writer_take nvm).take ≡ Idle → is_written_out config.flash desk ≡ true
+    writer_line run told idle =
         let rests = writer_idles config desk.older scene.world.cache nvm good e_nvm idle in
         subst (λ (flash : Option FlashConfig). is_written_out flash desk ≡ true) (sym on.is) (both
         (buried_line on.config config on.is desk scene.world.cache nvm e_nvm good fit scene.world.results scene.world.pages (jobs_match config log scene desk h m nvm e_nvm) run rests)
-        (waiting_line on.config config on.is desk scene.world.cache nvm e_nvm good fit scene.world.results scene.world.pages (jobs_match config log scene desk h m nvm e_nvm) rests))
+        (waiting_line on.config config on.is desk scene.world.cache nvm e_nvm good fit scene.world.results scene.world.pages (jobs_match config log scene desk h m nvm e_nvm) rests)
+        (regions_line on.config desk scene.world.cache.memory nvm fit scene.world.results scene.world.pages (jobs_match config log scene desk h m nvm e_nvm) (accounts_at told) rests))
       where
-        both : {a b : Bool} → a ≡ true → b ≡ true → (a && b) ≡ true
-        both {a} {b} e h = and_both a b e h
+        both : {a b c : Bool} → a ≡ true → b ≡ true → c ≡ true → (a && b && c) ≡ true
+        both {a} {b} {c} p q r = and_both (a && b) c (and_both a b p q) r
 
     look_line : (takes.filler_take nvm).take ≡ Idle → is_looked_up config.flash desk ≡ true
     look_line idle =
@@ -107,12 +113,12 @@ module _ (config : Config) (log : List Note) (scene : Scene) (desk : Desk) (clie
         let calls = subst (λ (o : Option Nvm). CallsTell desk.older scene.world.cache.calls scene.world.cache.owed (fills_of o)) e_nvm good.calls in
         subst (λ (flash : Option FlashConfig). is_looked_up flash desk ≡ true) (sym on.is) (filler_line on.config config on.is desk scene.world.cache nvm e_nvm good fit scene.world.results scene.world.pages (jobs_match config log scene desk h m nvm e_nvm) calls rests)
 
-    pub writer_on : StonesRun nvm → Followed config log desk client WriterTake (in_world scene.slots (by_call scene.world (after_take (takes.writer_take nvm) scene.world.cache)))
-    writer_on run =
+    pub writer_on : StonesRun nvm → AccountsOf config.flash desk.older scene.world.cache.nvm → Followed config log desk client WriterTake (in_world scene.slots (by_call scene.world (after_take (takes.writer_take nvm) scene.world.cache)))
+    writer_on run told =
         let taken = takes.writer_take nvm in
         let moved = after_take taken scene.world.cache in
         record {
-          part = taken_part config log scene desk h m nvm e_nvm (is_written_out config.flash desk) taken (writer_so nvm) (λ idle. (writer_line run idle, idle_part scene.world.cache taken nvm (writer_rests nvm fit.jobs idle)));
+          part = taken_part config log scene desk h m nvm e_nvm (is_written_out config.flash desk) taken (writer_so nvm) (λ idle. (writer_line run told idle, idle_part scene.world.cache taken nvm (writer_rests nvm fit.jobs idle)));
           matches = subst (λ (outs : List Out). Matches (log ++ moved.part) (record { older = past desk.older moved.part; slots = desk.slots; jobs = outs; adds = desk.adds; pages = desk.pages; failures = desk.failures }) (in_world scene.slots (by_call scene.world moved)).scene)
               (writer_outs taken.take desk.jobs) (taken_matches config log scene desk h m nvm e_nvm taken (writer_so nvm) (writer_fills nvm fit.fills.one));
         }
@@ -177,9 +183,9 @@ module _ (config : Config) (log : List Note) (scene : Scene) (desk : Desk) (clie
 
   -- ---- with flash, and without
 
-  writer_by : (o : Option Nvm) → scene.world.cache.nvm ≡ o → StonesOf o → Followed config log desk client WriterTake (in_world scene.slots (by_call scene.world (take_on o takes.writer_take scene.world.cache)))
-  writer_by None e run = still_writer (ap (λ (flash : Option FlashConfig). is_written_out flash desk) (no_flash config.flash (past [] log) scene.world.cache.memory scene.world.cache.nvm e h.holds.good.agrees.flash))
-  writer_by (Some nvm) e run = writer_on nvm e run
+  writer_by : (o : Option Nvm) → scene.world.cache.nvm ≡ o → StonesOf o → AccountsOf config.flash desk.older scene.world.cache.nvm → Followed config log desk client WriterTake (in_world scene.slots (by_call scene.world (take_on o takes.writer_take scene.world.cache)))
+  writer_by None e run told = still_writer (ap (λ (flash : Option FlashConfig). is_written_out flash desk) (no_flash config.flash (past [] log) scene.world.cache.memory scene.world.cache.nvm e h.holds.good.agrees.flash))
+  writer_by (Some nvm) e run told = writer_on nvm e run told
 
   filler_by : (o : Option Nvm) → scene.world.cache.nvm ≡ o → Followed config log desk client FillerTake (in_world scene.slots (by_call scene.world (take_on o takes.filler_take scene.world.cache)))
   filler_by None e = still_filler (ap (λ (flash : Option FlashConfig). is_looked_up flash desk) (no_flash config.flash (past [] log) scene.world.cache.memory scene.world.cache.nvm e h.holds.good.agrees.flash))
@@ -190,7 +196,7 @@ module _ (config : Config) (log : List Note) (scene : Scene) (desk : Desk) (clie
   reclaim_by (Some nvm) e = reclaim_on_flash nvm e
 
 pub writer_follows : WriterFollows
-writer_follows config log scene desk client before after stones m = writer_by config log scene desk client before m scene.world.cache.nvm refl stones
+writer_follows config log scene desk client before after stones accounts m = writer_by config log scene desk client before m scene.world.cache.nvm refl stones accounts
 
 pub filler_follows : DeedFollows FillerTake
 filler_follows config log scene desk client before after m = filler_by config log scene desk client before m scene.world.cache.nvm refl

@@ -9,6 +9,7 @@ use Rattle.hc_proof_runs.specs.Schedule.{AllStepSized}
 use Rattle.hc_follows.specs.Desk.{Desk}
 use Rattle.hc_follows.specs.Follows.{PartOf, desk_after, Follows}
 use Rattle.hc_proof_follows.specs.idle.Stones.{StonesOf}
+use Rattle.hc_proof_follows.specs.idle.AccountsKept.{AccountsOf}
 use Rattle.hc_proof_follows.specs.clients.Matches.{Matches}
 
 -- the step's part and answer are those that its kind wants, and the desk matches the scene after it
@@ -22,10 +23,10 @@ DeedFollows deed = (config : Config) (log : List Note) (scene : Scene) (desk : D
     → SceneHolds config log scene → SceneHolds config (log ++ (does client deed scene).part) (does client deed scene).scene
     → Matches log desk scene → Followed config log desk client deed (does client deed scene)
 
--- the writer's take: where besides each key whose tombstone is taken is being deleted
+-- the writer's take: where besides each key whose tombstone is taken is being deleted, and the notes tell of each region in use
 abbrev pub WriterFollows : Type 0
 WriterFollows = (config : Config) (log : List Note) (scene : Scene) (desk : Desk) (client : ℕ)
-    → SceneHolds config log scene → SceneHolds config (log ++ (does client WriterTake scene).part) (does client WriterTake scene).scene → StonesOf scene.world.cache.nvm
+    → SceneHolds config log scene → SceneHolds config (log ++ (does client WriterTake scene).part) (does client WriterTake scene).scene → StonesOf scene.world.cache.nvm → AccountsOf config.flash desk.older scene.world.cache.nvm
     → Matches log desk scene → Followed config log desk client WriterTake (does client WriterTake scene)
 
 -- the workers' kinds

@@ -1,5 +1,5 @@
 -- What ties a desk to a scene of the machine, between two steps.
-use Rattle.std.specs.Prelude.{◌≡◌, ℕ, ◌+◌, ◌<◌, ◌≤◌, ◌==◌, Bool, true, List, [], ◌∷◌, map, find, Option, Some, None, option_map}
+use Rattle.std.specs.Prelude.{◌≡◌, ℕ, ◌+◌, ◌<◌, ◌≤◌, ◌==◌, List, [], ◌∷◌, map, find, Option, Some, None, option_map}
 use Rattle.hc_types.specs.Tally.{count}
 use Rattle.hc_engines.specs.Engine.{Pages}
 use Rattle.hc_memory.specs.Item.{Open}

@@ -1,11 +1,10 @@
 -- When the workers have nothing to do.
-use Rattle.std.specs.Prelude.{◌≡◌, ◌⊎◌, ℕ, nat_lt, is_some, Bool, false, not, ◌&&◌, ◌||◌, List, length, Some, None}
+use Rattle.std.specs.Prelude.{◌≡◌, ◌⊎◌, ◌+◌, nat_lt, is_some, Bool, false, not, ◌&&◌, ◌||◌, List, length, Some, None}
 use Rattle.hc_types.specs.Config.{Config}
 use Rattle.hc_types.specs.Places.{is_small_by}
 use Rattle.hc_types.specs.Tally.{count}
 use Rattle.hc_types.specs.FlashEntry.{FlashEntry}
-use Rattle.hc_engines.specs.large.Region.{can_go, region_at}
-use Rattle.hc_engines.specs.large.Steps.{first_ready, clean_count, oldest}
+use Rattle.hc_engines.specs.large.Steps.{flush, clean_count, oldest}
 use Rattle.hc_history.specs.Note.{Note}
 use Rattle.hc_engines.specs.pair.Pair.{is_busy_for}
 use Rattle.hc_machine.specs.Nvm.{Nvm, Tombstone, Fill}
@@ -21,11 +20,9 @@ is_ready nvm stone = not stone.taken && not (is_busy_for nvm.pair stone.key)
 abbrev pub can_be_put : Nvm → FlashEntry → Bool
 can_be_put nvm put = not (is_small_by nvm.pair.small.flash put.key (length put.value)) || not (is_busy_for nvm.pair put.key)
 
--- of each sealed region a page is out, and the open one has none to go early; each delete was taken, or its bucket is busy;
--- each put that waits is small, and its bucket is busy
+-- no region has a page to go; each delete was taken, or its bucket is busy; each put that waits is small, and its bucket is busy
 pub record NothingToWrite (nvm : Nvm) : Type 0 where
-  pub sealed : first_ready nvm.pair.large.regions nvm.pair.large.sealed ≡ None
-  pub early : (r : ℕ) → nvm.pair.large.current ≡ Some r → can_go nvm.pair.small.flash (region_at r nvm.pair.large.regions) ≡ false
+  pub pages : (flush nvm.pair.small.flash (nvm.made + 1) nvm.pair.large).order ≡ None
   pub deletes : count (is_ready nvm) nvm.tombstones ≡ 0
   pub puts : count (can_be_put nvm) nvm.queue ≡ 0
 

@@ -6,7 +6,7 @@ use Rattle.hc_types.specs.FlashEntry.{FlashEntry}
 use Rattle.hc_engines.specs.large.Region.{Status, Open, Sealed, OnFlash, region_at, can_go}
 use Rattle.hc_engines.specs.Engine.{IoResult}
 use Rattle.hc_engines.specs.large.Block.{Block, Work, work_of}
-use Rattle.hc_engines.specs.large.Steps.{put, flush, reclaim, get, resume, take_index}
+use Rattle.hc_engines.specs.large.Steps.{put, flush, reclaim, get, resume}
 use Rattle.hc_engines.specs.large.Numbers.{is_in}
 use Rattle.hc_engines.specs.large.Sound.{Sound}
 
@@ -34,9 +34,6 @@ GetListsAll = (flash : FlashConfig) (number : ℕ) (key : List ℕ) (s : Block) 
 -- any result at all of an operation under way
 abbrev pub ResumeListsAll : Type 0
 ResumeListsAll = (flash : FlashConfig) (number : ℕ) (work : Work) (result : IoResult) (s : Block) → Sound flash s → work_of number s.jobs ≡ Some work → AllListed s → AllListed (resume flash number work result s).state
-
-abbrev pub TakeListsAll : Type 0
-TakeListsAll = (hash : ℕ) (s : Block) → AllListed s → AllListed (take_index hash s)
 
 -- so the writer finds no page to write only where there is none: of each sealed region a page is out, and the open one has no
 -- full page that may go

@@ -1,8 +1,6 @@
 -- What a take and a result leave: which job comes, goes on or goes, and that each tombstone that is taken has its delete
 -- under way.
-use Rattle.std.specs.Prelude.{◌≡◌, ℕ, ◌+◌, Bool, true, false, List, [], ◌∷◌, ◌++◌, Option, Some, None}
-use Rattle.std.specs.List.{list_any}
-use Rattle.std.specs.Str.{bytes_eq}
+use Rattle.std.specs.Prelude.{◌≡◌, ℕ, ◌+◌, List, [], ◌∷◌, ◌++◌}
 use Rattle.hc_history.specs.Note.{Note, Begin, End, Read, Wrote}
 use Rattle.hc_machine.specs.Nvm.{Nvm, Task, Job, without_job, ordered}
 use Rattle.hc_machine.specs.Takes.{Take, Idle, Finished, Work, Taken}
