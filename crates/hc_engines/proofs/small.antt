@@ -13,3 +13,4 @@ pub mod Serving
 pub mod Apart
 pub mod Full
 pub mod Going
+pub mod New

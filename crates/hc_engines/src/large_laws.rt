@@ -1,7 +1,7 @@
 // What is true of the large engine by itself, and of its steps over the pages as they were last written. The functions do
 // nothing: their contracts are the laws.
 ghost use Rattle.hc_engines.specs.large.Laws.{EntryReadsBack, TakeChangesHeld};
-ghost use Rattle.hc_engines.specs.large.Steady.{DrainingIsPinned, FailedReadKeeps, FailedWriteChangesHeld, FailedWriteKeeps, FlushHoldsAll, FlushKeeps, GetKeeps, LossesAreInOrder, NewIsGood, OthersKeep, PutChangesHeld, PutKeeps, ReadKeeps, ReadsHoldRegions, ReclaimChangesHeld, ReclaimKeeps, TakeKeeps, WritesStandAlone, WrittenHoldsAll, WrittenKeeps};
+ghost use Rattle.hc_engines.specs.large.Steady.{DrainingIsPinned, FailedReadKeeps, FailedWriteChangesHeld, FailedWriteKeeps, FlushHoldsAll, FlushKeeps, GetKeeps, LossesAreInOrder, NewIsGood, OthersKeep, PutChangesHeld, PutKeeps, ReadKeeps, ReadsHoldRegions, ReclaimChangesHeld, ReclaimKeeps, RegionsHaveOneWriter, TakeKeeps, WritesStandAlone, WrittenHoldsAll, WrittenKeeps};
 
 /// A region entry that is spelled is read again.
 pub fn entry_reads_back()
@@ -96,6 +96,11 @@ pub fn others_keep()
 /// A page with a write out is read by no get.
 pub fn writes_stand_alone()
     ensures { WritesStandAlone }
+{}
+
+/// No two writes are out of one region.
+pub fn regions_have_one_writer()
+    ensures { RegionsHaveOneWriter }
 {}
 
 /// A region with a read out isn't opened.

@@ -1,4 +1,6 @@
-// What is true of the large engine as any engine. The functions do nothing: their contracts are the laws.
+// What is true of the large engine as any engine, and of both engines together. The functions do nothing: their contracts are
+// the laws.
+ghost use Rattle.hc_engines.specs.pair.Held.{BusyIsTrue, HeldIsTold, NewFits, OtherStays, ResumeAwaits, ResumeGoes, ResumeServes, StartGoes, StartServes, TakeTakes};
 ghost use Rattle.hc_engines.specs.pair.Large.{LargeFailedReadServes, LargeFailedWriteServes, LargeFlushServes, LargeGetServes, LargePutServes, LargeReadServes, LargeReclaimServes, LargeStays, LargeTakes, LargeTells, LargeWrittenServes};
 
 /// A large put keeps the large engine's fit with the pages, and changes what it holds exactly by its outcome.
@@ -54,4 +56,57 @@ pub fn large_stays()
 /// An index entry that is taken takes out what is held under keys of its hash.
 pub fn large_takes()
     ensures { LargeTakes }
+{}
+
+/// A new pair fits whatever the pages have, and holds nothing.
+pub fn new_fits()
+    ensures { NewFits }
+{}
+
+/// A started operation keeps the pair's fit with the pages. Where no key is in both engines, and a put's or a delete's key isn't
+/// in the one that it doesn't go to, what is held changes exactly by the outcome, a get that is over answers what is held, and no
+/// key is in both engines after it.
+pub fn start_serves()
+    ensures { StartServes }
+{}
+
+/// So does a result that is handed in, with the pages after it; but a get that went on to the large engine finds nothing where an
+/// entry of its key came to the small one since, or where its index entry changed.
+pub fn resume_serves()
+    ensures { ResumeServes }
+{}
+
+/// A started operation is under way with its order until it is over, and the others stay as they are.
+pub fn start_goes()
+    ensures { StartGoes }
+{}
+
+/// An operation whose result is handed in goes on or is over, and the others stay as they are.
+pub fn resume_goes()
+    ensures { ResumeGoes }
+{}
+
+/// An operation is put off only where a job is on its key's bucket, and one whose result is handed in never is.
+pub fn busy_is_true()
+    ensures { BusyIsTrue }
+{}
+
+/// A result is refused exactly where no operation with that number waits for such a one.
+pub fn resume_awaits()
+    ensures { ResumeAwaits }
+{}
+
+/// A put, a delete, a flush or a reclaim changes the engine alone that it goes to.
+pub fn other_stays()
+    ensures { OtherStays }
+{}
+
+/// An index entry that is taken takes out what the large engine holds under keys of its hash, and nothing else.
+pub fn take_takes()
+    ensures { TakeTakes }
+{}
+
+/// The words and the index tell of each key that is held.
+pub fn held_is_told()
+    ensures { HeldIsTold }
 {}

@@ -1,6 +1,6 @@
 -- A new cache is good, after no notes.
-use Rattle.std.proofs.Common.{◌≡◌, ℕ, zero, suc, ◌+◌, ◌<◌, ◌≤◌, Bool, true, false, List, [], ◌∷◌, Option, Some, None, replicate, map, length, refl, arith, ap, sym, ◌∙◌}
-use Rattle.std.specs.Prelude.{slice_index_or, not, option_map}
+use Rattle.std.proofs.Common.{◌≡◌, ℕ, zero, suc, Bool, List, [], ◌∷◌, Option, Some, None, replicate, map, refl, arith, ap, sym}
+use Rattle.std.specs.Prelude.{not, option_map}
 use Rattle.std.proofs.lemmas.List.{length-replicate}
 use Rattle.hc_types.specs.Config.{Config}
 use Rattle.hc_types.specs.Tally.{count}
@@ -11,7 +11,7 @@ use Rattle.hc_engines.specs.small.Sound.{Limits}
 use Rattle.hc_engines.specs.small.BigHash.{BigHash}
 use Rattle.hc_engines.specs.small.Held as small
 use Rattle.hc_engines.specs.small.Held.{StateFits}
-use Rattle.hc_engines.specs.large.Region.{Region, clean_region, region_at, is_clean}
+use Rattle.hc_engines.specs.large.Region.{Region, clean_region, is_clean}
 use Rattle.hc_engines.specs.large.Laws.{new_block}
 use Rattle.hc_engines.proofs.large.New as block
 use Rattle.hc_memory.specs.Item.{Item}
@@ -30,6 +30,7 @@ use Rattle.hc_invariant.specs.Tells.{ChargesTell, MemoryTells, CallsTell, Region
 use Rattle.hc_invariant.specs.Fresh.{AllFresh}
 use Rattle.hc_invariant.specs.Good.{EnginesFit, FlashGood, FlashPart, Agrees, Rested, Good, FlashLimits, CanRun, GoodRun, fills_of}
 use Rattle.hc_engines.proofs.large.New.{all_clean}
+use Rattle.hc_engines.proofs.small.New.{no_word, new_small_fits}
 
 -- ---- memory
 
@@ -53,11 +54,6 @@ memory config right = record { sizes = sizes config.pools; flash = refl; sound =
 
 -- ---- flash
 
-no_word : (n b : ℕ) → slice_index_or (replicate {A = Option ℕ} n None) b None ≡ None
-no_word zero b = refl
-no_word (suc n) zero = refl
-no_word (suc n) (suc b) = no_word n b
-
 new_small : FlashConfig → BigHash
 new_small flash = record { flash = flash; words = replicate flash.buckets None; jobs = [] }
 
@@ -67,7 +63,7 @@ blank flash b = rw (no_word flash.buckets b) refl
 
 small_fits : (flash : FlashConfig) → Limits flash → StateFits (new_small flash) (bytes_at [])
 unfolding new_small
-small_fits flash limits = record { limits = limits; buckets = length-replicate flash.buckets None; pages_fit = λ b. rw (no_word flash.buckets b) tt; jobs_fit = tt }
+small_fits flash limits = new_small_fits flash (bytes_at []) limits
 
 none_used : (n : ℕ) → count (λ (region : Region). not (is_clean region.status)) (replicate n clean_region) ≡ 0
 none_used zero = refl

@@ -1,5 +1,5 @@
 -- No other order is about the page that one writes.
-use Rattle.std.proofs.Common.{◌≡◌, ◌≢◌, ℕ, ◌+◌, ◌%◌, ◌<◌, ◌≤◌, ◌==◌, Bool, true, false, ◌||◌, List, [], ◌∷◌, Option, Some, None, refl, ap, sym, ◌∙◌, subst, arith}
+use Rattle.std.proofs.Common.{◌≡◌, ◌≢◌, ℕ, ◌%◌, ◌<◌, ◌≤◌, ◌==◌, Bool, true, false, ◌||◌, List, [], ◌∷◌, Option, Some, None, refl, ap, sym, ◌∙◌, subst, arith}
 use Rattle.std.specs.Prelude.{if◌then◌else◌, option_map}
 use Rattle.std.proofs.lemmas.Bool.{eqb-true, eq-eqb}
 use Rattle.hc_types.specs.Places.{kept_of}
@@ -14,11 +14,12 @@ use Rattle.hc_engines.proofs.small.Resumed.{job_out}
 use Rattle.hc_engines.specs.large.Region.{region_at, page_no}
 use Rattle.hc_engines.specs.large.Block as block
 use Rattle.hc_engines.specs.large.Block.{Block, Reading, Writing, Getting}
-use Rattle.hc_engines.specs.large.Sound.{Sound, writes, writers, is_out}
+use Rattle.hc_engines.specs.large.Sound.{Sound}
 use Rattle.hc_engines.specs.large.Fits.{Fits}
 use Rattle.hc_engines.proofs.large.Fitting.{page_apart}
 use Rattle.hc_engines.proofs.large.Flushes.{written_ending}
-use Rattle.hc_engines.proofs.large.Jobs.{work_holds, ended_left}
+use Rattle.hc_engines.proofs.large.Jobs.{work_holds}
+use Rattle.hc_engines.proofs.large.OrdersOut.{one_writer}
 use Rattle.hc_history.specs.Note.{Note}
 use Rattle.hc_history.specs.Pages.{bytes_at}
 use Rattle.hc_engines.specs.pair.Pair.{Pair}
@@ -119,35 +120,6 @@ large_page : (pair : Pair) (work : block.Work) → pair.small.flash.buckets ≤ 
 large_page pair (Writing r bytes) = omega arith
 large_page pair (Getting reading) = omega arith
 
-work_still : (n m : ℕ) (jobs : List block.Job) → (n == m) ≡ false → block.work_of m (block.without_job n jobs) ≡ block.work_of m jobs
-work_still n m [] o = refl
-work_still n m (x ∷ jobs) o = go (x.number == n) refl (x.number == m) refl (work_still n m jobs o)
-  where
-    go : (t : Bool) → (x.number == n) ≡ t → (u : Bool) → (x.number == m) ≡ u → block.work_of m (block.without_job n jobs) ≡ block.work_of m jobs → block.work_of m (block.without_job n (x ∷ jobs)) ≡ block.work_of m (x ∷ jobs)
-    go true t true u h = let same : n ≡ m = sym (eqb-true x.number n t) ∙ eqb-true x.number m u in let e : (n == m) ≡ true = eq-eqb n m same in absurd (cc (e, o))
-    go true t false u h = rw (t, u) h
-    go false t true u h = rw (t, u) refl
-    go false t false u h = rw (t, u) h
-
-counts_writer : (m r : ℕ) (work : block.Work) (jobs : List block.Job) → block.work_of m jobs ≡ Some work → writes r work ≡ true → 1 ≤ writers r jobs
-counts_writer m r work [] at w = absurd cc
-counts_writer m r work (x ∷ jobs) at w = go (x.number == m) at (counts_writer m r work jobs)
-  where
-    go : (t : Bool) → (if t then Some x.work else block.work_of m jobs) ≡ Some work → (block.work_of m jobs ≡ Some work → writes r work ≡ true → 1 ≤ writers r jobs) → 1 ≤ (if writes r x.work then 1 else 0) + writers r jobs
-    go true at more = let same : x.work ≡ work = cc in let its : writes r x.work ≡ true = ap (writes r) same ∙ w in rw its (omega arith)
-    go false at more = omega (arith, more at w)
-
-one_writer : (flash : FlashConfig) (n m r : ℕ) (bytes more : List ℕ) (s : Block) → Sound flash s → (n == m) ≡ false → block.work_of n s.jobs ≡ Some (Writing r bytes) → block.work_of m s.jobs ≡ Some (Writing r more) → ⊥
-one_writer flash n m r bytes more s sound o at there =
-    let left = ended_left flash n (Writing r bytes) s sound at in
-    let mine : writes r (Writing r bytes) ≡ true = eq-eqb r r refl in
-    let rest = counts_writer m r (Writing r more) (block.without_job n s.jobs) (work_still n m s.jobs o ∙ there) (eq-eqb r r refl) in
-    plain (writers r s.jobs) (writers r (block.without_job n s.jobs)) (writes r (Writing r bytes)) (is_out (region_at r s.regions)) mine (left.writers_then r) rest (sound.regions r).out
-  where
-    plain : (all some : ℕ) (b c : Bool) → b ≡ true → all ≡ (if b then 1 else 0) + some → 1 ≤ some → all ≡ (if c then 1 else 0) → ⊥
-    plain all some b true e f g h = absurd (let x : (if b then 1 else 0) ≡ 1 = ap {B = ℕ} (λ t. if t then 1 else 0) e in omega arith)
-    plain all some b false e f g h = absurd (let x : (if b then 1 else 0) ≡ 1 = ap {B = ℕ} (λ t. if t then 1 else 0) e in omega arith)
-
 -- a write of a region's page is alone
 large_apart : (flash : FlashConfig) (pages : Pages) (n m r : ℕ) (bytes : List ℕ) (work : block.Work) (pair : Pair) → pair.small.flash ≡ flash → Sound flash pair.large → Fits flash pages pair.large → (n == m) ≡ false
     → block.work_of n pair.large.jobs ≡ Some (Writing r bytes) → block.work_of m pair.large.jobs ≡ Some work → page_of (large_order pair work) ≢ page_of (large_order pair (Writing r bytes))
@@ -157,7 +129,9 @@ large_apart flash pages n m r bytes (Writing q more) pair same sound fits o at t
     let too = (written_ending flash m q more s sound there).1 in
     let there_at : page_no flash q (region_at q s.regions).written ≡ page_no flash r (region_at r s.regions).written = subst (λ (f : FlashConfig). page_no f q (region_at q s.regions).written ≡ page_no f r (region_at r s.regions).written) same e in
     let apart = page_apart flash q r (region_at q s.regions).written (region_at r s.regions).written too out there_at in
-    one_writer flash n m r bytes more s sound o at (there ∙ ap (λ x. Some (Writing x more)) apart.0)
+    let one : n ≡ m = one_writer flash s n m r bytes more sound at (there ∙ ap (λ x. Some (Writing x more)) apart.0) in
+    let t : (n == m) ≡ true = eq-eqb n m one in
+    absurd (cc (t, o))
 large_apart flash pages n m r bytes (Getting reading) pair same sound fits o at there e =
     let s = pair.large in
     let out = (written_ending flash n r bytes s sound at).1 in

@@ -1,21 +1,64 @@
 -- Operations come and go, and one region changes.
-use Rattle.std.proofs.Common.{◌≡◌, ℕ, ◌+◌, ◌<◌, ◌≤◌, Bool, true, false, List, [], ◌∷◌, length, set, Some, refl, sym, ap, arith, ◌∙◌}
+use Rattle.std.proofs.Common.{◌≡◌, ℕ, ◌+◌, ◌<◌, ◌≤◌, Bool, true, false, List, [], ◌∷◌, length, set, Some, None, refl, ap, arith}
 use Rattle.std.proofs.lemmas.Bool.{eqb-true}
-use Rattle.std.proofs.lemmas.List.{length-set}
 use Rattle.std.specs.Prelude.{if◌then◌else◌, ◌==◌}
 use Rattle.hc_types.specs.declared.config.FlashConfig.{FlashConfig}
 use Rattle.hc_types.specs.Tally.{count}
 use Rattle.hc_engines.specs.large.Region.{Open, Sealed, Region, region_at}
 use Rattle.hc_engines.specs.large.Index.{Place}
-use Rattle.hc_engines.specs.large.Block.{Work, Job, Block, work_of, without_job}
+use Rattle.hc_engines.specs.large.Block.{Work, Writing, Job, Block, work_of, without_job}
 use Rattle.hc_engines.specs.large.Numbers.{is_in}
 use Rattle.hc_engines.specs.large.Sound.{is_stored, is_listed, writes, reads, writers, readers, WorkHolds, AllHold, Holds, Sound}
-use Rattle.hc_engines.proofs.large.Lists.{region_at-set, each-set}
-
--- ---- an operation is taken out
+use Rattle.hc_engines.proofs.large.Lists.{same_num, region_at-set, each-set}
 
 abbrev has_no : ℕ → Job → Bool
 has_no n job = job.number == n
+
+-- ---- operations by number
+
+swapped : (a b : ℕ) → (a == b) ≡ false → (b == a) ≡ false
+swapped a b h = grind (arith, h)
+
+-- the operations under other numbers, where one comes or goes
+pub with_other : (number n : ℕ) (work : Work) (jobs : List Job) → (n == number) ≡ false → work_of n (record { number = number; work = work } ∷ jobs) ≡ work_of n jobs
+with_other number n work jobs o = rw (swapped n number o) refl
+
+pub without_other : (number n : ℕ) (jobs : List Job) → (n == number) ≡ false → work_of n (without_job number jobs) ≡ work_of n jobs
+without_other number n [] o = refl
+without_other number n (job ∷ jobs) o = go (job.number == number) refl (without_other number n jobs o)
+  where
+    go : (t : Bool) → (job.number == number) ≡ t → work_of n (without_job number jobs) ≡ work_of n jobs → work_of n (if t then without_job number jobs else job ∷ without_job number jobs) ≡ (if job.number == n then Some job.work else work_of n jobs)
+    go true t e = let same : job.number ≡ number = eqb-true job.number number t in rw (same, swapped n number o) e
+    go false t e = rw e refl
+
+-- nothing is under way with a number that was taken out
+pub work_ended : (number : ℕ) (jobs : List Job) → work_of number (without_job number jobs) ≡ None
+work_ended number [] = refl
+work_ended number (job ∷ jobs) = go (job.number == number) refl (work_ended number jobs)
+  where
+    go : (t : Bool) → (job.number == number) ≡ t → work_of number (without_job number jobs) ≡ None → work_of number (if t then without_job number jobs else job ∷ without_job number jobs) ≡ None
+    go true t e = e
+    go false t e = rw t e
+
+-- a number with which nothing is under way is free
+pub free_of : (number : ℕ) (jobs : List Job) → work_of number jobs ≡ None → count (has_no number) jobs ≡ 0
+free_of number [] e = refl
+free_of number (job ∷ jobs) e = go (job.number == number) e (free_of number jobs)
+  where
+    go : (t : Bool) → (if t then Some job.work else work_of number jobs) ≡ None → (work_of number jobs ≡ None → count (has_no number) jobs ≡ 0) → (if t then 1 else 0) + count (has_no number) jobs ≡ 0
+    go true e more = absurd (cc)
+    go false e more = omega (arith, more e)
+
+-- an operation that writes a page of the region is counted
+pub writer_counted : (n r : ℕ) (bytes : List ℕ) (jobs : List Job) → work_of n jobs ≡ Some (Writing r bytes) → 0 < writers r jobs
+writer_counted n r bytes [] w = absurd (cc)
+writer_counted n r bytes (job ∷ jobs) w = go (job.number == n) w (writer_counted n r bytes jobs)
+  where
+    go : (t : Bool) → (if t then Some job.work else work_of n jobs) ≡ Some (Writing r bytes) → (work_of n jobs ≡ Some (Writing r bytes) → 0 < writers r jobs) → 0 < (if writes r job.work then 1 else 0) + writers r jobs
+    go true v f = let same : job.work ≡ Writing r bytes = cc in rw (same, same_num r) (omega arith)
+    go false v f = omega (arith, f v)
+
+-- ---- an operation is taken out
 
 absent_stays : (number : ℕ) (jobs : List Job) → count (has_no number) jobs ≡ 0 → without_job number jobs ≡ jobs
 absent_stays number [] h = refl

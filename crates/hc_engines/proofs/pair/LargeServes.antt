@@ -1,7 +1,6 @@
 -- What the large engine holds changes exactly by its outcome: puts, reclaims, and pages that go out.
-use Rattle.std.proofs.Common.{◌≡◌, ℕ, ◌+◌, ◌<◌, ◌||◌, Bool, true, false, List, [], ◌∷◌, length, Option, Some, None, refl, sym, inl, ap, subst, ◌∙◌}
+use Rattle.std.proofs.Common.{◌≡◌, ℕ, ◌+◌, ◌||◌, Bool, true, false, List, [], ◌∷◌, length, Option, Some, None, refl, sym, inl, inr, ap, subst, ◌∙◌}
 use Rattle.std.specs.Prelude.{if◌then◌else◌, is_some, nat_lt}
-use Rattle.std.specs.Str.{bytes_eq}
 use Rattle.hc_types.specs.declared.config.FlashConfig.{FlashConfig}
 use Rattle.hc_types.specs.Places.{kept_of, is_small_by}
 use Rattle.hc_types.specs.Loss.{Key, NoCleanRegion, Reclaimed, Fault}
@@ -22,6 +21,7 @@ use Rattle.hc_engines.proofs.large.HeldKeys.{held_own}
 use Rattle.hc_engines.proofs.large.HeldChanges.{put_changes, reclaim_changes, flush_changes, written_changes, failed_write_changes}
 use Rattle.hc_engines.proofs.large.GoodSteps.{put_keeps, reclaim_keeps, flush_keeps, written_keeps, failed_write_keeps}
 use Rattle.hc_engines.specs.pair.Pair.{next_of}
+use Rattle.hc_engines.specs.pair.Held.{IsCarriedOut}
 use Rattle.hc_engines.specs.pair.Large.{large_held, LargeFits, LargeServes, LargePutServes, LargeReclaimServes, LargeFlushServes, LargeWrittenServes, LargeFailedWriteServes}
 use Rattle.hc_engines.proofs.pair.LargeLosses.{held-indexed, ArePlain, plain-lost, plain-left, collision-left}
 
@@ -51,6 +51,14 @@ put_is flash e s None = fresh (lowest_clean 0 s.regions)
     fresh : (l : Option ℕ) → PutIs flash e s (is_some l) (put_fresh flash e s l)
     fresh None = record { order = refl; answer = refl; losses = refl }
     fresh (Some r) = record { order = refl; answer = refl; losses = refl }
+
+-- a put is over, or found no clean region
+pub put_carried_out : (flash : FlashConfig) (e : FlashEntry) (s : Block) → IsCarriedOut (Put e) (next_of (put flash e s).outcome (put flash e s).order)
+put_carried_out flash e s = by (has_room flash e s) (put_is flash e s (fitting flash s (length (entry_bytes e)) s.current))
+  where
+    by : (room : Bool) → PutIs flash e s room (put flash e s) → IsCarriedOut (Put e) (next_of (put flash e s).outcome (put flash e s).order)
+    by true p = rw p.order (inl p.answer)
+    by false p = rw p.order (inr (p.answer, p.losses))
 
 module _ (flash : FlashConfig) (pages : Pages) (e : FlashEntry) (s : Block) (fits : LargeFits flash s pages) (big : is_small_by flash e.key (length e.value) ≡ false) where
   there : (key : List ℕ) (x : FlashEntry) → held flash pages s key ≡ Some x → kept_of flash.bits key ≡ kept_of flash.bits e.key → place_at (kept_of flash.bits e.key) s.index ≡ None → ⊥

@@ -1,13 +1,13 @@
 -- BigHash as an engine.
-use Rattle.std.proofs.Common.{◌≡◌, ◌≢◌, ℕ, Bool, true, false, List, [], ◌∷◌, Option, Some, None, refl, sym, inl, inr, ap, ◌∙◌, subst}
-use Rattle.std.specs.Prelude.{is_some, option_map, ◌⊎◌, Result, Ok, Err, IfOk, IfErr, IfSome, OnOk}
+use Rattle.std.proofs.Common.{◌≡◌, ◌≢◌, ℕ, true, List, Option, Some, None, refl, inl, ap, ◌∙◌, subst}
+use Rattle.std.specs.Prelude.{is_some, option_map, Result, Ok, Err, IfOk, IfErr, IfSome, OnOk}
 use Rattle.hc_types.specs.declared.config.FlashConfig.{FlashConfig}
 use Rattle.hc_types.specs.Places.{bucket_at}
 use Rattle.hc_types.specs.FlashEntry.{FlashEntry}
 use Rattle.hc_engines.specs.Engine.{IoResult, Page, Written, Failed, IsHonest, pages_after, Suits, Awaits, Op, Next, Busy, Io, Done, Holds, Pages, Changes, Does, never, Serves, UnderWay}
-use Rattle.hc_engines.specs.small.Bloom.{could_have, word_of}
+use Rattle.hc_engines.specs.small.Bloom.{could_have}
 use Rattle.hc_engines.specs.small.Entries.{under}
-use Rattle.hc_engines.specs.small.BigHash.{BigHash, Job, Moved, job_at, word_at, Phase, Reading, Writing, Plan, went_on, resumed, resume_job, resume, could_hold, tells, start}
+use Rattle.hc_engines.specs.small.BigHash.{BigHash, Job, Moved, job_at, word_at, Phase, Reading, Writing, Plan, went_on, resumed, resume_job, resume, tells, start}
 use Rattle.hc_engines.specs.small.Sound.{CanStart}
 use Rattle.hc_engines.specs.small.Held.{StateFits, Keeps, held, entries_at, PageFits, order_of, under_way, job_under_way, StartServes, HeldIsTold}
 use Rattle.hc_engines.proofs.small.Words.{word_tells}
@@ -101,6 +101,9 @@ resume_ok r view s new number result ok = ok_then r _ _ (λ next made. serves-at
 pub resume_awaits : {T E : Type 0} (r : Result T E) (view : T → Next) (s new : BigHash) (number : ℕ) (result : IoResult) → IfOk r (λ next. resume s number result ≡ Some (record { state = new; next = view next })) → OnOk r (Awaits (under_way s number) result)
 resume_awaits (Ok next) view s new number result made = awaits s (job_at number s.jobs) result _ made
 resume_awaits (Err e) view s new number result made = made
+
+pub resume_is : (s : BigHash) (number : ℕ) (result : IoResult) (m : Moved) → resume s number result ≡ Some m → Awaits (under_way s number) result
+resume_is s number result m h = awaits s (job_at number s.jobs) result m h
 
 pub resume_not : (s : BigHash) (number : ℕ) (result : IoResult) → resume s number result ≡ None → Awaits (under_way s number) result → ⊥
 resume_not s number result h = awaits-not s (job_at number s.jobs) result h

@@ -1,5 +1,5 @@
 -- The laws of the large engine's steps, over the pages as they were last written.
-use Rattle.std.specs.Prelude.{◌≡◌, ◌≢◌, ℕ, ◌<◌, ◌==◌, true, false, List, [], ◌∷◌, Option, Some, None, is_some, ⊤, if◌then◌else◌}
+use Rattle.std.specs.Prelude.{◌≡◌, ◌≢◌, ℕ, ◌<◌, true, List, [], ◌∷◌, Option, Some, None, is_some, ⊤, if◌then◌else◌}
 use Rattle.hc_types.specs.declared.config.FlashConfig.{FlashConfig}
 use Rattle.hc_types.specs.Places.{kept_of}
 use Rattle.hc_types.specs.Loss.{Fault}
@@ -119,6 +119,10 @@ FailedWriteChangesHeld = (flash : FlashConfig) (pages : Pages) (number r : ℕ) 
 abbrev pub WritesStandAlone : Type 0
 WritesStandAlone = (flash : FlashConfig) (pages : Pages) (s : Block) (n m r : ℕ) (bytes : List ℕ) (reading : Reading) → Good flash pages s
     → work_of n s.jobs ≡ Some (Writing r bytes) → work_of m s.jobs ≡ Some (Getting reading) → read_page flash reading ≢ written_page flash r s
+
+-- no two writes are out of one region
+abbrev pub RegionsHaveOneWriter : Type 0
+RegionsHaveOneWriter = (flash : FlashConfig) (pages : Pages) (s : Block) (n m r : ℕ) (bytes more : List ℕ) → Good flash pages s → work_of n s.jobs ≡ Some (Writing r bytes) → work_of m s.jobs ≡ Some (Writing r more) → n ≡ m
 
 -- a region that is read isn't opened
 abbrev pub ReadsHoldRegions : Type 0

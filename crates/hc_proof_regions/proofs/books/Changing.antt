@@ -1,12 +1,13 @@
 -- One region changes: what the books say of it, and whose operations stay as they were.
-use Rattle.std.proofs.Common.{◌≡◌, ℕ, ◌+◌, ◌<◌, ◌==◌, Bool, true, false, not, List, [], ◌∷◌, length, set, Option, Some, None, refl, sym, ap, arith, ◌∙◌}
+use Rattle.std.proofs.Common.{◌≡◌, ℕ, ◌<◌, ◌==◌, Bool, true, false, not, List, ◌∷◌, length, set, Some, refl, sym, ap, arith, ◌∙◌}
 use Rattle.std.proofs.lemmas.Bool.{eqb-true}
 use Rattle.std.proofs.lemmas.List.{length-set}
 use Rattle.std.specs.Prelude.{if◌then◌else◌}
 use Rattle.hc_types.specs.declared.config.FlashConfig.{FlashConfig}
 use Rattle.hc_engines.specs.large.Region.{is_clean, Region, filled_to, region_at}
 use Rattle.hc_engines.specs.large.Block.{Block, Job, Work, Writing, work_of, without_job}
-use Rattle.hc_engines.specs.large.Sound.{writes, writers}
+use Rattle.hc_engines.specs.large.Sound.{writers}
+use Rattle.hc_engines.proofs.large.Jobs.{with_other, without_other, writer_counted}
 use Rattle.hc_engines.proofs.large.Lists.{same_num, region_at-set}
 use Rattle.hc_history.specs.Note.{Note}
 use Rattle.hc_invariant.specs.Tells.{RegionsTell}
@@ -45,35 +46,13 @@ pub other-way : (n m : ℕ) → (n == m) ≡ false → (m == n) ≡ false
 other-way n m h = grind (arith, h)
 
 pub work-without : (number n : ℕ) (jobs : List Job) → but number n ≡ true → work_of n (without_job number jobs) ≡ work_of n jobs
-work-without number n [] o = refl
-work-without number n (job ∷ jobs) o = go (job.number == number) refl (work-without number n jobs o)
-  where
-    go : (t : Bool) → (job.number == number) ≡ t → work_of n (without_job number jobs) ≡ work_of n jobs → work_of n (if t then without_job number jobs else job ∷ without_job number jobs) ≡ (if job.number == n then Some job.work else work_of n jobs)
-    go true t e = let same : job.number ≡ number = eqb-true job.number number t in rw (same, other-way n number (but-true number n o)) e
-    go false t e = ap (λ (w : Option Work). if job.number == n then Some job.work else w) e
-
-pub work-ended : (number : ℕ) (jobs : List Job) → work_of number (without_job number jobs) ≡ None
-work-ended number [] = refl
-work-ended number (job ∷ jobs) = go (job.number == number) refl (work-ended number jobs)
-  where
-    go : (t : Bool) → (job.number == number) ≡ t → work_of number (without_job number jobs) ≡ None → work_of number (if t then without_job number jobs else job ∷ without_job number jobs) ≡ None
-    go true t e = e
-    go false t e = rw t e
+work-without number n jobs o = without_other number n jobs (but-true number n o)
 
 pub work-added : (number n : ℕ) (work : Work) (jobs : List Job) → but number n ≡ true → work_of n (record { number = number; work = work } ∷ jobs) ≡ work_of n jobs
-work-added number n work jobs o = rw (other-way n number (but-true number n o)) refl
+work-added number n work jobs o = with_other number n work jobs (but-true number n o)
 
 pub work-own : (number : ℕ) (work : Work) (jobs : List Job) → work_of number (record { number = number; work = work } ∷ jobs) ≡ Some work
 work-own number work jobs = rw (same_num number) refl
-
--- an operation that writes a page of the region is counted
-pub writes-counted : (n r : ℕ) (bytes : List ℕ) (jobs : List Job) → work_of n jobs ≡ Some (Writing r bytes) → 0 < writers r jobs
-writes-counted n r bytes [] w = absurd (cc)
-writes-counted n r bytes (job ∷ jobs) w = go (job.number == n) w (λ v. writes-counted n r bytes jobs v)
-  where
-    go : (t : Bool) → (if t then Some job.work else work_of n jobs) ≡ Some (Writing r bytes) → (work_of n jobs ≡ Some (Writing r bytes) → 0 < writers r jobs) → 0 < (if writes r job.work then 1 else 0) + writers r jobs
-    go true v f = let same : job.work ≡ Writing r bytes = cc in rw (same, same_num r) (omega arith)
-    go false v f = omega (arith, f v)
 
 -- the region that changed has as many pages written as before
 pub others_same : (others : ℕ → Bool) (r : ℕ) (x : Region) (s new : Block) → r < length s.regions → new.regions ≡ set s.regions r x → x.written ≡ (region_at r s.regions).written → ((n : ℕ) → others n ≡ true → work_of n new.jobs ≡ work_of n s.jobs) → OthersStay others s new
@@ -92,6 +71,6 @@ others_alone others r x s new jobs lt er none left works = record { works = work
     go n q bytes o w true t =
         let same : q ≡ r = eqb-true q r t in
         let own : work_of n jobs ≡ Some (Writing r bytes) = left n o ∙ w ∙ ap (λ i. Some (Writing i bytes)) same in
-        let some : 0 < writers r jobs = writes-counted n r bytes jobs own in
+        let some : 0 < writers r jobs = writer_counted n r bytes jobs own in
         absurd (omega (arith, some, none))
     go n q bytes o w false t = refl

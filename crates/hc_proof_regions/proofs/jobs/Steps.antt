@@ -3,7 +3,6 @@ use Rattle.std.proofs.Common.{◌≡◌, ℕ, ◌+◌, ◌==◌, Bool, true, fal
 use Rattle.std.proofs.lemmas.Bool.{eqb-true}
 use Rattle.std.specs.Prelude.{if◌then◌else◌, option_map, ◌⊎◌}
 use Rattle.hc_types.specs.Config.{Config}
-use Rattle.hc_types.specs.Tally.{count}
 use Rattle.hc_engines.specs.Engine as engine
 use Rattle.hc_engines.specs.Engine.{Order, Write, IoResult, Page, Written, Failed, Io, nothing}
 use Rattle.hc_engines.specs.large.Region.{region_at, page_no}
@@ -11,6 +10,7 @@ use Rattle.hc_engines.specs.large.Block as block
 use Rattle.hc_engines.specs.large.Block.{Block, Writing, work_of, finished}
 use Rattle.hc_engines.specs.large.Laws.{IsFree}
 use Rattle.hc_engines.specs.large.Steps as steps
+use Rattle.hc_engines.proofs.large.Jobs.{free_of}
 use Rattle.hc_history.specs.Note.{Note, Wrote}
 use Rattle.hc_history.specs.Pages.{bytes_at}
 use Rattle.hc_engines.specs.pair.Pair as pairs
@@ -87,14 +87,6 @@ pub reclaim_keeps : ReclaimTells → ReclaimGives → ReclaimKeeps Good Agrees
 reclaim_keeps tells gives config older cache g = (reclaim_keeps_more tells gives config older cache g).steady
 
 -- ---- the writer takes a page
-
-pub free_of : (number : ℕ) (jobs : List block.Job) → work_of number jobs ≡ None → count (λ (job : block.Job). job.number == number) jobs ≡ 0
-free_of number [] e = refl
-free_of number (job ∷ jobs) e = go (job.number == number) e (λ f. free_of number jobs f)
-  where
-    go : (t : Bool) → (if t then Some job.work else work_of number jobs) ≡ None → (work_of number jobs ≡ None → count (λ (job : block.Job). job.number == number) jobs ≡ 0) → (if t then 1 else 0) + count (λ (job : block.Job). job.number == number) jobs ≡ 0
-    go true e more = absurd (cc)
-    go false e more = omega (arith, more e)
 
 pub but_false : (number n : ℕ) → but number n ≡ false → n ≡ number
 but_false number n h = go (n == number) refl h

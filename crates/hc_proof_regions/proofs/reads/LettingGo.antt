@@ -15,7 +15,7 @@ use Rattle.hc_engines.specs.large.Numbers.{minus}
 use Rattle.hc_engines.specs.large.Sound.{is_live, AllHold, Sound}
 use Rattle.hc_engines.specs.large.Fits.{ReadsHold}
 use Rattle.hc_engines.proofs.large.Lists.{same_num, in_range, region_at-set}
-use Rattle.hc_engines.proofs.large.Jobs.{works_left}
+use Rattle.hc_engines.proofs.large.Jobs.{works_left, work_ended}
 use Rattle.hc_engines.proofs.large.Flushes.{not_both}
 use Rattle.hc_engines.proofs.large.Fitting.{same_region}
 use Rattle.hc_engines.proofs.large.FitsSteps.{refits, same_fits}
@@ -32,7 +32,7 @@ use Rattle.hc_invariant.specs.Laws.{LawfulIn}
 use Rattle.hc_proof_regions.specs.books.RegionBooks.{OthersStay, but, IsOver}
 use Rattle.hc_invariant.specs.Good.{OneFlush}
 use Rattle.hc_proof_regions.proofs.books.Filings.{as-none, none-of}
-use Rattle.hc_proof_regions.proofs.books.Changing.{changed_regions, others_same, others_alone, work-without, work-ended}
+use Rattle.hc_proof_regions.proofs.books.Changing.{changed_regions, others_same, others_alone, work-without}
 use Rattle.hc_proof_regions.proofs.books.Ending.{Cleaned, cleaned}
 use Rattle.hc_engines.proofs.large.GetsSound.{drained_bare, none_written, last_sound, unpinned_sound}
 use Rattle.hc_proof_regions.proofs.writes.Reclaiming.{none_drained}
@@ -105,7 +105,7 @@ module _ (config : Config) (flash : FlashConfig) (mid : List Note) (number : ℕ
     once = clear.once;
     index = refl;
     others = others_alone (but number) r clean_region s new (without_job number s.jobs) there refl (none_written flash number reading s sound p d) (λ n o. work-without number n s.jobs o) (λ n o. work-without number n s.jobs o);
-    over = record { order = refl; work = work-ended number s.jobs };
+    over = record { order = refl; work = work_ended number s.jobs };
   }
     where
       r : ℕ
@@ -160,7 +160,7 @@ module _ (config : Config) (flash : FlashConfig) (mid : List Note) (number : ℕ
     once = λ once. rw quiet once;
     index = refl;
     others = others_same (but number) r x s new there refl refl (λ n o. work-without number n s.jobs o);
-    over = record { order = refl; work = work-ended number s.jobs };
+    over = record { order = refl; work = work_ended number s.jobs };
   }
     where
       r : ℕ

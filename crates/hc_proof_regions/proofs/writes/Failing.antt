@@ -18,7 +18,7 @@ use Rattle.hc_engines.specs.large.Held.{bytes_of, held}
 use Rattle.hc_engines.proofs.large.Lists.{same_num, in_range}
 use Rattle.hc_engines.proofs.large.Ends.{Ending, not-current-is, closed}
 use Rattle.hc_engines.proofs.large.Flushes.{wrote_one, written_ending}
-use Rattle.hc_engines.proofs.large.Jobs.{works_left}
+use Rattle.hc_engines.proofs.large.Jobs.{works_left, work_ended}
 use Rattle.hc_engines.proofs.large.Fitting.{pages_same}
 use Rattle.hc_engines.proofs.large.FitsSteps.{after_write, other_page, failed_fits}
 use Rattle.hc_engines.proofs.large.Goods.{reads_stay}
@@ -32,7 +32,7 @@ use Rattle.hc_engines.specs.Engine.{Failed}
 use Rattle.hc_history.specs.Lawful.{Allowed, past, failed_page}
 use Rattle.hc_invariant.specs.Tells.{RegionsTell, files}
 use Rattle.hc_proof_regions.specs.books.RegionBooks.{LargeFits, LargeKeeps, but, told, page_of, loses, FailedWriteTells, FailedWriteGives}
-use Rattle.hc_proof_regions.proofs.books.Changing.{others_alone, work-without, work-ended}
+use Rattle.hc_proof_regions.proofs.books.Changing.{others_alone, work-without}
 use Rattle.hc_proof_regions.proofs.writes.Written.{other_bucket, other_entries, after-is}
 use Rattle.hc_proof_regions.proofs.books.Ending.{closes, over_pages, held_over, ended_part, EndDoes, ended_does}
 use Rattle.hc_engines.proofs.large.Flushes.{sub_add}
@@ -154,5 +154,5 @@ failed_write_gives flash older number r bytes s at f =
     let ends = written_ending flash number r bytes s f.sound at in (
       others_alone (but number) r (emptied (region_at r s.regions)) s (resume flash number (Writing r bytes) Failed s).state (without_job number s.jobs) (in_range s.regions r ends.0.unclean) refl ends.0.idle
           (λ n o. work-without number n s.jobs o) (λ n o. work-without number n s.jobs o),
-      record { order = refl; work = work-ended number s.jobs },
+      record { order = refl; work = work_ended number s.jobs },
     )

@@ -27,7 +27,8 @@ use Rattle.hc_invariant.specs.Tells.{RegionsTell}
 use Rattle.hc_proof_regions.specs.books.RegionBooks.{LargeFits, LargeKeeps, OthersStay, but, told, page_of, WritesPage, IsOver, WrittenTells, WrittenGives}
 use Rattle.hc_invariant.specs.Good.{OneFlush}
 use Rattle.hc_proof_regions.proofs.books.RegionsInUse.{turned, in-reverse}
-use Rattle.hc_proof_regions.proofs.books.Changing.{changed_regions, others_alone, work-added, work-own, work-without, work-ended}
+use Rattle.hc_engines.proofs.large.Jobs.{work_ended}
+use Rattle.hc_proof_regions.proofs.books.Changing.{changed_regions, others_alone, work-added, work-own, work-without}
 use Rattle.hc_engines.proofs.large.FlushesSound.{more_sound, last_sound, early_sound}
 use Rattle.hc_proof_regions.proofs.writes.WrittenPages.{full_same, done_region, eased_region, written_rest, written_holds}
 use Rattle.hc_engines.proofs.large.Stays.{filling_live}
@@ -149,7 +150,7 @@ module _ (config : Config) (flash : FlashConfig) (older : List Note) (number r :
               (λ c. full_same flash (region_at r s.regions) ((f.sound.regions r).early early).full);
         }) (page_held x new refl refl refl refl) refl;
         others = others_alone (but number) r x s new (without_job number s.jobs) there refl one.idle (λ n o. work-without number n s.jobs o) (λ n o. work-without number n s.jobs o);
-        gives = inr (record { order = refl; work = work-ended number s.jobs });
+        gives = inr (record { order = refl; work = work_ended number s.jobs });
       }
 
   -- the last page of a flush: the region is on flash
@@ -181,7 +182,7 @@ module _ (config : Config) (flash : FlashConfig) (older : List Note) (number r :
           once = once;
         };
         others = others_alone (but number) r x s new (without_job number s.jobs) there refl one.idle (λ n o. work-without number n s.jobs o) (λ n o. work-without number n s.jobs o);
-        gives = inr (record { order = refl; work = work-ended number s.jobs });
+        gives = inr (record { order = refl; work = work_ended number s.jobs });
       }
     where
       unflushed : (b : Bool) → is_in r s.flushed ≡ b → is_one_of r (flushed older) ≡ false

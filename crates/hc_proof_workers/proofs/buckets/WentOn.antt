@@ -1,6 +1,5 @@
 -- A get that found nothing in the small engine goes on with the large one: it is answered at once there, or it reads.
 use Rattle.std.proofs.Common.{◌≡◌, ◌⊎◌, inl, inr, ℕ, ◌<◌, List, [], ◌∷◌, ◌++◌, Option, Some, None, refl, arith, ap, sym, ◌∙◌, subst, append-nil}
-use Rattle.std.specs.Prelude.{option_map}
 use Rattle.hc_types.specs.Config.{Config}
 use Rattle.hc_types.specs.declared.config.FlashConfig.{FlashConfig}
 use Rattle.hc_types.specs.FlashEntry.{FlashEntry}
@@ -37,7 +36,7 @@ use Rattle.hc_proof_workers.proofs.buckets.FillLists.{AllKey}
 use Rattle.hc_proof_workers.proofs.buckets.Launched.{Launch, launch}
 use Rattle.hc_proof_workers.proofs.buckets.Settling.{raise-pair, raise-jobs, raise-fills, raise-made}
 use Rattle.hc_proof_workers.proofs.buckets.GetEnded.{settled-bytes, holds-bytes, ended_take, fill_ended}
-use Rattle.hc_proof_regions.proofs.jobs.Steps.{free_of}
+use Rattle.hc_engines.proofs.large.Jobs.{free_of}
 
 -- what is told at once, where the get goes on
 pub record Holding (config : Config) (flash : FlashConfig) (older : List Note) (first : Note) (memory : Memory) (change : Changed) (number : ℕ) : Type 0 where

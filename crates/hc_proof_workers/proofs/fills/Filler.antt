@@ -1,6 +1,6 @@
 -- The filler takes a fill: its get waits for a page, or is over at once and the fill ends.
-use Rattle.std.proofs.Common.{◌≡◌, ⊎_elim, ℕ, ◌+◌, ◌<◌, ◌≤◌, ◌==◌, Bool, true, false, not, ◌&&◌, List, [], ◌∷◌, ◌++◌, find, Option, Some, None, refl, ap, sym, ◌∙◌, arith, cond, subst}
-use Rattle.std.specs.Prelude.{is_some, option_map, if◌then◌else◌}
+use Rattle.std.proofs.Common.{◌≡◌, ⊎_elim, ℕ, ◌+◌, ◌<◌, ◌≤◌, Bool, true, false, not, ◌&&◌, List, [], ◌∷◌, ◌++◌, find, Option, Some, None, refl, ap, sym, ◌∙◌, arith, cond, subst}
+use Rattle.std.specs.Prelude.{is_some}
 use Rattle.std.specs.Str.{bytes_eq}
 use Rattle.hc_types.specs.Places.{bucket_at}
 use Rattle.hc_types.specs.Tally.{count}
@@ -14,13 +14,11 @@ use Rattle.hc_engines.specs.small.Held as small
 use Rattle.hc_engines.specs.large.Block as block
 use Rattle.hc_engines.specs.large.Block.{Block, Getting, Work, finished}
 use Rattle.hc_engines.specs.large.Region.{page_no}
-use Rattle.hc_engines.specs.large.Index.{Place, place_at}
 use Rattle.hc_engines.specs.large.Fits.{answer_by}
 use Rattle.hc_engines.specs.large.Held as large
 use Rattle.hc_engines.specs.large.Laws.{IsFree}
 use Rattle.hc_engines.specs.large.Steps as steps
 use Rattle.hc_items.proofs.Items.{bytes_eq-refl}
-use Rattle.std.proofs.lemmas.Bool.{eqb-true}
 use Rattle.hc_engines.proofs.large.HeldKeys.{held_own}
 use Rattle.hc_history.specs.Note.{Note}
 use Rattle.hc_history.specs.Pages.{bytes_at}
@@ -49,7 +47,8 @@ use Rattle.hc_proof_workers.proofs.fills.Refill.{refilled, good_rejob}
 use Rattle.hc_proof_workers.proofs.fills.FillLeaves.{fill_over}
 use Rattle.hc_proof_workers.proofs.fills.GetWaits.{unbrought, one_brought, fill_waits}
 use Rattle.hc_proof_workers.proofs.fills.Takes.{waits_small, waits_large, over_large}
-use Rattle.hc_proof_regions.proofs.jobs.Steps.{free_of, but_false}
+use Rattle.hc_engines.proofs.large.Jobs.{free_of}
+use Rattle.hc_proof_regions.proofs.jobs.Steps.{but_false}
 
 -- the fill that is found is its key's, where no key has two
 fill_there : (test : Fill → Bool) (fills : List Fill) (fill : Fill) → find test fills ≡ Some fill → count (is_fill_of fill.key) fills ≤ 1 → fill_at fill.key fills ≡ Some fill
