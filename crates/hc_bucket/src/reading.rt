@@ -1,9 +1,9 @@
 // A page read into its entries.
-ghost use Rattle.std.specs.Prelude.{◌≡◌, ◌==◌, ◌≤◌, ℕ, List, length, nat_eq, IfOk, IfSome, IfNone};
+ghost use Rattle.std.specs.Prelude.{◌≡◌, ◌==◌, ◌≤◌, List, length, nat_eq, option_map, IfOk, IfSome, IfNone};
 ghost use Rattle.std.specs.List.{list_any, list_all};
 ghost use Rattle.std.specs.Cmp.Lexicographic.{pointwise};
 ghost use Rattle.hc_types.specs.FlashEntry.{FlashEntry, entry_of, entries_of};
-ghost use Rattle.hc_bucket.specs.Page.{distinct, IsPage};
+ghost use Rattle.hc_bucket.specs.Page.{distinct, Fits, IsPage};
 ghost use Rattle.hc_bucket.specs.Reading.{Gives, key_at, entry_at, entries_at, body_at, keys_differ, whole_at, content_at, page_at};
 
 use crate::fields::{take_part, take_u8, take_u16, take_u64};
@@ -158,6 +158,8 @@ pub fn decode_shared<A: Allocator>(
     page_size: usize,
 ) -> Result<Option<Vec<Entry<A>, A>>, AllocError>
     ensures page { IfOk result (λ read. IfSome read (λ entries. IsPage page_size (entries_of entries.items) page.now)) }
+    ensures read { IfOk result (λ read. option_map (λ entries. entries_of entries.items) read ≡ page_at page_size page.now) }
+    ensures fits { IfOk result (λ read. IfSome read (λ entries. Fits page_size (entries_of entries.items))) }
     ensures only { IfOk result (λ read. IfSome read (λ entries. (es : List FlashEntry) → IsPage page_size es page.now → es ≡ entries_of entries.items)) }
     ensures no_page { IfOk result (λ read. IfNone read ((es : List FlashEntry) → ¬ IsPage page_size es page.now)) }
 {
@@ -172,6 +174,8 @@ pub fn decode_page<A: Allocator + Clone>(
     page_size: usize,
 ) -> Result<Option<Vec<Entry<A>, A>>, AllocError>
     ensures page { IfOk result (λ read. IfSome read (λ entries. IsPage page_size (entries_of entries.items) page.now)) }
+    ensures read { IfOk result (λ read. option_map (λ entries. entries_of entries.items) read ≡ page_at page_size page.now) }
+    ensures fits { IfOk result (λ read. IfSome read (λ entries. Fits page_size (entries_of entries.items))) }
     ensures only { IfOk result (λ read. IfSome read (λ entries. (es : List FlashEntry) → IsPage page_size es page.now → es ≡ entries_of entries.items)) }
     ensures no_page { IfOk result (λ read. IfNone read ((es : List FlashEntry) → ¬ IsPage page_size es page.now)) }
 {
@@ -188,6 +192,8 @@ fn decode<A: Allocator>(
 ) -> Result<Option<Vec<Entry<A>, A>>, AllocError>
     requires { page.now ≡ bytes.now }
     ensures page { IfOk result (λ read. IfSome read (λ entries. IsPage page_size (entries_of entries.items) bytes.now)) }
+    ensures read { IfOk result (λ read. option_map (λ entries. entries_of entries.items) read ≡ page_at page_size bytes.now) }
+    ensures fits { IfOk result (λ read. IfSome read (λ entries. Fits page_size (entries_of entries.items))) }
     ensures only { IfOk result (λ read. IfSome read (λ entries. (es : List FlashEntry) → IsPage page_size es bytes.now → es ≡ entries_of entries.items)) }
     ensures no_page { IfOk result (λ read. IfNone read ((es : List FlashEntry) → ¬ IsPage page_size es bytes.now)) }
 {

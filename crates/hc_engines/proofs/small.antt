@@ -4,6 +4,8 @@ pub mod Under
 pub mod Fitting
 pub mod UnderWay
 pub mod Beginning
+pub mod Sound
+pub mod Limited
 pub mod Losses
 pub mod Holding
 pub mod Keeping

@@ -1,5 +1,6 @@
 // What is true of BigHash by itself.
-ghost use Rattle.hc_engines.specs.small.Held.{FullIsTrue, KeptByOthers, ResumeGoes, ResumeKeeps, StartGoes, StartKeeps, WordTells};
+ghost use Rattle.hc_engines.specs.small.Held.{FullIsTrue, HeldIsTold, KeptByOthers, ResumeGoes, ResumeKeeps, StartGoes, StartKeeps, WordTells};
+ghost use Rattle.hc_engines.specs.small.Sound.{NoPageGivesUp, ResumeIsSound, StartIsSound};
 
 /// A started operation keeps what BigHash is, and changes what it holds exactly by its outcome. The function does
 /// nothing: its contract is the law.
@@ -17,6 +18,11 @@ pub fn word_tells()
     ensures { WordTells }
 {}
 
+/// BigHash says that it could have each key that it holds.
+pub fn held_is_told()
+    ensures { HeldIsTold }
+{}
+
 /// What is written outside its buckets' pages changes nothing for BigHash.
 pub fn kept_by_others()
     ensures { KeptByOthers }
@@ -32,7 +38,23 @@ pub fn resume_goes()
     ensures { ResumeGoes }
 {}
 
-/// What a put forgets was on its page, and with what stood behind it and the new entry it passes the page.
+/// What a put forgets is what it pushes out, as the rules of a log say it: the key was on the page, and with what stood
+/// behind it and the new entry it passes the page.
 pub fn full_is_true()
     ensures { FullIsTrue }
+{}
+
+/// An operation that is started leaves BigHash one that can be called.
+pub fn start_is_sound()
+    ensures { StartIsSound }
+{}
+
+/// So does any result at all that is handed in, honest or not.
+pub fn resume_is_sound()
+    ensures { ResumeIsSound }
+{}
+
+/// Bytes that are no page give the bucket up for which they were read: it is fresh, and its loss is told.
+pub fn no_page_gives_up()
+    ensures { NoPageGivesUp }
 {}

@@ -7,7 +7,7 @@ use Rattle.hc_types.specs.declared.config.FlashConfig.{FlashConfig}
 use Rattle.hc_types.specs.declared.refusal.Refusal.{Refusal}
 use Rattle.hc_types.specs.declared.refusal.Refusal.TheVariants.{BadPool}
 use Rattle.hc_invariant.specs.Good.{FlashLimits, CanRun}
-use Rattle.hc_theorem.proofs.Limited.{limits_from}
+use Rattle.hc_engines.proofs.small.Limited.{limits_from}
 
 behind : (o : Option Refusal) (b : Bool) → (if not b then Some BadPool else o) ≡ None → o ≡ None
 behind o true h = h

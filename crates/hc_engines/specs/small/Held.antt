@@ -1,15 +1,15 @@
 -- What BigHash holds, when its state fits the pages, and its laws.
-use Rattle.std.specs.Prelude.{◌≡◌, ◌≢◌, option_map, ℕ, ◌-◌, ◌≤◌, ◌<◌, ◌^◌, Bool, true, false, ◌==◌, ◌&&◌, List, [], ◌∷◌, ◌++◌, ◌+◌, length, Option, Some, None, is_some, if◌then◌else◌, ⊤}
+use Rattle.std.specs.Prelude.{◌≡◌, ◌≢◌, option_map, ℕ, ◌-◌, ◌<◌, true, false, ◌==◌, List, [], ◌∷◌, length, Option, Some, None, is_some, if◌then◌else◌, ⊤}
 use Rattle.hc_types.specs.declared.config.FlashConfig.{FlashConfig}
 use Rattle.hc_types.specs.Places.{bucket_at, is_small_by}
 use Rattle.hc_types.specs.FlashEntry.{FlashEntry}
-use Rattle.hc_bucket.specs.Page.{Fits, page_bytes, used}
+use Rattle.hc_bucket.specs.Page.{Fits, page_bytes}
+use Rattle.hc_bucket.specs.Putting.{is_pushed_out}
 use Rattle.hc_types.specs.Loss.{Key, BucketFull}
 use Rattle.hc_bucket.specs.Reading.{page_at}
-use Rattle.std.specs.Str.{bytes_eq}
 use Rattle.hc_engines.specs.Engine.{Loss, Pages, Holds, Op, Put, Delete, Order, Read, Write, Changes, IsKnown, IsHonest, UnderWay, then_under_way, never, Serves, pages_after, IoResult}
 use Rattle.hc_engines.specs.small.Bloom.{word_of, could_have}
-use Rattle.hc_engines.specs.small.Entries.{under, without, page_put, put_losses, size_of}
+use Rattle.hc_engines.specs.small.Entries.{under, without, page_put, put_losses}
 use Rattle.hc_engines.specs.small.Sound.{Limits, CanStart}
 use Rattle.hc_engines.specs.small.BigHash.{BigHash, Job, Phase, Reading, Writing, Moved, word_at, is_busy, job_at, key_of, is_ours, could_hold, start, resume}
 
@@ -123,14 +123,10 @@ abbrev pub ResumeGoes : Type 0
 ResumeGoes = (s : BigHash) (pages : Pages) (number : ℕ) (result : IoResult) (job : Job) (m : Moved) → StateFits s pages → job_at number s.jobs ≡ Some job → resume s number result ≡ Some m
     → (other : ℕ) → under_way m.state other ≡ (if other == number then then_under_way job.op m.next else under_way s other)
 
--- a put of x pushes this key out of these entries: one of them has it, and with those behind it and x it passes the page
-abbrev pub IsPushedOut : ℕ → FlashEntry → List FlashEntry → List ℕ → Type 0
-IsPushedOut size x es key = (front behind : List FlashEntry) × (old : FlashEntry) × (without x.key es ≡ front ++ old ∷ behind) × (old.key ≡ key) × (size < used (old ∷ behind) + size_of x)
-
--- each loss of a put is of a key that is pushed out
+-- each loss of a put is of a key that it pushes out, as the rules of a log say it
 abbrev pub AllPushedOut : ℕ → FlashEntry → List FlashEntry → List Loss → Type 0
 AllPushedOut size x es [] = ⊤
-AllPushedOut size x es (loss ∷ losses) = ((key : List ℕ) × (loss ≡ record { scope = Key key; cause = BucketFull }) × IsPushedOut size x es key) × AllPushedOut size x es losses
+AllPushedOut size x es (loss ∷ losses) = ((key : List ℕ) × (loss ≡ record { scope = Key key; cause = BucketFull }) × (is_pushed_out size es (Some x) key ≡ true)) × AllPushedOut size x es losses
 
 abbrev pub FullIsTrue : Type 0
 FullIsTrue = (size : ℕ) (x : FlashEntry) (es : List FlashEntry) → AllPushedOut size x es (put_losses size x es)

@@ -1,11 +1,13 @@
 -- What holds of BigHash at all times, whatever the device answers.
-use Rattle.std.specs.Prelude.{◌≡◌, ℕ, ◌+◌, ◌-◌, ◌≤◌, ◌<◌, ◌^◌, true, List, [], ◌∷◌, length, Option, ⊤}
+use Rattle.std.specs.Prelude.{◌≡◌, ℕ, ◌+◌, ◌-◌, ◌≤◌, ◌<◌, ◌^◌, true, List, [], ◌∷◌, length, Option, Some, None, ⊤}
 use Rattle.hc_types.specs.declared.config.FlashConfig.{FlashConfig}
 use Rattle.hc_types.specs.FlashEntry.{FlashEntry}
+use Rattle.hc_types.specs.Loss.{Bucket, Fault}
 use Rattle.hc_bucket.specs.Page.{IsSmall, Fits}
-use Rattle.hc_engines.specs.Engine.{Op, Put, Get, Delete, Flush, Reclaim}
+use Rattle.hc_bucket.specs.Reading.{page_at}
+use Rattle.hc_engines.specs.Engine.{Op, Put, Get, Delete, Flush, Reclaim, IoResult, Page, Done, outcome_of}
 use Rattle.hc_engines.specs.small.Entries.{size_of}
-use Rattle.hc_engines.specs.small.BigHash.{BigHash, Job, Plan, ToWrite, is_ours}
+use Rattle.hc_engines.specs.small.BigHash.{BigHash, Job, Reading, Plan, ToWrite, Moved, is_ours, word_at, job_at, given_up, start, resume}
 
 -- an entry that can be put: what every entry of the code is
 pub record IsEntry (e : FlashEntry) : Type 0 where
@@ -60,3 +62,24 @@ pub record Sound (flash : FlashConfig) (words : List (Option ℕ)) (jobs : List 
   pub limits : Limits flash
   pub buckets : length words ≡ flash.buckets
   pub ours : AllOurs flash jobs
+
+abbrev pub IsSound : BigHash → Type 0
+IsSound s = Sound s.flash s.words s.jobs
+
+-- an operation that is started keeps it so, under whatever number
+abbrev pub StartIsSound : Type 0
+StartIsSound = (s : BigHash) (number : ℕ) (op : Op) → IsSound s → CanStart op → IsSound (start s number op).state
+
+-- so does any result at all, honest or not
+abbrev pub ResumeIsSound : Type 0
+ResumeIsSound = (s : BigHash) (number : ℕ) (result : IoResult) (m : Moved) → IsSound s → resume s number result ≡ Some m → IsSound m.state
+
+-- the bucket of this job was given up: it is fresh, and lost as a whole
+pub record GivenUp (job : Job) (m : Moved) : Type 0 where
+  pub word : word_at m.state job.bucket ≡ None
+  pub next : m.next ≡ Done (outcome_of (given_up job.op) (record { scope = Bucket job.bucket; cause = Fault } ∷ []))
+
+-- bytes that are no page give the bucket up for which they were read
+abbrev pub NoPageGivesUp : Type 0
+NoPageGivesUp = (s : BigHash) (number : ℕ) (job : Job) (bytes : List ℕ) → job_at number s.jobs ≡ Some job → job.phase ≡ Reading → page_at s.flash.page bytes ≡ None
+    → (m : Moved) × (resume s number (Page bytes) ≡ Some m) × GivenUp job m

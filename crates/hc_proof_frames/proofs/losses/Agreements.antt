@@ -1,5 +1,5 @@
 -- The engines' words and those of a legal log.
-use Rattle.std.proofs.Common.{◌≡◌, ℕ, ◌+◌, ◌/◌, ◌%◌, ◌^◌, ◌<◌, ◌≤◌, ◌==◌, min, max, Bool, true, false, ◌&&◌, ◌||◌, List, [], ◌∷◌, ◌++◌, Option, Some, None, refl, arith, ap, sym, ◌∙◌, subst, nat_lt}
+use Rattle.std.proofs.Common.{◌≡◌, ℕ, ◌+◌, ◌/◌, ◌%◌, ◌^◌, ◌<◌, ◌≤◌, ◌==◌, min, max, Bool, true, false, ◌&&◌, ◌||◌, List, [], ◌∷◌, ◌++◌, Option, Some, None, refl, arith, ap, sym, ◌∙◌, subst}
 use Rattle.std.specs.Prelude.{if◌then◌else◌, is_some, bit_or, bit_and}
 use Rattle.std.specs.List.{list_any, list_all}
 use Rattle.std.specs.Str.{bytes_eq}
@@ -12,29 +12,27 @@ use Rattle.hc_types.specs.Loss as loss
 use Rattle.hc_types.specs.Places.{kept_of, bucket_at}
 use Rattle.hc_types.specs.declared.config.FlashConfig.{FlashConfig}
 use Rattle.hc_types.specs.FlashEntry.{FlashEntry}
-use Rattle.hc_bucket.specs.Page.{page_bytes, used}
+use Rattle.hc_bucket.specs.Page.{page_bytes}
 use Rattle.hc_bucket.proofs.Pages.{page_again}
 use Rattle.hc_items.proofs.Same.{eqb-same}
 use Rattle.hc_engines.specs.Engine.{Loss}
 use Rattle.hc_engines.specs.small.Bloom.{bit_of, bits_of_hash as number_bits_of_hash, bits_of as number_bits_of, word_of, could_have}
 use Rattle.hc_engines.specs.small.BigHash.{tells, word_at}
-use Rattle.hc_engines.specs.small.Entries.{under, without, staying, page_put, put_losses, size_of}
+use Rattle.hc_engines.specs.small.Entries.{under, without, staying, page_put, put_losses}
 use Rattle.hc_engines.specs.small.Held as small
 use Rattle.hc_engines.specs.small.Held.{PageFits, AllPushedOut}
-use Rattle.hc_engines.proofs.small.Fitting.{used-cons, used-push}
 use Rattle.hc_engines.proofs.small.Full.{full_is_true}
 use Rattle.hc_engines.proofs.small.Holding.{bucket_word}
-use Rattle.hc_engines.proofs.Keys.{same-refl}
 use Rattle.hc_history.specs.Note.{Note, Wrote, Lose}
 use Rattle.hc_history.specs.Pages.{has_key, bucket_entries, bytes_at, listed, entries_in}
 use Rattle.hc_bucket.specs.Bloom.{bits_of_hash, bits_of, has_bit, word_has}
 use Rattle.hc_history.specs.Lawful.{IsTrueCause, IsPushedOut}
-use Rattle.hc_bucket.specs.Putting.{from_key, last_of, entries_without, is_too_long, is_pushed_out}
+use Rattle.hc_bucket.specs.Putting.{last_of, is_pushed_out}
 use Rattle.hc_machine.specs.Nvm.{Nvm}
 use Rattle.hc_machine.specs.Takes.{loss_notes}
 use Rattle.hc_invariant.specs.Good.{EnginesFit}
 use Rattle.hc_invariant.specs.Laws.{LawfulIn}
-use Rattle.hc_proof_frames.specs.losses.Agreements.{WordIs, DueIs, PushedIs, FullIsLawful}
+use Rattle.hc_proof_frames.specs.losses.Agreements.{WordIs, DueIs, FullIsLawful}
 
 -- ---- bits
 
@@ -182,47 +180,11 @@ any_under key (e ∷ es) = step (bytes_eq e.key key) (has_key key es) (under key
     step true b o h = refl
     step false b o h = h
 
--- ---- what is pushed out
-
-without_is : (key : List ℕ) (es : List FlashEntry) → entries_without key es ≡ without key es
-without_is key [] = refl
-without_is key (e ∷ es) = step (bytes_eq e.key key) (without_is key es)
-  where
-    step : (t : Bool) → entries_without key es ≡ without key es → (if t then entries_without key es else e ∷ entries_without key es) ≡ (if t then without key es else e ∷ without key es)
-    step true h = h
-    step false h = ap (λ xs. e ∷ xs) h
-
-more_used : (front back : List FlashEntry) → used back ≤ used (front ++ back)
-more_used [] back = omega arith
-more_used (x ∷ front) back = omega (arith, used-cons x (front ++ back), more_used front back)
-
-less_is : (a b : ℕ) → a < b → nat_lt a b ≡ true
-less_is a b h = grind arith
-
-whole_long : (size : ℕ) (x : FlashEntry) (es : List FlashEntry) (put : FlashEntry) → size < used (x ∷ es) + size_of put → is_too_long size (x ∷ es) put ≡ true
-whole_long size x es put h = less_is size (used ((x ∷ es) ++ put ∷ [])) (omega (arith, used-push (x ∷ es) put, h))
-
-long_step : (size : ℕ) (key : List ℕ) (x : FlashEntry) (rest : List FlashEntry) (put : FlashEntry) (t : Bool) → size < used (x ∷ rest) + size_of put → (t ≡ false → is_too_long size (from_key key rest) put ≡ true) → is_too_long size (if t then x ∷ rest else from_key key rest) put ≡ true
-long_step size key x rest put true h more = whole_long size x rest put h
-long_step size key x rest put false h more = more refl
-
-too_long : (size : ℕ) (key : List ℕ) (put : FlashEntry) (front : List FlashEntry) (old : FlashEntry) (back : List FlashEntry) → bytes_eq old.key key ≡ true → size < used (old ∷ back) + size_of put → is_too_long size (from_key key (front ++ old ∷ back)) put ≡ true
-too_long size key put [] old back e h = rw e (whole_long size old back put h)
-too_long size key put (x ∷ front) old back e h =
-    let room : size < used (x ∷ (front ++ old ∷ back)) + size_of put = omega (arith, h, used-cons x (front ++ old ∷ back), more_used front (old ∷ back)) in
-    long_step size key x (front ++ old ∷ back) put (bytes_eq x.key key) room (λ f. too_long size key put front old back e h)
-
-pub pushed_is : PushedIs
-pushed_is size x es key h =
-    let parts : entries_without x.key es ≡ h.0 ++ h.2 ∷ h.1 = without_is x.key es ∙ h.3 in
-    let same : bytes_eq (h.2).key key ≡ true = subst (λ (k : List ℕ). bytes_eq (h.2).key k ≡ true) h.4 (same-refl (h.2).key) in
-    ap (λ xs. is_too_long size (from_key key xs) x) parts ∙ too_long size key x h.0 h.2 h.1 same h.5
-
 -- ---- lawful losses
 
 -- behind this history each key that is pushed out may be lost, and so behind a loss
 lawful_losses : (config : Config) (flash : FlashConfig) (size : ℕ) (x : FlashEntry) (es : List FlashEntry) (losses : List Loss) (older tail : List Note) → config.flash ≡ Some flash
-    → ((key : List ℕ) → small.IsPushedOut size x es key → IsPushedOut flash older key) → AllPushedOut size x es losses → LawfulIn config older (loss_notes losses) tail
+    → ((key : List ℕ) → is_pushed_out size es (Some x) key ≡ true → IsPushedOut flash older key) → AllPushedOut size x es losses → LawfulIn config older (loss_notes losses) tail
 lawful_losses config flash size x es [] older tail e h all = tt
 lawful_losses config flash size x es (one ∷ losses) older tail e h all =
     let key = all.0.0 in
@@ -241,5 +203,5 @@ full_is_lawful config flash older tail page x es e lt same fits =
     let read : entries_in size (page_bytes size new) ≡ new = ap listed (page_again size new fits) in
     let last : last_of (entries_in size (page_bytes size new)) ≡ Some x = ap last_of read ∙ last_is (staying size x (without x.key es)) x in
     lawful_losses config flash size x es (put_losses size x es) (Wrote page (page_bytes size new) true ∷ older) tail e
-    (λ key h. (lt, ap (λ was. is_pushed_out size was (last_of (entries_in size (page_bytes size new))) key) same ∙ ap (λ o. is_pushed_out size es o key) last ∙ pushed_is size x es key h))
+    (λ key h. (lt, ap (λ was. is_pushed_out size was (last_of (entries_in size (page_bytes size new))) key) same ∙ ap (λ o. is_pushed_out size es o key) last ∙ h))
     (full_is_true size x es)

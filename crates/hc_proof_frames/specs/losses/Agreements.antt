@@ -1,5 +1,5 @@
 -- What the engines tell, and what the definitions of a legal log ask: the same.
-use Rattle.std.specs.Prelude.{◌≡◌, ℕ, ◌<◌, ◌||◌, true, false, List, ◌∷◌, Some, None, is_some}
+use Rattle.std.specs.Prelude.{◌≡◌, ℕ, ◌<◌, ◌||◌, true, List, ◌∷◌, Some}
 use Rattle.hc_types.specs.Config.{Config}
 use Rattle.hc_types.specs.declared.config.FlashConfig.{FlashConfig}
 use Rattle.hc_types.specs.FlashEntry.{FlashEntry}
@@ -7,12 +7,10 @@ use Rattle.hc_bucket.specs.Page.{Fits, page_bytes}
 use Rattle.hc_engines.specs.small.Bloom.{word_of, could_have}
 use Rattle.hc_engines.specs.small.BigHash.{could_hold}
 use Rattle.hc_engines.specs.small.Entries.{page_put, put_losses}
-use Rattle.hc_engines.specs.small.Held as small
 use Rattle.hc_history.specs.Note.{Note, Wrote}
 use Rattle.hc_history.specs.Pages.{bytes_at, bucket_entries}
 use Rattle.hc_bucket.specs.Bloom.{word_has}
 use Rattle.hc_history.specs.Lawful.{is_due}
-use Rattle.hc_bucket.specs.Putting.{is_pushed_out}
 use Rattle.hc_machine.specs.Nvm.{Nvm, is_written_now}
 use Rattle.hc_machine.specs.Takes.{loss_notes}
 use Rattle.hc_invariant.specs.Tells.{WaitsTell}
@@ -28,10 +26,6 @@ WordIs = (es : List FlashEntry) (key : List ℕ) → word_has es key ≡ could_h
 -- a tombstone is due where the engines' word says so
 abbrev pub DueIs : Type 0
 DueIs = (flash : FlashConfig) (older : List Note) (nvm : Nvm) (key : List ℕ) → EnginesFit flash older nvm → WaitsTell older nvm → is_due flash older key ≡ (could_hold nvm.pair.small key || is_written_now nvm key)
-
--- what the engine pushes out is pushed out
-abbrev pub PushedIs : Type 0
-PushedIs = (size : ℕ) (x : FlashEntry) (es : List FlashEntry) (key : List ℕ) → small.IsPushedOut size x es key → is_pushed_out size es (Some x) key ≡ true
 
 -- the losses of a put that was written are lawful behind the note of its page
 abbrev pub FullIsLawful : Type 0

@@ -1,0 +1,7 @@
+-- Proofs: what loops keep, and what a result that is handed in does.
+pub mod Looping
+pub mod Fresh
+pub mod Reading
+pub mod Pushing
+pub mod Places
+pub mod Handing

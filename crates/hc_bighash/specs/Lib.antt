@@ -1,0 +1,4 @@
+-- How contracts see what the engine is asked and answers, and the steps of its jobs.
+pub mod Seen
+pub mod Next
+pub mod Steps

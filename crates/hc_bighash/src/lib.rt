@@ -1,0 +1,20 @@
+//! The engine for small objects on flash: CacheLib's BigHash, hashed buckets of a page each, with a Bloom filter each in
+//! memory. It calls no device: an operation is started, answers which page is to be read or written, and is resumed with
+//! what came of that.
+#![tactic(auto)]
+
+mod big_hash;
+mod bloom;
+mod jobs;
+mod ops;
+mod pages;
+mod plans;
+mod resuming;
+mod shown;
+mod steps;
+mod turns;
+mod words;
+
+pub use big_hash::BigHash;
+pub use ops::{Answer, IoResult, Loss, Next, Op, Order, Outcome};
+pub use resuming::Unresumed;
