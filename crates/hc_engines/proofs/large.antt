@@ -30,3 +30,7 @@ pub mod HeldChanges
 pub mod GoodSteps
 pub mod OrdersOut
 pub mod GoodGets
+pub mod Within
+pub mod Choices
+pub mod Unread
+pub mod Spelling

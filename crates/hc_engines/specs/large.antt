@@ -12,3 +12,7 @@ pub mod Fits
 pub mod Good
 pub mod Laws
 pub mod Steady
+pub mod Within
+pub mod Choices
+pub mod Unread
+pub mod Spelling

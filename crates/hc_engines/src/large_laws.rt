@@ -1,11 +1,25 @@
 // What is true of the large engine by itself, and of its steps over the pages as they were last written. The functions do
 // nothing: their contracts are the laws.
+ghost use Rattle.hc_engines.specs.large.Choices.{FlushIsItsChoice, ReclaimIsItsChoice};
 ghost use Rattle.hc_engines.specs.large.Laws.{EntryReadsBack, TakeChangesHeld};
+ghost use Rattle.hc_engines.specs.large.Spelling.{BytesHoldOneEntry, EntryIsItsBytes};
 ghost use Rattle.hc_engines.specs.large.Steady.{DrainingIsPinned, FailedReadKeeps, FailedWriteChangesHeld, FailedWriteKeeps, FlushHoldsAll, FlushKeeps, GetKeeps, LossesAreInOrder, NewIsGood, OthersKeep, PutChangesHeld, PutKeeps, ReadKeeps, ReadsHoldRegions, ReclaimChangesHeld, ReclaimKeeps, RegionsHaveOneWriter, TakeKeeps, WritesStandAlone, WrittenHoldsAll, WrittenKeeps};
+ghost use Rattle.hc_engines.specs.large.Unread.{FailedReadIsTold, UnreadableAtOnceIsTold, UnreadableIsTold};
+ghost use Rattle.hc_engines.specs.large.Within.{RegionsStayWithin};
 
 /// A region entry that is spelled is read again.
 pub fn entry_reads_back()
     ensures { EntryReadsBack }
+{}
+
+/// Bytes of which a region entry is read are those that it is spelled as.
+pub fn entry_is_its_bytes()
+    ensures { EntryIsItsBytes }
+{}
+
+/// No two region entries are spelled alike.
+pub fn bytes_hold_one_entry()
+    ensures { BytesHoldOneEntry }
 {}
 
 /// A new engine is good, whatever the pages have.
@@ -116,4 +130,34 @@ pub fn draining_is_pinned()
 /// A region that ends loses what leads into it in order of offset.
 pub fn losses_are_in_order()
     ensures { LossesAreInOrder }
+{}
+
+/// No region is filled beyond its bytes, whatever is asked and whatever the device answers.
+pub fn regions_stay_within()
+    ensures { RegionsStayWithin }
+{}
+
+/// A flush is the page that it chooses, gone out.
+pub fn flush_is_its_choice()
+    ensures { FlushIsItsChoice }
+{}
+
+/// A reclaim is the end of the region that it chooses.
+pub fn reclaim_is_its_choice()
+    ensures { ReclaimIsItsChoice }
+{}
+
+/// A get whose page couldn't be read takes exactly its index entry, unless that moved on, and tells it as lost by a fault.
+pub fn failed_read_is_told()
+    ensures { FailedReadIsTold }
+{}
+
+/// So does a get whose pages were all read and are no entry.
+pub fn unreadable_is_told()
+    ensures { UnreadableIsTold }
+{}
+
+/// So does a get that reads no page, where the bytes in the buffer are no entry.
+pub fn unreadable_at_once_is_told()
+    ensures { UnreadableAtOnceIsTold }
 {}

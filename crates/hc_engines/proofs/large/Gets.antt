@@ -1,12 +1,10 @@
 -- Gets, by the books: reads begin, go on, end and fail, and their regions are let go.
-use Rattle.std.proofs.Common.{◌≡◌, ℕ, zero, suc, ◌+◌, ◌-◌, ◌<◌, ◌≤◌, Bool, true, false, List, [], ◌∷◌, ◌++◌, length, set, Option, Some, None, refl, sym, ap, subst, arith, ◌∙◌}
+use Rattle.std.proofs.Common.{◌≡◌, ℕ, ◌+◌, Bool, true, false, Some, refl, sym, arith, ◌∙◌}
 use Rattle.std.proofs.lemmas.Bool.{eqb-true}
-use Rattle.std.proofs.lemmas.List.{length-set}
-use Rattle.std.specs.Prelude.{if◌then◌else◌, ◌==◌, ◌&&◌, ◌≢◌, IsSome}
+use Rattle.std.specs.Prelude.{◌==◌}
 use Rattle.hc_types.specs.declared.config.FlashConfig.{FlashConfig}
 use Rattle.hc_engines.specs.large.Region.{is_clean, Region, region_at}
 use Rattle.hc_engines.specs.large.Block.{Reading, Getting, Block, work_of, without_job}
-use Rattle.hc_engines.specs.large.Steps.{pinned}
 use Rattle.hc_engines.specs.large.Sound.{writers, readers, Holds, Sound}
 use Rattle.hc_engines.proofs.large.Jobs.{Left, ended_left}
 use Rattle.hc_engines.proofs.large.Flushes.{one_more, not_more, not_both}
@@ -24,11 +22,6 @@ pinned_holds flash rs ws region u h = record {
   unwritten = h.unwritten;
   early = λ e. let was = h.early e in record { waiting = was.waiting; full = was.full; not_last = was.not_last };
 }
-
--- ---- a page was read, and the next is
-
-abbrev pub read_on : Reading → List ℕ → Reading
-read_on reading bytes = record reading { got = reading.got ++ bytes; next = reading.next + 1 }
 
 -- ---- a region is let go
 

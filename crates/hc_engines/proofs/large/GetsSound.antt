@@ -1,5 +1,5 @@
 -- The engine is sound after a read begins, goes on, and lets its region go.
-use Rattle.std.proofs.Common.{◌≡◌, ◌≢◌, ℕ, zero, suc, ◌+◌, ◌-◌, ◌<◌, ◌≤◌, Bool, true, false, List, length, Option, Some, None, refl, sym, subst, arith, ◌∙◌}
+use Rattle.std.proofs.Common.{◌≡◌, ◌≢◌, ℕ, zero, suc, ◌+◌, ◌-◌, ◌<◌, ◌≤◌, Bool, true, false, List, length, Some, refl, sym, subst, arith, ◌∙◌}
 use Rattle.std.specs.Prelude.{if◌then◌else◌, ◌==◌, ◌&&◌}
 use Rattle.hc_types.specs.declared.config.FlashConfig.{FlashConfig}
 use Rattle.hc_engines.specs.Engine.{Outcome}
@@ -14,7 +14,8 @@ use Rattle.hc_engines.proofs.large.Ends.{kept_out}
 use Rattle.hc_engines.proofs.large.Regions.{works-set}
 use Rattle.hc_engines.proofs.large.Jobs.{Left, ended_left, single_more, changed_sound}
 use Rattle.hc_engines.proofs.large.Flushes.{status_kept, one_more, not_more, not_both}
-use Rattle.hc_engines.proofs.large.Gets.{pinned_holds, read_on, is-one, Pinned, pinned_by}
+use Rattle.hc_engines.specs.large.Unread.{read_on}
+use Rattle.hc_engines.proofs.large.Gets.{pinned_holds, is-one, Pinned, pinned_by}
 
 -- the region is pinned, and a page of it is read
 pub begins_sound : (flash : FlashConfig) (number : ℕ) (reading : Reading) (s : Block) → Sound flash s → IsFree number s

@@ -1,5 +1,5 @@
 -- The engine is good after a get began, went on, ended, or couldn't read; and what a get answers is what is held.
-use Rattle.std.proofs.Common.{◌≡◌, ℕ, ◌+◌, ◌<◌, ◌≤◌, Bool, true, false, List, [], ◌∷◌, length, min, Option, Some, None, refl, sym, ap, subst, arith, ◌∙◌, append-nil}
+use Rattle.std.proofs.Common.{◌≡◌, ℕ, ◌+◌, ◌<◌, ◌≤◌, Bool, true, false, List, [], ◌∷◌, min, Option, Some, None, refl, sym, ap, subst, arith, ◌∙◌, append-nil}
 use Rattle.std.proofs.lemmas.Bool.{ltb-true, ltb-false}
 use Rattle.std.proofs.lemmas.List.{set-get_or}
 use Rattle.std.proofs.Math.Nat.{min-le_left}
@@ -11,23 +11,22 @@ use Rattle.hc_engines.specs.Engine.{Order, Answer, Absent, Pages, nothing, outco
 use Rattle.hc_engines.specs.large.Region.{is_clean, clean_region, region_at, page_no}
 use Rattle.hc_engines.specs.large.Index.{Place, place_at, is_place}
 use Rattle.hc_engines.specs.large.Block.{Reading, Getting, Block, Moved, finished, work_of, without_job, end_job}
-use Rattle.hc_engines.specs.large.Steps.{lost, first_page, end_page, reading_of, pinned, read_next, answered, let_go, get, get_at, unreadable, absent, resume, take_index}
-use Rattle.hc_engines.specs.large.Sound.{is_live, readers, WorkHolds}
+use Rattle.hc_engines.specs.large.Steps.{lost, first_page, end_page, reading_of, pinned, read_next, answered, let_go, get_at, unreadable, absent, take_index}
+use Rattle.hc_engines.specs.large.Sound.{readers, WorkHolds}
 use Rattle.hc_engines.specs.large.Held.{bytes_of, held}
 use Rattle.hc_engines.specs.large.Fits.{ReadHolds, answer_by}
 use Rattle.hc_engines.specs.large.Good.{Good}
-use Rattle.hc_engines.specs.large.Laws.{IsFree, loses}
 use Rattle.hc_engines.specs.large.Steady.{IsReadable, Reads, Begun, GetKeeps, Went, ReadKeeps, Stopped, FailedReadKeeps}
-use Rattle.hc_engines.proofs.large.Lists.{same_num, in_range}
+use Rattle.hc_engines.proofs.large.Lists.{same_num, in_range, place_itself}
 use Rattle.hc_engines.proofs.large.Jobs.{works_left, work_holds}
 use Rattle.hc_engines.proofs.large.Fitting.{pages_long}
 use Rattle.hc_engines.proofs.large.Promise.{read_begins, read_at_once, answers_held, absent_held, read_stays, read_more}
 use Rattle.hc_engines.proofs.large.Goods.{Others, reads_stay}
-use Rattle.hc_engines.proofs.large.Stays.{Rest, reads_left}
-use Rattle.hc_engines.proofs.large.GetStays.{indexed_live, start_rest, fits_left, let_go_rest, read_unclean, take_sound, take_rest}
+use Rattle.hc_engines.proofs.large.Stays.{reads_left}
+use Rattle.hc_engines.proofs.large.GetStays.{indexed_live, start_rest, let_go_rest, read_unclean, take_sound, take_rest}
 use Rattle.hc_engines.proofs.large.Flushes.{live_unclean}
 use Rattle.hc_engines.proofs.large.ReadEnds.{set_held, let_go_held, taken_held, let_go_is, page_there, last_read}
-use Rattle.hc_engines.proofs.large.Gets.{read_on}
+use Rattle.hc_engines.specs.large.Unread.{read_on}
 use Rattle.hc_engines.proofs.large.GetStays.{own_read}
 use Rattle.hc_engines.proofs.large.GetsSound.{begins_sound, on_sound, let_go_sound}
 use Rattle.hc_engines.proofs.large.GoodSteps.{good_by, rest_of}
@@ -78,7 +77,7 @@ get_keeps flash pages number key s free some g = go (place_at (kept_of flash.bit
         subst (λ (m : Moved). Begun flash pages key s m) (sym same) (record { reads = at_once flash pages s _ g; right = λ none. refl })
       where
         still : (p : Place) → place_at (kept_of flash.bits key) s.index ≡ Some p → is_place (place_at (kept_of flash.bits key) s.index) p ≡ true
-        still p e = rw e (grind (arith, same_num p.region, same_num p.offset, same_num p.length))
+        still p e = rw e (place_itself p)
 
     go : (o : Option Place) → place_at (kept_of flash.bits key) s.index ≡ o → Begun flash pages key s (get_at flash number key o s)
     go None e = record {

@@ -3,7 +3,7 @@ use Rattle.std.proofs.Common.{◌≡◌, ℕ, zero, suc, ◌<◌, Bool, true, fa
 use Rattle.std.proofs.lemmas.Bool.{eqb-true, ltb-true}
 use Rattle.std.specs.Prelude.{if◌then◌else◌, ◌==◌, ◌&&◌}
 use Rattle.hc_engines.specs.large.Region.{is_clean, Appended, Region, region_at}
-use Rattle.hc_engines.specs.large.Index.{Place, Indexed, place_at, without, leading, is_at, leading_into, without_all, region_in}
+use Rattle.hc_engines.specs.large.Index.{Place, Indexed, place_at, without, leading, same_place, is_at, leading_into, without_all, region_in}
 use Rattle.hc_engines.specs.large.Sound.{IsRising, is_listed}
 use Rattle.hc_engines.specs.large.Numbers.{is_in, minus}
 
@@ -19,6 +19,9 @@ place_at-without x h (e ∷ es) = grind (arith, place_at-without x h es)
 pub place_at-leading : (x h : ℕ) (p : Place) (index : List Indexed) → place_at h (leading x p index) ≡ (if h == x then Some p else place_at h index)
 place_at-leading x h p [] = grind arith
 place_at-leading x h p (e ∷ es) = grind (arith, place_at-leading x h p es, eqb-true e.hash x, ltb-true e.hash x)
+
+pub place_itself : (p : Place) → same_place p p ≡ true
+place_itself p = grind (arith, same_num p.region, same_num p.offset, same_num p.length)
 
 -- ---- regions
 

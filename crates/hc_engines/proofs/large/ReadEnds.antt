@@ -1,17 +1,17 @@
 -- What BlockCache holds while reads begin and end.
-use Rattle.std.proofs.Common.{◌≡◌, ℕ, ◌+◌, ◌-◌, ◌<◌, ◌≤◌, ◌&&◌, Bool, true, false, List, [], ◌∷◌, ◌++◌, length, set, Option, Some, None, refl, sym, ap, subst, arith, ◌∙◌}
+use Rattle.std.proofs.Common.{◌≡◌, ℕ, ◌+◌, ◌-◌, ◌<◌, ◌≤◌, ◌&&◌, Bool, true, false, List, length, set, Option, Some, None, refl, sym, ap, subst, arith, ◌∙◌}
 use Rattle.std.proofs.lemmas.Bool.{eqb-true}
 use Rattle.std.specs.Prelude.{if◌then◌else◌, ◌==◌}
 use Rattle.hc_types.specs.declared.config.FlashConfig.{FlashConfig}
 use Rattle.hc_types.specs.Places.{kept_of}
 use Rattle.hc_engines.specs.Engine.{Outcome, nothing}
-use Rattle.hc_engines.specs.large.Region.{Status, Clean, Open, Sealed, Flushing, OnFlash, Draining, is_draining, Region, clean_region, region_at, page_no}
+use Rattle.hc_engines.specs.large.Region.{is_draining, Region, clean_region, region_at, page_no}
 use Rattle.hc_engines.specs.large.Index.{place_at, is_place}
-use Rattle.hc_engines.specs.large.Block.{Block, Reading, Getting, Job, finished, work_of, end_job}
+use Rattle.hc_engines.specs.large.Block.{Block, Reading, Getting, finished, work_of, end_job}
 use Rattle.hc_engines.specs.large.Steps.{first_page, answered, let_go, take_index}
 use Rattle.hc_engines.specs.large.Held.{bytes_or_none, held}
 use Rattle.hc_engines.specs.large.Sound.{Sound, is_live}
-use Rattle.hc_engines.specs.large.Fits.{Fits, ReadHolds, ReadsHold, answer_by}
+use Rattle.hc_engines.specs.large.Fits.{Fits, ReadsHold, answer_by}
 use Rattle.hc_engines.proofs.large.Lists.{same_num, in_range, region_at-set}
 use Rattle.hc_engines.proofs.large.Fitting.{Grows, same_region, pages_long}
 use Rattle.hc_engines.proofs.large.Flushes.{not_both}
@@ -22,7 +22,7 @@ use Rattle.hc_engines.proofs.large.GetStays.{indexed_live, read_unclean, fits_le
 use Rattle.hc_engines.specs.large.Numbers.{minus}
 use Rattle.hc_engines.proofs.large.GetStays.{draining_dead}
 use Rattle.hc_engines.proofs.large.GetStays.{own_read}
-use Rattle.hc_engines.proofs.large.Gets.{read_on}
+use Rattle.hc_engines.specs.large.Unread.{read_on}
 
 -- a region changes, and not in the bytes that something leads to
 pub set_held : (flash : FlashConfig) (pages : ℕ → Option (List ℕ)) (s new : Block) (r : ℕ) (x : Region) → Sound flash s → Fits flash pages s → r < length s.regions → new.regions ≡ set s.regions r x → new.index ≡ s.index

@@ -14,7 +14,7 @@ use Rattle.hc_engines.specs.large.Held.{bytes_or_none, held}
 use Rattle.hc_engines.specs.large.Sound.{is_live}
 use Rattle.hc_engines.specs.large.Fits.{Fits, ReadHolds, ReadsHold, answer_by}
 use Rattle.hc_engines.specs.large.Laws.{IsFree}
-use Rattle.hc_engines.proofs.large.Lists.{same_num, in_range, region_at-set}
+use Rattle.hc_engines.proofs.large.Lists.{same_num, in_range, place_itself, region_at-set}
 use Rattle.hc_engines.proofs.large.Fitting.{Grows, pages_long, same_region}
 use Rattle.hc_engines.proofs.large.Promise.{read_begins, read_at_once, answers_held, absent_held, read_stays}
 use Rattle.hc_engines.proofs.large.Stays.{out_rest}
@@ -94,7 +94,7 @@ get_does : (flash : FlashConfig) (older : List Note) (number : ℕ) (key : List 
 get_does flash older number key s some free f = go (place_at (kept_of flash.bits key) s.index) refl
   where
     still : (p : Place) → place_at (kept_of flash.bits key) s.index ≡ Some p → is_place (place_at (kept_of flash.bits key) s.index) p ≡ true
-    still p e = rw e (grind (arith, same_num p.region, same_num p.offset, same_num p.length))
+    still p e = rw e (place_itself p)
 
     begun : (p : Place) → place_at (kept_of flash.bits key) s.index ≡ Some p → (t : Bool) → nat_lt (first_page flash p) (min (region_at p.region s.regions).written (end_page flash p)) ≡ t
         → GetDoes flash older number key s (if t then read_next flash number (reading_of flash key p s) (pinned p.region s) else answered flash (reading_of flash key p s) s)

@@ -26,7 +26,7 @@ use Rattle.hc_engines.proofs.large.GetStays.{read_unclean}
 use Rattle.hc_engines.proofs.large.Holding.{held_taken}
 use Rattle.hc_engines.proofs.large.ReadEnds.{let_go_held, LetGo, let_go_is, last_read}
 use Rattle.hc_engines.proofs.large.GetsSound.{on_sound}
-use Rattle.hc_engines.proofs.large.Gets.{read_on}
+use Rattle.hc_engines.specs.large.Unread.{read_on}
 use Rattle.hc_engines.proofs.large.GetStays.{own_read}
 use Rattle.hc_history.specs.Note.{Note, Lose, Read as WasRead, Cleared}
 use Rattle.hc_history.specs.Pages.{bytes_at, bucket_entries}
