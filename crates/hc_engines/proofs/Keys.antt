@@ -1,8 +1,7 @@
 -- What a test of two keys tells.
-use Rattle.std.proofs.Common.{◌≡◌, ℕ, Bool, true, false, List, refl, sym, inl, inr, ◌∙◌, arith, nat_eq}
+use Rattle.std.proofs.Common.{◌≡◌, ℕ, Bool, true, false, List, refl, sym, inl, inr, nat_eq}
 use Rattle.std.specs.Prelude.{◌⊎◌}
 use Rattle.std.specs.Cmp.Lexicographic.{pointwise, same_text, nat_list_eq_equiv}
-use Rattle.std.specs.Str.{bytes_eq}
 
 pub same-true : (a b : List ℕ) → pointwise nat_eq a b ≡ true → a ≡ b
 same-true a b h = same_text a b (sym h)

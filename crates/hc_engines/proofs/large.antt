@@ -31,6 +31,7 @@ pub mod GoodSteps
 pub mod OrdersOut
 pub mod GoodGets
 pub mod Within
+pub mod Listed
 pub mod Choices
 pub mod Unread
 pub mod Spelling

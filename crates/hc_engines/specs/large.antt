@@ -13,6 +13,7 @@ pub mod Good
 pub mod Laws
 pub mod Steady
 pub mod Within
+pub mod Listed
 pub mod Choices
 pub mod Unread
 pub mod Spelling

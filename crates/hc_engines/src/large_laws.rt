@@ -2,6 +2,7 @@
 // nothing: their contracts are the laws.
 ghost use Rattle.hc_engines.specs.large.Choices.{FlushIsItsChoice, ReclaimIsItsChoice};
 ghost use Rattle.hc_engines.specs.large.Laws.{EntryReadsBack, TakeChangesHeld};
+ghost use Rattle.hc_engines.specs.large.Listed.{FlushMissesNone, ListsAreExact, RegionsStayListed};
 ghost use Rattle.hc_engines.specs.large.Spelling.{BytesHoldOneEntry, EntryIsItsBytes};
 ghost use Rattle.hc_engines.specs.large.Steady.{DrainingIsPinned, FailedReadKeeps, FailedWriteChangesHeld, FailedWriteKeeps, FlushHoldsAll, FlushKeeps, GetKeeps, LossesAreInOrder, NewIsGood, OthersKeep, PutChangesHeld, PutKeeps, ReadKeeps, ReadsHoldRegions, ReclaimChangesHeld, ReclaimKeeps, RegionsHaveOneWriter, TakeKeeps, WritesStandAlone, WrittenHoldsAll, WrittenKeeps};
 ghost use Rattle.hc_engines.specs.large.Unread.{FailedReadIsTold, UnreadableAtOnceIsTold, UnreadableIsTold};
@@ -135,6 +136,23 @@ pub fn losses_are_in_order()
 /// No region is filled beyond its bytes, whatever is asked and whatever the device answers.
 pub fn regions_stay_within()
     ensures { RegionsStayWithin }
+{}
+
+/// No region is forgotten: the open one is the current one, each sealed one waits for its flush, and each one on flash is in the
+/// order of flushes.
+pub fn regions_stay_listed()
+    ensures { RegionsStayListed }
+{}
+
+/// So the current region, the sealed and the flushed ones are exactly those of that status, but for regions that drain.
+pub fn lists_are_exact()
+    ensures { ListsAreExact }
+{}
+
+/// So a flush that writes nothing leaves nothing to write: of each sealed region a page is out, and the open one has no full page
+/// that may go.
+pub fn flush_misses_none()
+    ensures { FlushMissesNone }
 {}
 
 /// A flush is the page that it chooses, gone out.

@@ -1,6 +1,5 @@
 -- Proofs. The workers are idle only where there is nothing for them to do.
 pub mod Idle
-pub mod ListsAll
 pub mod Accounts
 pub mod AccountsOfResults
 pub mod FullPages

@@ -1,6 +1,5 @@
 -- When the workers have nothing to do.
 pub mod Idling
-pub mod Listed
 pub mod Accounted
 pub mod AccountsKept
 pub mod Still

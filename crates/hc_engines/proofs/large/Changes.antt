@@ -1,15 +1,15 @@
 -- What is held after a put and a reclaim, and whose orders are out.
-use Rattle.std.proofs.Common.{◌≡◌, ℕ, ◌+◌, ◌<◌, ◌≤◌, Bool, true, false, List, [], ◌∷◌, ◌++◌, length, set, Option, Some, None, refl, sym, ap, arith, ◌∙◌, append-nil}
+use Rattle.std.proofs.Common.{◌≡◌, ℕ, ◌<◌, Bool, true, false, List, [], ◌∷◌, ◌++◌, length, Option, Some, None, refl, sym, append-nil}
 use Rattle.std.proofs.lemmas.Bool.{eqb-true}
-use Rattle.std.specs.Prelude.{if◌then◌else◌, ◌==◌, ◌||◌, is_some, nat_lt, nat_le, ◌≢◌}
+use Rattle.std.specs.Prelude.{if◌then◌else◌, ◌==◌}
 use Rattle.hc_types.specs.declared.config.FlashConfig.{FlashConfig}
 use Rattle.hc_types.specs.Loss.{Cause}
 use Rattle.hc_engines.specs.large.Region.{Sealed, is_clean, opened_region, region_at}
 use Rattle.hc_engines.specs.large.Index.{Place, place_at}
 use Rattle.hc_engines.specs.large.Block.{Block}
-use Rattle.hc_engines.specs.large.Steps.{lost, seal, open_next, put, reclaim}
+use Rattle.hc_engines.specs.large.Steps.{lost, seal, open_next}
 use Rattle.hc_engines.specs.large.Numbers.{is_in}
-use Rattle.hc_engines.specs.large.Held.{bytes_of, held}
+use Rattle.hc_engines.specs.large.Held.{bytes_of}
 use Rattle.hc_engines.specs.large.Sound.{Sound}
 use Rattle.hc_engines.specs.large.Laws.{loses}
 use Rattle.hc_engines.proofs.large.Lists.{in_range, region_at-set}

@@ -1,7 +1,6 @@
 -- A region ends: what leads into it is lost, and it is clean or drains.
-use Rattle.std.proofs.Common.{◌≡◌, ℕ, zero, suc, ◌<◌, ◌≤◌, Bool, true, false, List, [], ◌∷◌, length, set, Option, Some, None, refl, sym, ap, subst, arith, ◌∙◌}
+use Rattle.std.proofs.Common.{◌≡◌, ℕ, zero, suc, ◌<◌, ◌≤◌, Bool, true, false, List, [], length, set, Option, Some, None, refl, sym, ap, subst, arith, ◌∙◌}
 use Rattle.std.proofs.lemmas.Bool.{eqb-true}
-use Rattle.std.proofs.lemmas.List.{length-set}
 use Rattle.std.specs.Prelude.{if◌then◌else◌, ◌==◌, ◌≢◌}
 use Rattle.hc_types.specs.declared.config.FlashConfig.{FlashConfig}
 use Rattle.hc_types.specs.Loss.{Cause}
@@ -9,7 +8,7 @@ use Rattle.hc_types.specs.Tally.{count}
 use Rattle.hc_engines.specs.large.Region.{Open, Sealed, Draining, is_clean, Appended, Region, clean_region, region_at}
 use Rattle.hc_engines.specs.large.Index.{Place, Indexed, place_at, leading_into, without_all, region_in}
 use Rattle.hc_engines.specs.large.Block.{Job, Block}
-use Rattle.hc_engines.specs.large.Steps.{lost, emptied, not_current, end_region}
+use Rattle.hc_engines.specs.large.Steps.{emptied, not_current, end_region}
 use Rattle.hc_engines.specs.large.Numbers.{is_in, minus}
 use Rattle.hc_engines.specs.large.Sound.{is_stored, is_listed, writers, readers, Holds, AllHold, Sound}
 use Rattle.hc_engines.proofs.large.Lists.{same_num, in_range, region_at-set, each-set, is_in-minus, elsewhere_stays, stays_gone, listed_goes}

@@ -1,5 +1,5 @@
 -- The index leads to entries after each step: regions that are opened, sealed, written, ended.
-use Rattle.std.proofs.Common.{◌≡◌, ℕ, ◌+◌, ◌-◌, ◌<◌, ◌≤◌, Bool, true, false, List, [], ◌∷◌, ◌++◌, length, take, drop, replicate, set, Option, Some, None, refl, sym, ap, subst, arith, ◌∙◌, append_assoc, append-nil, add-one, inl, inr}
+use Rattle.std.proofs.Common.{◌≡◌, ℕ, ◌+◌, ◌-◌, ◌<◌, ◌≤◌, Bool, true, false, List, [], ◌++◌, length, take, drop, replicate, set, Option, Some, None, refl, sym, ap, subst, arith, ◌∙◌, append_assoc, append-nil, add-one, inl, inr}
 use Rattle.std.proofs.lemmas.Bool.{eqb-true, cases_lt}
 use Rattle.std.proofs.lemmas.List.{length-append, length-take, length-replicate, take-append-drop, take_all, drop_all}
 use Rattle.std.specs.Prelude.{if◌then◌else◌, ◌==◌, ◌≢◌}

@@ -1,12 +1,12 @@
 -- The engine is sound after a page goes out, and after it was written or wasn't.
-use Rattle.std.proofs.Common.{◌≡◌, ℕ, ◌+◌, ◌<◌, ◌≤◌, Bool, true, false, List, [], ◌∷◌, ◌++◌, length, set, Option, Some, None, refl, sym, subst, arith, ◌∙◌}
-use Rattle.std.proofs.lemmas.Bool.{eqb-true, ltb-true, ltb-false}
+use Rattle.std.proofs.Common.{◌≡◌, ℕ, ◌+◌, ◌<◌, Bool, true, false, List, [], ◌∷◌, ◌++◌, length, Option, Some, None, refl, sym, subst, arith, ◌∙◌}
+use Rattle.std.proofs.lemmas.Bool.{ltb-true}
 use Rattle.std.specs.Prelude.{if◌then◌else◌, ◌==◌, nat_lt}
 use Rattle.hc_types.specs.declared.config.FlashConfig.{FlashConfig}
 use Rattle.hc_types.specs.Loss.{Fault}
 use Rattle.hc_engines.specs.Engine.{Written, Failed}
 use Rattle.hc_engines.specs.large.Region.{Status, Clean, Open, Sealed, Flushing, OnFlash, Draining, is_clean, is_draining, Region, next_page, page_done, can_go, region_at}
-use Rattle.hc_engines.specs.large.Block.{Writing, Job, Block, unmoved, with_region, work_of, without_job, end_job}
+use Rattle.hc_engines.specs.large.Block.{Writing, Block, unmoved, with_region, work_of, without_job, end_job}
 use Rattle.hc_engines.specs.large.Numbers.{is_in, minus}
 use Rattle.hc_engines.specs.large.Steps.{write_out, first_ready, early_of, flush_of, flush, go_on, wrote_page, resume}
 use Rattle.hc_engines.specs.large.Sound.{is_live, is_stored, is_flushing, is_waiting, is_out, writers, readers, EarlyHolds, Holds, Sound}

@@ -1,16 +1,13 @@
 -- Gets keep the whole invariant, and answer what is held.
-use Rattle.std.proofs.Common.{◌≡◌, ℕ, ◌+◌, ◌-◌, ◌<◌, ◌≤◌, Bool, true, false, List, [], ◌∷◌, ◌++◌, length, Option, Some, None, refl, sym, ap, subst, arith, ◌∙◌, append-nil, inr}
-use Rattle.std.proofs.lemmas.Bool.{eqb-true, ltb-true, ltb-false}
-use Rattle.std.proofs.lemmas.List.{set-get_or}
-use Rattle.std.proofs.Math.Nat.{min-le_left}
-use Rattle.std.specs.Prelude.{if◌then◌else◌, ◌==◌, ◌&&◌, nat_lt, min, IsSome}
+use Rattle.std.proofs.Common.{◌≡◌, ℕ, ◌+◌, ◌-◌, ◌<◌, Bool, true, false, List, [], ◌∷◌, length, Option, Some, None, refl, sym, arith, ◌∙◌}
+use Rattle.std.proofs.lemmas.Bool.{eqb-true}
+use Rattle.std.specs.Prelude.{if◌then◌else◌, ◌==◌, ◌&&◌}
 use Rattle.hc_types.specs.declared.config.FlashConfig.{FlashConfig}
 use Rattle.hc_engines.specs.Engine.{Answer, Loss, Outcome, outcome_of}
 use Rattle.hc_engines.specs.large.Region.{Status, Clean, Open, Sealed, Flushing, OnFlash, Draining, is_clean, is_draining, Region, clean_region, region_at}
 use Rattle.hc_engines.specs.large.Index.{Place, Indexed, place_at, without}
 use Rattle.hc_engines.specs.large.Block.{Reading, Work, Writing, Getting, Job, Block, finished, work_of, without_job, with_region, end_job}
-use Rattle.hc_engines.specs.large.Steps.{read_next, pinned, get, let_go, take_index}
-use Rattle.hc_engines.specs.large.Held.{held}
+use Rattle.hc_engines.specs.large.Steps.{read_next, pinned, let_go, take_index}
 use Rattle.hc_engines.specs.large.Sound.{is_live, is_listed, readers, AllHold, Sound}
 use Rattle.hc_engines.specs.large.Fits.{Fits, ReadHolds, WorkReads, ReadsHold}
 use Rattle.hc_engines.proofs.large.Lists.{same_num, in_range, region_at-set, place_at-without}

@@ -1,19 +1,19 @@
 -- The engine is good after a put, a reclaim, a flush, a page that was written or wasn't, and an index entry that was taken.
-use Rattle.std.proofs.Common.{◌≡◌, ℕ, ◌+◌, ◌<◌, Bool, true, false, List, [], ◌∷◌, ◌++◌, drop, set, Option, Some, None, refl, sym, subst, arith, ◌∙◌, append-nil}
+use Rattle.std.proofs.Common.{◌≡◌, ℕ, ◌+◌, ◌<◌, Bool, true, false, [], ◌∷◌, ◌++◌, drop, set, refl, sym, subst, arith, append-nil}
 use Rattle.std.proofs.lemmas.Bool.{eqb-true}
 use Rattle.std.proofs.lemmas.List.{set-get_or}
-use Rattle.std.specs.Prelude.{if◌then◌else◌, ◌==◌, nat_lt}
+use Rattle.std.specs.Prelude.{nat_lt}
 use Rattle.hc_types.specs.declared.config.FlashConfig.{FlashConfig}
 use Rattle.hc_types.specs.Loss.{Fault}
 use Rattle.hc_engines.specs.Engine.{Written, Pages, with_page}
 use Rattle.hc_engines.specs.large.Region.{Status, Clean, Open, Sealed, Flushing, OnFlash, Draining, is_clean, Region, clean_region, page_done, region_at, page_no}
-use Rattle.hc_engines.specs.large.Block.{Writing, Block, with_region, work_of, without_job, end_job}
+use Rattle.hc_engines.specs.large.Block.{Writing, Block, with_region, without_job, end_job}
 use Rattle.hc_engines.specs.large.Steps.{write_out, go_on, wrote_page, resume}
 use Rattle.hc_engines.specs.large.Sound.{is_live, readers, writers, Sound}
-use Rattle.hc_engines.specs.large.Held.{bytes_of, held}
+use Rattle.hc_engines.specs.large.Held.{bytes_of}
 use Rattle.hc_engines.specs.large.Fits.{Fits, ReadsHold}
 use Rattle.hc_engines.specs.large.Good.{Good}
-use Rattle.hc_engines.specs.large.Steady.{NewIsGood, PutKeeps, ReclaimKeeps, FlushKeeps, WrittenKeeps, FailedWriteKeeps, TakeKeeps, OthersKeep}
+use Rattle.hc_engines.specs.large.Steady.{PutKeeps, ReclaimKeeps, FlushKeeps, WrittenKeeps, FailedWriteKeeps, TakeKeeps, OthersKeep}
 use Rattle.hc_engines.proofs.large.Lists.{in_range}
 use Rattle.hc_engines.proofs.large.Jobs.{works_left}
 use Rattle.hc_engines.proofs.large.Flushes.{wrote_one, out_unclean, written_ending}
@@ -24,7 +24,6 @@ use Rattle.hc_engines.proofs.large.Goods.{reads_stay}
 use Rattle.hc_engines.proofs.large.Elsewhere.{bucket_page, rest_pages}
 use Rattle.hc_engines.proofs.large.Stays.{Rest, ended_rest, reclaim_rest, put_rest, flush_rest, reads_left, filling_live}
 use Rattle.hc_engines.proofs.large.GetStays.{fits_left, take_sound, take_rest}
-use Rattle.hc_engines.proofs.large.New.{new_good}
 use Rattle.hc_engines.proofs.large.PutsSound.{put_sound, reclaim_sound}
 use Rattle.hc_engines.proofs.large.FlushesSound.{flush_sound, wrote_sound, failed_write_sound}
 use Rattle.hc_engines.proofs.large.HeldChanges.{ordered}

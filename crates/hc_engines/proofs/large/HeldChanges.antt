@@ -1,21 +1,21 @@
 -- What is held after a put, a reclaim, a flush, and a page that was written or wasn't.
 use Rattle.std.proofs.Common.{◌≡◌, ℕ, ◌+◌, ◌<◌, Bool, true, false, List, [], ◌∷◌, ◌++◌, length, drop, set, Option, Some, None, refl, sym, ap, arith, ◌∙◌, append-nil}
 use Rattle.std.proofs.lemmas.Bool.{eqb-true}
-use Rattle.std.specs.Prelude.{if◌then◌else◌, ◌==◌, ◌||◌, is_some, nat_lt}
+use Rattle.std.specs.Prelude.{if◌then◌else◌, ◌||◌, is_some, nat_lt}
 use Rattle.hc_types.specs.declared.config.FlashConfig.{FlashConfig}
 use Rattle.hc_types.specs.Places.{kept_of}
 use Rattle.hc_types.specs.Loss.{Reclaimed, Fault}
 use Rattle.hc_engines.specs.Engine.{Written, Failed, Pages, with_page}
-use Rattle.hc_engines.specs.large.Entries.{IsLarge, entry_bytes}
+use Rattle.hc_engines.specs.large.Entries.{entry_bytes}
 use Rattle.hc_engines.specs.large.Region.{Status, Clean, Open, Sealed, Flushing, OnFlash, Draining, is_clean, Region, page_done, can_go, region_at, page_no, lowest_clean}
 use Rattle.hc_engines.specs.large.Index.{leading_into}
 use Rattle.hc_engines.specs.large.Block.{Writing, Block, unmoved, with_region, work_of, end_job}
 use Rattle.hc_engines.specs.large.Numbers.{is_in, minus}
-use Rattle.hc_engines.specs.large.Steps.{fitting, open_next, put_fresh, put_into, put, clean_count, oldest, reclaim_of, reclaim, write_out, first_ready, early_of, flush_of, flush, go_on, wrote_page, resume}
+use Rattle.hc_engines.specs.large.Steps.{fitting, open_next, put_fresh, put_into, clean_count, oldest, reclaim_of, write_out, first_ready, early_of, flush_of, go_on, wrote_page, resume}
 use Rattle.hc_engines.specs.large.Sound.{writers, readers}
 use Rattle.hc_engines.specs.large.Held.{bytes_of, held}
 use Rattle.hc_engines.specs.large.Good.{Good}
-use Rattle.hc_engines.specs.large.Laws.{written_page, has_room, after_put, loses}
+use Rattle.hc_engines.specs.large.Laws.{written_page, after_put, loses}
 use Rattle.hc_engines.specs.large.Steady.{PutChangesHeld, ReclaimChangesHeld, FlushHoldsAll, WrittenHoldsAll, FailedWriteChangesHeld}
 use Rattle.hc_engines.proofs.large.Lists.{in_range}
 use Rattle.hc_engines.proofs.large.Regions.{oldest_is}

@@ -1,8 +1,8 @@
 -- Put: its notes are lawful, and the books stay the engine's.
-use Rattle.std.proofs.Common.{◌≡◌, ℕ, ◌+◌, ◌-◌, ◌<◌, ◌≤◌, Bool, true, false, List, [], ◌∷◌, ◌++◌, length, take, set, Option, Some, None, refl, sym, ap, subst, arith, ◌∙◌, inl, append-nil}
+use Rattle.std.proofs.Common.{◌≡◌, ℕ, ◌+◌, ◌-◌, ◌<◌, ◌≤◌, Bool, true, false, List, [], ◌∷◌, ◌++◌, length, take, set, Option, Some, None, refl, sym, arith, ◌∙◌}
 use Rattle.std.proofs.lemmas.Bool.{eqb-true}
 use Rattle.std.proofs.lemmas.List.{length-set, length-append, take-append-le}
-use Rattle.std.specs.Prelude.{if◌then◌else◌, ◌==◌, nat_le, is_some}
+use Rattle.std.specs.Prelude.{if◌then◌else◌, ◌==◌, is_some}
 use Rattle.std.specs.Str.{bytes_eq}
 use Rattle.hc_types.specs.declared.config.FlashConfig.{FlashConfig}
 use Rattle.hc_types.specs.Places.{kept_of}
@@ -11,12 +11,11 @@ use Rattle.hc_engines.specs.large.Entries.{entry_bytes}
 use Rattle.hc_engines.specs.large.Region.{Status, Clean, Open, Sealed, is_clean, Appended, Region, clean_region, opened_region, filled_to, next_page, region_at}
 use Rattle.hc_engines.specs.large.Index.{Place, place_at, region_in}
 use Rattle.hc_engines.specs.large.Block.{Block}
-use Rattle.hc_engines.specs.large.Steps.{append, seal, sealed_too, put}
+use Rattle.hc_engines.specs.large.Steps.{append, seal, sealed_too}
 use Rattle.hc_engines.specs.large.Numbers.{is_in}
 use Rattle.hc_engines.specs.large.Sound.{is_live, is_stored, is_out, is_listed, writers, readers, EarlyHolds, Holds, Sound}
 use Rattle.hc_engines.proofs.large.Lists.{rising_push, same_num, place_at-leading, in_range, region_at-set, each-set, is_in-push}
 use Rattle.hc_engines.proofs.large.Regions.{works-set}
-use Rattle.hc_engines.proofs.large.Flushes.{not_both}
 
 -- ---- the entry goes behind what the region has
 

@@ -1,5 +1,5 @@
 -- What the large engine's losses leave of what it holds.
-use Rattle.std.proofs.Common.{◌≡◌, ℕ, ◌&&◌, ◌||◌, Bool, true, false, List, [], ◌∷◌, length, Option, Some, None, refl, sym, ap, subst, arith, ◌∙◌}
+use Rattle.std.proofs.Common.{◌≡◌, ℕ, ◌&&◌, ◌||◌, Bool, true, false, List, [], ◌∷◌, length, Option, Some, None, refl, sym, ap, arith, ◌∙◌}
 use Rattle.std.proofs.lemmas.Bool.{eqb-true, eq-eqb}
 use Rattle.std.specs.Prelude.{if◌then◌else◌, ◌==◌}
 use Rattle.std.specs.Str.{bytes_eq}
@@ -12,7 +12,7 @@ use Rattle.hc_engines.proofs.Keys.{same-true, same-refl}
 use Rattle.hc_engines.specs.large.Index.{Place, place_at}
 use Rattle.hc_engines.specs.large.Block.{Block}
 use Rattle.hc_engines.specs.large.Steps.{lost, collided}
-use Rattle.hc_engines.specs.large.Held.{read_at, held}
+use Rattle.hc_engines.specs.large.Held.{held}
 use Rattle.hc_engines.specs.large.Laws.{names_hash, loses, after_put}
 use Rattle.hc_engines.proofs.large.Lists.{same_num}
 

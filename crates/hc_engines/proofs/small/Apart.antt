@@ -1,16 +1,15 @@
 -- What stays as it was: over pages of others, and under other numbers.
-use Rattle.std.proofs.Common.{◌≡◌, ℕ, ◌<◌, ◌≤◌, ◌==◌, Bool, true, false, List, [], ◌∷◌, ◌++◌, Option, Some, None, refl, sym, ap, ◌∙◌, subst, arith, length, get_or, inl, inr}
-use Rattle.std.specs.Prelude.{if◌then◌else◌, option_map, slice_index_or, is_some, nat_lt, ◌⊎◌}
+use Rattle.std.proofs.Common.{◌≡◌, ℕ, ◌<◌, ◌≤◌, ◌==◌, Bool, true, false, List, [], ◌∷◌, ◌++◌, Option, Some, None, refl, sym, ap, ◌∙◌, subst, arith, length, inl, inr}
+use Rattle.std.specs.Prelude.{if◌then◌else◌, option_map, nat_lt, ◌⊎◌}
 use Rattle.std.proofs.Math.Nat.{mod-lt}
 use Rattle.std.proofs.lemmas.Bool.{eqb-true, eq-eqb}
 use Rattle.std.proofs.lemmas.List.{get_or_past}
 use Rattle.hc_types.specs.declared.config.FlashConfig.{FlashConfig}
 use Rattle.hc_types.specs.Places.{bucket_at, kept_of}
 use Rattle.hc_engines.specs.Engine.{Op, Pages, UnderWay, then_under_way, Busy}
-use Rattle.hc_engines.specs.small.Bloom.{could_have}
 use Rattle.hc_engines.specs.small.Entries.{under}
-use Rattle.hc_engines.specs.small.BigHash.{BigHash, Job, Phase, Reading, Writing, Plan, ToRead, ToWrite, ToEnd, ToKeep, ToGiveUp, Moved, moved, make_job, with_job, begun, start, start_at, our_bucket, word_at, is_busy, job_at, without_job, key_of, next_of, waits, resumed, resume_job, went_on}
-use Rattle.hc_engines.specs.small.Held.{StateFits, PageFits, JobFits, JobsFit, held, bucket_entries, entries_at, under_way, job_under_way, KeptByOthers, StartGoes, ResumeGoes}
+use Rattle.hc_engines.specs.small.BigHash.{BigHash, Job, Phase, Reading, Writing, Plan, ToRead, ToWrite, ToEnd, ToKeep, ToGiveUp, Moved, moved, make_job, with_job, begun, start_at, our_bucket, word_at, is_busy, job_at, without_job, key_of, next_of, waits, resumed, resume_job, went_on}
+use Rattle.hc_engines.specs.small.Held.{StateFits, PageFits, JobFits, JobsFit, entries_at, under_way, job_under_way, KeptByOthers, StartGoes, ResumeGoes}
 use Rattle.hc_engines.proofs.small.UnderWay.{none_is_there}
 use Rattle.hc_engines.proofs.small.Resumed.{job_out}
 use Rattle.hc_bucket.proofs.Numbers.{some_is}

@@ -1,15 +1,14 @@
 -- What begins on a bucket.
-use Rattle.std.proofs.Common.{◌≡◌, ℕ, ◌+◌, ◌≤◌, ◌<◌, ◌^◌, Bool, true, false, List, [], ◌∷◌, ◌++◌, Option, Some, None, refl, sym, arith, ap, ◌∙◌, length}
-use Rattle.std.specs.Prelude.{if◌then◌else◌, cond}
+use Rattle.std.proofs.Common.{◌≡◌, ℕ, ◌<◌, Bool, true, false, List, [], ◌∷◌, ◌++◌, Option, Some, None, refl, sym, arith, ap, ◌∙◌}
+use Rattle.std.specs.Prelude.{if◌then◌else◌}
 use Rattle.hc_types.specs.declared.config.FlashConfig.{FlashConfig}
 use Rattle.hc_types.specs.Places.{bucket_at}
 use Rattle.hc_engines.specs.Engine.{Op, Put, Get, Delete, Flush, Reclaim, Absent}
 use Rattle.hc_engines.specs.small.Bloom.{could_have}
-use Rattle.hc_engines.specs.small.Entries.{size_of}
-use Rattle.hc_engines.specs.small.BigHash.{BigHash, Job, Phase, Plan, ToRead, ToEnd, begun, waits, with_job, make_job, without_job, job_at, is_ours, our_bucket, key_of, words_after, jobs_after, next_of, moved, word_at, Moved}
+use Rattle.hc_engines.specs.small.BigHash.{BigHash, Job, Phase, Plan, ToRead, ToEnd, begun, waits, with_job, make_job, without_job, job_at, is_ours, our_bucket, key_of, words_after, next_of, moved, word_at}
 use Rattle.hc_engines.specs.Engine.{Next}
-use Rattle.hc_engines.specs.small.Sound.{CanStart, CanWrite, Limits, AllOurs, Sound}
-use Rattle.hc_engines.proofs.small.Fitting.{fits-put, fits-none, small_entry, size-is}
+use Rattle.hc_engines.specs.small.Sound.{CanStart, CanWrite, Limits, AllOurs}
+use Rattle.hc_engines.proofs.small.Fitting.{fits-put, fits-none, small_entry}
 use Rattle.hc_engines.proofs.small.UnderWay.{none_is_there}
 
 words_if : (t : Bool) (words : List (Option ℕ)) (bucket : ℕ) → words_after words bucket (if t then ToRead else ToEnd Absent) ≡ words

@@ -1,8 +1,6 @@
 -- What is written fits its page.
-use Rattle.std.proofs.Common.{◌≡◌, ℕ, ◌+◌, ◌-◌, ◌≤◌, ◌<◌, ◌^◌, Bool, true, false, List, [], ◌∷◌, ◌++◌, refl, sym, arith, ap, ◌∙◌, nat_lt, length, length-append}
-use Rattle.std.proofs.lemmas.List.{append-nil}
+use Rattle.std.proofs.Common.{◌≡◌, ℕ, ◌+◌, ◌≤◌, ◌<◌, ◌^◌, Bool, true, false, List, [], ◌∷◌, ◌++◌, refl, arith, ap, ◌∙◌, nat_lt, length, length-append}
 use Rattle.std.proofs.lemmas.List.Concat.{flat_map-cons}
-use Rattle.std.proofs.lemmas.Grind.{flat_map-append}
 use Rattle.std.specs.List.{AllByRecursion}
 use Rattle.hc_types.specs.declared.config.FlashConfig.{FlashConfig}
 use Rattle.hc_types.specs.Places.{is_small_by}
@@ -11,10 +9,9 @@ use Rattle.hc_bucket.specs.Page.{IsSmall, Fits, used, entry_bytes, entries_bytes
 use Rattle.hc_bucket.proofs.Numbers.{wide16, wide64}
 use Rattle.std.specs.Int.{w16, w64, to_be_bytes}
 use Rattle.std.specs.Str.{bytes_eq}
-use Rattle.hc_engines.specs.small.Entries.{under, without, staying, page_put, size_of}
-use Rattle.hc_engines.specs.small.BigHash.{Plan, begun, was_read, is_ours}
-use Rattle.hc_engines.specs.small.Sound.{IsEntry, CanStart, CanWrite, Limits}
-use Rattle.hc_engines.proofs.small.Under.{Differ, differ_from, distinct_from, Differ-without, Differ-page_put}
+use Rattle.hc_engines.specs.small.Entries.{without, staying, page_put, size_of}
+use Rattle.hc_engines.specs.small.Sound.{IsEntry, Limits}
+use Rattle.hc_engines.proofs.small.Under.{differ_from, distinct_from, Differ-without, Differ-page_put}
 
 pub size-is : (e : FlashEntry) → size_of e ≡ 12 + length e.key + length e.value
 size-is e =

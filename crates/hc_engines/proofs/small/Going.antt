@@ -1,5 +1,5 @@
 -- What is under way after a call of BigHash, as an engine.
-use Rattle.std.proofs.Common.{◌≡◌, ℕ, ◌==◌, Option, Some, None, refl, sym, ap, ◌∙◌, subst}
+use Rattle.std.proofs.Common.{◌≡◌, ℕ, ◌==◌, Option, Some, None, refl, subst}
 use Rattle.std.specs.Prelude.{if◌then◌else◌, option_map, Result, Ok, Err, IfOk, IfSome}
 use Rattle.hc_engines.specs.Engine.{Op, Next, IoResult, Pages, then_under_way}
 use Rattle.hc_engines.specs.small.BigHash.{BigHash, Job, Moved, job_at, start, resume}

@@ -1,6 +1,5 @@
 -- What BigHash holds after a change of one bucket.
-use Rattle.std.proofs.Common.{◌≡◌, ℕ, Bool, true, false, not, ◌&&◌, ◌||◌, ◌==◌, ◌<◌, ◌≤◌, List, [], ◌∷◌, ◌++◌, Option, Some, None, refl, sym, arith, ap, ◌∙◌, subst, nat_eq, length, set, get_or}
-use Rattle.std.specs.Prelude.{if◌then◌else◌, is_some, slice_index_or}
+use Rattle.std.proofs.Common.{◌≡◌, ℕ, Bool, true, false, ◌||◌, ◌==◌, List, [], ◌∷◌, ◌++◌, Option, Some, None, refl, sym, arith, ap, ◌∙◌, subst, length}
 use Rattle.std.proofs.lemmas.Bool.{eqb-true, eq-eqb}
 use Rattle.hc_types.specs.declared.config.FlashConfig.{FlashConfig}
 use Rattle.hc_types.specs.Places.{bucket_at, is_small_by}
@@ -11,13 +10,13 @@ use Rattle.std.specs.Str.{bytes_eq}
 use Rattle.hc_engines.specs.Engine.{Op, Put, Get, Delete, Flush, Reclaim, Answer, Nothing, Over, Absent, Found, Loss, is_lost, left_of, changed, Pages}
 use Rattle.hc_engines.specs.small.Entries.{under}
 use Rattle.hc_engines.specs.small.Bloom.{word_of}
-use Rattle.hc_engines.specs.small.BigHash.{Job, is_busy, job_at, without_job, key_of, is_ours, given_up}
+use Rattle.hc_engines.specs.small.BigHash.{Job, is_busy, job_at, key_of, is_ours, given_up}
 use Rattle.hc_engines.specs.small.Sound.{Limits}
 use Rattle.hc_engines.specs.small.Held.{AllOwn, PageFits, JobFits, JobsFit, entries_at, entries_in, read_in}
 use Rattle.hc_engines.proofs.Keys.{same-true}
 use Rattle.hc_engines.proofs.small.Under.{under-key}
 use Rattle.hc_engines.proofs.small.Fitting.{fits-none}
-use Rattle.hc_engines.proofs.small.Losses.{Within, left-none, left-kept, left-lost, own_under, bucket_loss}
+use Rattle.hc_engines.proofs.small.Losses.{Within, left-kept, left-lost, own_under, bucket_loss}
 
 -- ---- one bucket
 

@@ -1,5 +1,5 @@
 -- Each plan keeps what BigHash is, and changes what it holds by its outcome.
-use Rattle.std.proofs.Common.{◌≡◌, ℕ, Bool, true, false, ◌||◌, ◌==◌, ◌<◌, ◌≤◌, List, [], ◌∷◌, ◌++◌, Option, Some, None, refl, sym, arith, ap, ◌∙◌, subst, length, set, get_or, get_or-set_other, get_or-set_same, length-set}
+use Rattle.std.proofs.Common.{◌≡◌, ℕ, Bool, true, false, ◌==◌, ◌<◌, List, [], ◌∷◌, ◌++◌, Option, Some, None, refl, sym, arith, ap, ◌∙◌, subst, length, set, get_or-set_other, get_or-set_same, length-set}
 use Rattle.std.specs.Prelude.{is_some, slice_index_or}
 use Rattle.std.proofs.lemmas.Bool.{eqb-true, eq-eqb}
 use Rattle.hc_types.specs.declared.config.FlashConfig.{FlashConfig}
@@ -9,8 +9,8 @@ use Rattle.hc_bucket.specs.Page.{Fits, page_bytes}
 use Rattle.hc_engines.specs.Engine.{Op, Put, Get, Delete, Flush, Reclaim, Answer, Nothing, Over, Loss, left_of, changed, found, Pages, with_page, Answers}
 use Rattle.hc_engines.specs.small.Entries.{under, without, page_put, put_losses}
 use Rattle.hc_engines.specs.small.Bloom.{word_of}
-use Rattle.hc_engines.specs.small.BigHash.{BigHash, Job, Phase, Reading, Writing, Plan, ToRead, ToWrite, ToEnd, ToKeep, ToGiveUp, make_job, moved, word_at, is_busy, job_at, without_job, key_of, is_ours, given_up}
-use Rattle.hc_engines.specs.small.Sound.{Limits, CanStart}
+use Rattle.hc_engines.specs.small.BigHash.{BigHash, Phase, Reading, Writing, ToRead, ToWrite, ToEnd, ToKeep, ToGiveUp, make_job, moved, word_at, is_busy, job_at, without_job, key_of, is_ours, given_up}
+use Rattle.hc_engines.specs.small.Sound.{CanStart}
 use Rattle.hc_engines.specs.small.Held.{AllOwn, PageFits, JobFits, JobsFit, WorkFits, StateFits, Keeps, held, bucket_entries, entries_at}
 use Rattle.hc_engines.proofs.small.Under.{differ_from}
 use Rattle.hc_engines.proofs.small.Fitting.{fits-put, fits-without, small_entry}

@@ -1,8 +1,8 @@
 -- What losses take out.
-use Rattle.std.proofs.Common.{◌≡◌, ℕ, Bool, true, false, not, ◌&&◌, ◌||◌, ◌==◌, List, [], ◌∷◌, ◌++◌, Option, Some, None, refl, sym, arith, ap, ◌∙◌, nat_eq, nat_lt, ◌+◌, length}
-use Rattle.std.specs.Prelude.{if◌then◌else◌, is_some}
+use Rattle.std.proofs.Common.{◌≡◌, ℕ, Bool, true, false, ◌&&◌, ◌==◌, List, [], ◌∷◌, ◌++◌, Option, Some, None, refl, sym, arith, ap, ◌∙◌, nat_eq, nat_lt, ◌+◌, length}
+use Rattle.std.specs.Prelude.{if◌then◌else◌}
 use Rattle.hc_bucket.proofs.Numbers.{some_is}
-use Rattle.std.proofs.lemmas.Bool.{eqb-true, eq-eqb}
+use Rattle.std.proofs.lemmas.Bool.{eq-eqb}
 use Rattle.std.specs.Cmp.Lexicographic.{pointwise}
 use Rattle.hc_types.specs.declared.config.FlashConfig.{FlashConfig}
 use Rattle.hc_types.specs.Loss.{Bucket, Fault}
@@ -10,9 +10,8 @@ use Rattle.hc_types.specs.Places.{bucket_at, is_small_by}
 use Rattle.hc_types.specs.FlashEntry.{FlashEntry}
 use Rattle.hc_bucket.specs.Page.{used}
 use Rattle.std.specs.Str.{bytes_eq}
-use Rattle.hc_engines.specs.Engine.{Put, Delete, Over, Loss, is_lost, left_of, changed, found}
+use Rattle.hc_engines.specs.Engine.{Put, Delete, Over, Loss, is_lost, left_of, changed}
 use Rattle.hc_engines.specs.small.Entries.{under, without, pushed_out, staying, page_put, full_losses, put_losses, size_of}
-use Rattle.hc_engines.specs.small.BigHash.{is_ours, key_of, given_up}
 use Rattle.hc_engines.specs.small.Held.{AllOwn}
 use Rattle.hc_engines.proofs.Keys.{key_tests, same-true, same-swap}
 use Rattle.hc_engines.proofs.small.Under.{Differ, has, has-there, under-key, under-without, under-page_put}

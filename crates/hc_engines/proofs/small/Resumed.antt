@@ -1,8 +1,8 @@
 -- The law of resume.
-use Rattle.std.proofs.Common.{◌≡◌, ℕ, Bool, true, false, ◌||◌, ◌==◌, ◌<◌, ◌≤◌, List, [], ◌∷◌, Option, Some, None, refl, sym, arith, ap, ◌∙◌, subst}
+use Rattle.std.proofs.Common.{◌≡◌, ℕ, Bool, true, false, ◌==◌, ◌<◌, List, [], ◌∷◌, Option, Some, None, refl, sym, arith, ap, ◌∙◌, subst}
 use Rattle.std.specs.Prelude.{is_some, if◌then◌else◌, option_map}
 use Rattle.std.proofs.Math.Nat.{mod-lt}
-use Rattle.std.proofs.lemmas.Bool.{eqb-true, eq-eqb}
+use Rattle.std.proofs.lemmas.Bool.{eqb-true}
 use Rattle.hc_types.specs.declared.config.FlashConfig.{FlashConfig}
 use Rattle.hc_types.specs.Places.{kept_of}
 use Rattle.hc_types.specs.FlashEntry.{FlashEntry}
@@ -13,11 +13,11 @@ use Rattle.hc_bucket.proofs.Pages.{page_again}
 use Rattle.std.specs.Str.{bytes_eq}
 use Rattle.hc_engines.specs.Engine.{Op, Put, Get, Delete, Flush, Reclaim, Over, found, changed, Pages, IoResult, Page, Written, Failed, IsHonest, pages_after}
 use Rattle.hc_engines.specs.small.Entries.{under, without, page_put, put_losses}
-use Rattle.hc_engines.specs.small.BigHash.{BigHash, Job, Phase, Reading, Writing, Moved, Plan, ToWrite, ToEnd, moved, went_on, was_read, read_as, resume, resume_job, word_at, is_busy, job_at, without_job, key_of, is_ours}
-use Rattle.hc_engines.specs.small.Held.{StateFits, Keeps, held, bucket_entries, entries_at, entries_in, ResumeKeeps, JobsFit, JobFits, PageFits, WorkFits, order_of}
+use Rattle.hc_engines.specs.small.BigHash.{BigHash, Job, Phase, Reading, Writing, Moved, ToWrite, ToEnd, moved, went_on, was_read, read_as, resume_job, word_at, is_busy, job_at, without_job, key_of}
+use Rattle.hc_engines.specs.small.Held.{StateFits, Keeps, bucket_entries, entries_at, ResumeKeeps, JobsFit, JobFits, PageFits, WorkFits, order_of}
 use Rattle.hc_engines.proofs.Keys.{same-true}
 use Rattle.hc_engines.proofs.small.Holding.{read_again}
-use Rattle.hc_engines.proofs.small.Keeping.{Spare, Mine, keep_read, keep_write, keep_end, keep_kept, keep_given_up, fails_others}
+use Rattle.hc_engines.proofs.small.Keeping.{Spare, Mine, keep_write, keep_end, keep_kept, keep_given_up, fails_others}
 use Rattle.hc_engines.proofs.small.Holding.{or-false}
 use Rattle.hc_engines.proofs.small.Holding.{swap-eq}
 

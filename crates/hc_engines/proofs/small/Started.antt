@@ -1,5 +1,5 @@
 -- The law of start.
-use Rattle.std.proofs.Common.{◌≡◌, ℕ, Bool, true, false, ◌<◌, ◌≤◌, List, [], ◌∷◌, Option, Some, None, refl, sym, arith, ap, ◌∙◌, subst}
+use Rattle.std.proofs.Common.{◌≡◌, ℕ, Bool, true, false, ◌<◌, List, [], ◌∷◌, Option, Some, None, refl, sym, arith, ap, ◌∙◌, subst}
 use Rattle.std.specs.Prelude.{is_some, if◌then◌else◌}
 use Rattle.std.proofs.Math.Nat.{mod-lt}
 use Rattle.hc_types.specs.Places.{kept_of}
@@ -9,7 +9,7 @@ use Rattle.std.specs.Str.{bytes_eq}
 use Rattle.hc_engines.specs.Engine.{Op, Put, Get, Delete, Flush, Reclaim, Nothing, Over, Absent, found, changed, Pages, Busy, Answers}
 use Rattle.hc_engines.specs.small.Entries.{under, page_put, put_losses}
 use Rattle.hc_engines.specs.small.Bloom.{could_have, word_of}
-use Rattle.hc_engines.specs.small.BigHash.{BigHash, Moved, Plan, ToRead, ToEnd, moved, begun, start, start_at, our_bucket, word_at, is_busy, job_at, without_job, key_of, is_ours}
+use Rattle.hc_engines.specs.small.BigHash.{BigHash, ToRead, ToEnd, moved, begun, start_at, our_bucket, word_at, is_busy, job_at, key_of}
 use Rattle.hc_engines.specs.small.Sound.{CanStart}
 use Rattle.hc_engines.specs.small.Held.{StateFits, Keeps, held, bucket_entries, entries_at, StartKeeps, JobsFit, PageFits}
 use Rattle.hc_engines.proofs.small.Words.{word_tells}

@@ -1,12 +1,12 @@
 -- Entries under keys, after each change of a list.
-use Rattle.std.proofs.Common.{◌≡◌, ℕ, ◌+◌, ◌≤◌, ◌<◌, Bool, true, false, not, ◌&&◌, ◌||◌, List, [], ◌∷◌, ◌++◌, Option, Some, None, refl, sym, inl, inr, arith, ap, ◌∙◌, nat_eq, nat_lt, length}
-use Rattle.std.specs.Prelude.{if◌then◌else◌, ◌⊎◌, is_some}
+use Rattle.std.proofs.Common.{◌≡◌, ℕ, Bool, true, false, List, [], ◌∷◌, ◌++◌, Option, Some, None, refl, arith, ◌∙◌, nat_eq}
+use Rattle.std.specs.Prelude.{if◌then◌else◌, is_some}
 use Rattle.std.specs.List.{list_any}
 use Rattle.std.specs.Cmp.Lexicographic.{pointwise}
 use Rattle.hc_types.specs.FlashEntry.{FlashEntry}
 use Rattle.hc_bucket.specs.Page.{distinct}
 use Rattle.std.specs.Str.{bytes_eq}
-use Rattle.hc_engines.specs.small.Entries.{under, without, pushed_out, staying, page_put, size_of}
+use Rattle.hc_engines.specs.small.Entries.{under, without, pushed_out, staying, page_put}
 use Rattle.hc_engines.proofs.Keys.{key_tests, same-true}
 
 -- no key stands twice

@@ -1,8 +1,6 @@
 -- Jobs by number and by bucket.
-use Rattle.std.proofs.Common.{◌≡◌, ℕ, Bool, true, false, ◌&&◌, ◌||◌, ◌==◌, List, [], ◌∷◌, ◌++◌, Option, Some, None, refl, sym, arith, ap, ◌∙◌}
-use Rattle.std.proofs.lemmas.Bool.{eqb-true}
-use Rattle.std.specs.Prelude.{if◌then◌else◌}
-use Rattle.hc_engines.specs.small.BigHash.{Job, job_at, without_job, is_busy}
+use Rattle.std.proofs.Common.{◌≡◌, ℕ, Bool, true, false, ◌==◌, List, [], ◌∷◌, None, refl, arith, ap}
+use Rattle.hc_engines.specs.small.BigHash.{Job, job_at, without_job}
 
 pub none_is_there : (number : ℕ) (jobs : List Job) → job_at number jobs ≡ None → without_job number jobs ≡ jobs
 none_is_there number [] h = refl

@@ -1,11 +1,10 @@
 -- What a word tells.
-use Rattle.std.proofs.Common.{◌≡◌, ℕ, Bool, true, false, List, [], ◌∷◌, refl, sym, ap, ◌∙◌, arith, nat_eq}
-use Rattle.std.specs.Prelude.{bit_or, bit_and, is_some, ◌==◌, cond}
-use Rattle.std.proofs.lemmas.Nat.{and_or_self, or_comm}
+use Rattle.std.proofs.Common.{◌≡◌, ℕ, Bool, true, false, List, [], ◌∷◌, refl, ap, ◌∙◌, arith, nat_eq}
+use Rattle.std.specs.Prelude.{bit_or, bit_and, is_some}
+use Rattle.std.proofs.lemmas.Nat.{and_or_self}
 use Rattle.std.proofs.lemmas.Bool.{eq-eqb, eqb-true}
 use Rattle.std.specs.Cmp.Lexicographic.{pointwise}
 use Rattle.hc_types.specs.FlashEntry.{FlashEntry}
-use Rattle.std.specs.Str.{bytes_eq}
 use Rattle.hc_engines.specs.small.Bloom.{bits_of, word_of, could_have}
 use Rattle.hc_engines.specs.small.Entries.{under}
 use Rattle.hc_engines.specs.small.Held.{WordTells}

@@ -1,17 +1,17 @@
 -- The laws of the large engine's steps.
-use Rattle.std.specs.Prelude.{◌≡◌, ◌≢◌, ℕ, ◌<◌, ◌==◌, ◌||◌, is_some, Bool, true, false, List, [], ◌∷◌, length, replicate, Option, Some, None, if◌then◌else◌, IsSomeAnd, ◌≤◌, ◌+◌}
+use Rattle.std.specs.Prelude.{◌≡◌, ℕ, ◌==◌, ◌||◌, is_some, Bool, true, false, List, [], ◌∷◌, length, replicate, Option, Some, None, if◌then◌else◌, IsSomeAnd, ◌≤◌, ◌+◌}
 use Rattle.std.specs.Str.{bytes_eq}
 use Rattle.hc_types.specs.declared.config.FlashConfig.{FlashConfig}
 use Rattle.hc_types.specs.Places.{kept_of}
 use Rattle.hc_types.specs.Tally.{count}
 use Rattle.hc_types.specs.Loss.{Scope, Key, Bucket, Hash}
 use Rattle.hc_types.specs.FlashEntry.{FlashEntry}
-use Rattle.hc_engines.specs.Engine.{Loss, nothing}
+use Rattle.hc_engines.specs.Engine.{Loss}
 use Rattle.hc_engines.specs.large.Entries.{IsLarge, entry_bytes, entry_in}
 use Rattle.hc_engines.specs.large.Region.{clean_region, region_at, page_no, lowest_clean}
 use Rattle.hc_engines.specs.large.Index.{Indexed, place_at}
 use Rattle.hc_engines.specs.large.Block.{Reading, Job, Block}
-use Rattle.hc_engines.specs.large.Steps.{fitting, put, get, take_index}
+use Rattle.hc_engines.specs.large.Steps.{fitting, take_index}
 use Rattle.hc_engines.specs.large.Held.{held}
 
 -- the number is that of no operation under way

@@ -21,9 +21,9 @@ use Rattle.hc_engines.proofs.large.Fitting.{with_entry}
 use Rattle.hc_engines.proofs.large.Flushes.{ready_is}
 use Rattle.hc_engines.proofs.large.Reclaims.{oldest_ending}
 use Rattle.hc_follows.specs.Idle.{has_failed, pages_written}
-use Rattle.hc_proof_follows.specs.idle.Listed.{AllListed}
+use Rattle.hc_engines.specs.large.Listed.{AllListed}
 use Rattle.hc_proof_follows.specs.idle.Accounted.{Accounted, opened_on, PutAccounts, FlushAccounts, ReclaimAccounts, GetAccounts}
-use Rattle.hc_proof_follows.proofs.idle.ListsAll.{kept-in, put_lists, flush_lists, reclaim_lists, get_lists}
+use Rattle.hc_engines.proofs.large.Listed.{kept-in, put_lists, flush_lists, reclaim_lists, get_lists}
 
 -- ---- what the notes tell
 
@@ -212,7 +212,7 @@ answered_alone flash reading s = go (is_place (place_at (kept_of flash.bits read
     go false = record { regions = refl; current = refl; flushed = refl }
 
 pub get_accounts : GetAccounts
-get_accounts flash number key older s sound a = accounted (get_lists flash number key s sound a.listed) (go (place_at (kept_of flash.bits key) s.index))
+get_accounts flash number key older s sound a = accounted (get_lists flash number key s a.listed) (go (place_at (kept_of flash.bits key) s.index))
   where
     c : Counted flash older s
     c = counted a

@@ -18,7 +18,7 @@ use Rattle.hc_engines.proofs.large.Flushes.{written_ending}
 use Rattle.hc_proof_regions.proofs.writes.Failing.{page-is}
 use Rattle.hc_follows.specs.Idle.{has_failed, pages_written}
 use Rattle.hc_proof_follows.specs.idle.Accounted.{WrittenAccounts, FailedWriteAccounts, ReadAccounts}
-use Rattle.hc_proof_follows.proofs.idle.ListsAll.{drains-unclean, resume_lists}
+use Rattle.hc_engines.proofs.large.Listed.{drains-unclean, resume_lists}
 use Rattle.hc_proof_follows.proofs.idle.Accounts.{Counted, counted, accounted, Untouched, untouched_counts, eased_counts, changed_counts, ended_counts, answered_alone}
 
 -- ---- a write is over

@@ -18,7 +18,7 @@ use Rattle.hc_invariant.specs.Jobs.{small_order}
 use Rattle.hc_follows.specs.Idle.{has_failed, pages_written}
 use Rattle.hc_proof_follows.specs.idle.Still.{AllCalm, StillNvm, StillBehind}
 use Rattle.hc_proof_follows.specs.idle.Accounted.{Accounted, opened_on}
-use Rattle.hc_proof_follows.proofs.idle.ListsAll.{same_regions}
+use Rattle.hc_engines.proofs.large.Listed.{same_regions}
 use Rattle.hc_proof_follows.proofs.idle.Accounts.{counted, accounted, untouched_counts}
 use Rattle.hc_proof_follows.proofs.idle.StillSteps.{calm-plain}
 

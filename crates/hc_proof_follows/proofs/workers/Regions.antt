@@ -23,8 +23,8 @@ use Rattle.hc_follows.specs.Idle.{page_of, is_read, is_being_written, has_failed
 use Rattle.hc_proof_follows.specs.clients.Matches.{JobsMatch}
 use Rattle.hc_proof_follows.specs.idle.Accounted.{Accounted}
 use Rattle.hc_proof_follows.specs.idle.Idling.{NothingToWrite}
-use Rattle.hc_proof_follows.specs.idle.Listed.{IsListed}
-use Rattle.hc_proof_follows.proofs.idle.ListsAll.{flush_misses_none}
+use Rattle.hc_engines.specs.large.Listed.{IsListed}
+use Rattle.hc_engines.proofs.large.Listed.{flush_misses_none}
 use Rattle.hc_proof_follows.proofs.idle.FullPages.{no_full_page}
 use Rattle.hc_proof_follows.proofs.workers.Busy.{any_order, work_with, large_out}
 use Rattle.hc_proof_follows.proofs.workers.Lines.{and_both, all_ones}

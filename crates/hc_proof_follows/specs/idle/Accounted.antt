@@ -11,7 +11,7 @@ use Rattle.hc_engines.specs.large.Steps.{put, flush, reclaim, get, resume}
 use Rattle.hc_engines.specs.large.Numbers.{is_in}
 use Rattle.hc_engines.specs.large.Sound.{Sound}
 use Rattle.hc_follows.specs.Idle.{has_failed, pages_written}
-use Rattle.hc_proof_follows.specs.idle.Listed.{AllListed}
+use Rattle.hc_engines.specs.large.Listed.{AllListed}
 
 pub record Accounted (flash : FlashConfig) (older : List Note) (s : Block) : Type 0 where
   pub listed : AllListed s

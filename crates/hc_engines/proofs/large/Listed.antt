@@ -9,17 +9,19 @@ use Rattle.hc_types.specs.FlashEntry.{FlashEntry}
 use Rattle.hc_engines.specs.large.Entries.{entry_bytes, entry_in}
 use Rattle.hc_engines.specs.large.Region.{Status, Clean, Open, Sealed, Flushing, OnFlash, Draining, is_clean, is_draining, Region, clean_region, opened_region, page_done, can_go, region_at, lowest_clean}
 use Rattle.hc_engines.specs.large.Index.{Place, place_at, is_place}
-use Rattle.hc_engines.specs.large.Block.{Block, Reading, Writing, Getting, Moved, end_job, with_region, unmoved}
-use Rattle.hc_engines.specs.Engine.{Page, Written, Failed}
+use Rattle.hc_engines.specs.large.Block.{Block, Work, work_of, Reading, Writing, Getting, Moved, end_job, with_region, unmoved}
+use Rattle.hc_engines.specs.Engine.{IoResult, Page, Written, Failed}
 use Rattle.hc_engines.specs.large.Numbers.{minus}
-use Rattle.hc_engines.specs.large.Steps.{fitting, append, seal, sealed_too, open_next, put_fresh, put_into, emptied, not_current, end_region, clean_count, oldest, reclaim_of, write_out, first_ready, early_of, flush_of, go_on, wrote_page, first_page, end_page, reading_of, read_bytes, answer_of, answered, unreadable, absent, failed_read, read_next, pinned, get_at, let_go, got_page, take_index}
+use Rattle.hc_engines.specs.large.Steps.{fitting, append, seal, sealed_too, open_next, put_fresh, put_into, emptied, not_current, end_region, clean_count, oldest, reclaim_of, write_out, first_ready, early_of, flush_of, go_on, wrote_page, put, flush, reclaim, get, resume, first_page, end_page, reading_of, read_bytes, answer_of, answered, unreadable, absent, failed_read, read_next, pinned, get_at, let_go, got_page, take_index}
 use Rattle.hc_engines.specs.large.Numbers.{is_in}
 use Rattle.hc_engines.proofs.large.Lists.{same_num, in_range, region_at-set, is_in-minus, is_in-push}
+use Rattle.hc_engines.proofs.large.New.{all_clean}
 use Rattle.hc_engines.proofs.large.Regions.{oldest_is}
 use Rattle.hc_engines.proofs.large.Reclaims.{oldest_ending}
 use Rattle.hc_engines.proofs.large.Flushes.{written_ending}
 use Rattle.hc_engines.proofs.large.Fitting.{with_entry}
-use Rattle.hc_proof_follows.specs.idle.Listed.{IsListed, AllListed, PutListsAll, FlushListsAll, ReclaimListsAll, GetListsAll, ResumeListsAll, FlushMissesNone}
+use Rattle.hc_engines.specs.large.Sound.{Sound}
+use Rattle.hc_engines.specs.large.Listed.{IsListed, AllListed, RegionsStayListed, ListsAreExact, FlushMissesNone}
 
 -- ---- one region changes
 
@@ -83,7 +85,7 @@ unlisted s new r x e o own far all = elim (cases_lt r (length s.regions)) [
 
 -- ---- put
 
-pub put_lists : PutListsAll
+pub put_lists : (flash : FlashConfig) (entry : FlashEntry) (s : Block) → Sound flash s → AllListed s → AllListed (put flash entry s).state
 put_lists flash entry s sound all = go (fitting flash s (length (entry_bytes entry)) s.current)
   where
     appended : (r : ℕ) (t : Block) → AllListed t → AllListed (append flash r entry t)
@@ -127,7 +129,7 @@ put_lists flash entry s sound all = go (fitting flash s (length (entry_bytes ent
 pub kept-in : (q r : ℕ) (rs : List ℕ) → (q == r) ≡ false → is_in q rs ≡ true → is_in q (minus r rs) ≡ true
 kept-in q r rs n h = is_in-minus q r rs ∙ (rw n h)
 
-pub flush_lists : FlushListsAll
+pub flush_lists : (flash : FlashConfig) (number : ℕ) (s : Block) → Sound flash s → AllListed s → AllListed (flush flash number s).state
 flush_lists flash number s sound all = go (first_ready s.regions s.sealed) refl
   where
     early_one : (r : ℕ) (t : Bool) → AllListed (if t then write_out flash number r (record (region_at r s.regions) { early = true }) s else unmoved s).state
@@ -196,7 +198,7 @@ ended_lists cause r s lt all = changed_lists s (end_region cause r s).state r (e
     own true = tt
     own false = tt
 
-pub reclaim_lists : ReclaimListsAll
+pub reclaim_lists : (flash : FlashConfig) (s : Block) → Sound flash s → AllListed s → AllListed (reclaim flash s).state
 reclaim_lists flash s sound all = go (nat_lt (clean_count s.regions) flash.clean)
   where
     of : (o : Option ℕ) → oldest s.regions s.flushed ≡ o → AllListed (reclaim_of s o).state
@@ -247,8 +249,8 @@ let_go_lists r m all = go (is_draining (region_at r m.state.regions).status) ref
     go true d false b = stays (rw (d, b) refl)
     go false d b e = stays (rw d refl)
 
-pub get_lists : GetListsAll
-get_lists flash number key s sound all = go (place_at (kept_of flash.bits key) s.index)
+pub get_lists : (flash : FlashConfig) (number : ℕ) (key : List ℕ) (s : Block) → AllListed s → AllListed (get flash number key s).state
+get_lists flash number key s all = go (place_at (kept_of flash.bits key) s.index)
   where
     begun : (p : Place) (t : Bool) → AllListed (if t then read_next flash number (reading_of flash key p s) (pinned p.region s) else answered flash (reading_of flash key p s) s).state
     begun p true = same_status s (read_next flash number (reading_of flash key p s) (pinned p.region s)).state p.region (record (region_at p.region s.regions) { pins = (region_at p.region s.regions).pins + 1 }) refl refl refl refl refl all
@@ -268,13 +270,36 @@ got_lists flash number reading bytes s all = go (nat_lt (reading.next + 1) readi
 without-job : (number : ℕ) (s : Block) → AllListed s → AllListed (end_job number s)
 without-job number s all = same_regions s (end_job number s) refl refl refl refl all
 
-pub resume_lists : ResumeListsAll
+pub resume_lists : (flash : FlashConfig) (number : ℕ) (work : Work) (result : IoResult) (s : Block) → Sound flash s → work_of number s.jobs ≡ Some work → AllListed s → AllListed (resume flash number work result s).state
 resume_lists flash number (Writing r bytes) Written s sound at all = wrote_lists flash number r (region_at r s.regions).status (end_job number s) (without-job number s all)
 resume_lists flash number (Writing r bytes) Failed s sound at all = ended_lists Fault r (end_job number s) (in_range s.regions r (written_ending flash number r bytes s sound at).0.unclean) (without-job number s all)
 resume_lists flash number (Getting reading) (Page page) s sound at all = got_lists flash number reading page (end_job number s) (without-job number s all)
 resume_lists flash number (Getting reading) Failed s sound at all = let_go_lists reading.place.region (failed_read flash reading (end_job number s)) (failed_lists flash reading (end_job number s) (without-job number s all))
 resume_lists flash number (Writing r bytes) (Page page) s sound at all = without-job number s all
 resume_lists flash number (Getting reading) Written s sound at all = without-job number s all
+
+-- ---- the law
+
+pub stay_listed : RegionsStayListed
+stay_listed flash = record {
+  at_first = λ r. rw (all_clean flash.regions r) tt;
+  after_put = λ entry s sound all. put_lists flash entry s sound all;
+  after_flush = λ number s sound all. flush_lists flash number s sound all;
+  after_reclaim = λ s sound all. reclaim_lists flash s sound all;
+  after_get = λ number key s all. get_lists flash number key s all;
+  after_resume = λ number work result s sound at all. resume_lists flash number work result s sound at all;
+  after_take = λ hash s all. same_regions s (take_index hash s) refl refl refl refl all;
+}
+
+pub lists_are_exact : ListsAreExact
+lists_are_exact flash s sound all r = record {
+  current = sound.current r;
+  opened = λ e. subst (λ (status : Status). IsListed s r status) e (all r);
+  sealed = sound.sealed r;
+  waits = λ e. subst (λ (status : Status). IsListed s r status) e (all r);
+  stored = sound.flushed r;
+  flushed = λ e. subst (λ (status : Status). IsListed s r status) e (all r);
+}
 
 -- ---- nothing is missed
 
