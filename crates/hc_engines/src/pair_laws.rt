@@ -70,8 +70,8 @@ pub fn start_serves()
     ensures { StartServes }
 {}
 
-/// So does a result that is handed in, with the pages after it; but a get that went on to the large engine finds nothing where an
-/// entry of its key came to the small one since, or where its index entry changed.
+/// So does a result that is handed in, with the pages after it; but a get that went on to the large engine may find nothing where
+/// an entry of its key came to the small one since, or where its index entry changed.
 pub fn resume_serves()
     ensures { ResumeServes }
 {}

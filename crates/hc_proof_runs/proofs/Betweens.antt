@@ -86,7 +86,7 @@ pub runs_are_between : RunsAreBetween
 runs_are_between config log world r =
     let p = parts_of config.flash (past [] log) world.cache.memory world.cache.nvm r.good.agrees.flash in
     let device : (page : ℕ) → ((n : ℕ) (bytes : List ℕ) → order_in world.cache.nvm n ≢ Some (Write page bytes)) → world.pages page ≡ bytes_at (past [] log) page =
-        λ page none. r.device.pages page ∙ agrees world.cache.nvm (bytes_at (past [] log)) (bytes_at (past [] log)) world.results page none r.device.results in
+    λ page none. r.device.pages page ∙ agrees world.cache.nvm (bytes_at (past [] log)) (bytes_at (past [] log)) world.results page none r.device.results in
     record {
       placed = r.good.agrees.placed;
       waits = p.waits;

@@ -17,7 +17,7 @@ use Rattle.hc_engines.proofs.pair.SmallSteps.{losses_of}
 use Rattle.hc_engines.proofs.pair.SmallCalls.{sides_of}
 use Rattle.hc_engines.proofs.pair.Together.{both, large_holds_one, large_does}
 
--- what is written by one engine changes nothing for the small one
+-- over these pages the small engine holds what it held
 pub record SmallStands (pair : Pair) (pages after : Pages) : Type 0 where
   pub fits : StateFits pair.small after
   pub same : held_small pair after ≡ held_small pair pages
@@ -32,9 +32,6 @@ module _ (pair : Pair) (pages after : Pages) (number : ℕ) (op : Op) (m : Moved
     (apart : Able pair pages op → (key : List ℕ) (e : FlashEntry) → held_small pair pages key ≡ Some e → names op key ≡ false)
     (right : OneHolder (held_small pair after) (large_held pair.small.flash m.state after) → (answer : Answer) → AnswersFor stale op answer (large_held pair.small.flash m.state after)
     → AnswersFor then_stale op answer (both (held_small pair after) (large_held pair.small.flash m.state after))) where
-  new : Holds
-  new = large_held pair.small.flash m.state after
-
   numbers : (n : ℕ) → (job_at n pair.small.jobs ≡ None) ⊎ (work_of n m.state.jobs ≡ None)
   numbers n = go (n == number) refl (fits.apart n)
     where

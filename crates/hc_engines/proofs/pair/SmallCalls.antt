@@ -26,13 +26,13 @@ sides_of pair pages fits one = record {
   one = one;
 }
 
--- what is written by one engine changes nothing for the large one
+-- over these pages the large engine holds what it held
 pub record LargeStands (pair : Pair) (pages after : Pages) : Type 0 where
   pub fits : LargeFits pair.small.flash pair.large after
   pub same : held_large pair after ≡ held_large pair pages
 
 module _ (pair : Pair) (pages after : Pages) (number : ℕ) (op : Op) (m : bighash.Moved) (fits : PairFits pair pages) (serves : SmallServes op number pair.small pages m after) (stands : LargeStands pair pages after) (free : work_of number pair.large.jobs ≡ None) where
-  -- what the large engine holds is what it held
+  -- also by the small engine's configuration
   theirs : held_large pair pages ≡ held_large (by_small pair m).pair after
   theirs = sym stands.same ∙ ap (λ (f : FlashConfig). large_held f pair.large after) (sym serves.flash)
 

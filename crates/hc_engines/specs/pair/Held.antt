@@ -86,7 +86,7 @@ IsCarriedOut (Put e) (Done outcome) = (outcome.answer ≡ Over) ⊎ ((outcome.an
 IsCarriedOut (Delete key) (Done outcome) = outcome.answer ≡ Over
 IsCarriedOut op next = ⊤
 
--- A get that went on to the large engine finds nothing where an entry of its key came to the small one since, or where its
+-- A get that went on to the large engine may find nothing where an entry of its key came to the small one since, or where its
 -- index entry isn't the one any more that it took.
 pub record Passed (old new : Pair) (number : ℕ) (after : Pages) (answer : Answer) : Type 0 where
   pub reading : Reading
