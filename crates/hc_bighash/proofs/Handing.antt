@@ -67,6 +67,13 @@ pub go_is : (s : BigHash) (number at : ℕ) (job : Job) (came : IoResult) (plan 
 go_is s number at job came plan here went =
     ap (λ (o : Option Job). resume_job s o came) here.there ∙ ap (resumed s job) went ∙ sym (ap (λ (o : Option Job). option_map (λ x. moved s x.number x.bucket x.op plan) o) here.there)
 
+some-resumed : (s : BigHash) (job : Job) (o : Option Plan) → IsSome o → IsSome (resumed s job o)
+some-resumed s job None h = h
+some-resumed s job (Some plan) h = h
+
+pub goes_some : (s : BigHash) (number at : ℕ) (job : Job) (came : IoResult) → At number at s.jobs job → IsSome (went_on s.flash.page job.op job.phase came) → IsSome (resume s number came)
+goes_some s number at job came here some = subst (λ (o : Option Job). IsSome (resume_job s o came)) (sym here.there) (some-resumed s job (went_on s.flash.page job.op job.phase came) some)
+
 pub unknown_is : (s : BigHash) (number at : ℕ) (job : Job) (came : IoResult) → At number at s.jobs job → went_on s.flash.page job.op job.phase came ≡ None → resume s number came ≡ None
 unknown_is s number at job came here went = ap (λ (o : Option Job). resume_job s o came) here.there ∙ ap (resumed s job) went
 
@@ -77,10 +84,6 @@ kept-as (Writing es losses) o h = (h, refl)
 pub keep_is : (s : BigHash) (number at : ℕ) (job : Job) (came : IoResult) → At number at s.jobs job → IsKept job.phase (went_on s.flash.page job.op job.phase came) → resume s number came ≡ kept_job s (job_at number s.jobs)
 keep_is s number at job came here kept =
     ap (λ (o : Option Job). resume_job s o came) here.there ∙ ap (resumed s job) (kept-as job.phase (went_on s.flash.page job.op job.phase came) kept).0 ∙ sym (ap (kept_job s) here.there)
-
-some-resumed : (s : BigHash) (job : Job) (o : Option Plan) → IsSome o → IsSome (resumed s job o)
-some-resumed s job None h = h
-some-resumed s job (Some plan) h = h
 
 pub keep_some : (s : BigHash) (number at : ℕ) (job : Job) (came : IoResult) → At number at s.jobs job → IsKept job.phase (went_on s.flash.page job.op job.phase came) → IsSome (kept_job s (job_at number s.jobs))
 keep_some s number at job came here kept =

@@ -5,3 +5,4 @@ pub mod Reading
 pub mod Pushing
 pub mod Places
 pub mod Handing
+pub mod Rows

@@ -19,7 +19,7 @@ use hc_bucket::{decode_shared, entry_len};
 use hc_types::{Cause, Entry, Key, Scope};
 use std::alloc::{AllocError, Allocator};
 
-/// Whether an entry is under this key.
+/// Whether this entry is under this key.
 fn is_under<A: Allocator>(entry: &Entry<A>, key: &Key<A>) -> bool
     ensures { result ≡ bytes_eq (entry_of entry.now).key key.now }
 {
@@ -55,7 +55,7 @@ fn found<A: Allocator>(entries: &[Entry<A>], key: &Key<A>) -> Result<Answer<A>, 
     Ok(Answer::Absent)
 }
 
-/// Whether an entry is under this key.
+/// Whether one of these entries is under this key.
 fn has<A: Allocator>(entries: &[Entry<A>], key: &Key<A>) -> bool
     ensures { result ≡ list_any (λ entry. bytes_eq entry.key key.now) entries.now }
 {
@@ -107,6 +107,7 @@ fn full_losses<A: Allocator>(
     Ok(losses)
 }
 
+/// What is lost with this entry.
 fn full_loss<A: Allocator>(entry: Entry<A>) -> Loss<A>
     ensures { result ∷ [] ≡ losses_of (entry_of entry ∷ []) }
 {
@@ -199,25 +200,7 @@ pub(crate) fn page_plan<A: Allocator + Copy>(
     ensures fits { IfOk result (λ plan. CanWrite page_size (plan_of plan)) }
 {
     match decode_shared(alloc, page, page_size)? {
-        Some(entries) => fitting_plan(alloc, page_size, op, entries),
+        Some(entries) => entries_plan(alloc, page_size, op, entries),
         None => Ok(Plan::GiveUp),
     }
-}
-
-/// What an operation makes of the entries of a page.
-fn fitting_plan<A: Allocator + Copy>(
-    alloc: A,
-    page_size: usize,
-    op: &Op<A>,
-    entries: Vec<Entry<A>, A>,
-) -> Result<Plan<A>, AllocError>
-    requires small { page_size < 2 ^ 16 }
-    requires fits { Fits page_size (entries_of entries.items) }
-    requires len { HasRoom page_size (op_of op.now) }
-    requires put { CanPut (op_of op.now) }
-    ensures plan { IfOk result (λ plan. plan_of plan ≡ was_read page_size (op_of op.now) (entries_of entries.items)) }
-    ensures fits { IfOk result (λ plan. CanWrite page_size (plan_of plan)) }
-{
-    let plan = entries_plan(alloc, page_size, op, entries)?;
-    Ok(plan)
 }

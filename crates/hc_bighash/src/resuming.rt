@@ -45,6 +45,7 @@ impl<A: Allocator + Copy> BigHash<A> {
         ensures err { OnErr result (self.new ≡ self.old) }
         ensures given_back { IfErr result (λ refused. refused.came ≡ came) }
         ensures unknown { IfErr result (λ refused. refused.refusal ≡ UnknownJob → resume_step self.old number (result_of came) ≡ None) }
+        ensures awaited { IfErr result (λ refused. refused.refusal ≡ NoMemory → IsSome (resume_step self.old number (result_of came))) }
         ensures others { IfErr result (λ refused. (refused.refusal ≡ UnknownJob) ⊎ (refused.refusal ≡ NoMemory)) }
     {
         match self.hand_in(number, &came) {
@@ -58,6 +59,7 @@ impl<A: Allocator + Copy> BigHash<A> {
         ensures ok { IfOk result (λ next. resume_step self.old number (result_of came.now) ≡ Some (record { state = self.new; next = next_seen next })) }
         ensures err { OnErr result (self.new ≡ self.old) }
         ensures unknown { IfErr result (λ refusal. refusal ≡ UnknownJob → resume_step self.old number (result_of came.now) ≡ None) }
+        ensures awaited { IfErr result (λ refusal. refusal ≡ NoMemory → IsSome (resume_step self.old number (result_of came.now))) }
         ensures others { IfErr result (λ refusal. (refusal ≡ UnknownJob) ⊎ (refusal ≡ NoMemory)) }
     {
         match place(&self.jobs, number) {
@@ -73,6 +75,7 @@ impl<A: Allocator + Copy> BigHash<A> {
         ensures ok { IfOk result (λ next. resume_step self.old number (result_of came.now) ≡ Some (record { state = self.new; next = next_seen next })) }
         ensures err { OnErr result (self.new ≡ self.old) }
         ensures unknown { IfErr result (λ refusal. refusal ≡ UnknownJob → resume_step self.old number (result_of came.now) ≡ None) }
+        ensures awaited { IfErr result (λ refusal. refusal ≡ NoMemory → IsSome (resume_step self.old number (result_of came.now))) }
         ensures others { IfErr result (λ refusal. (refusal ≡ UnknownJob) ⊎ (refusal ≡ NoMemory)) }
     {
         match turn_of(self.alloc, self.flash.page as usize, &self.jobs[at], came) {

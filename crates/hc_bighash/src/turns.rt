@@ -1,5 +1,5 @@
 // What came of a device operation means for a job.
-ghost use Rattle.std.specs.Prelude.{◌≡◌, ◌<◌, ◌^◌, IfOk, option_map};
+ghost use Rattle.std.specs.Prelude.{◌≡◌, ◌<◌, ◌^◌, IfOk, OnErr, IsSome, option_map};
 ghost use Rattle.hc_engines.specs.small.BigHash.{went_on, next_of, waits};
 ghost use Rattle.hc_engines.specs.small.Sound.{HasRoom, CanPut, CanWrite};
 ghost use Rattle.hc_bighash.specs.Seen.{result_of};
@@ -36,6 +36,7 @@ pub(crate) fn turn_of<A: Allocator + Copy>(
     requires put { CanPut job.now.op }
     ensures turn { IfOk result (λ turn. IsTurn turn job.now.phase (went_on page_size job.now.op job.now.phase (result_of came.now))) }
     ensures fits { IfOk result (λ turn. TurnFits page_size turn) }
+    ensures awaited { OnErr result (IsSome (went_on page_size job.now.op job.now.phase (result_of came.now))) }
 {
     match (&job.phase, came) {
         (Phase::Reading, IoResult::Page(page)) => {

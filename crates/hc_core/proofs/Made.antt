@@ -24,13 +24,6 @@ reply-is : (found : Option Item) → remove_reply (number_of found) ≡ remove_r
 reply-is None = refl
 reply-is (Some item) = refl
 
-removed_is : (found : Option Item) → removed_of (number_of found) ≡ removed_of found
-removed_is None = refl
-removed_is (Some item) = refl
-
-pub removed-is : (removed : Removed) (number : Option ℕ) (found : Option Item) → removed ≡ removed_of number → number ≡ number_of found → removed ≡ removed_of found
-removed-is removed number found is from = is ∙ ap removed_of from ∙ removed_is found
-
 -- the log after a remove
 pub removed-log : (log mid new : Heard) (begin : Option Note) (call client : ℕ) (key : List ℕ) (calls : ℕ) (number : Option ℕ) (found : Option Item) → mid ≡ log → call ≡ calls + 1 → number ≡ number_of found → begin ≡ where_kept log (Begin call client (Remove key))
     → new ≡ told_more (told_more mid (option_to_list begin)) (freed_notes number ++ (Did call (remove_reply number) ∷ End call ∷ [])) → new ≡ told_more log (remove_notes (calls + 1) client key found)

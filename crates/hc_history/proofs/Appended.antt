@@ -33,13 +33,6 @@ is_quiet (Did call reply) = false
 is_quiet (Read page result) = false
 is_quiet note = true
 
-pub next_answer-quiet : (piece tail : List Note) → list_all is_quiet piece ≡ true → next_answer (piece ++ tail) ≡ next_answer tail
-next_answer-quiet [] tail h = refl
-next_answer-quiet (Begin call client op ∷ piece) tail h = absurd cc
-next_answer-quiet (Did call reply ∷ piece) tail h = absurd cc
-next_answer-quiet (Read page result ∷ piece) tail h = absurd cc
-next_answer-quiet (note ∷ piece) tail h = next_answer-quiet piece tail h
-
 -- what holds of the next one still does
 still : {A : Type 0} (next : List Note → Option A) → ((rest part : List Note) (x : A) → next rest ≡ Some x → next (rest ++ part) ≡ Some x) → (P : A → Type 0) (rest part : List Note) (o : Option A) → next rest ≡ o → IsSomeAnd o P → IsSomeAnd (next (rest ++ part)) P
 still next more P rest part None e h = absurd h

@@ -9,10 +9,6 @@ use Rattle.hc_history.specs.Note.{Note, Freed}
 use Rattle.hc_legal.specs.Judge.{is_evicted, is_freed}
 use Rattle.hc_judge_memory.specs.Evictions.{last_freed, is_link_of, is_evicted_by, is_freed_by}
 
-pub evicted-is : (config : Config) (older : List Note) (key : List ℕ) (pool want : ℕ) (rest : List Note) → is_evicted config older key pool want rest ≡ is_evicted_by config (last_freed older) key pool want rest
-evicted-is config (Freed number ∷ before) key pool want rest = refl
-evicted-is config older key pool want rest = refl
-
 pub freed-is : (older : List Note) (key : List ℕ) → is_freed older key ≡ is_freed_by (last_freed older) key
 freed-is (Freed number ∷ before) key = refl
 freed-is older key = refl

@@ -199,9 +199,6 @@ open-entries charge es c r found same =
 pub open-none : {A : Type 0} (charge : Open) (es : List (ℕ × OpenCharge A)) → None ≡ lookup (nat_eq charge.number) es → false ≡ is_open charge (map open_of es)
 open-none charge es none = sym (ap (is_same_as charge) (charge_at-entries charge.number es ∙ sym (ap (option_map (λ c. open_of (charge.number, c))) none)))
 
-pub open-exact : (charge : Open) (charges : List Open) (r : Bool) → r ≡ is_open charge charges → (r ≡ true → charge_at charge.number charges ≡ Some charge) × (charge_at charge.number charges ≡ Some charge → r ≡ true)
-open-exact charge charges r e = (λ h. is_open-found charge charges (sym e ∙ h), λ found. e ∙ found-is_open charge charges found)
-
 -- ---- what begins
 
 pub begun-entries : {A S : Type 0} (m : IndexMap ℕ (OpenCharge A) S) (new : List (ℕ × OpenCharge A)) (number : ℕ) (c : OpenCharge A) → charge_at number (map open_of m.entries) ≡ None → new ≡ insert_entry nat_eq m.entries number c → map open_of new ≡ map open_of m.entries ++ open_of (number, c) ∷ []

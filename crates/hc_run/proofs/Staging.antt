@@ -194,10 +194,3 @@ none_told heard = sym (told-nothing heard)
 pub nothing-left : (cache : Cache) (slots : List (Option Handle)) → length slots ≡ 0 → cache.log ≡ told_more cache.log (left_notes slots)
 nothing-left cache [] none = none_told cache.log
 nothing-left cache (held ∷ slots) none = absurd (omega (arith, none))
-
--- ---- what comes of a step
-
--- it is the one that was asked for
-pub may-is : (old : Stage) (step step' : Step) (answer answer' : Answer) (new new' : Stage) → step ≡ step' → answer ≡ answer' → new ≡ new' → May old step' answer' new' → May old step answer new
-may-is old step step' answer answer' new new' asked told after may =
-    subst (λ s. May old s answer new) (sym asked) (subst (λ a. May old step' a new) (sym told) (subst (λ s. May old step' answer' s) (sym after) may))

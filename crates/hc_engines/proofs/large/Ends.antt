@@ -37,13 +37,6 @@ not-current-is r q (Some x) e = go (x == r) refl e
 
 -- ---- what an ended region is
 
-emptied_clean : (region : Region) → is_clean (emptied region).status ≡ (region.pins == 0)
-emptied_clean region = go (region.pins == 0)
-  where
-    go : (t : Bool) → is_clean (if t then clean_region else record region { status = Draining; buffer = []; appended = []; early = false }).status ≡ t
-    go true = refl
-    go false = refl
-
 pub zero-is : (n : ℕ) → (n == 0) ≡ true → n ≡ 0
 zero-is n h = eqb-true n 0 h
 

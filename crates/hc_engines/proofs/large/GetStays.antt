@@ -32,9 +32,6 @@ indexed_live flash s h p sound e = go (is_live (region_at p.region s.regions).st
 
 -- ---- a get begins
 
-pin_region : ℕ → Block → Region
-pin_region r s = record (region_at r s.regions) { pins = (region_at r s.regions).pins + 1 }
-
 pub start_rest : (flash : FlashConfig) (pages : ℕ → Option (List ℕ)) (number : ℕ) (reading : Reading) (s : Block) → Sound flash s → Rest flash pages s → is_live (region_at reading.place.region s.regions).status ≡ true → ReadHolds flash pages s reading → reading.next < reading.until
     → Rest flash pages (read_next flash number reading (pinned reading.place.region s)).state
 start_rest flash pages number reading s sound rest live h below =

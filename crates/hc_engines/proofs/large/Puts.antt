@@ -214,14 +214,7 @@ pub same_bytes : (xs : List ℕ) → bytes_eq xs xs ≡ true
 same_bytes [] = refl
 same_bytes (x ∷ xs) = grind (arith, same_num x, same_bytes xs)
 
-some_place : (o : Option Place) (p : Place) → o ≡ Some p → is_some (region_in o) ≡ true
-some_place o p e = rw e refl
-
 -- ---- the three ways of a put
-
--- what is filed after it
-filed_new : (k h : ℕ) (o p : Option ℕ) → (if (k == h) then o else p) ≡ (if h == k then o else p)
-filed_new k h o p = grind arith
 
 pub seal-length : (c : Option ℕ) (regions : List Region) → length (seal c regions) ≡ length regions
 seal-length None regions = refl

@@ -35,10 +35,6 @@ not_current_one regions r (Some x) h on = go (x == r) refl
     go true t = let same : x ≡ r = eqb-true x r t in let o : (region_at r regions).status ≡ Open = (rw (← same) (h x refl)) in absurd (cc)
     go false t = refl
 
-filed_less : (b : Bool) (o : Option ℕ) (x : ℕ) → (if b then None else o) ≡ Some x → o ≡ Some x
-filed_less true o x e = absurd (cc)
-filed_less false o x e = e
-
 -- the region flushed first can end
 pub oldest_ending : (flash : FlashConfig) (s : Block) (r : ℕ) → Sound flash s → IsOldest s.regions s.flushed r → Ending flash r s × ((region_at r s.regions).status ≡ OnFlash)
 oldest_ending flash s r sound old = (

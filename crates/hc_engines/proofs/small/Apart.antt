@@ -97,10 +97,6 @@ goes s number bucket op plan other true p gone = subst (λ (n : ℕ). under_way 
 goes s number bucket op plan other false p gone =
     ap (option_map (job_under_way s.flash)) (with-other (without_job number s.jobs) number bucket op (waits plan) other p ∙ at-other other number s.jobs p)
 
-same-if : (t : Bool) (a b : Option UnderWay) → a ≡ b → b ≡ (if t then a else b)
-same-if true a b h = sym h
-same-if false a b h = refl
-
 none-here : (s : BigHash) (number other : ℕ) (t : Bool) → (other == number) ≡ t → under_way s number ≡ None → under_way s other ≡ (if t then None else under_way s other)
 none-here s number other true p none = ap (under_way s) (eqb-true _ _ p) ∙ none
 none-here s number other false p none = refl

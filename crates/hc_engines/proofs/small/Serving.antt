@@ -1,4 +1,4 @@
--- BigHash as an engine.
+-- What is under way in BigHash waits for its result, and each key that is held is told.
 use Rattle.std.proofs.Common.{◌≡◌, ◌≢◌, ℕ, true, List, Option, Some, None, refl, inl, ap, ◌∙◌, subst}
 use Rattle.std.specs.Prelude.{is_some, option_map, Result, Ok, Err, IfOk, IfErr, IfSome, OnOk}
 use Rattle.hc_types.specs.declared.config.FlashConfig.{FlashConfig}
@@ -15,20 +15,9 @@ use Rattle.hc_engines.proofs.small.Holding.{bucket_word}
 use Rattle.hc_engines.proofs.small.Started.{start_keeps}
 use Rattle.hc_engines.proofs.small.Resumed.{resume_keeps}
 
-does : (flash : FlashConfig) (op : Op) (next : Next) (old new : Holds) → Changes flash op next old new → Does never flash op next old new
-does flash op Busy old new h = h
-does flash op (Io order outcome) old new h = h
-does flash op (Done outcome) old new h = (h.0, inl h.1)
-
-pub serves : (s : BigHash) (before : Pages) (op : Op) (m : Moved) (after : Pages) → Keeps op s before m after → Serves StateFits held never s.flash op m.next s before m.state after
-serves s before op m after k = record { fit = k.fits; does = does s.flash op m.next (held s before) (held m.state after) k.changes; known = k.known }
-
 pub none_under : (flash : FlashConfig) (o : Option Job) → option_map (job_under_way flash) o ≡ None → o ≡ None
 none_under flash None h = refl
 none_under flash (Some job) h = absurd (cc)
-
-pub start_serves : StartServes
-start_serves s pages number op fits none can = serves s pages op (start s number op) pages (start_keeps s pages number op fits (none_under s.flash (job_at number s.jobs) none) can)
 
 some_of : (o : Option FlashEntry) → o ≢ None → is_some o ≡ true
 some_of None h = absurd (h refl)
@@ -41,17 +30,6 @@ told flash bucket (Some word) page key fits h =
 
 pub held_is_told : HeldIsTold
 held_is_told s pages key fits h = told s.flash (bucket_at s.flash key) (word_at s (bucket_at s.flash key)) (pages (bucket_at s.flash key)) key (fits.pages_fit (bucket_at s.flash key)) h
-
-ok_then : {T E : Type 0} (r : Result T E) (P Q : T → Type 0) → ((x : T) → P x → Q x) → IfOk r P → IfOk r Q
-ok_then (Ok x) P Q f h = f x h
-ok_then (Err e) P Q f h = h
-
--- a call that made the step serves
-pub start_ok : {T E : Type 0} (r : Result T E) (view : T → Next) (s new : BigHash) (number : ℕ) (op : Op) → job_at number s.jobs ≡ None → CanStart op → IfOk r (λ next. start s number op ≡ record { state = new; next = view next })
-    → IfOk r (λ next. (pages : Pages) → StateFits s pages → Serves StateFits held never s.flash op (view next) s pages new pages)
-start_ok r view s new number op none can ok =
-    ok_then r (λ next. start s number op ≡ record { state = new; next = view next }) (λ next. (pages : Pages) → StateFits s pages → Serves StateFits held never s.flash op (view next) s pages new pages)
-    (λ next made pages fits. subst (λ (m : Moved). Serves StateFits held never s.flash op m.next s pages m.state pages) made (serves s pages op (start s number op) pages (start_keeps s pages number op fits none can))) ok
 
 -- ---- resume
 
@@ -87,30 +65,8 @@ awaits-not : (s : BigHash) (o : Option Job) (result : IoResult) → resume_job s
 awaits-not s None result h a = a
 awaits-not s (Some job) result h a = resumed-not s job (went_on s.flash.page job.op job.phase result) result refl h a
 
-abbrev pub ResumeServes : BigHash → BigHash → ℕ → IoResult → Next → Option UnderWay → Type 0
-ResumeServes s new number result next o = IfSome o (λ w. (pages : Pages) → StateFits s pages → IsHonest w.order result pages → Serves StateFits held never s.flash w.op next s pages new (pages_after w.order result pages))
-
-serves-at : (s new : BigHash) (number : ℕ) (result : IoResult) (next : Next) (o : Option Job) → job_at number s.jobs ≡ o → resume s number result ≡ Some (record { state = new; next = next }) → ResumeServes s new number result next (option_map (job_under_way s.flash) o)
-serves-at s new number result next None at made = tt
-serves-at s new number result next (Some job) at made = λ pages fits honest. serves s pages job.op (record { state = new; next = next }) (pages_after (order_of s.flash.page job.bucket job.phase) result pages) (resume_keeps s pages number result job (record { state = new; next = next }) fits at made honest)
-
-pub resume_ok : {T E : Type 0} (r : Result T E) (view : T → Next) (s new : BigHash) (number : ℕ) (result : IoResult) → IfOk r (λ next. resume s number result ≡ Some (record { state = new; next = view next }))
-    → IfOk r (λ next. ResumeServes s new number result (view next) (under_way s number))
-resume_ok r view s new number result ok = ok_then r _ _ (λ next made. serves-at s new number result (view next) (job_at number s.jobs) refl made) ok
-
-pub resume_awaits : {T E : Type 0} (r : Result T E) (view : T → Next) (s new : BigHash) (number : ℕ) (result : IoResult) → IfOk r (λ next. resume s number result ≡ Some (record { state = new; next = view next })) → OnOk r (Awaits (under_way s number) result)
-resume_awaits (Ok next) view s new number result made = awaits s (job_at number s.jobs) result _ made
-resume_awaits (Err e) view s new number result made = made
-
 pub resume_is : (s : BigHash) (number : ℕ) (result : IoResult) (m : Moved) → resume s number result ≡ Some m → Awaits (under_way s number) result
 resume_is s number result m h = awaits s (job_at number s.jobs) result m h
 
 pub resume_not : (s : BigHash) (number : ℕ) (result : IoResult) → resume s number result ≡ None → Awaits (under_way s number) result → ⊥
 resume_not s number result h = awaits-not s (job_at number s.jobs) result h
-
-err_then : {T E : Type 0} (r : Result T E) (P Q : E → Type 0) → ((x : E) → P x → Q x) → IfErr r P → IfErr r Q
-err_then (Ok x) P Q f h = h
-err_then (Err e) P Q f h = f e h
-
-pub resume_unknown : {T E : Type 0} (r : Result T E) (P : E → Type 0) (s : BigHash) (number : ℕ) (result : IoResult) → IfErr r (λ e. P e → resume s number result ≡ None) → IfErr r (λ e. P e → ¬ Awaits (under_way s number) result)
-resume_unknown r P s number result h = err_then r _ _ (λ e f p. resume_not s number result (f p)) h

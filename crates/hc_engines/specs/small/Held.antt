@@ -103,11 +103,6 @@ job_under_way flash job = record { op = job.op; order = order_of flash.page job.
 abbrev pub under_way : BigHash → ℕ → Option UnderWay
 under_way s number = option_map (job_under_way s.flash) (job_at number s.jobs)
 
--- BigHash's laws, as any engine's
-abbrev pub StartServes : Type 0
-StartServes = (s : BigHash) (pages : Pages) (number : ℕ) (op : Op) → StateFits s pages → under_way s number ≡ None → CanStart op
-    → Serves StateFits held never s.flash op (start s number op).next s pages (start s number op).state pages
-
 -- ---- what the layers above need besides
 
 -- BigHash looks at the pages of its buckets alone

@@ -34,14 +34,6 @@ counted_any p xs h = go (list_any p xs) refl
     go true e = e
     go false e = absurd (let z = any-counts p xs e in omega (arith, z, h))
 
-any_counted : {X : Type 0} (p : X → Bool) (xs : List X) → list_any p xs ≡ true → 1 ≤ count p xs
-any_counted p [] h = absurd cc
-any_counted p (x ∷ xs) h = go (p x) (any_counted p xs) h
-  where
-    go : (t : Bool) → (list_any p xs ≡ true → 1 ≤ count p xs) → (t || list_any p xs) ≡ true → 1 ≤ cond t 1 0 + count p xs
-    go true rest h = omega arith
-    go false rest h = omega (arith, rest h)
-
 -- each passes, since one of the list counts at least itself
 module _ {X : Type 0} (p : X → Bool) (all : List X) (own : (x : X) → ((test : X → Bool) → test x ≡ true → 1 ≤ count test all) → p x ≡ true) where
   all_by : (xs : List X) → ((test : X → Bool) → count test xs ≤ count test all) → list_all p xs ≡ true

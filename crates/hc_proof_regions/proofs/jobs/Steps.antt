@@ -54,9 +54,6 @@ take_kept config older part cache nvm take h = subst (λ (p : List Note). KeptMo
 -- ---- reclaim
 
 module _ (tells : ReclaimTells) (gives : ReclaimGives) (config : Config) (older : List Note) (cache : Cache) (nvm : Nvm) (n : cache.nvm ≡ Some nvm) (once : OneFlush older) (g : Agrees config older cache) where
-  reclaim_moved : block.Moved
-  reclaim_moved = steps.reclaim nvm.pair.small.flash nvm.pair.large
-
   reclaim_step : RegionStep config older (told (steps.reclaim nvm.pair.small.flash nvm.pair.large).outcome) nvm (steps.reclaim nvm.pair.small.flash nvm.pair.large).state nvm.jobs nvm.made each
   reclaim_step =
       let o = opened config older cache nvm n g in
@@ -162,10 +159,6 @@ module _ (config : Config) (older : List Note) (cache : Cache) (nvm : Nvm) (n : 
   busy_brings key k f =
       let same : k ≡ number = but_false number k f in
       writer_idle (bytes_at older) nvm key w.region w.bytes (small_job nvm k) (large_work nvm k) (rw same w.large.small) (rw same w.large.there)
-
-  -- this page was written or not
-  abbrev first_note : Bool → Note
-  first_note done = Wrote (page_no nvm.pair.small.flash w.region (region_at w.region nvm.pair.large.regions).written) w.bytes done
 
   over_kept : (result : IoResult) (done : Bool) (moved : block.Moved) → result_note (Write (page_no nvm.pair.small.flash w.region (region_at w.region nvm.pair.large.regions).written) w.bytes) result ≡ Wrote (page_no nvm.pair.small.flash w.region (region_at w.region nvm.pair.large.regions).written) w.bytes done
       → Plain moved.outcome → OthersStay (but number) nvm.pair.large moved.state → IsOver number moved

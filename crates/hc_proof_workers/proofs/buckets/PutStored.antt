@@ -101,12 +101,6 @@ module _ (config : Config) (flash : FlashConfig) (older : List Note) (memory : M
       let here : sj.bucket ≡ bucket_at flash e.key = o.here ∙ ap (λ (op : Op). bucket_at flash (key_of op)) p.op in
       eq-eqb _ _ (ap (bucket_at flash) (sym (same_bytes e.key key t)) ∙ sym here)
 
-  abbrev pub was_written : List ℕ → Option FlashEntry
-  was_written key = written_by key nvm.pair.small.jobs
-
-  abbrev pub is_held_now : List ℕ → Option FlashEntry
-  is_held_now key = small.held nvm.pair.small (bytes_at older) key
-
   -- what is written at the key of the put
   was_put : EnginesFit flash older nvm → OwnJob flash older nvm number sj → small_job nvm number ≡ Some sj → Puts → (key : List ℕ) → bytes_eq e.key key ≡ true → written_by key nvm.pair.small.jobs ≡ Some e
   was_put f o at p key t = written-in flash older nvm number sj key f at (own_bucket f o p key t) ∙ ap (put_in key) p.op ∙ (rw t refl)

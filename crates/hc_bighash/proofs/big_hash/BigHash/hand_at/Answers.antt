@@ -1,9 +1,10 @@
-use Rattle.std.proofs.Common.{◌≡◌, Some, None, ◌∙◌}
+use Rattle.std.proofs.Common.{◌≡◌, Some, None, ap, ◌∙◌}
+use Rattle.std.specs.Prelude.{IsSome, is_some}
 use Rattle.hc_engines.specs.small.BigHash.{BigHash, went_on, resume, carried, kept_job, job_at}
 use Rattle.hc_bighash.specs.Seen.{result_of}
 use Rattle.hc_bighash.specs.Steps.{plan_of, IsKept}
 use Rattle.hc_bighash.proofs.Places.{At, job_here}
-use Rattle.hc_bighash.proofs.Handing.{go_is, unknown_is, keep_is, keep_some, room_there, put_there}
+use Rattle.hc_bighash.proofs.Handing.{go_is, goes_some, unknown_is, keep_is, keep_some, room_there, put_there}
 use Rattle.hc_bighash.proofs.big_hash.BigHash.hand_at.Goals as goal
 
 pub turn_of-requires-clause-len : goal.turn_of-requires-clause-len
@@ -49,3 +50,17 @@ returns-in-Ok-Unknown-clause-unknown g c =
     let here : At c.args.number c.args.at s.jobs c.index.result.now = job_here c.args.number c.args.at s.jobs c.index.result.now (rw (← c.self.view_is) at c.requires.here) c.index.ensures in
     let went : went_on s.flash.page c.index.result.now.op c.index.result.now.phase (result_of c.args.came.now) ≡ None = rw c.in-Ok-Unknown.field-0-is at c.in-Ok-Unknown.ensures.turn in
     rw (← c.self.view_is) (λ _. unknown_is s c.args.number c.args.at c.index.result.now (result_of c.args.came.now) here went)
+
+pub returns-in-Err-carry-clause-awaited : goal.returns-in-Err-carry-clause-awaited
+returns-in-Err-carry-clause-awaited g c =
+    let s : BigHash = record { flash = c.self.inside.flash; words = c.self.inside.words.items; jobs = c.self.inside.jobs.items } in
+    let here : At c.args.number c.args.at s.jobs c.index.result.now = job_here c.args.number c.args.at s.jobs c.index.result.now (rw (← c.self.view_is) at c.requires.here) c.index.ensures in
+    let went : went_on s.flash.page c.index.result.now.op c.index.result.now.phase (result_of c.args.came.now) ≡ Some (plan_of c.in-Ok-Go.plan) = rw c.in-Ok-Go.field-0-is at c.in-Ok-Go.ensures.turn in
+    let some : IsSome (went_on s.flash.page c.index.result.now.op c.index.result.now.phase (result_of c.args.came.now)) = ap is_some went in
+    rw (← c.self.view_is) (λ _. goes_some s c.args.number c.args.at c.index.result.now (result_of c.args.came.now) here some)
+
+pub returns-in-Err-clause-awaited : goal.returns-in-Err-clause-awaited
+returns-in-Err-clause-awaited g c =
+    let s : BigHash = record { flash = c.self.inside.flash; words = c.self.inside.words.items; jobs = c.self.inside.jobs.items } in
+    let here : At c.args.number c.args.at s.jobs c.index.result.now = job_here c.args.number c.args.at s.jobs c.index.result.now (rw (← c.self.view_is) at c.requires.here) c.index.ensures in
+    rw (← c.self.view_is) (λ _. goes_some s c.args.number c.args.at c.index.result.now (result_of c.args.came.now) here c.in-Err.ensures.awaited)
