@@ -6,7 +6,7 @@ use Rattle.std.proofs.lemmas.Bool.{eqb-true, eq-eqb}
 use Rattle.std.proofs.lemmas.List.{get_or_past}
 use Rattle.hc_types.specs.declared.config.FlashConfig.{FlashConfig}
 use Rattle.hc_types.specs.Places.{bucket_at, kept_of}
-use Rattle.hc_engines.specs.Engine.{Op, Pages, UnderWay, then_under_way, Busy}
+use Rattle.hc_engines.specs.Engine.{Op, Pages, then_under_way, Busy}
 use Rattle.hc_engines.specs.small.Entries.{under}
 use Rattle.hc_engines.specs.small.BigHash.{BigHash, Job, Phase, Reading, Writing, Plan, ToRead, ToWrite, ToEnd, ToKeep, ToGiveUp, Moved, moved, make_job, with_job, begun, start_at, our_bucket, word_at, is_busy, job_at, without_job, key_of, next_of, waits, resumed, resume_job, went_on}
 use Rattle.hc_engines.specs.small.Held.{StateFits, PageFits, JobFits, JobsFit, entries_at, under_way, job_under_way, KeptByOthers, StartGoes, ResumeGoes}

@@ -1,19 +1,16 @@
 -- What is under way in BigHash waits for its result, and each key that is held is told.
-use Rattle.std.proofs.Common.{◌≡◌, ◌≢◌, ℕ, true, List, Option, Some, None, refl, inl, ap, ◌∙◌, subst}
-use Rattle.std.specs.Prelude.{is_some, option_map, Result, Ok, Err, IfOk, IfErr, IfSome, OnOk}
+use Rattle.std.proofs.Common.{◌≡◌, ◌≢◌, ℕ, true, List, Option, Some, None, refl, ap, ◌∙◌}
+use Rattle.std.specs.Prelude.{is_some, option_map}
 use Rattle.hc_types.specs.declared.config.FlashConfig.{FlashConfig}
 use Rattle.hc_types.specs.Places.{bucket_at}
 use Rattle.hc_types.specs.FlashEntry.{FlashEntry}
-use Rattle.hc_engines.specs.Engine.{IoResult, Page, Written, Failed, IsHonest, pages_after, Suits, Awaits, Op, Next, Busy, Io, Done, Holds, Pages, Changes, Does, never, Serves, UnderWay}
+use Rattle.hc_engines.specs.Engine.{IoResult, Page, Written, Failed, Suits, Awaits, Op}
 use Rattle.hc_engines.specs.small.Bloom.{could_have}
 use Rattle.hc_engines.specs.small.Entries.{under}
-use Rattle.hc_engines.specs.small.BigHash.{BigHash, Job, Moved, job_at, word_at, Phase, Reading, Writing, Plan, went_on, resumed, resume_job, resume, tells, start}
-use Rattle.hc_engines.specs.small.Sound.{CanStart}
-use Rattle.hc_engines.specs.small.Held.{StateFits, Keeps, held, entries_at, PageFits, order_of, under_way, job_under_way, StartServes, HeldIsTold}
+use Rattle.hc_engines.specs.small.BigHash.{BigHash, Job, Moved, job_at, word_at, Phase, Reading, Writing, Plan, went_on, resumed, resume_job, resume, tells}
+use Rattle.hc_engines.specs.small.Held.{entries_at, PageFits, order_of, under_way, job_under_way, HeldIsTold}
 use Rattle.hc_engines.proofs.small.Words.{word_tells}
 use Rattle.hc_engines.proofs.small.Holding.{bucket_word}
-use Rattle.hc_engines.proofs.small.Started.{start_keeps}
-use Rattle.hc_engines.proofs.small.Resumed.{resume_keeps}
 
 pub none_under : (flash : FlashConfig) (o : Option Job) → option_map (job_under_way flash) o ≡ None → o ≡ None
 none_under flash None h = refl

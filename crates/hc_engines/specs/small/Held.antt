@@ -7,7 +7,7 @@ use Rattle.hc_bucket.specs.Page.{Fits, page_bytes}
 use Rattle.hc_bucket.specs.Putting.{is_pushed_out}
 use Rattle.hc_types.specs.Loss.{Key, BucketFull}
 use Rattle.hc_bucket.specs.Reading.{page_at}
-use Rattle.hc_engines.specs.Engine.{Loss, Pages, Holds, Op, Put, Delete, Order, Read, Write, Changes, IsKnown, IsHonest, UnderWay, then_under_way, never, Serves, pages_after, IoResult}
+use Rattle.hc_engines.specs.Engine.{Loss, Pages, Holds, Op, Put, Delete, Order, Read, Write, Changes, IsKnown, IsHonest, UnderWay, then_under_way, pages_after, IoResult}
 use Rattle.hc_engines.specs.small.Bloom.{word_of, could_have}
 use Rattle.hc_engines.specs.small.Entries.{under, without, page_put, put_losses}
 use Rattle.hc_engines.specs.small.Sound.{Limits, CanStart}

@@ -1,0 +1,2 @@
+-- One operation at a time.
+pub mod Alone
