@@ -1,0 +1,3 @@
+-- What is proved of the regions of the code.
+pub mod Cleans
+pub mod Making
