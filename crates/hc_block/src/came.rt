@@ -1,0 +1,242 @@
+// What a read comes to: the entry at its place, where the place is still the key's, and is an entry.
+ghost use Rattle.std.specs.Prelude.{◌≡◌, ◌≤◌, ◌++◌, ◌%◌, length, take, drop, option_map, IfOk};
+ghost use Rattle.hc_types.specs.FlashEntry.{entry_of};
+ghost use Rattle.hc_types.specs.Places.{kept_of};
+ghost use Rattle.hc_engines.specs.large.Index.{place_at, is_place};
+ghost use Rattle.hc_engines.specs.large.Entries.{entry_in as entry_in_seen};
+ghost use Rattle.hc_engines.specs.large.Steps.{own_entry as own_entry_seen};
+ghost use Rattle.hc_bighash.specs.Seen.{answer_of};
+ghost use Rattle.hc_block.specs.Reads.{came_in as came_in_seen, came_by, came_failed as came_failed_seen, index_left, answer_at, losses_at};
+
+use crate::index::Index;
+use crate::reading::Reading;
+use bytes::Bytes;
+use hc_bighash::{Answer, Loss};
+use hc_region::entry_in;
+use hc_types::{Cause, Entry, FlashConfig, Key, Scope, kept};
+use std::alloc::{AllocError, Allocator};
+
+/// The bytes of two parts, one behind the other, from this one on.
+fn joined<A: Allocator + Clone + Copy>(
+    alloc: A,
+    got: &[u8],
+    page: &[u8],
+    from: usize,
+) -> Result<Vec<u8, A>, AllocError>
+    ensures { IfOk result (λ bytes. bytes.items ≡ drop from (got.now ++ page.now)) }
+{
+    if from <= got.len() {
+        let mut bytes = Vec::from_slice(alloc, &got[from..])?;
+        bytes.extend_from_slice(page)?;
+        return Ok(bytes);
+    }
+    let skipped = from - got.len();
+    if skipped <= page.len() {
+        Vec::from_slice(alloc, &page[skipped..])
+    } else {
+        Ok(Vec::new(alloc))
+    }
+}
+
+/// So many bytes from this one on, of pages that were read, of the last page, and of the rest, put together once.
+fn put_together<A: Allocator + Clone + Copy>(
+    alloc: A,
+    got: &[u8],
+    page: &[u8],
+    rest: &[u8],
+    from: usize,
+    len: usize,
+) -> Result<Bytes<A>, AllocError>
+    ensures { IfOk result (λ bytes. bytes ≡ take len (drop from (got.now ++ page.now) ++ rest.now)) }
+{
+    let mut bytes = joined(alloc, got, page, from)?;
+    bytes.extend_from_slice(rest)?;
+    bytes.truncate(len);
+    let bytes = Bytes::from_vec(bytes)?;
+    Ok(bytes)
+}
+
+/// So many bytes of a page from this one on, which share it.
+fn cut<A: Allocator>(page: &Bytes<A>, from: usize, len: usize) -> Result<Bytes<A>, AllocError>
+    requires { from ≤ length page.now }
+    ensures { IfOk result (λ bytes. bytes ≡ take len (drop from page.now)) }
+{
+    let mut bytes = page.clone()?;
+    bytes.advance(from);
+    bytes.truncate(len);
+    Ok(bytes)
+}
+
+/// The same bytes, which share the last page where they lie in it alone.
+fn last_bytes<A: Allocator + Clone + Copy>(
+    alloc: A,
+    got: &[u8],
+    page: &Bytes<A>,
+    rest: &[u8],
+    from: usize,
+    len: usize,
+) -> Result<Bytes<A>, AllocError>
+    ensures { IfOk result (λ bytes. bytes ≡ take len (drop from (got.now ++ page.now) ++ rest.now)) }
+{
+    if got.is_empty() && rest.is_empty() && from <= page.len() {
+        cut(page, from, len)
+    } else {
+        put_together(alloc, got, page.as_slice(), rest, from, len)
+    }
+}
+
+/// So many bytes of a read that needs no page, from its rest, which isn't copied.
+fn own_bytes<A: Allocator + Clone + Copy>(
+    alloc: A,
+    got: &[u8],
+    rest: Vec<u8, A>,
+    from: usize,
+    len: usize,
+) -> Result<Bytes<A>, AllocError>
+    ensures { IfOk result (λ bytes. bytes ≡ take len (drop from got.now ++ rest.items)) }
+{
+    if !got.is_empty() {
+        return put_together(alloc, got, &[], &rest, from, len);
+    }
+    let mut bytes = rest;
+    bytes.truncate(len);
+    let bytes = Bytes::from_vec(bytes)?;
+    Ok(bytes)
+}
+
+/// The entry, where it is the key's.
+fn own_entry<A: Allocator>(key: &Key<A>, entry: Entry<A>) -> Answer<A>
+    ensures { answer_of result ≡ own_entry_seen key.now (entry_of entry) }
+{
+    if entry.key == *key {
+        Answer::Found(entry)
+    } else {
+        Answer::Absent
+    }
+}
+
+/// What these bytes answer a get of the key, where they are an entry.
+fn came_in<A: Allocator>(key: &Key<A>, bytes: Bytes<A>) -> Result<Option<Answer<A>>, AllocError>
+    ensures { IfOk result (λ came. option_map answer_of came ≡ came_in_seen key.now (entry_in_seen bytes)) }
+{
+    match entry_in(bytes) {
+        Ok(Some(entry)) => Ok(Some(own_entry(key, entry))),
+        Ok(None) => Ok(None),
+        Err(error) => Err(error),
+    }
+}
+
+impl<A: Allocator + Clone + Copy> Reading<A> {
+    /// The entry's first byte in the first page that it touches.
+    fn from(&self, flash: &FlashConfig) -> usize
+        requires { 512 ≤ flash.now.page }
+        ensures { result ≡ self.now.place.offset % flash.now.page }
+    {
+        (u64::from(self.place.offset()) % flash.page) as usize
+    }
+
+    /// Whether the key's hash still leads to the place that is read.
+    fn is_current(&self, index: &Index<A>, flash: &FlashConfig) -> bool
+        requires { flash.now.bits ≤ 64 }
+        ensures { result ≡ is_place (place_at (kept_of flash.now.bits self.now.key) index.now) self.now.place }
+    {
+        index.leads_to(kept(&self.key, flash.bits), self.place)
+    }
+
+    /// What it came to at once, where no page is to be read.
+    pub(crate) fn came(
+        self,
+        alloc: A,
+        index: &Index<A>,
+        flash: &FlashConfig,
+    ) -> Result<Option<Answer<A>>, AllocError>
+        requires page { 512 ≤ flash.now.page }
+        requires bits { flash.now.bits ≤ 64 }
+        ensures { IfOk result (λ came. option_map answer_of came ≡ came_by flash.now self.key self.place self.got self.rest index.now) }
+    {
+        if !self.is_current(index, flash) {
+            return Ok(Some(Answer::Absent));
+        }
+        let from = self.from(flash);
+        let len = self.place.len() as usize;
+        let Reading { key, got, rest, .. } = self;
+        came_in(&key, own_bytes(alloc, &got, rest, from, len)?)
+    }
+
+    /// What it came to with its last page.
+    pub(crate) fn came_with(
+        &self,
+        alloc: A,
+        index: &Index<A>,
+        flash: &FlashConfig,
+        page: &Bytes<A>,
+    ) -> Result<Option<Answer<A>>, AllocError>
+        requires page { 512 ≤ flash.now.page }
+        requires bits { flash.now.bits ≤ 64 }
+        ensures { IfOk result (λ came. option_map answer_of came ≡ came_by flash.now self.now.key self.now.place (self.now.got ++ page.now) self.now.rest index.now) }
+    {
+        if !self.is_current(index, flash) {
+            return Ok(Some(Answer::Absent));
+        }
+        let from = self.from(flash);
+        let len = self.place.len() as usize;
+        came_in(
+            &self.key,
+            last_bytes(alloc, &self.got, page, &self.rest, from, len)?,
+        )
+    }
+
+    /// What it came to where a page wasn't read.
+    pub(crate) fn came_failed(&self, index: &Index<A>, flash: &FlashConfig) -> Option<Answer<A>>
+        requires bits { flash.now.bits ≤ 64 }
+        ensures { option_map answer_of result ≡ came_failed_seen flash.now self.now.key self.now.place index.now }
+    {
+        if self.is_current(index, flash) {
+            None
+        } else {
+            Some(Answer::Absent)
+        }
+    }
+}
+
+/// What is lost where a read came to no entry.
+pub(crate) fn losses_of<A: Allocator + Clone + Copy>(
+    alloc: A,
+    hash: u64,
+    came: &Option<Answer<A>>,
+) -> Result<Vec<Loss<A>, A>, AllocError>
+    ensures { IfOk result (λ losses. losses.items ≡ losses_at (option_map answer_of came.now) hash) }
+{
+    let mut losses = Vec::new(alloc);
+    if came.is_none() {
+        let scope = Scope::Hash {
+            kept: hash,
+            but: None,
+        };
+        losses.push(Loss::new(scope, Cause::Fault))?;
+    }
+    Ok(losses)
+}
+
+/// The hash leads nowhere, where a read came to no entry.
+pub(crate) fn leave_index<A: Allocator + Clone + Copy>(
+    index: &mut Index<A>,
+    hash: u64,
+    came: &Option<Answer<A>>,
+)
+    ensures { index.new ≡ index_left (option_map answer_of came.now) hash index.old }
+{
+    if came.is_none() {
+        index.remove(hash);
+    }
+}
+
+/// The answer of a read.
+pub(crate) fn answer_of_read<A: Allocator>(came: Option<Answer<A>>) -> Answer<A>
+    ensures { answer_of result ≡ answer_at (option_map answer_of came) }
+{
+    match came {
+        Some(answer) => answer,
+        None => Answer::Absent,
+    }
+}

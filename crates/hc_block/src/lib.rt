@@ -1,0 +1,24 @@
+//! The engine for large objects on flash: CacheLib's BlockCache, regions that are filled one after the other, and an index
+//! in memory of where each kept hash leads. It calls no device: an operation is started, answers which page is to be read or
+//! written, and is resumed with what came of that.
+#![tactic(auto)]
+
+mod block_cache;
+mod came;
+mod ends;
+mod flushes;
+mod gets;
+mod index;
+mod jobs;
+mod outcomes;
+mod puts;
+mod reading;
+mod reads;
+mod resuming;
+mod segment;
+mod starting;
+mod steps;
+mod turns;
+mod writes;
+
+pub use block_cache::BlockCache;
