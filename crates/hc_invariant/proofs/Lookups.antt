@@ -1,9 +1,8 @@
 -- What is found at a key after each change of a list.
-use Rattle.std.proofs.Common.{◌≡◌, ℕ, ◌==◌, Bool, true, false, not, ◌&&◌, ◌||◌, List, [], ◌∷◌, ◌++◌, Option, Some, None, refl, arith, ap, sym, ◌∙◌, subst, filter, find, length}
-use Rattle.std.specs.Prelude.{if◌then◌else◌, is_some, option_map}
+use Rattle.std.proofs.Common.{◌≡◌, ℕ, Bool, true, false, not, ◌||◌, List, [], ◌∷◌, ◌++◌, Option, Some, None, refl, arith, ap, sym, ◌∙◌, subst}
+use Rattle.std.specs.Prelude.{if◌then◌else◌}
 use Rattle.std.specs.List.{list_any}
 use Rattle.std.specs.Str.{bytes_eq}
-use Rattle.hc_types.specs.declared.config.FlashConfig.{FlashConfig}
 use Rattle.hc_types.specs.FlashEntry.{FlashEntry}
 use Rattle.hc_memory.specs.Item.{Item}
 use Rattle.hc_memory.specs.Pool.{Pool, is_at, item_at, unmarked_where}

@@ -1,5 +1,5 @@
 -- What a loss leaves of an item, and of the map, at each key.
-use Rattle.std.proofs.Common.{◌≡◌, ℕ, ◌==◌, Bool, true, false, not, ◌&&◌, ◌||◌, List, [], ◌∷◌, length, map, Option, Some, None, refl, arith, ap, sym, ◌∙◌}
+use Rattle.std.proofs.Common.{◌≡◌, ℕ, ◌==◌, Bool, false, ◌||◌, List, [], ◌∷◌, length, Option, Some, None, refl, arith}
 use Rattle.std.specs.Prelude.{if◌then◌else◌, is_some}
 use Rattle.hc_types.specs.Loss as loss
 use Rattle.hc_types.specs.Loss.{Scope}
@@ -8,7 +8,7 @@ use Rattle.hc_types.specs.declared.config.FlashConfig.{FlashConfig}
 use Rattle.hc_types.specs.FlashEntry.{FlashEntry}
 use Rattle.hc_memory.specs.Item.{Item}
 use Rattle.hc_memory.specs.Pool.{Pool, item_at, unmarked_where}
-use Rattle.hc_memory.specs.Memory.{has, linked_at, all_unmarked}
+use Rattle.hc_memory.specs.Memory.{linked_at, all_unmarked}
 use Rattle.hc_history.specs.Books.{Entry, covers, entry_left}
 use Rattle.hc_invariant.proofs.Placing.{map_lost}
 use Rattle.hc_invariant.proofs.Frames.{left-is}

@@ -1,7 +1,6 @@
 -- The jobs against the operations that the engines have under way, and the fills.
-use Rattle.std.specs.Prelude.{◌≡◌, ℕ, ◌<◌, ◌≤◌, Bool, true, false, ◌&&◌, List, [], ◌∷◌, Option, Some, None, is_some, option_map}
+use Rattle.std.specs.Prelude.{◌≡◌, ℕ, ◌<◌, ◌≤◌, Bool, true, false, ◌&&◌, List, [], ◌∷◌, Option, Some, None, is_some}
 use Rattle.std.specs.List.{list_any}
-use Rattle.hc_types.specs.declared.config.FlashConfig.{FlashConfig}
 use Rattle.hc_types.specs.Tally.{count}
 use Rattle.hc_engines.specs.Engine.{Pages, Op, Get, Delete, Order, Read, Write}
 use Rattle.hc_engines.specs.small.BigHash as bighash

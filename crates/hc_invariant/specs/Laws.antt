@@ -1,5 +1,5 @@
 -- The laws: each kind of step keeps the invariant, and tells a lawful part.
-use Rattle.std.specs.Prelude.{◌≡◌, ℕ, ◌<◌, ◌^◌, Bool, true, List, [], ◌∷◌, ◌++◌, length, Option, Some, None}
+use Rattle.std.specs.Prelude.{ℕ, List, [], ◌∷◌, ◌++◌}
 use Rattle.hc_types.specs.Config.{Config}
 use Rattle.hc_engines.specs.Engine.{IoResult}
 use Rattle.hc_memory.specs.Item.{Handle}

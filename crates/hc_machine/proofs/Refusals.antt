@@ -1,5 +1,5 @@
 -- Refusals that no trace meets, computed: handles of another cache, a handle whose charge an add that waits keeps, and results of the wrong kind.
-use Rattle.std.proofs.Common.{◌≡◌, ℕ, List, [], ◌∷◌, ◌++◌, refl, codes}
+use Rattle.std.proofs.Common.{◌≡◌, ℕ, List, [], refl, codes}
 use Rattle.hc_types.specs.declared.refusal.Refusal.TheVariants.{ForeignHandle, UnknownCall, NotReady, UnknownJob}
 use Rattle.hc_bucket.specs.Reading.{page_at, entries_at, entry_at, body_at, content_at, whole_at}
 use Rattle.hc_engines.specs.Engine.{Written}

@@ -1,5 +1,5 @@
 -- Each call of the cache keeps what a lock round it says.
-use Rattle.std.proofs.Common.{◌≡◌, List, [], ◌∷◌, ◌++◌, refl, sym, subst}
+use Rattle.std.proofs.Common.{◌≡◌, List, [], ◌++◌, sym, subst}
 use Rattle.hc_history.specs.Note.{Note}
 use Rattle.hc_history.specs.Lawful.{past}
 use Rattle.hc_history.proofs.Appended.{Lawful-append, past-append}

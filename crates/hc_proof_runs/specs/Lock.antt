@@ -1,6 +1,6 @@
 -- What a lock round a cache and its log keeps, with no word of the device: where the log is honest, it is legal, and the
 -- invariant holds of the cache after it. Each call of the cache keeps that, whatever is handed in.
-use Rattle.std.specs.Prelude.{◌≡◌, List, [], ◌++◌, None}
+use Rattle.std.specs.Prelude.{List, [], ◌++◌}
 use Rattle.hc_types.specs.Config.{Config}
 use Rattle.hc_history.specs.Note.{Note}
 use Rattle.hc_history.specs.Lawful.{Legal, past}

@@ -1,5 +1,5 @@
 -- What a part of a step leaves of the jobs and of the device: nothing is read or written but by a result that is handed in.
-use Rattle.std.specs.Prelude.{◌≡◌, ℕ, ◌==◌, false, List, [], ◌∷◌, Option, Some, None}
+use Rattle.std.specs.Prelude.{◌≡◌, ℕ, ◌==◌, false, List, [], ◌∷◌, Option, Some}
 use Rattle.hc_engines.specs.Engine.{Order, IoResult}
 use Rattle.hc_history.specs.Note.{Note, Read, Wrote}
 use Rattle.hc_machine.specs.Nvm.{Nvm}

@@ -1,10 +1,10 @@
 -- Whole runs: from a law for each kind of step to a law for all that a trace may do.
-use Rattle.std.specs.Prelude.{ℕ, Bool, List, [], ◌∷◌, ◌++◌}
+use Rattle.std.specs.Prelude.{Bool, List, [], ◌∷◌, ◌++◌}
 use Rattle.hc_types.specs.Config.{Config}
 use Rattle.hc_history.specs.Note.{Note}
 use Rattle.hc_history.specs.Lawful.{Legal}
 use Rattle.hc_history.specs.Honest.{Honest}
-use Rattle.hc_machine.specs.World.{World, Line, step, run_from, run}
+use Rattle.hc_machine.specs.World.{World, Line, run_from, run}
 use Rattle.hc_invariant.specs.Good.{GoodRun, CanRun}
 use Rattle.hc_invariant.specs.Laws.{LineSized}
 

@@ -8,9 +8,9 @@ use crate::driving::{begin, fill, fresh, get_of, hand_in, over, put_of, run, ser
 use bytes::Bytes;
 use hc_bighash::{Answer, BigHash, IoResult, Next, Op, Outcome, Unresumed};
 use hc_types::Refusal;
-use test_allocator::Refusing;
 use std::alloc::Global;
 use std::process::Abort;
+use test_allocator::Refusing;
 
 /// A get of `e`, whose bits the four keys of a full page don't all set, while all memory is refused.
 fn rule_out<'a>(

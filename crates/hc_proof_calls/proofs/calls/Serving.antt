@@ -17,7 +17,7 @@ use Rattle.hc_items.proofs.Items.{bytes_eq-refl, bytes_eq-sym}
 use Rattle.hc_invariant.proofs.Lookups.{at_key}
 use Rattle.hc_history.proofs.Appended.{past-append}
 use Rattle.hc_history.specs.Note.{Note, Op, Find, Add, Reply, Stored, Exists, Did, Freed}
-use Rattle.hc_history.specs.Books.{Call, Entry, open_calls, open_call, begun, owed, entry_at, entry_after, done_by, now_at, value_at, unexpired}
+use Rattle.hc_history.specs.Books.{Call, Entry, open_calls, open_call, entry_at, entry_after, done_by, now_at, value_at, unexpired}
 use Rattle.hc_history.specs.Lawful.{IsAnswer, changes, past}
 use Rattle.hc_machine.specs.Leaving.{is_over}
 use Rattle.hc_machine.specs.Nvm.{Nvm, Wish, ToFind, ToAdd, Waiter, Fill, fill_at, adds}

@@ -16,7 +16,6 @@ use Rattle.hc_items.specs.Items.{items_of}
 use Rattle.hc_items.proofs.Flat.{used-flat}
 use Rattle.hc_items.proofs.Items.{item_at-gone, item_at-other, bytes_eq-sym}
 use Rattle.hc_history.specs.Note.{Note}
-use Rattle.hc_history.specs.Books.{charges}
 use Rattle.hc_history.specs.Pages.{bytes_at}
 use Rattle.hc_machine.specs.Nvm.{Nvm, Fill}
 use Rattle.hc_machine.specs.Cache.{Cache, with_memory}

@@ -1,7 +1,6 @@
 -- What is said of calls, where none is told of.
-use Rattle.std.proofs.Common.{◌≡◌, ℕ, List, Option, Some, None, refl, sym, ◌∙◌, subst}
+use Rattle.std.proofs.Common.{◌≡◌, ℕ, List, Option, Some, None, refl, sym, subst}
 use Rattle.hc_history.specs.Note.{Note}
-use Rattle.hc_history.specs.Books.{begun, owed}
 use Rattle.hc_types.specs.FlashEntry.{FlashEntry}
 use Rattle.hc_machine.specs.Nvm.{Nvm, Fill}
 use Rattle.hc_machine.specs.Cache.{Cache, Owed}

@@ -1,11 +1,10 @@
 -- An entry that came from flash is linked, clean.
-use Rattle.std.proofs.Common.{◌≡◌, ◌⊎◌, inl, inr, ℕ, ◌+◌, ◌≤◌, ◌==◌, Bool, true, false, not, ◌&&◌, List, [], ◌∷◌, ◌++◌, length, map, Option, Some, None, refl, arith, ap, sym, ◌∙◌, subst, find, eqb-true}
+use Rattle.std.proofs.Common.{◌≡◌, ◌⊎◌, inl, inr, ℕ, ◌+◌, ◌≤◌, ◌==◌, Bool, true, false, not, ◌&&◌, List, [], ◌∷◌, ◌++◌, length, Option, Some, None, refl, arith, ap, sym, ◌∙◌, subst, find, eqb-true}
 use Rattle.std.specs.Prelude.{if◌then◌else◌, is_some}
 use Rattle.std.specs.Str.{bytes_eq}
 use Rattle.hc_types.specs.Config.{Config}
 use Rattle.hc_types.specs.Tally.{tally, count}
 use Rattle.hc_types.proofs.Tallies.{find-none}
-use Rattle.hc_types.specs.declared.config.PoolSize.{PoolSize}
 use Rattle.hc_types.specs.declared.refusal.Refusal.{Refusal}
 use Rattle.hc_types.specs.FlashEntry.{FlashEntry}
 use Rattle.hc_memory.specs.Item.{Item, Open, Handle, charge_by, item_by}

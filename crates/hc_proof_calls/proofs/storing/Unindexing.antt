@@ -1,6 +1,6 @@
 -- The index entry at the key's kept hash goes, whoever's it is: what becomes of the other keys of that hash.
 use Rattle.std.proofs.Common.{◌≡◌, ℕ, ◌==◌, Bool, true, false, not, ◌&&◌, ◌||◌, List, [], ◌∷◌, length, Option, Some, None, refl, ap, sym, ◌∙◌, arith, subst}
-use Rattle.std.specs.Prelude.{if◌then◌else◌, is_some, option_map}
+use Rattle.std.specs.Prelude.{if◌then◌else◌, is_some}
 use Rattle.std.specs.Str.{bytes_eq}
 use Rattle.hc_types.specs.Loss as loss
 use Rattle.hc_types.specs.Loss.{Scope, Collision}

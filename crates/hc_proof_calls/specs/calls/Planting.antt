@@ -1,6 +1,5 @@
 -- What `plant` does, for an insert, an add that doesn't wait, and an add that waited; and `uproot`.
-use Rattle.std.specs.Prelude.{◌≡◌, ℕ, Bool, true, false, List, ◌∷◌, ◌||◌, Option, Some, None, is_some}
-use Rattle.std.specs.Str.{bytes_eq}
+use Rattle.std.specs.Prelude.{◌≡◌, ℕ, true, false, List, ◌∷◌, ◌||◌, Option, Some, None, is_some}
 use Rattle.hc_types.specs.Config.{Config}
 use Rattle.hc_types.specs.declared.config.FlashConfig.{FlashConfig}
 use Rattle.hc_memory.specs.Item.{Handle, charge_by, item_by}

@@ -1,8 +1,6 @@
 -- Notes of no call leave what the books of calls tell.
-use Rattle.std.proofs.Common.{◌≡◌, ℕ, ◌+◌, ◌<◌, ◌≤◌, ◌==◌, Bool, true, false, not, ◌&&◌, ◌||◌, List, [], ◌∷◌, ◌++◌, length, map, Option, Some, None, refl, ap, sym, ◌∙◌, arith, cond, subst, bytes_eq}
-use Rattle.std.specs.List.{list_any}
-use Rattle.std.specs.Prelude.{find, is_some, option_map, IsSomeAnd, IsSome, if◌then◌else◌}
-use Rattle.std.proofs.lemmas.List.{map-append, length-map}
+use Rattle.std.proofs.Common.{◌≡◌, ℕ, ◌≤◌, ◌==◌, List, ap, sym, ◌∙◌, subst}
+use Rattle.std.specs.Prelude.{option_map}
 use Rattle.hc_types.specs.Tally.{count}
 use Rattle.hc_history.specs.Note.{Note}
 use Rattle.hc_history.specs.Books.{Call, Answer, open_calls, open_call, begun, owed}

@@ -1,12 +1,11 @@
 -- Jobs: one goes, one goes on with another order, one comes.
-use Rattle.std.proofs.Common.{◌≡◌, ℕ, ◌+◌, ◌≤◌, ◌==◌, Bool, true, false, not, ◌||◌, List, [], ◌∷◌, ◌++◌, Option, Some, None, refl, ap, arith, ◌&&◌, sym, ◌∙◌, cond, subst, bytes_eq, eqb-true}
+use Rattle.std.proofs.Common.{◌≡◌, ℕ, ◌+◌, ◌≤◌, ◌==◌, Bool, true, false, not, ◌||◌, List, [], ◌∷◌, ◌++◌, Option, Some, None, refl, ap, arith, cond, subst, eqb-true}
 use Rattle.std.proofs.lemmas.Bool.{eqb-true}
-use Rattle.std.specs.Prelude.{if◌then◌else◌, is_some, find, option_map}
+use Rattle.std.specs.Prelude.{if◌then◌else◌, is_some}
 use Rattle.std.specs.List.{list_any}
 use Rattle.hc_types.specs.Tally.{tally, count}
 use Rattle.hc_engines.specs.Engine.{Order}
 use Rattle.hc_machine.specs.Nvm.{Job, is_job, job_at, without_job, ordered, puts, Nvm}
-use Rattle.std.specs.Option.{option_map_or}
 use Rattle.hc_invariant.specs.Jobs.{RunsAs, AllRun, small_job, large_work}
 
 -- ---- one is found

@@ -1,13 +1,12 @@
 -- Lists of which one element goes, or comes last.
-use Rattle.std.proofs.Common.{◌≡◌, ℕ, ◌+◌, ◌≤◌, Bool, true, false, ◌||◌, List, [], ◌∷◌, ◌++◌, reverse, filter, find, Option, Some, None, refl, sym, ap, arith, ◌∙◌, subst, ◌==◌, not, ◌&&◌, cond, bytes_eq, eqb-true}
-use Rattle.std.specs.Prelude.{if◌then◌else◌, find, is_some, option_map}
+use Rattle.std.proofs.Common.{◌≡◌, ℕ, ◌+◌, ◌≤◌, Bool, true, false, ◌||◌, List, [], ◌∷◌, ◌++◌, reverse, filter, find, Option, Some, None, refl, sym, ap, arith, ◌∙◌}
+use Rattle.std.specs.Prelude.{if◌then◌else◌, find}
 use Rattle.std.specs.List.{list_any}
 use Rattle.std.proofs.lemmas.Grind.{reverse_onto}
 use Rattle.std.proofs.lemmas.List.{append-nil}
 use Rattle.std.proofs.lemmas.List.Elements.{filter-append}
 use Rattle.hc_types.specs.Tally.{count}
 use Rattle.hc_invariant.specs.Standing.{first_of}
-use Rattle.std.specs.Option.{option_map_or}
 
 -- ---- found
 

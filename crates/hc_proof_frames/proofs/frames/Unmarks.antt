@@ -1,5 +1,5 @@
 -- What is told of a part of a step takes clean marks from items, and leaves all else in memory as it was.
-use Rattle.std.proofs.Common.{◌≡◌, ℕ, false, List, [], ◌∷◌, length, map, Option, refl, ap, arith, ◌∙◌, ◌+◌, Bool, true, Some, None, sym, subst}
+use Rattle.std.proofs.Common.{◌≡◌, ℕ, false, List, [], ◌∷◌, length, map, Option, refl, ap, arith, ◌∙◌}
 use Rattle.std.specs.Prelude.{if◌then◌else◌}
 use Rattle.std.proofs.lemmas.List.{length-map}
 use Rattle.hc_types.specs.Loss.{Scope}

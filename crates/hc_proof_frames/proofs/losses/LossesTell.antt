@@ -1,5 +1,5 @@
 -- The invariant's parts that no loss breaks.
-use Rattle.std.proofs.Common.{◌≡◌, ℕ, Bool, true, false, ◌==◌, List, [], ◌∷◌, reverse, Option, Some, refl, arith, ap, sym, ◌∙◌}
+use Rattle.std.proofs.Common.{◌≡◌, ℕ, Bool, true, false, ◌==◌, List, [], ◌∷◌, reverse, Option, refl, arith, ap, sym, ◌∙◌}
 use Rattle.std.specs.Prelude.{is_some, nat_lt, option_map}
 use Rattle.hc_types.specs.Loss as loss
 use Rattle.hc_types.specs.Loss.{Scope, Cause}

@@ -1,6 +1,6 @@
 -- What the engines have at a key is of the key, and of the engine.
 use Rattle.std.proofs.Common.{◌≡◌, ℕ, Bool, true, false, List, [], ◌∷◌, length, Option, Some, None, refl, ap, sym, ◌∙◌, subst}
-use Rattle.std.specs.Prelude.{if◌then◌else◌, option_map}
+use Rattle.std.specs.Prelude.{if◌then◌else◌}
 use Rattle.std.specs.Str.{bytes_eq}
 use Rattle.hc_types.specs.Places.{bucket_at, kept_of, is_small_by}
 use Rattle.hc_types.specs.declared.config.FlashConfig.{FlashConfig}

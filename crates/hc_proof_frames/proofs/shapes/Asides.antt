@@ -1,5 +1,5 @@
 -- Pieces of a step that leave the calls, the open charges, the fills and the jobs as they are: what is evicted, and what a key leaves.
-use Rattle.std.proofs.Common.{◌≡◌, ℕ, ◌+◌, Bool, true, false, List, [], ◌∷◌, ◌++◌, Option, Some, None, refl, ap, sym, ◌∙◌}
+use Rattle.std.proofs.Common.{◌≡◌, ℕ, Bool, true, false, List, [], ◌∷◌, ◌++◌, Option, Some, None, refl, ap, sym, ◌∙◌}
 use Rattle.std.specs.Prelude.{if◌then◌else◌, is_some}
 use Rattle.hc_types.specs.Loss.{Cause}
 use Rattle.hc_types.specs.FlashEntry.{FlashEntry}

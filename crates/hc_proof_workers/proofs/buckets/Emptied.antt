@@ -1,6 +1,6 @@
 -- A bucket is given up: a read or a write of its page failed.
-use Rattle.std.proofs.Common.{◌≡◌, ℕ, ◌==◌, ◌<◌, Bool, true, false, not, ◌&&◌, ◌||◌, List, ◌∷◌, length, Option, Some, None, refl, arith, ap, sym, ◌∙◌}
-use Rattle.std.specs.Prelude.{if◌then◌else◌, is_some, option_map}
+use Rattle.std.proofs.Common.{◌≡◌, ℕ, ◌==◌, ◌<◌, Bool, true, false, ◌||◌, List, ◌∷◌, length, Option, Some, None, refl, arith, ap, sym, ◌∙◌}
+use Rattle.std.specs.Prelude.{if◌then◌else◌, is_some}
 use Rattle.std.proofs.lemmas.Bool.{eqb-true, eq-eqb}
 use Rattle.hc_types.specs.Config.{Config}
 use Rattle.hc_types.specs.Loss as loss

@@ -1,5 +1,5 @@
 -- A fill whose get is over leaves: what its end asks for holds.
-use Rattle.std.proofs.Common.{◌≡◌, ◌⊎◌, inl, inr, ℕ, Bool, true, false, List, [], ◌∷◌, ◌++◌, length, Option, Some, None, refl, arith, ap, sym, ◌∙◌, subst}
+use Rattle.std.proofs.Common.{◌≡◌, ◌⊎◌, inl, inr, ℕ, Bool, true, false, List, [], ◌∷◌, length, Option, Some, None, refl, arith, ap, sym, ◌∙◌, subst}
 use Rattle.std.specs.Prelude.{if◌then◌else◌, option_map}
 use Rattle.hc_types.specs.Config.{Config}
 use Rattle.hc_types.specs.declared.config.FlashConfig.{FlashConfig}
@@ -25,7 +25,7 @@ use Rattle.hc_proof_frames.specs.losses.Losses.{IsOwn}
 use Rattle.hc_proof_calls.proofs.calls.CallBooks.{left, left_counts}
 use Rattle.hc_proof_frames.proofs.frames.Fills.{fill-gone, sized_at, sized_parts, sized_both}
 use Rattle.hc_proof_workers.specs.buckets.Small.{Ending}
-use Rattle.hc_proof_frames.specs.frames.Midst.{FlashInMidst, still, none_moves}
+use Rattle.hc_proof_frames.specs.frames.Midst.{FlashInMidst, none_moves}
 use Rattle.hc_proof_calls.specs.calls.Planting.{RestsFrom}
 use Rattle.hc_proof_calls.specs.evicting.Bringing.{Stands}
 use Rattle.hc_proof_workers.specs.fills.Filling.{Ends}

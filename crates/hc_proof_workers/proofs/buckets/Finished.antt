@@ -1,7 +1,6 @@
 -- A result of any job of the small engine keeps the invariant.
-use Rattle.std.proofs.Common.{◌≡◌, ℕ, Bool, true, false, List, [], ◌∷◌, Option, Some, None, refl, ap, sym, ◌∙◌, subst}
+use Rattle.std.proofs.Common.{◌≡◌, ℕ, Bool, true, false, List, [], ◌∷◌, Option, Some, None, refl, ap, ◌∙◌, subst}
 use Rattle.std.specs.Prelude.{is_some}
-use Rattle.std.proofs.lemmas.Bool.{eqb-true}
 use Rattle.hc_types.specs.Config.{Config}
 use Rattle.hc_types.specs.declared.config.FlashConfig.{FlashConfig}
 use Rattle.hc_types.specs.FlashEntry.{FlashEntry}

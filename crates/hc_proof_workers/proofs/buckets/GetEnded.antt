@@ -1,6 +1,5 @@
 -- A get is over: its fill ends, unless it was an orphan's.
 use Rattle.std.proofs.Common.{◌≡◌, ℕ, List, [], ◌∷◌, ◌++◌, Option, Some, None, refl, ap, sym, ◌∙◌, subst, filter}
-use Rattle.std.specs.Prelude.{option_map}
 use Rattle.hc_types.specs.Config.{Config}
 use Rattle.hc_types.specs.Loss as loss
 use Rattle.hc_types.specs.Loss.{BucketFull, Fault}

@@ -1,6 +1,5 @@
 -- A result of a get in the small engine keeps the invariant.
 use Rattle.std.proofs.Common.{◌≡◌, ℕ, ◌==◌, true, false, not, List, [], ◌∷◌, Option, Some, None, refl, ap, sym, ◌∙◌, subst, filter}
-use Rattle.std.specs.Prelude.{option_map}
 use Rattle.std.specs.Str.{bytes_eq}
 use Rattle.hc_memory.proofs.Keyed.{same_bytes}
 use Rattle.std.proofs.lemmas.Bool.{eqb-true, eq-eqb}

@@ -1,6 +1,5 @@
 -- Tombstones end whose bucket nothing is done on any longer, and has none of their key.
 use Rattle.std.proofs.Common.{◌≡◌, ℕ, ◌<◌, ◌≤◌, Bool, true, false, not, ◌&&◌, ◌||◌, List, [], ◌∷◌, Option, Some, None, refl, arith, ap, sym, ◌∙◌, subst, filter}
-use Rattle.std.specs.Prelude.{is_some, option_map}
 use Rattle.std.proofs.Math.Nat.{mod-lt}
 use Rattle.hc_types.specs.Config.{Config}
 use Rattle.hc_types.specs.Places.{bucket_at, kept_of}

@@ -1,6 +1,5 @@
 -- The notes of a job of the small engine, in the books.
-use Rattle.std.proofs.Common.{◌≡◌, ℕ, ◌<◌, true, false, List, [], ◌∷◌, ◌++◌, Option, Some, None, refl, arith, ap, ◌∙◌}
-use Rattle.std.specs.Prelude.{nat_le}
+use Rattle.std.proofs.Common.{ℕ, true, false, List, [], ◌∷◌, ◌++◌, refl, ap, ◌∙◌}
 use Rattle.hc_types.specs.Loss as loss
 use Rattle.hc_types.specs.Loss.{BucketFull, Fault}
 use Rattle.hc_types.specs.Tally.{count}

@@ -1,7 +1,6 @@
 -- Tombstones that end: the books, the list, and that each may end.
 use Rattle.std.proofs.Common.{◌≡◌, ℕ, ◌+◌, ◌≤◌, Bool, true, false, not, ◌&&◌, ◌||◌, List, [], ◌∷◌, ◌++◌, map, Some, refl, arith, ap, sym, ◌∙◌, subst, filter}
 use Rattle.std.specs.Prelude.{if◌then◌else◌, nat_lt}
-use Rattle.std.specs.List.{list_any}
 use Rattle.std.specs.Str.{bytes_eq}
 use Rattle.hc_types.specs.Config.{Config}
 use Rattle.hc_types.specs.Tally.{count}

@@ -1,5 +1,5 @@
 -- The finish of a get that reads a page of a region.
-use Rattle.std.proofs.Common.{◌≡◌, ◌⊎◌, inl, inr, ℕ, ◌+◌, ◌<◌, ◌≤◌, ◌==◌, Bool, true, false, List, [], ◌∷◌, ◌++◌, Option, Some, None, refl, sym, ap, arith, ◌∙◌, subst, append-nil, eqb-true}
+use Rattle.std.proofs.Common.{◌≡◌, ◌⊎◌, inl, inr, ℕ, ◌+◌, ◌<◌, ◌≤◌, Bool, true, false, List, [], ◌∷◌, ◌++◌, Option, Some, None, refl, sym, ap, arith, ◌∙◌, subst, append-nil, eqb-true}
 use Rattle.std.specs.Prelude.{if◌then◌else◌, option_map}
 use Rattle.std.specs.Str.{bytes_eq}
 use Rattle.hc_types.specs.Config.{Config}
@@ -12,7 +12,7 @@ use Rattle.hc_engines.specs.Engine as engine
 use Rattle.hc_engines.specs.large.Block as block
 use Rattle.hc_engines.specs.large.Block.{Block, Getting, work_of}
 use Rattle.hc_engines.specs.large.Region.{page_no}
-use Rattle.hc_engines.specs.large.Index.{Place, place_at, is_place}
+use Rattle.hc_engines.specs.large.Index.{place_at, is_place}
 use Rattle.hc_engines.specs.large.Fits.{answer_by}
 use Rattle.hc_engines.specs.large.Held as large
 use Rattle.hc_engines.specs.large.Steps as steps

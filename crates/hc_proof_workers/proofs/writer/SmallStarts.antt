@@ -8,7 +8,7 @@ use Rattle.hc_engines.specs.Engine.{Op, Put, Get, Delete, Busy, Io, Done, Answer
 use Rattle.hc_engines.specs.small.Bloom.{could_have}
 use Rattle.hc_engines.specs.small.BigHash as bighash
 use Rattle.hc_engines.specs.small.BigHash.{BigHash, Phase, Reading, Writing, Moved, ToRead, ToEnd, word_at, could_hold, is_busy, key_of, make_job, moved, begun, start}
-use Rattle.hc_engines.specs.small.Held.{StateFits, order_of, held}
+use Rattle.hc_engines.specs.small.Held.{StateFits, order_of}
 use Rattle.hc_engines.specs.small.Sound.{CanStart}
 use Rattle.hc_engines.proofs.small.UnderWay.{none_is_there}
 use Rattle.hc_engines.proofs.small.Started.{start_keeps}
