@@ -15,3 +15,5 @@ pub mod Calls
 pub mod Going
 pub mod Waiting
 pub mod Passing
+pub mod Apart
+pub mod Below

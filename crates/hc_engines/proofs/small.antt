@@ -13,6 +13,7 @@ pub mod Started
 pub mod Resumed
 pub mod Serving
 pub mod Apart
+pub mod Single
 pub mod Full
 pub mod Going
 pub mod New

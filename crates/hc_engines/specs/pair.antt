@@ -2,3 +2,5 @@
 pub mod Pair
 pub mod Large
 pub mod Held
+pub mod Apart
+pub mod Below

@@ -1,5 +1,7 @@
 // What is true of the large engine as any engine, and of both engines together. The functions do nothing: their contracts are
 // the laws.
+ghost use Rattle.hc_engines.specs.pair.Apart.{StartStaysApart, ResumeStaysApart};
+ghost use Rattle.hc_engines.specs.pair.Below.{LargeResumeStaysBelow, LargeStartStaysBelow, ResumeStaysBelow, StartStaysBelow};
 ghost use Rattle.hc_engines.specs.pair.Held.{BusyIsTrue, HeldIsTold, NewFits, OtherStays, ResumeAwaits, ResumeGoes, ResumeServes, StartGoes, StartServes, TakeTakes};
 ghost use Rattle.hc_engines.specs.pair.Large.{LargeFailedReadServes, LargeFailedWriteServes, LargeFlushServes, LargeGetServes, LargePutServes, LargeReadServes, LargeReclaimServes, LargeStays, LargeTakes, LargeTells, LargeWrittenServes};
 
@@ -109,4 +111,34 @@ pub fn take_takes()
 /// The words and the index tell of each key that is held.
 pub fn held_is_told()
     ensures { HeldIsTold }
+{}
+
+/// No number comes to be that of two operations by one that is started, whatever the pages have.
+pub fn start_stays_apart()
+    ensures { StartStaysApart }
+{}
+
+/// Nor by a result that is handed in, honest or not.
+pub fn resume_stays_apart()
+    ensures { ResumeStaysApart }
+{}
+
+/// Where operations are numbered one behind the other, each number from the next one on stays free: in the large engine ..
+pub fn large_start_stays_below()
+    ensures { LargeStartStaysBelow }
+{}
+
+/// .. also where a result is handed in, honest or not ..
+pub fn large_resume_stays_below()
+    ensures { LargeResumeStaysBelow }
+{}
+
+/// .. and in both.
+pub fn start_stays_below()
+    ensures { StartStaysBelow }
+{}
+
+/// The same of a result that is handed in for the pair.
+pub fn resume_stays_below()
+    ensures { ResumeStaysBelow }
 {}

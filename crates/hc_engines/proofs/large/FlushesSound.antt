@@ -13,7 +13,7 @@ use Rattle.hc_engines.specs.large.Sound.{is_live, is_stored, is_flushing, is_wai
 use Rattle.hc_engines.specs.large.Laws.{IsFree}
 use Rattle.hc_engines.proofs.large.Lists.{same_num, in_range, region_at-set, is_in-minus, is_in-push}
 use Rattle.hc_engines.proofs.large.Regions.{works-set}
-use Rattle.hc_engines.proofs.large.Jobs.{single_more, changed_sound}
+use Rattle.hc_engines.proofs.large.Jobs.{in_front, added_sound, single_more, changed_sound}
 use Rattle.hc_engines.proofs.large.Ends.{kept_out, ended_sound}
 use Rattle.hc_engines.proofs.large.Flushes.{status_kept, status_other, Goes, out_holds, next_page_eq, not_both, one_more, not_more, IsReady, ready_is, CanGo, can_go_is, further, Wrote1, wrote_one, unearly, written_ending}
 
@@ -23,7 +23,7 @@ out_sound : (flash : FlashConfig) (number r : ℕ) (x : Region) (s : Block) (sea
     → ((q : ℕ) → is_in q sealed ≡ true → (if q == r then x else region_at q s.regions).status ≡ Sealed)
     → ((q : ℕ) → is_in q s.flushed ≡ true → is_stored (if q == r then x else region_at q s.regions).status ≡ true)
     → Sound flash (write_out flash number r x (record s { sealed = sealed })).state
-out_sound flash number r x s sealed sound g current sealed_too flushed = changed_sound flash r x s new sound (record {
+out_sound flash number r x s sealed sound g current sealed_too flushed = added_sound flash number (Writing r (next_page flash x)) (with_region r x (record s { sealed = sealed })) (changed_sound flash r x s new sound (record {
   there = g.there;
   regions = refl;
   index = refl;
@@ -35,10 +35,10 @@ out_sound flash number r x s sealed sound g current sealed_too flushed = changed
   others = λ q n. (omega arith, not_more r q (writers q s.jobs) n);
   works = (rw (region_at-set s.regions r r x g.there, same_num r) refl, works-set flash s.regions r x s.jobs g.there sound.works (λ w. next_page_eq flash x (region_at r s.regions) g.buffer) (λ w. omega (arith, g.written)));
   single = λ n. single_more number n (Writing r (next_page flash x)) s.jobs g.free sound.single;
-})
+}))
   where
     new : Block
-    new = (write_out flash number r x (record s { sealed = sealed })).state
+    new = in_front number (Writing r (next_page flash x)) (with_region r x (record s { sealed = sealed }))
 
 -- a sealed region goes out
 pub sealed_goes : (flash : FlashConfig) (number r : ℕ) (s : Block) → Sound flash s → IsFree number s → IsReady s.regions s.sealed r → Goes flash number r (record (region_at r s.regions) { status = Flushing }) s
@@ -149,7 +149,7 @@ waiting_still Draining h = refl
 module _ (flash : FlashConfig) (number r : ℕ) (bytes : List ℕ) (s : Block) (sound : Sound flash s) (w : Wrote1 flash number r bytes s) where
   pub more_sound : (region_at r s.regions).status ≡ Flushing → (region_at r s.regions).written + 1 < flash.region_pages
       → Sound flash (write_out flash number r (page_done flash (region_at r s.regions)) (end_job number s)).state
-  more_sound f lt = changed_sound flash r x s new sound (record {
+  more_sound f lt = added_sound flash number (Writing r (next_page flash x)) (with_region r x (end_job number s)) (changed_sound flash r x s new sound (record {
     there = there;
     regions = refl;
     index = refl;
@@ -170,13 +170,13 @@ module _ (flash : FlashConfig) (number r : ℕ) (bytes : List ℕ) (s : Block) (
     others = λ q n. (omega (arith, w.readers_kept q), not_more r q (writers q (without_job number s.jobs)) n ∙ w.others q n);
     works = (rw (region_at-set s.regions r r x there, same_num r) refl, works-set flash s.regions r x (without_job number s.jobs) there w.left.works (λ v. absurd (omega (arith, w.idle))) (λ v. omega arith));
     single = λ n. single_more number n (Writing r (next_page flash x)) (without_job number s.jobs) w.left.free w.left.single;
-  })
+  }))
     where
       x : Region
       x = page_done flash (region_at r s.regions)
 
       new : Block
-      new = (write_out flash number r x (end_job number s)).state
+      new = in_front number (Writing r (next_page flash x)) (with_region r x (end_job number s))
 
       there : r < length s.regions
       there = in_range s.regions r (rw f refl)

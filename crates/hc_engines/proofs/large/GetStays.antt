@@ -17,7 +17,7 @@ use Rattle.hc_engines.proofs.large.Jobs.{works_left, ended_left}
 use Rattle.hc_engines.proofs.large.Flushes.{not_both, one_more}
 use Rattle.hc_engines.proofs.large.Promise.{read_stays}
 use Rattle.hc_engines.proofs.large.Goods.{reads_stay}
-use Rattle.hc_engines.proofs.large.Stays.{Rest, reads_left, out_rest}
+use Rattle.hc_engines.proofs.large.Stays.{Rest, reads_added, reads_left, out_rest}
 use Rattle.hc_engines.specs.large.Numbers.{minus}
 use Rattle.hc_engines.proofs.large.Flushes.{live_unclean}
 
@@ -36,7 +36,7 @@ pub start_rest : (flash : FlashConfig) (pages : ℕ → Option (List ℕ)) (numb
     → Rest flash pages (read_next flash number reading (pinned reading.place.region s)).state
 start_rest flash pages number reading s sound rest live h below =
     let both = out_rest flash pages r x s new s.jobs live u refl refl refl refl sound.works rest.fits rest.reads in
-    record { fits = both.0; reads = (read_stays flash pages pages s new reading h (omega arith) (λ i lt. refl) (λ l. (live, same_region flash pages s new r (rw (region_at-set s.regions r r x (in_range s.regions r u), same_num r) refl) (rw (region_at-set s.regions r r x (in_range s.regions r u), same_num r) refl))), both.1) }
+    record { fits = both.0; reads = reads_added flash pages new number (Getting reading) s.jobs (read_stays flash pages pages s new reading h (omega arith) (λ i lt. refl) (λ l. (live, same_region flash pages s new r (rw (region_at-set s.regions r r x (in_range s.regions r u), same_num r) refl) (rw (region_at-set s.regions r r x (in_range s.regions r u), same_num r) refl)))) both.1 }
   where
     r : ℕ
     r = reading.place.region

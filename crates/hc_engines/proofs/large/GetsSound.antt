@@ -12,7 +12,7 @@ use Rattle.hc_engines.specs.large.Laws.{IsFree}
 use Rattle.hc_engines.proofs.large.Lists.{same_num, in_range, region_at-set, is_in-minus}
 use Rattle.hc_engines.proofs.large.Ends.{kept_out}
 use Rattle.hc_engines.proofs.large.Regions.{works-set}
-use Rattle.hc_engines.proofs.large.Jobs.{Left, ended_left, single_more, changed_sound}
+use Rattle.hc_engines.proofs.large.Jobs.{Left, ended_left, in_front, added_sound, single_more, changed_sound}
 use Rattle.hc_engines.proofs.large.Flushes.{status_kept, one_more, not_more, not_both}
 use Rattle.hc_engines.specs.large.Unread.{read_on}
 use Rattle.hc_engines.proofs.large.Gets.{pinned_holds, is-one, Pinned, pinned_by}
@@ -21,7 +21,7 @@ use Rattle.hc_engines.proofs.large.Gets.{pinned_holds, is-one, Pinned, pinned_by
 pub begins_sound : (flash : FlashConfig) (number : ℕ) (reading : Reading) (s : Block) → Sound flash s → IsFree number s
     → is_clean (region_at reading.place.region s.regions).status ≡ false → reading.next < reading.until → reading.until ≤ (region_at reading.place.region s.regions).written
     → Sound flash (read_next flash number reading (pinned reading.place.region s)).state
-begins_sound flash number reading s sound free u below within = changed_sound flash r x s new sound (record {
+begins_sound flash number reading s sound free u below within = added_sound flash number (Getting reading) (pinned r s) (changed_sound flash r x s new sound (record {
   there = there;
   regions = refl;
   index = refl;
@@ -33,7 +33,7 @@ begins_sound flash number reading s sound free u below within = changed_sound fl
   others = λ q n. (not_more r q (readers q s.jobs) n, omega arith);
   works = ((below, (rw (region_at-set s.regions r r x there, same_num r) within)), works-set flash s.regions r x s.jobs there sound.works (λ w. refl) (λ w. omega arith));
   single = λ n. single_more number n (Getting reading) s.jobs free sound.single;
-})
+}))
   where
     r : ℕ
     r = reading.place.region
@@ -42,7 +42,7 @@ begins_sound flash number reading s sound free u below within = changed_sound fl
     x = record (region_at r s.regions) { pins = (region_at r s.regions).pins + 1 }
 
     new : Block
-    new = (read_next flash number reading (pinned reading.place.region s)).state
+    new = in_front number (Getting reading) (pinned r s)
 
     there : r < length s.regions
     there = in_range s.regions r u
@@ -50,7 +50,7 @@ begins_sound flash number reading s sound free u below within = changed_sound fl
 -- a page was read, and the next is
 pub on_sound : (flash : FlashConfig) (number : ℕ) (reading : Reading) (bytes : List ℕ) (s : Block) → Sound flash s → work_of number s.jobs ≡ Some (Getting reading) → reading.next + 1 < reading.until
     → Sound flash (read_next flash number (read_on reading bytes) (end_job number s)).state
-on_sound flash number reading bytes s sound w more = record {
+on_sound flash number reading bytes s sound w more = added_sound flash number (Getting (read_on reading bytes)) (end_job number s) (record {
   current = sound.current;
   sealed = sound.sealed;
   flushed = sound.flushed;
@@ -59,7 +59,7 @@ on_sound flash number reading bytes s sound w more = record {
       (subst (λ (n : ℕ). Holds flash (readers q s.jobs) n (region_at q s.regions)) (l.writers_then q) (sound.regions q));
   works = ((more, l.own.1), l.works);
   single = λ n. single_more number n (Getting (read_on reading bytes)) (without_job number s.jobs) l.free l.single;
-}
+})
   where
     l : Left flash number (Getting reading) s (without_job number s.jobs)
     l = ended_left flash number (Getting reading) s sound w

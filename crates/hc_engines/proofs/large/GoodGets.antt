@@ -17,12 +17,12 @@ use Rattle.hc_engines.specs.large.Held.{bytes_of, held}
 use Rattle.hc_engines.specs.large.Fits.{ReadHolds, answer_by}
 use Rattle.hc_engines.specs.large.Good.{Good}
 use Rattle.hc_engines.specs.large.Steady.{IsReadable, Reads, Begun, GetKeeps, Went, ReadKeeps, Stopped, FailedReadKeeps}
-use Rattle.hc_engines.proofs.large.Lists.{same_num, in_range, place_itself}
-use Rattle.hc_engines.proofs.large.Jobs.{works_left, work_holds}
+use Rattle.hc_engines.proofs.large.Lists.{in_range, place_itself}
+use Rattle.hc_engines.proofs.large.Jobs.{work_added, works_left, work_holds}
 use Rattle.hc_engines.proofs.large.Fitting.{pages_long}
 use Rattle.hc_engines.proofs.large.Promise.{read_begins, read_at_once, answers_held, absent_held, read_stays, read_more}
 use Rattle.hc_engines.proofs.large.Goods.{Others, reads_stay}
-use Rattle.hc_engines.proofs.large.Stays.{reads_left}
+use Rattle.hc_engines.proofs.large.Stays.{reads_added, reads_left}
 use Rattle.hc_engines.proofs.large.GetStays.{indexed_live, start_rest, let_go_rest, read_unclean, take_sound, take_rest}
 use Rattle.hc_engines.proofs.large.Flushes.{live_unclean}
 use Rattle.hc_engines.proofs.large.ReadEnds.{set_held, let_go_held, taken_held, let_go_is, page_there, last_read}
@@ -34,9 +34,9 @@ use Rattle.hc_engines.proofs.large.GoodSteps.{good_by, rest_of}
 -- the page that a read goes on with is known
 known_read : (flash : FlashConfig) (pages : Pages) (number : ℕ) (reading : Reading) (t : Block) → 0 < flash.page → Good flash pages (read_next flash number reading t).state → IsReadable pages (read_next flash number reading t).order
 known_read flash pages number reading t some g =
-    let at : work_of number (read_next flash number reading t).state.jobs ≡ Some (Getting reading) = rw (same_num number) refl in
+    let at : work_of number (read_next flash number reading t).state.jobs ≡ Some (Getting reading) = work_added number (Getting reading) t.jobs in
     let u = read_unclean flash number reading (read_next flash number reading t).state g.sound at in
-    let w = g.sound.works.0 in
+    let w = work_holds flash t.regions number (Getting reading) (read_next flash number reading t).state.jobs g.sound.works at in
     page_there (pages (page_no flash reading.place.region reading.next)) flash.page some (g.fits.known reading.place.region reading.next u (omega (arith, w.0, w.1)))
 
 reads_on : (flash : FlashConfig) (pages : Pages) (number : ℕ) (reading : Reading) (s t : Block) → 0 < flash.page → Good flash pages (read_next flash number reading t).state → ((other : List ℕ) → held flash pages (read_next flash number reading t).state other ≡ held flash pages s other)
@@ -121,10 +121,9 @@ read_keeps flash pages number reading bytes s some at honest g = go (nat_lt (rea
         } in
         good_by flash pages new (on_sound flash number reading bytes s g.sound at below) (record {
           fits = record { known = fits.known; within = fits.within; places = λ h p e. let k = fits.places h p e in record { entry = k.entry; read = k.read; own = k.own; within = k.within } };
-          reads = (
-            read_stays flash pages pages s new (read_on reading bytes) holds (omega arith) (λ i lt. refl) (λ l. (l, record { more = []; grown = sym (append-nil (bytes_of flash pages s reading.place.region)) })),
-            reads_stay flash pages pages reading.place.region (region_at reading.place.region s.regions) s new (without_job number s.jobs) others (works_left flash s.regions number s.jobs g.sound.works) (reads_left flash pages s number s.jobs g.reads),
-          );
+          reads = reads_added flash pages new number (Getting (read_on reading bytes)) (without_job number s.jobs)
+              (read_stays flash pages pages s new (read_on reading bytes) holds (omega arith) (λ i lt. refl) (λ l. (l, record { more = []; grown = sym (append-nil (bytes_of flash pages s reading.place.region)) })))
+              (reads_stay flash pages pages reading.place.region (region_at reading.place.region s.regions) s new (without_job number s.jobs) others (works_left flash s.regions number s.jobs g.sound.works) (reads_left flash pages s number s.jobs g.reads));
         })
 
     -- the last page was read

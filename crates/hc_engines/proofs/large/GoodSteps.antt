@@ -6,7 +6,7 @@ use Rattle.std.specs.Prelude.{nat_lt}
 use Rattle.hc_types.specs.declared.config.FlashConfig.{FlashConfig}
 use Rattle.hc_types.specs.Loss.{Fault}
 use Rattle.hc_engines.specs.Engine.{Written, Pages, with_page}
-use Rattle.hc_engines.specs.large.Region.{Status, Clean, Open, Sealed, Flushing, OnFlash, Draining, is_clean, Region, clean_region, page_done, region_at, page_no}
+use Rattle.hc_engines.specs.large.Region.{Status, Clean, Open, Sealed, Flushing, OnFlash, Draining, is_clean, Region, clean_region, next_page, page_done, region_at, page_no}
 use Rattle.hc_engines.specs.large.Block.{Writing, Block, with_region, without_job, end_job}
 use Rattle.hc_engines.specs.large.Steps.{write_out, go_on, wrote_page, resume}
 use Rattle.hc_engines.specs.large.Sound.{is_live, readers, writers, Sound}
@@ -22,7 +22,7 @@ use Rattle.hc_engines.proofs.large.FitsSteps.{failed_fits, after_write, other_pa
 use Rattle.hc_engines.proofs.large.Holding.{held_same}
 use Rattle.hc_engines.proofs.large.Goods.{reads_stay}
 use Rattle.hc_engines.proofs.large.Elsewhere.{bucket_page, rest_pages}
-use Rattle.hc_engines.proofs.large.Stays.{Rest, ended_rest, reclaim_rest, put_rest, flush_rest, reads_left, filling_live}
+use Rattle.hc_engines.proofs.large.Stays.{Rest, ended_rest, reclaim_rest, put_rest, flush_rest, reads_added, reads_left, filling_live}
 use Rattle.hc_engines.proofs.large.GetStays.{fits_left, take_sound, take_rest}
 use Rattle.hc_engines.proofs.large.PutsSound.{put_sound, reclaim_sound}
 use Rattle.hc_engines.proofs.large.FlushesSound.{flush_sound, wrote_sound, failed_write_sound}
@@ -74,7 +74,7 @@ wrote_rest flash pages number r s sound rest live u lw = go (region_at r s.regio
     split : (t : Bool) → nat_lt ((region_at r s.regions).written + 1) flash.region_pages ≡ t → Rest flash (after_write flash pages r s true) (go_on flash number r (page_done flash (region_at r s.regions)) (end_job number s)).state
     split true t = rw t (
         let both = written_rest flash pages number r (page_done flash (region_at r s.regions)) s (write_out flash number r (page_done flash (region_at r s.regions)) (end_job number s)).state sound rest live u lw refl refl refl refl in
-        record { fits = both.0; reads = (tt, both.1) })
+        record { fits = both.0; reads = reads_added flash (after_write flash pages r s true) _ number (Writing r (next_page flash (page_done flash (region_at r s.regions)))) (without_job number s.jobs) tt both.1 })
     split false t = rw t (
         let both = written_rest flash pages number r (record (page_done flash (region_at r s.regions)) { status = OnFlash }) s (record (with_region r (record (page_done flash (region_at r s.regions)) { status = OnFlash }) (end_job number s)) { flushed = s.flushed ++ r ∷ [] }) sound rest live u lw refl refl refl refl in
         record { fits = both.0; reads = both.1 })

@@ -1,12 +1,12 @@
 -- Operations come and go, and one region changes.
-use Rattle.std.proofs.Common.{◌≡◌, ℕ, ◌+◌, ◌<◌, ◌≤◌, Bool, true, false, List, [], ◌∷◌, length, set, Some, None, refl, ap, arith}
+use Rattle.std.proofs.Common.{◌≡◌, ℕ, ◌+◌, ◌<◌, ◌≤◌, Bool, true, false, List, [], ◌∷◌, length, set, Option, Some, None, refl, ap, arith}
 use Rattle.std.proofs.lemmas.Bool.{eqb-true}
-use Rattle.std.specs.Prelude.{if◌then◌else◌, ◌==◌}
+use Rattle.std.specs.Prelude.{if◌then◌else◌, ◌==◌, nat_lt}
 use Rattle.hc_types.specs.declared.config.FlashConfig.{FlashConfig}
 use Rattle.hc_types.specs.Tally.{count}
 use Rattle.hc_engines.specs.large.Region.{Open, Sealed, Region, region_at}
 use Rattle.hc_engines.specs.large.Index.{Place}
-use Rattle.hc_engines.specs.large.Block.{Work, Writing, Job, Block, work_of, without_job}
+use Rattle.hc_engines.specs.large.Block.{Work, Writing, Job, Block, work_of, without_job, job_added, with_job}
 use Rattle.hc_engines.specs.large.Numbers.{is_in}
 use Rattle.hc_engines.specs.large.Sound.{is_stored, is_listed, writes, reads, writers, readers, WorkHolds, AllHold, Holds, Sound}
 use Rattle.hc_engines.proofs.large.Lists.{same_num, region_at-set, each-set}
@@ -19,9 +19,55 @@ has_no n job = job.number == n
 swapped : (a b : ℕ) → (a == b) ≡ false → (b == a) ≡ false
 swapped a b h = grind (arith, h)
 
+-- one operation more, whichever place it has in the order
+pub work_added : (number : ℕ) (work : Work) (jobs : List Job) → work_of number (job_added number work jobs) ≡ Some work
+work_added number work [] = rw (same_num number) refl
+work_added number work (job ∷ jobs) = go (nat_lt job.number number) refl (work_added number work jobs)
+  where
+    go : (t : Bool) → nat_lt job.number number ≡ t → work_of number (job_added number work jobs) ≡ Some work → work_of number (if t then job ∷ job_added number work jobs else record { number = number; work = work } ∷ job ∷ jobs) ≡ Some work
+    go true t more = let other : (job.number == number) ≡ false = (grind (arith, t)) in rw other more
+    go false t more = rw (same_num number) refl
+
+pub count_added : (p : Job → Bool) (number : ℕ) (work : Work) (jobs : List Job) → count p (job_added number work jobs) ≡ (if p (record { number = number; work = work }) then 1 else 0) + count p jobs
+count_added p number work [] = refl
+count_added p number work (job ∷ jobs) = go (nat_lt job.number number) (count_added p number work jobs)
+  where
+    go : (t : Bool) → count p (job_added number work jobs) ≡ (if p (record { number = number; work = work }) then 1 else 0) + count p jobs
+        → count p (if t then job ∷ job_added number work jobs else record { number = number; work = work } ∷ job ∷ jobs) ≡ (if p (record { number = number; work = work }) then 1 else 0) + ((if p job then 1 else 0) + count p jobs)
+    go true more = omega (arith, more)
+    go false more = refl
+
+works_added : (flash : FlashConfig) (regions : List Region) (number : ℕ) (work : Work) (jobs : List Job) → WorkHolds flash regions work → AllHold flash regions jobs → AllHold flash regions (job_added number work jobs)
+works_added flash regions number work [] own h = (own, tt)
+works_added flash regions number work (job ∷ jobs) own h = go (nat_lt job.number number) (works_added flash regions number work jobs own h.1)
+  where
+    go : (t : Bool) → AllHold flash regions (job_added number work jobs) → AllHold flash regions (if t then job ∷ job_added number work jobs else record { number = number; work = work } ∷ job ∷ jobs)
+    go true more = (h.0, more)
+    go false more = (own, h)
+
+-- the same state, with the operation in front of the others
+abbrev pub in_front : ℕ → Work → Block → Block
+in_front number work s = record s { jobs = record { number = number; work = work } ∷ s.jobs }
+
+pub added_sound : (flash : FlashConfig) (number : ℕ) (work : Work) (s : Block) → Sound flash (in_front number work s) → Sound flash (with_job number work s)
+added_sound flash number work s sound = record {
+  current = sound.current;
+  sealed = sound.sealed;
+  flushed = sound.flushed;
+  listed = sound.listed;
+  regions = λ q. rw (count_added (λ (job : Job). reads q job.work) number work s.jobs, count_added (λ (job : Job). writes q job.work) number work s.jobs) (sound.regions q);
+  works = works_added flash s.regions number work s.jobs sound.works.0 sound.works.1;
+  single = λ n. rw (count_added (λ (job : Job). job.number == n) number work s.jobs) (sound.single n);
+}
+
 -- the operations under other numbers, where one comes or goes
-pub with_other : (number n : ℕ) (work : Work) (jobs : List Job) → (n == number) ≡ false → work_of n (record { number = number; work = work } ∷ jobs) ≡ work_of n jobs
-with_other number n work jobs o = rw (swapped n number o) refl
+pub added_other : (number n : ℕ) (work : Work) (jobs : List Job) → (n == number) ≡ false → work_of n (job_added number work jobs) ≡ work_of n jobs
+added_other number n work [] o = rw (swapped n number o) refl
+added_other number n work (job ∷ jobs) o = go (nat_lt job.number number) (added_other number n work jobs o)
+  where
+    go : (t : Bool) → work_of n (job_added number work jobs) ≡ work_of n jobs → work_of n (if t then job ∷ job_added number work jobs else record { number = number; work = work } ∷ job ∷ jobs) ≡ work_of n (job ∷ jobs)
+    go true more = ap (λ (o : Option Work). if job.number == n then Some job.work else o) more
+    go false more = rw (swapped n number o) refl
 
 pub without_other : (number n : ℕ) (jobs : List Job) → (n == number) ≡ false → work_of n (without_job number jobs) ≡ work_of n jobs
 without_other number n [] o = refl
@@ -60,7 +106,7 @@ writer_counted n r bytes (job ∷ jobs) w = go (job.number == n) w (writer_count
 
 -- ---- an operation is taken out
 
-absent_stays : (number : ℕ) (jobs : List Job) → count (has_no number) jobs ≡ 0 → without_job number jobs ≡ jobs
+pub absent_stays : (number : ℕ) (jobs : List Job) → count (has_no number) jobs ≡ 0 → without_job number jobs ≡ jobs
 absent_stays number [] h = refl
 absent_stays number (job ∷ jobs) h = go (job.number == number) refl h (λ g. absent_stays number jobs g)
   where

@@ -5,8 +5,8 @@ use Rattle.hc_types.specs.declared.config.FlashConfig.{FlashConfig}
 use Rattle.hc_types.specs.Loss.{Cause, Reclaimed}
 use Rattle.hc_types.specs.FlashEntry.{FlashEntry}
 use Rattle.hc_engines.specs.large.Entries.{IsLarge, entry_bytes}
-use Rattle.hc_engines.specs.large.Region.{Status, Clean, Open, Sealed, Flushing, OnFlash, Draining, is_clean, Region, clean_region, opened_region, filled_to, region_len, can_go, region_at, lowest_clean}
-use Rattle.hc_engines.specs.large.Block.{Work, Writing, Getting, Job, Block, unmoved, without_job}
+use Rattle.hc_engines.specs.large.Region.{Status, Clean, Open, Sealed, Flushing, OnFlash, Draining, is_clean, Region, clean_region, opened_region, filled_to, region_len, next_page, can_go, region_at, lowest_clean}
+use Rattle.hc_engines.specs.large.Block.{Work, Writing, Getting, Job, Block, unmoved, without_job, job_added}
 use Rattle.hc_engines.specs.large.Steps.{append, seal, sealed_too, open_next, fitting, put_fresh, put_into, put, emptied, end_region, clean_count, oldest, reclaim_of, reclaim, write_out, first_ready, early_of, flush_of, flush}
 use Rattle.hc_engines.specs.large.Sound.{is_live, is_filling, AllHold, Sound}
 use Rattle.hc_engines.specs.large.Fits.{Fits, WorkReads, ReadsHold}
@@ -138,6 +138,15 @@ put_rest flash pages entry s some large sound rest = go (fitting flash s (length
 
 -- ---- a page goes out
 
+-- an operation more, which has what it reads
+pub reads_added : (flash : FlashConfig) (pages : ℕ → Option (List ℕ)) (s : Block) (number : ℕ) (work : Work) (jobs : List Job) → WorkReads flash pages s work → ReadsHold flash pages s jobs → ReadsHold flash pages s (job_added number work jobs)
+reads_added flash pages s number work [] own h = (own, tt)
+reads_added flash pages s number work (job ∷ jobs) own h = go (nat_lt job.number number) (reads_added flash pages s number work jobs own h.1)
+  where
+    go : (t : Bool) → ReadsHold flash pages s (job_added number work jobs) → ReadsHold flash pages s (if t then job ∷ job_added number work jobs else record { number = number; work = work } ∷ job ∷ jobs)
+    go true more = (h.0, more)
+    go false more = (own, h)
+
 -- a region changes in its status or its flags alone, and another write is out
 pub out_rest : (flash : FlashConfig) (pages : ℕ → Option (List ℕ)) (r : ℕ) (x : Region) (s new : Block) (jobs : List Job) → is_live (region_at r s.regions).status ≡ true → is_clean (region_at r s.regions).status ≡ false → new.regions ≡ set s.regions r x → new.index ≡ s.index
     → x.written ≡ (region_at r s.regions).written → x.buffer ≡ (region_at r s.regions).buffer → AllHold flash s.regions jobs → Fits flash pages s → ReadsHold flash pages s jobs → Fits flash pages new × ReadsHold flash pages new jobs
@@ -160,7 +169,7 @@ flush_rest flash pages number s sound rest = go (first_ready s.regions s.sealed)
     out : (r : ℕ) (x : Region) (rs : List ℕ) → is_live (region_at r s.regions).status ≡ true → is_clean (region_at r s.regions).status ≡ false → x.written ≡ (region_at r s.regions).written → x.buffer ≡ (region_at r s.regions).buffer → Rest flash pages (write_out flash number r x (record s { sealed = rs })).state
     out r x rs live u w b =
         let both = out_rest flash pages r x s (write_out flash number r x (record s { sealed = rs })).state s.jobs live u refl refl w b sound.works rest.fits rest.reads in
-        record { fits = both.0; reads = (tt, both.1) }
+        record { fits = both.0; reads = reads_added flash pages _ number (Writing r (next_page flash x)) s.jobs tt both.1 }
 
     early_one : (r : ℕ) → s.current ≡ Some r → (t : Bool) → Rest flash pages (if t then write_out flash number r (record (region_at r s.regions) { early = true }) s else unmoved s).state
     early_one r c true = let o = sound.current r c in out r (record (region_at r s.regions) { early = true }) s.sealed (rw o refl) (rw o refl) refl refl

@@ -24,11 +24,11 @@ use Rattle.hc_engines.proofs.large.Flushes.{step_mul, written_ending}
 use Rattle.hc_engines.proofs.large.Fitting.{with_entry}
 use Rattle.hc_engines.proofs.large.New.{all_clean}
 
-abbrev Within : FlashConfig → List Region → Type 0
+abbrev pub Within : FlashConfig → List Region → Type 0
 Within flash regions = (r : ℕ) → filled_to flash (region_at r regions) ≤ region_len flash
 
 -- one region changes, or none does where there is no such region
-set_within : (flash : FlashConfig) (regions : List Region) (r : ℕ) (x : Region) → filled_to flash x ≤ region_len flash → Within flash regions → Within flash (set regions r x)
+pub set_within : (flash : FlashConfig) (regions : List Region) (r : ℕ) (x : Region) → filled_to flash x ≤ region_len flash → Within flash regions → Within flash (set regions r x)
 set_within flash regions r x h all = elim (cases_lt r (length regions)) [
   | inl lt ↦ λ q. rw (region_at-set regions r q x lt) (go q (q == r))
   | inr le ↦ subst (λ (rs : List Region). Within flash rs) (sym (set_past regions r x le)) all
@@ -39,18 +39,26 @@ set_within flash regions r x h all = elim (cases_lt r (length regions)) [
     go q false = all q
 
 -- a region that is no fuller than it was
-no_fuller : (flash : FlashConfig) (regions : List Region) (r : ℕ) (x : Region) → filled_to flash x ≤ filled_to flash (region_at r regions) → Within flash regions → Within flash (set regions r x)
+pub no_fuller : (flash : FlashConfig) (regions : List Region) (r : ℕ) (x : Region) → filled_to flash x ≤ filled_to flash (region_at r regions) → Within flash regions → Within flash (set regions r x)
 no_fuller flash regions r x h all = set_within flash regions r x (omega (arith, h, all r)) all
 
 -- ---- put
 
-module _ (flash : FlashConfig) (entry : FlashEntry) where
-  append_within : (r : ℕ) (s : Block) → filled_to flash (region_at r s.regions) + length (entry_bytes entry) ≤ region_len flash → Within flash s.regions → Within flash (append flash r entry s).regions
-  append_within r s h all = set_within flash s.regions r (with_entry flash entry (region_at r s.regions)) (omega (arith, length-append (region_at r s.regions).buffer (entry_bytes entry), h)) all
+pub sealed_within : (flash : FlashConfig) (c : Option ℕ) (regions : List Region) → Within flash regions → Within flash (seal c regions)
+sealed_within flash None regions all = all
+sealed_within flash (Some c) regions all = no_fuller flash regions c (record (region_at c regions) { status = Sealed }) (omega arith) all
 
-  sealed_within : (c : Option ℕ) (regions : List Region) → Within flash regions → Within flash (seal c regions)
-  sealed_within None regions all = all
-  sealed_within (Some c) regions all = no_fuller flash regions c (record (region_at c regions) { status = Sealed }) (omega arith) all
+pub fitting_is : (flash : FlashConfig) (s : Block) (len r : ℕ) (o : Option ℕ) → fitting flash s len o ≡ Some r → filled_to flash (region_at r s.regions) + len ≤ region_len flash
+fitting_is flash s len r None e = absurd (cc)
+fitting_is flash s len r (Some c) e = go (nat_le (filled_to flash (region_at c s.regions) + len) (region_len flash)) refl e
+  where
+    go : (b : Bool) → nat_le (filled_to flash (region_at c s.regions) + len) (region_len flash) ≡ b → (if b then Some c else None) ≡ Some r → filled_to flash (region_at r s.regions) + len ≤ region_len flash
+    go true b e = let same : c ≡ r = cc in subst (λ (q : ℕ). filled_to flash (region_at q s.regions) + len ≤ region_len flash) same (leb-true (filled_to flash (region_at c s.regions) + len) (region_len flash) b)
+    go false b e = absurd (cc)
+
+module _ (flash : FlashConfig) (entry : FlashEntry) where
+  pub append_within : (r : ℕ) (s : Block) → filled_to flash (region_at r s.regions) + length (entry_bytes entry) ≤ region_len flash → Within flash s.regions → Within flash (append flash r entry s).regions
+  append_within r s h all = set_within flash s.regions r (with_entry flash entry (region_at r s.regions)) (omega (arith, length-append (region_at r s.regions).buffer (entry_bytes entry), h)) all
 
   fresh_within : (s : Block) → length (entry_bytes entry) ≤ region_len flash → Within flash s.regions → (o : Option ℕ) → lowest_clean 0 s.regions ≡ o → Within flash (put_fresh flash entry s o).state.regions
   fresh_within s short all None l = all
@@ -58,26 +66,18 @@ module _ (flash : FlashConfig) (entry : FlashEntry) where
       let low = lowest_is s.regions 0 r l in
       let there : r < length (seal s.current s.regions) = omega (arith, seal-length s.current s.regions, low.1, low.2.there) in
       let is_opened : region_at r (open_next r s).regions ≡ opened_region = (rw (region_at-set (seal s.current s.regions) r r opened_region there, same_num r) refl) in
-      append_within r (open_next r s) (rw is_opened (omega (arith, short))) (set_within flash (seal s.current s.regions) r opened_region (omega arith) (sealed_within s.current s.regions all))
-
-  fitting_is : (s : Block) (len r : ℕ) (o : Option ℕ) → fitting flash s len o ≡ Some r → filled_to flash (region_at r s.regions) + len ≤ region_len flash
-  fitting_is s len r None e = absurd (cc)
-  fitting_is s len r (Some c) e = go (nat_le (filled_to flash (region_at c s.regions) + len) (region_len flash)) refl e
-    where
-      go : (b : Bool) → nat_le (filled_to flash (region_at c s.regions) + len) (region_len flash) ≡ b → (if b then Some c else None) ≡ Some r → filled_to flash (region_at r s.regions) + len ≤ region_len flash
-      go true b e = let same : c ≡ r = cc in subst (λ (q : ℕ). filled_to flash (region_at q s.regions) + len ≤ region_len flash) same (leb-true (filled_to flash (region_at c s.regions) + len) (region_len flash) b)
-      go false b e = absurd (cc)
+      append_within r (open_next r s) (rw is_opened (omega (arith, short))) (set_within flash (seal s.current s.regions) r opened_region (omega arith) (sealed_within flash s.current s.regions all))
 
   put_within : (s : Block) → length (entry_bytes entry) ≤ region_len flash → AllWithin flash s → AllWithin flash (put flash entry s).state
   put_within s short all = go (fitting flash s (length (entry_bytes entry)) s.current) refl
     where
       go : (o : Option ℕ) → fitting flash s (length (entry_bytes entry)) s.current ≡ o → Within flash (put_into flash entry s o).state.regions
       go None e = fresh_within s short all (lowest_clean 0 s.regions) refl
-      go (Some r) e = append_within r s (fitting_is s (length (entry_bytes entry)) r s.current e) all
+      go (Some r) e = append_within r s (fitting_is flash s (length (entry_bytes entry)) r s.current e) all
 
 -- ---- pages
 
-flush_within : (flash : FlashConfig) (number : ℕ) (s : Block) → AllWithin flash s → AllWithin flash (flush flash number s).state
+pub flush_within : (flash : FlashConfig) (number : ℕ) (s : Block) → AllWithin flash s → AllWithin flash (flush flash number s).state
 flush_within flash number s all = go (first_ready s.regions s.sealed)
   where
     early_one : (r : ℕ) (t : Bool) → Within flash (if t then write_out flash number r (record (region_at r s.regions) { early = true }) s else unmoved s).state.regions
@@ -99,7 +99,7 @@ done_within flash region lt h = elim (cases_lt (length region.buffer) flash.page
   | inr full ↦ omega (arith, length-drop flash.page region.buffer, step_mul region.written flash.page, h, full)
 ]
 
-wrote_within : (flash : FlashConfig) (number r : ℕ) (status : Status) (s : Block) → (region_at r s.regions).written < flash.region_pages → AllWithin flash s → AllWithin flash (wrote_page flash number r status s).state
+pub wrote_within : (flash : FlashConfig) (number r : ℕ) (status : Status) (s : Block) → (region_at r s.regions).written < flash.region_pages → AllWithin flash s → AllWithin flash (wrote_page flash number r status s).state
 wrote_within flash number r status s lt all = go status
   where
     full : filled_to flash (page_done flash (region_at r s.regions)) ≤ region_len flash
@@ -122,7 +122,7 @@ wrote_within flash number r status s lt all = go status
 
 -- ---- a region ends
 
-ended_within : (flash : FlashConfig) (cause : Cause) (r : ℕ) (s : Block) → AllWithin flash s → AllWithin flash (end_region cause r s).state
+pub ended_within : (flash : FlashConfig) (cause : Cause) (r : ℕ) (s : Block) → AllWithin flash s → AllWithin flash (end_region cause r s).state
 ended_within flash cause r s all = set_within flash s.regions r (emptied (region_at r s.regions)) (go (region_at r s.regions) ((region_at r s.regions).pins == 0) (all r)) all
   where
     go : (region : Region) (t : Bool) → filled_to flash region ≤ region_len flash → filled_to flash (if t then clean_region else record region { status = Draining; buffer = []; appended = []; early = false }) ≤ region_len flash

@@ -16,7 +16,7 @@ use Rattle.hc_engines.specs.large.Sound.{Sound}
 use Rattle.hc_engines.specs.pair.Pair.{next_of}
 use Rattle.hc_engines.specs.pair.Held.{work_under_way, large_under_way}
 use Rattle.hc_engines.proofs.large.Lists.{same_num, in_range, region_at-set}
-use Rattle.hc_engines.proofs.large.Jobs.{with_other, without_other, work_ended}
+use Rattle.hc_engines.proofs.large.Jobs.{work_added, added_other, without_other, work_ended}
 use Rattle.hc_engines.proofs.large.Regions.{lowest_is, oldest_is}
 use Rattle.hc_engines.proofs.large.Reclaims.{oldest_ending}
 use Rattle.hc_engines.proofs.large.Flushes.{written_ending}
@@ -73,7 +73,7 @@ module _ (flash : FlashConfig) (number : ℕ) where
   -- its next order is this work's
   goes_on : (op : Op) (work : Work) (s t : Block) (order : Order) → AreOthers number s t.jobs → work_under_way flash (with_job number work t) work ≡ record { op = op; order = order } → IsWritten number s t.regions
       → StepLeaves flash number op s (record { state = with_job number work t; outcome = nothing; order = Some order })
-  goes_on op work s t order others is written = record { own = rw (same_num number) (ap Some is); others = λ n o. with_other number n work t.jobs o ∙ others.same n o; written = written; losses = tt }
+  goes_on op work s t order others is written = record { own = rw (work_added number work t.jobs) (ap Some is); others = λ n o. added_other number n work t.jobs o ∙ others.same n o; written = written; losses = tt }
 
   -- ---- puts and reclaims
 

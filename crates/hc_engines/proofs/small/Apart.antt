@@ -6,9 +6,9 @@ use Rattle.std.proofs.lemmas.Bool.{eqb-true, eq-eqb}
 use Rattle.std.proofs.lemmas.List.{get_or_past}
 use Rattle.hc_types.specs.declared.config.FlashConfig.{FlashConfig}
 use Rattle.hc_types.specs.Places.{bucket_at, kept_of}
-use Rattle.hc_engines.specs.Engine.{Op, Pages, then_under_way, Busy}
+use Rattle.hc_engines.specs.Engine.{Op, IoResult, Pages, then_under_way, Busy}
 use Rattle.hc_engines.specs.small.Entries.{under}
-use Rattle.hc_engines.specs.small.BigHash.{BigHash, Job, Phase, Reading, Writing, Plan, ToRead, ToWrite, ToEnd, ToKeep, ToGiveUp, Moved, moved, make_job, with_job, begun, start_at, our_bucket, word_at, is_busy, job_at, without_job, key_of, next_of, waits, resumed, resume_job, went_on}
+use Rattle.hc_engines.specs.small.BigHash.{BigHash, Job, Phase, Reading, Writing, Plan, ToRead, ToWrite, ToEnd, ToKeep, ToGiveUp, Moved, moved, make_job, with_job, begun, start_at, our_bucket, word_at, is_busy, job_at, without_job, key_of, next_of, waits, resume, resumed, resume_job, went_on}
 use Rattle.hc_engines.specs.small.Held.{StateFits, PageFits, JobFits, JobsFit, entries_at, under_way, job_under_way, KeptByOthers, StartGoes, ResumeGoes}
 use Rattle.hc_engines.proofs.small.UnderWay.{none_is_there}
 use Rattle.hc_engines.proofs.small.Resumed.{job_out}
@@ -125,8 +125,14 @@ resumed-goes s number job (Some plan) m other same gone made =
     subst (λ (n : ℕ). under_way m.state other ≡ (if other == n then then_under_way job.op m.next else under_way s other)) same
     (subst (λ (x : Moved). under_way x.state other ≡ (if other == job.number then then_under_way job.op x.next else under_way s other)) e went)
 
+-- the same where no two jobs have one number, whatever the pages have
+pub single_goes : (s : BigHash) (number : ℕ) (result : IoResult) (job : Job) (m : Moved) → job.number ≡ number → job_at number (without_job number s.jobs) ≡ None → job_at number s.jobs ≡ Some job → resume s number result ≡ Some m
+    → (other : ℕ) → under_way m.state other ≡ (if other == number then then_under_way job.op m.next else under_way s other)
+single_goes s number result job m same gone at made other =
+    let came : resumed s job (went_on s.flash.page job.op job.phase result) ≡ Some m = ap (λ (j : Option Job). resume_job s j result) (sym at) ∙ made in
+    resumed-goes s number job (went_on s.flash.page job.op job.phase result) m other same gone came
+
 pub resume_goes : ResumeGoes
 resume_goes s pages number result job m fits at made other =
     let o = job_out s.flash (word_at s) pages number s.jobs job at fits.jobs_fit in
-    let came : resumed s job (went_on s.flash.page job.op job.phase result) ≡ Some m = ap (λ (j : Option Job). resume_job s j result) (sym at) ∙ made in
-    resumed-goes s number job (went_on s.flash.page job.op job.phase result) m other o.number_is o.gone came
+    single_goes s number result job m o.number_is o.gone at made other

@@ -4,19 +4,11 @@ use Rattle.std.specs.Prelude.{if◌then◌else◌}
 use Rattle.std.specs.Str.{bytes_eq}
 use Rattle.hc_types.specs.FlashEntry.{FlashEntry}
 use Rattle.hc_bucket.specs.Page.{used}
-use Rattle.hc_bucket.specs.Putting.{from_key, entries_without, is_too_long}
+use Rattle.hc_bucket.specs.Putting.{from_key, is_too_long}
 use Rattle.hc_engines.specs.small.Entries.{without, pushed_out, full_losses, size_of}
 use Rattle.hc_engines.specs.small.Held.{AllPushedOut, FullIsTrue}
 use Rattle.hc_engines.proofs.Keys.{same-refl}
 use Rattle.hc_engines.proofs.small.Fitting.{used-cons, used-push}
-
-without_is : (key : List ℕ) (es : List FlashEntry) → entries_without key es ≡ without key es
-without_is key [] = refl
-without_is key (e ∷ es) = step (bytes_eq e.key key) (without_is key es)
-  where
-    step : (t : Bool) → entries_without key es ≡ without key es → (if t then entries_without key es else e ∷ entries_without key es) ≡ (if t then without key es else e ∷ without key es)
-    step true h = h
-    step false h = ap (λ xs. e ∷ xs) h
 
 more_used : (front back : List FlashEntry) → used back ≤ used (front ++ back)
 more_used [] back = omega arith
@@ -39,16 +31,16 @@ too_long size key put (x ∷ front) old back e h =
     let room : size < used (x ∷ (front ++ old ∷ back)) + size_of put = omega (arith, h, used-cons x (front ++ old ∷ back), more_used front (old ∷ back)) in
     long_step size key x (front ++ old ∷ back) put (bytes_eq x.key key) room (λ f. too_long size key put front old back e h)
 
-pushed : (size : ℕ) (x : FlashEntry) (es front rest : List FlashEntry) → entries_without x.key es ≡ front ++ rest → AllPushedOut size x es (full_losses (pushed_out size x rest))
+pushed : (size : ℕ) (x : FlashEntry) (es front rest : List FlashEntry) → without x.key es ≡ front ++ rest → AllPushedOut size x es (full_losses (pushed_out size x rest))
 pushed size x es front [] parts = tt
 pushed size x es front (old ∷ rest) parts = cases (nat_lt size (used (old ∷ rest) + size_of x)) refl (pushed size x es (front ++ old ∷ []) rest (parts ∙ sym (append_assoc front (old ∷ []) rest)))
   where
     cases : (t : Bool) → nat_lt size (used (old ∷ rest) + size_of x) ≡ t → AllPushedOut size x es (full_losses (pushed_out size x rest)) → AllPushedOut size x es (full_losses (pushed_out size x (old ∷ rest)))
     cases true p more =
         let passes : size < used (old ∷ rest) + size_of x = grind (arith, p) in
-        let out : is_too_long size (from_key old.key (entries_without x.key es)) x ≡ true = ap (λ xs. is_too_long size (from_key old.key xs) x) parts ∙ too_long size old.key x front old rest (same-refl old.key) passes in
+        let out : is_too_long size (from_key old.key (without x.key es)) x ≡ true = ap (λ xs. is_too_long size (from_key old.key xs) x) parts ∙ too_long size old.key x front old rest (same-refl old.key) passes in
         rw p ((old.key, refl, out), more)
     cases false p more = rw p tt
 
 pub full_is_true : FullIsTrue
-full_is_true size x es = pushed size x es [] (without x.key es) (without_is x.key es)
+full_is_true size x es = pushed size x es [] (without x.key es) refl

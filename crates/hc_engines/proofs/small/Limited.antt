@@ -6,14 +6,14 @@ use Rattle.hc_types.specs.declared.refusal.Refusal.{Refusal}
 use Rattle.hc_types.specs.Limits.{flash_wrong, is_within, page_fits, regions_fit, queue_fits}
 use Rattle.hc_engines.specs.small.Sound.{Limits}
 
-if-none : (t : Bool) (x : Refusal) (o : Option Refusal) → (if not t then Some x else o) ≡ None → (t ≡ true) × (o ≡ None)
+pub if-none : (t : Bool) (x : Refusal) (o : Option Refusal) → (if not t then Some x else o) ≡ None → (t ≡ true) × (o ≡ None)
 if-none true x o h = (refl, h)
 if-none false x o h = absurd (cc)
 
-page-within : (n : ℕ) → ((n == 512) || (n == 1024) || (n == 2048) || (n == 4096)) ≡ true → (512 ≤ n) × (n ≤ 4096)
+pub page-within : (n : ℕ) → ((n == 512) || (n == 1024) || (n == 2048) || (n == 4096)) ≡ true → (512 ≤ n) × (n ≤ 4096)
 page-within n h = (grind (arith, h), grind (arith, h))
 
-within : (least most n : ℕ) → is_within least most n ≡ true → (least ≤ n) × (n ≤ most)
+pub within : (least most n : ℕ) → is_within least most n ≡ true → (least ≤ n) × (n ≤ most)
 within least most n h = (grind (arith, h), grind (arith, h))
 
 pub limits_from : (flash : FlashConfig) → flash_wrong flash ≡ None → Limits flash

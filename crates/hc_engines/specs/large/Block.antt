@@ -1,5 +1,5 @@
 -- The large engine: its state, and what a step of it leaves.
-use Rattle.std.specs.Prelude.{ℕ, ◌==◌, List, [], ◌∷◌, Option, Some, None, if◌then◌else◌, set}
+use Rattle.std.specs.Prelude.{ℕ, ◌==◌, nat_lt, List, [], ◌∷◌, Option, Some, None, if◌then◌else◌, set}
 use Rattle.hc_engines.specs.Engine.{Order, Outcome, nothing}
 use Rattle.hc_engines.specs.large.Region.{Region}
 use Rattle.hc_engines.specs.large.Index.{Place, Indexed}
@@ -34,6 +34,7 @@ pub record Block : Type 0 where
   -- the regions on flash in the order of their flushes, those that drain since included
   pub flushed : List ℕ
   pub index : List Indexed
+  -- the operations under way, in order of their numbers
   pub jobs : List Job
 
 -- the new state, what holds already, and the operation that goes on with an order
@@ -64,9 +65,14 @@ abbrev pub without_job : ℕ → List Job → List Job
 without_job number [] = []
 without_job number (job ∷ jobs) = if job.number == number then without_job number jobs else job ∷ without_job number jobs
 
+-- an operation more, at its place in the order
+abbrev pub job_added : ℕ → Work → List Job → List Job
+job_added number work [] = record { number = number; work = work } ∷ []
+job_added number work (job ∷ jobs) = if nat_lt job.number number then job ∷ job_added number work jobs else record { number = number; work = work } ∷ job ∷ jobs
+
 -- an operation that no other has the number of
 abbrev pub with_job : ℕ → Work → Block → Block
-with_job number work s = record s { jobs = record { number = number; work = work } ∷ s.jobs }
+with_job number work s = record s { jobs = job_added number work s.jobs }
 
 abbrev pub end_job : ℕ → Block → Block
 end_job number s = record s { jobs = without_job number s.jobs }

@@ -3,6 +3,7 @@ use Rattle.std.specs.Prelude.{ℕ, ◌+◌, nat_lt, List, [], ◌∷◌, ◌++�
 use Rattle.hc_types.specs.Loss.{Key, BucketFull}
 use Rattle.hc_types.specs.FlashEntry.{FlashEntry}
 use Rattle.hc_bucket.specs.Page.{entry_bytes, used}
+pub use Rattle.hc_bucket.specs.Putting.{entries_without as without}
 use Rattle.std.specs.Str.{bytes_eq}
 use Rattle.hc_engines.specs.Engine.{Loss}
 
@@ -10,10 +11,6 @@ use Rattle.hc_engines.specs.Engine.{Loss}
 abbrev pub under : List ℕ → List FlashEntry → Option FlashEntry
 under key [] = None
 under key (e ∷ es) = if bytes_eq e.key key then Some e else under key es
-
-abbrev pub without : List ℕ → List FlashEntry → List FlashEntry
-without key [] = []
-without key (e ∷ es) = if bytes_eq e.key key then without key es else e ∷ without key es
 
 -- the bytes that an entry takes of a page
 abbrev pub size_of : FlashEntry → ℕ

@@ -1,14 +1,14 @@
 -- One region changes: what the books say of it, and whose operations stay as they were.
-use Rattle.std.proofs.Common.{◌≡◌, ℕ, ◌<◌, ◌==◌, Bool, true, false, not, List, ◌∷◌, length, set, Some, refl, sym, ap, arith, ◌∙◌}
+use Rattle.std.proofs.Common.{◌≡◌, ℕ, ◌<◌, ◌==◌, Bool, true, false, not, List, length, set, Some, refl, sym, ap, arith, ◌∙◌}
 use Rattle.std.proofs.lemmas.Bool.{eqb-true}
 use Rattle.std.proofs.lemmas.List.{length-set}
 use Rattle.std.specs.Prelude.{if◌then◌else◌}
 use Rattle.hc_types.specs.declared.config.FlashConfig.{FlashConfig}
 use Rattle.hc_engines.specs.large.Region.{is_clean, Region, filled_to, region_at}
-use Rattle.hc_engines.specs.large.Block.{Block, Job, Work, Writing, work_of, without_job}
+use Rattle.hc_engines.specs.large.Block.{Block, Job, Work, Writing, work_of, without_job, job_added}
 use Rattle.hc_engines.specs.large.Sound.{writers}
-use Rattle.hc_engines.proofs.large.Jobs.{with_other, without_other, writer_counted}
-use Rattle.hc_engines.proofs.large.Lists.{same_num, region_at-set}
+use Rattle.hc_engines.proofs.large.Jobs.{added_other, without_other, writer_counted}
+use Rattle.hc_engines.proofs.large.Lists.{region_at-set}
 use Rattle.hc_history.specs.Note.{Note}
 use Rattle.hc_invariant.specs.Tells.{RegionsTell}
 use Rattle.hc_proof_regions.specs.books.RegionBooks.{OthersStay, but}
@@ -48,11 +48,8 @@ other-way n m h = grind (arith, h)
 pub work-without : (number n : ℕ) (jobs : List Job) → but number n ≡ true → work_of n (without_job number jobs) ≡ work_of n jobs
 work-without number n jobs o = without_other number n jobs (but-true number n o)
 
-pub work-added : (number n : ℕ) (work : Work) (jobs : List Job) → but number n ≡ true → work_of n (record { number = number; work = work } ∷ jobs) ≡ work_of n jobs
-work-added number n work jobs o = with_other number n work jobs (but-true number n o)
-
-pub work-own : (number : ℕ) (work : Work) (jobs : List Job) → work_of number (record { number = number; work = work } ∷ jobs) ≡ Some work
-work-own number work jobs = rw (same_num number) refl
+pub work-added : (number n : ℕ) (work : Work) (jobs : List Job) → but number n ≡ true → work_of n (job_added number work jobs) ≡ work_of n jobs
+work-added number n work jobs o = added_other number n work jobs (but-true number n o)
 
 -- the region that changed has as many pages written as before
 pub others_same : (others : ℕ → Bool) (r : ℕ) (x : Region) (s new : Block) → r < length s.regions → new.regions ≡ set s.regions r x → x.written ≡ (region_at r s.regions).written → ((n : ℕ) → others n ≡ true → work_of n new.jobs ≡ work_of n s.jobs) → OthersStay others s new

@@ -17,14 +17,15 @@ use Rattle.hc_engines.specs.large.Laws.{IsFree}
 use Rattle.hc_engines.proofs.large.Lists.{same_num, in_range, place_itself, region_at-set}
 use Rattle.hc_engines.proofs.large.Fitting.{Grows, pages_long, same_region}
 use Rattle.hc_engines.proofs.large.Promise.{read_begins, read_at_once, answers_held, absent_held, read_stays}
-use Rattle.hc_engines.proofs.large.Stays.{out_rest}
+use Rattle.hc_engines.proofs.large.Stays.{reads_added, out_rest}
 use Rattle.hc_engines.proofs.large.GetStays.{indexed_live}
 use Rattle.hc_engines.proofs.large.Flushes.{live_unclean}
 use Rattle.hc_engines.proofs.large.Holding.{held_same}
 use Rattle.hc_history.specs.Note.{Note}
 use Rattle.hc_history.specs.Pages.{bytes_at}
 use Rattle.hc_proof_regions.specs.books.RegionBooks.{LargeFits, but, GetTells, GetReads, GetGives}
-use Rattle.hc_proof_regions.proofs.books.Changing.{changed_regions, others_same, work-added, work-own}
+use Rattle.hc_proof_regions.proofs.books.Changing.{changed_regions, others_same, work-added}
+use Rattle.hc_engines.proofs.large.Jobs.{work_added}
 use Rattle.hc_proof_regions.proofs.writes.Flushing.{Leaves, quiet_keeps}
 use Rattle.hc_engines.proofs.large.GetsSound.{begins_sound}
 
@@ -45,7 +46,7 @@ begins_leaves flash older number reading s f free live h below within = record {
   fit = record {
     sound = begins_sound flash number reading s f.sound free u below within;
     fits = rest.0;
-    reads = (read_stays flash (bytes_at older) (bytes_at older) s new reading h (omega arith) (λ i lt. refl) (λ l. (live, same)), rest.1);
+    reads = reads_added flash (bytes_at older) new number (Getting reading) s.jobs (read_stays flash (bytes_at older) (bytes_at older) s new reading h (omega arith) (λ i lt. refl) (λ l. (live, same))) rest.1;
     regions = changed_regions flash older r x s new f.regions there refl refl refl refl refl (λ c. refl);
   };
   held = held_same flash (bytes_at older) (bytes_at older) s new f.fits refl (λ h p e. grows p.region (p.region == r) refl);
@@ -110,7 +111,7 @@ get_does flash older number key s some free f = go (place_at (kept_of flash.bits
             page = record {
               reading = reading_of flash key p s;
               key_is = refl;
-              work = work-own number (Getting (reading_of flash key p s)) s.jobs;
+              work = work_added number (Getting (reading_of flash key p s)) s.jobs;
               order = refl;
               outcome = refl;
               known = known_page flash (bytes_at older) s p.region (first_page flash p) some f.fits u (omega (arith, below, within));

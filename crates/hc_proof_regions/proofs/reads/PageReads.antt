@@ -18,10 +18,10 @@ use Rattle.hc_engines.specs.large.Held.{bytes_of, held}
 use Rattle.hc_engines.specs.large.Sound.{readers, Sound}
 use Rattle.hc_engines.specs.large.Fits.{ReadHolds, answer_by}
 use Rattle.hc_engines.proofs.large.Lists.{same_num, in_range, place_at-without}
-use Rattle.hc_engines.proofs.large.Jobs.{works_left, work_holds}
+use Rattle.hc_engines.proofs.large.Jobs.{work_added, works_left, work_holds}
 use Rattle.hc_engines.proofs.large.Goods.{Others, reads_stay}
 use Rattle.hc_engines.proofs.large.Promise.{is-place, read_stays, read_more}
-use Rattle.hc_engines.proofs.large.Stays.{Rest, reads_left}
+use Rattle.hc_engines.proofs.large.Stays.{Rest, reads_added, reads_left}
 use Rattle.hc_engines.proofs.large.GetStays.{read_unclean}
 use Rattle.hc_engines.proofs.large.Holding.{held_taken}
 use Rattle.hc_engines.proofs.large.ReadEnds.{let_go_held, LetGo, let_go_is, last_read}
@@ -45,7 +45,7 @@ use Rattle.hc_invariant.specs.Good.{OneFlush}
 use Rattle.hc_proof_regions.proofs.books.Filings.{as-without, as-there}
 use Rattle.hc_engines.proofs.large.GetStays.{take_sound}
 use Rattle.hc_engines.proofs.large.GetStays.{take_rest}
-use Rattle.hc_proof_regions.proofs.books.Changing.{work-own, work-added, work-without}
+use Rattle.hc_proof_regions.proofs.books.Changing.{work-added, work-without}
 use Rattle.hc_proof_regions.proofs.books.Ending.{closes, over_pages, held_over, lose_all, losses_but, SameBut, loses-all}
 use Rattle.hc_proof_regions.proofs.writes.Failing.{page-is, fault_allowed}
 use Rattle.hc_proof_regions.proofs.reads.LettingGo.{Gone, let_go_does}
@@ -309,10 +309,9 @@ module _ (config : Config) (flash : FlashConfig) (older : List Note) (number : �
       fit = record {
         sound = on_sound flash number reading bytes s f.sound at more;
         fits = record { known = f.fits.known; within = f.fits.within; places = λ h p e. let k = f.fits.places h p e in record { entry = k.entry; read = k.read; own = k.own; within = k.within } };
-        reads = (
-          read_stays flash (bytes_at older) (bytes_at older) s new (read_on reading bytes) holds (omega arith) (λ i lt. refl) (λ l. (l, record { more = []; grown = sym (append-nil (bytes_of flash (bytes_at older) s reading.place.region)) })),
-          reads_stay flash (bytes_at older) (bytes_at older) reading.place.region (region_at reading.place.region s.regions) s new (without_job number s.jobs) others (works_left flash s.regions number s.jobs f.sound.works) (reads_left flash (bytes_at older) s number s.jobs f.reads),
-        );
+        reads = reads_added flash (bytes_at older) new number (Getting (read_on reading bytes)) (without_job number s.jobs)
+            (read_stays flash (bytes_at older) (bytes_at older) s new (read_on reading bytes) holds (omega arith) (λ i lt. refl) (λ l. (l, record { more = []; grown = sym (append-nil (bytes_of flash (bytes_at older) s reading.place.region)) })))
+            (reads_stay flash (bytes_at older) (bytes_at older) reading.place.region (region_at reading.place.region s.regions) s new (without_job number s.jobs) others (works_left flash s.regions number s.jobs f.sound.works) (reads_left flash (bytes_at older) s number s.jobs f.reads));
         regions = record { number = f.regions.number; used = f.regions.used; used_number = f.regions.used_number; in_order = f.regions.in_order; filings = f.regions.filings; current = f.regions.current; filled = f.regions.filled };
       };
       held = λ key. refl;
@@ -326,7 +325,7 @@ module _ (config : Config) (flash : FlashConfig) (older : List Note) (number : �
       page = record {
         reading = read_on reading bytes;
         key_is = refl;
-        work = work-own number (Getting (read_on reading bytes)) (without_job number s.jobs);
+        work = work_added number (Getting (read_on reading bytes)) (without_job number s.jobs);
         order = refl;
         outcome = refl;
         known = known_page flash (bytes_at older) s reading.place.region (reading.next + 1) some f.fits k.unclean (omega (arith, k.until, more));

@@ -19,12 +19,13 @@ use Rattle.hc_engines.proofs.large.Flushes.{Goes, live_unclean, IsReady, ready_i
 use Rattle.hc_engines.proofs.large.FlushesSound.{sealed_goes, sealed_sound, open_goes, open_sound}
 use Rattle.hc_engines.proofs.large.Fitting.{Grows, same_region}
 use Rattle.hc_engines.proofs.large.FitsSteps.{next_page_long}
-use Rattle.hc_engines.proofs.large.Stays.{out_rest}
+use Rattle.hc_engines.proofs.large.Stays.{reads_added, out_rest}
 use Rattle.hc_engines.proofs.large.Holding.{held_same}
 use Rattle.hc_history.specs.Note.{Note}
 use Rattle.hc_history.specs.Pages.{bytes_at}
 use Rattle.hc_proof_regions.specs.books.RegionBooks.{LargeFits, LargeKeeps, OthersStay, but, WritesPage, FlushTells, FlushGives}
-use Rattle.hc_proof_regions.proofs.books.Changing.{changed_regions, others_same, work-added, work-own}
+use Rattle.hc_proof_regions.proofs.books.Changing.{changed_regions, others_same, work-added}
+use Rattle.hc_engines.proofs.large.Jobs.{work_added}
 
 -- what a step that tells nothing of regions leaves
 pub record Leaves (flash : FlashConfig) (older : List Note) (number : ℕ) (s new : Block) : Type 0 where
@@ -40,7 +41,7 @@ out_leaves flash older number r x s sealed f g was_live sound = record {
   fit = record {
     sound = sound;
     fits = rest.0;
-    reads = (tt, rest.1);
+    reads = reads_added flash (bytes_at older) new number (Writing r (next_page flash x)) s.jobs tt rest.1;
     regions = changed_regions flash older r x s new f.regions g.there refl refl refl refl (live_unclean x.status g.live ∙ sym unclean) (λ c. (rw (g.written, g.buffer) refl));
   };
   held = held_same flash (bytes_at older) (bytes_at older) s new f.fits refl (λ h p e. grows p.region (p.region == r) refl);
@@ -67,7 +68,7 @@ out_page flash number r x s sealed there n = record {
   region = r;
   bytes = next_page flash x;
   there = omega (arith, there, n);
-  work = work-own number (Writing r (next_page flash x)) s.jobs;
+  work = work_added number (Writing r (next_page flash x)) s.jobs;
   order = rw (region_at-set s.regions r r x there, same_num r) refl;
   outcome = refl;
   whole = next_page_long flash x;

@@ -27,11 +27,11 @@ use Rattle.hc_invariant.specs.Tells.{RegionsTell}
 use Rattle.hc_proof_regions.specs.books.RegionBooks.{LargeFits, LargeKeeps, OthersStay, but, told, page_of, WritesPage, IsOver, WrittenTells, WrittenGives}
 use Rattle.hc_invariant.specs.Good.{OneFlush}
 use Rattle.hc_proof_regions.proofs.books.RegionsInUse.{turned, in-reverse}
-use Rattle.hc_engines.proofs.large.Jobs.{work_ended}
-use Rattle.hc_proof_regions.proofs.books.Changing.{changed_regions, others_alone, work-added, work-own, work-without}
+use Rattle.hc_engines.proofs.large.Jobs.{work_added, work_ended}
+use Rattle.hc_proof_regions.proofs.books.Changing.{changed_regions, others_alone, work-added, work-without}
 use Rattle.hc_engines.proofs.large.FlushesSound.{more_sound, last_sound, early_sound}
 use Rattle.hc_proof_regions.proofs.writes.WrittenPages.{full_same, done_region, eased_region, written_rest, written_holds}
-use Rattle.hc_engines.proofs.large.Stays.{filling_live}
+use Rattle.hc_engines.proofs.large.Stays.{reads_added, filling_live}
 
 -- a region's page is no bucket's
 pub not_bucket : (flash : FlashConfig) (r i page : ℕ) → page < flash.buckets → (page_no flash r i == page) ≡ false
@@ -120,7 +120,7 @@ module _ (config : Config) (flash : FlashConfig) (older : List Note) (number r :
         keeps = plain_keeps new (record {
           sound = more_sound flash number r bytes s f.sound one fl lt;
           fits = rest.0;
-          reads = (tt, rest.1);
+          reads = reads_added flash (bytes_at (Wrote (page_of flash r s) bytes true ∷ older)) new number (Writing r (next_page flash x)) (without_job number s.jobs) tt rest.1;
           regions = changed_regions flash (Wrote (page_of flash r s) bytes true ∷ older) r x s new (wrote_regions flash older (page_of flash r s) bytes s f.regions) there refl refl refl refl refl
               (λ c. absurd (let o = f.sound.current r c in let e : Open ≡ Flushing = sym o ∙ fl in cc));
         }) (page_held x new refl refl refl refl) refl;
@@ -129,7 +129,7 @@ module _ (config : Config) (flash : FlashConfig) (older : List Note) (number r :
           region = r;
           bytes = next_page flash x;
           there = omega (arith, there, f.regions.number);
-          work = work-own number (Writing r (next_page flash x)) (without_job number s.jobs);
+          work = work_added number (Writing r (next_page flash x)) (without_job number s.jobs);
           order = rw (region_at-set s.regions r r x there, same_num r) refl;
           outcome = refl;
           whole = next_page_long flash x;
