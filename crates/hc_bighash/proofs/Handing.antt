@@ -1,14 +1,15 @@
 -- A result is handed in, as the code does it.
-use Rattle.std.proofs.Common.{◌≡◌, ℕ, ◌<◌, List, Option, Some, None, refl, sym, arith, ap, ◌∙◌, subst, length, set}
+use Rattle.std.proofs.Common.{◌≡◌, ℕ, ◌<◌, Bool, true, false, List, Option, Some, None, refl, sym, arith, ap, ◌∙◌, subst, length, set}
 use Rattle.std.specs.Prelude.{if◌then◌else◌, IsSome, option_map}
 use Rattle.std.specs.List.{remove}
-use Rattle.hc_engines.specs.Engine.{IoResult, Next, Loss}
-use Rattle.hc_engines.specs.small.BigHash.{BigHash, Job, Phase, Reading, Writing, Plan, ToKeep, Moved, moved, with_job, waits, went_on, job_at, carried, kept_as, kept_job, words_after, is_given_up, next_of, resume, resume_job, resumed}
+use Rattle.hc_engines.specs.Engine.{Op, Put, Get, Delete, Flush, Reclaim, Nothing, Over, Absent, Found, IoResult, Next, Loss}
+use Rattle.hc_engines.specs.small.BigHash.{BigHash, Job, Phase, Reading, Writing, Plan, ToRead, ToWrite, ToEnd, ToKeep, ToGiveUp, Moved, moved, with_job, waits, went_on, job_at, carried, kept_as, kept_job, words_after, is_given_up, next_of, resume, resume_job, resumed}
 use Rattle.hc_engines.specs.small.Sound.{IsSound, HasRoom, CanPut}
 use Rattle.hc_engines.proofs.small.Sound.{ours_at, moved_is_sound}
 use Rattle.hc_bighash.specs.declared.plans.Plan.{Plan as Plans}
 use Rattle.hc_bighash.specs.declared.plans.Plan.TheVariants as plans
 use Rattle.hc_bighash.specs.Steps.{plan_of, IsKept}
+use Rattle.hc_bighash.specs.Handed.{ends_absent, absent_plan, is_absent, IsGet}
 use Rattle.hc_bighash.proofs.Places.{At}
 use Rattle.hc_bighash.proofs.Reading.{has_room, can_put}
 
@@ -96,3 +97,48 @@ phase_kept s number at job here kept = back (kept_as job.phase) (subst (λ (o : 
     back : (o : Option Plan) → IsSome (resumed s job o) → IsSome o
     back None h = h
     back (Some plan) h = h
+
+-- ---- a get that found nothing
+
+pub ends_get : (op : Op) (plan : Plan) (gives_up : Bool) → ends_absent op plan ≡ Some gives_up → ((key : List ℕ) × (op ≡ Get key)) × (plan ≡ absent_plan gives_up)
+ends_get (Get key) (ToEnd Absent) false h = ((key, refl), refl)
+ends_get (Get key) ToGiveUp true h = ((key, refl), refl)
+ends_get (Get key) (ToEnd Absent) true h = absurd cc
+ends_get (Get key) ToGiveUp false h = absurd cc
+ends_get (Get key) (ToEnd Nothing) g h = absurd cc
+ends_get (Get key) (ToEnd Over) g h = absurd cc
+ends_get (Get key) (ToEnd (Found e)) g h = absurd cc
+ends_get (Get key) ToRead g h = absurd cc
+ends_get (Get key) (ToWrite es losses) g h = absurd cc
+ends_get (Get key) (ToKeep word losses) g h = absurd cc
+ends_get (Put e) plan g h = absurd cc
+ends_get (Delete key) plan g h = absurd cc
+ends_get Flush plan g h = absurd cc
+ends_get Reclaim plan g h = absurd cc
+
+-- a get stands there
+pub get_there : (s : BigHash) (number at : ℕ) (job : Job) (key : List ℕ) → At number at s.jobs job → job.op ≡ Get key → IsGet s number
+get_there s number at job key here gets = (key, ap (option_map (λ (j : Job). j.op)) here.there ∙ ap (λ (o : Op). Some o) gets)
+
+pub absent_words : (gives_up : Bool) (words : List (Option ℕ)) (bucket : ℕ) → (if gives_up then set words bucket None else words) ≡ words_after words bucket (absent_plan gives_up)
+absent_words true words bucket = refl
+absent_words false words bucket = refl
+
+pub absent_waits : (gives_up : Bool) → waits (absent_plan gives_up) ≡ None
+absent_waits true = refl
+absent_waits false = refl
+
+-- a plan that doesn't end so finds something, goes on, or is of no get
+pub no_miss : (size bucket : ℕ) (op : Op) (plan : Plan) (key : List ℕ) → ends_absent op plan ≡ None → op ≡ Get key → is_absent (next_of size bucket op plan) ≡ false
+no_miss size bucket (Get k) ToRead key h e = refl
+no_miss size bucket (Get k) (ToWrite es losses) key h e = refl
+no_miss size bucket (Get k) (ToEnd Nothing) key h e = refl
+no_miss size bucket (Get k) (ToEnd Over) key h e = refl
+no_miss size bucket (Get k) (ToEnd Absent) key h e = absurd cc
+no_miss size bucket (Get k) (ToEnd (Found entry)) key h e = refl
+no_miss size bucket (Get k) (ToKeep word losses) key h e = refl
+no_miss size bucket (Get k) ToGiveUp key h e = absurd cc
+no_miss size bucket (Put entry) plan key h e = absurd cc
+no_miss size bucket (Delete k) plan key h e = absurd cc
+no_miss size bucket Flush plan key h e = absurd cc
+no_miss size bucket Reclaim plan key h e = absurd cc

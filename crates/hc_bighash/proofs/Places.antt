@@ -2,7 +2,7 @@
 use Rattle.std.proofs.Common.{◌≡◌, ℕ, ◌+◌, ◌==◌, Bool, true, false, List, [], ◌∷◌, Option, Some, None, refl, sym, arith, ap, ◌∙◌, subst, suc}
 use Rattle.std.specs.Prelude.{option_map, slice_index_or}
 use Rattle.std.specs.List.{remove}
-use Rattle.std.proofs.lemmas.Bool.{eqb-true}
+use Rattle.hc_engines.proofs.small.Single.{number_at}
 use Rattle.hc_engines.specs.small.BigHash.{Job, job_at, without_job, place_of}
 
 record Found (number at : ℕ) (jobs : List Job) (job : Job) : Type 0 where
@@ -36,18 +36,6 @@ place_none number (x ∷ jobs) h = cases (x.number == number) refl (place_none n
     cases : (t : Bool) → (x.number == number) ≡ t → (place_of number jobs ≡ None → job_at number jobs ≡ None) → job_at number (x ∷ jobs) ≡ None
     cases true p more = absurd (grind (arith, h, p))
     cases false p more = rw p (more (option-none (place_of number jobs) (rw p at h)))
-
-number_at : (number : ℕ) (jobs : List Job) (job : Job) → job_at number jobs ≡ Some job → job.number ≡ number
-number_at number [] job h = absurd (cc)
-number_at number (x ∷ jobs) job h = cases (x.number == number) refl (number_at number jobs job)
-  where
-    or-else : Option Job → Job → Job
-    or-else None j = j
-    or-else (Some k) j = k
-
-    cases : (t : Bool) → (x.number == number) ≡ t → (job_at number jobs ≡ Some job → job.number ≡ number) → job.number ≡ number
-    cases true p more = let here : Some x ≡ Some job = rw p at h in let e : x ≡ job = ap (λ (o : Option Job). or-else o x) here in subst (λ (j : Job). j.number ≡ number) e (eqb-true _ _ p)
-    cases false p more = more (rw p at h)
 
 -- this job stands here, and has this number
 pub record At (number at : ℕ) (jobs : List Job) (job : Job) : Type 0 where

@@ -2,3 +2,4 @@
 pub mod Seen
 pub mod Next
 pub mod Steps
+pub mod Handed

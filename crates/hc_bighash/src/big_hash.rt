@@ -1,7 +1,7 @@
 // The engine for small objects.
 ghost use Rattle.std.specs.Prelude.{◌≡◌, ◌<◌, [], replicate, IfOk, OnErr, Some, None};
 ghost use Rattle.hc_types.specs.Limits.{flash_wrong};
-ghost use Rattle.hc_engines.specs.small.BigHash.{word_at as word_in, job_at, moved, start as start_step, begun as plan_begun, our_bucket as our_bucket_of, could_hold};
+ghost use Rattle.hc_engines.specs.small.BigHash.{word_at as word_in, job_at, moved, start as start_step, begun as plan_begun, our_bucket as our_bucket_of, could_hold, is_ours as is_op_ours};
 ghost use Rattle.hc_engines.specs.small.Sound.{Sound, CanStart};
 ghost use Rattle.hc_bighash.specs.Seen.{op_of};
 ghost use Rattle.hc_bighash.specs.Next.{next_seen};
@@ -42,6 +42,14 @@ impl<A: Allocator> Model for BigHash<A> {
 }
 
 impl<A: Allocator> BigHash<A> {
+    /// Whether the operation is BigHash's, and not the other engine's: a get, a delete, or a put of a small entry.
+    #[must_use]
+    pub fn is_ours(&self, op: &Op<A>) -> bool
+        ensures { result ≡ is_op_ours self.now.flash (op_of op.now) }
+    {
+        our_bucket(op, &self.flash).is_some()
+    }
+
     /// Whether the key could be on its bucket's page: all its bits are in the bucket's word. Where they aren't, the key
     /// isn't there. No page is read.
     #[must_use]

@@ -1,7 +1,7 @@
 // The jobs that are under way.
 ghost use Rattle.std.specs.Prelude.{◌≡◌, ◌==◌, OnOk, OnErr, IfSome, ◌<◌, length, slice_index_or, option_map};
 ghost use Rattle.std.specs.List.{remove};
-ghost use Rattle.hc_engines.specs.small.BigHash.{Job as UnderWay, is_busy as is_bucket_busy, make_job, place_of, with_job};
+ghost use Rattle.hc_engines.specs.small.BigHash.{Job as UnderWay, is_busy as is_bucket_busy, job_at, make_job, place_of, with_job};
 ghost use Rattle.hc_bighash.specs.Seen.{op_of};
 ghost use Rattle.hc_bighash.specs.Steps.{phase_of};
 
@@ -119,6 +119,18 @@ pub(crate) fn place<A: Allocator>(jobs: &[Job<A>], number: u64) -> Option<usize>
     for (at, job) in jobs.iter().enumerate() {
         if job.is_numbered(number) {
             return Some(at);
+        }
+    }
+    None
+}
+
+/// The job with this number.
+pub(crate) fn job_of<A: Allocator>(jobs: &[Job<A>], number: u64) -> Option<&Job<A>>
+    ensures { option_map (λ job. job.now) result ≡ job_at number jobs.now }
+{
+    for job in jobs {
+        if job.is_numbered(number) {
+            return Some(job);
         }
     }
     None

@@ -9,6 +9,7 @@ mod jobs;
 mod ops;
 mod pages;
 mod plans;
+mod results;
 mod resuming;
 mod shown;
 mod steps;
@@ -17,4 +18,5 @@ mod words;
 
 pub use big_hash::BigHash;
 pub use ops::{Answer, IoResult, Loss, Next, Op, Order, Outcome};
+pub use results::Handed;
 pub use resuming::Unresumed;

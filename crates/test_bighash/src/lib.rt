@@ -1,5 +1,5 @@
-//! Tests of the engine for small objects: worked rows of one bucket, failures, pages of any bytes, and what calls take of
-//! memory.
+//! Tests of the engine for small objects: worked rows of one bucket, failures, pages of any bytes, what calls take of
+//! memory, and what is printed.
 #![tactic(auto)]
 
 #[cfg(test)]
@@ -10,3 +10,5 @@ mod driving;
 mod memory;
 #[cfg(test)]
 mod rows;
+#[cfg(test)]
+mod shown;

@@ -1,7 +1,8 @@
 use Rattle.std.proofs.Common.{◌≡◌, None, sym, ap, ◌∙◌, subst, set}
 use Rattle.std.specs.Prelude.{option_map, if◌then◌else◌}
 use Rattle.std.specs.List.{remove}
-use Rattle.hc_engines.specs.small.BigHash.{BigHash, Job, with_job, words_after}
+use Rattle.hc_engines.specs.small.BigHash.{BigHash, Job, with_job, words_after, next_of}
+use Rattle.hc_bucket.proofs.Numbers.{some_is}
 use Rattle.hc_bighash.specs.Steps.{plan_of, phase_of}
 use Rattle.hc_bighash.specs.Next.{next_seen}
 use Rattle.hc_bighash.proofs.Places.{At, job_here}
@@ -43,3 +44,9 @@ returns-clause-ok g c =
       words_are = words;
     } in
     rw (← c.self.view_is) (made_carried s c.args.number c.args.at c.index-job.result.now (plan_of c.args.plan) c.settle.new.words.items c.go_on.new.jobs.items (next_seen c.in_ok-next.field-0.next) here made)
+
+pub returns-clause-next : goal.returns-clause-next
+returns-clause-next g c =
+    let s : BigHash = record { flash = c.self.inside.flash; words = c.self.inside.words.items; jobs = c.self.inside.jobs.items } in
+    let here : At c.args.number c.args.at s.jobs c.index-job.result.now = job_here c.args.number c.args.at s.jobs c.index-job.result.now (rw (← c.self.view_is) at c.requires.here) c.index-job.ensures in
+    rw (← c.self.view_is) (λ job at. c.in_ok-next.ensures.next ∙ ap (λ (j : Job). next_of s.flash.page j.bucket j.op (plan_of c.args.plan)) (some_is c.index-job.result.now job (sym here.there ∙ at)))

@@ -1,7 +1,8 @@
-use Rattle.std.proofs.Common.{◌≡◌, Some, None, ap, ◌∙◌}
+use Rattle.std.proofs.Common.{◌≡◌, Option, Some, None, sym, ap, ◌∙◌, subst}
 use Rattle.std.specs.Prelude.{IsSome, is_some}
-use Rattle.hc_engines.specs.small.BigHash.{BigHash, went_on, resume, carried, kept_job, job_at}
+use Rattle.hc_engines.specs.small.BigHash.{BigHash, Moved, went_on, resume, carried, kept_job, job_at}
 use Rattle.hc_bighash.specs.Seen.{result_of}
+use Rattle.hc_bighash.specs.Handed.{IsHanded}
 use Rattle.hc_bighash.specs.Steps.{plan_of, IsKept}
 use Rattle.hc_bighash.proofs.Places.{At, job_here}
 use Rattle.hc_bighash.proofs.Handing.{go_is, goes_some, unknown_is, keep_is, keep_some, room_there, put_there}
@@ -33,7 +34,7 @@ returns-in-Ok-clause-ok g c =
     let went : went_on s.flash.page c.index.result.now.op c.index.result.now.phase (result_of c.args.came.now) ≡ Some (plan_of c.in-Ok-Go.plan) = rw c.in-Ok-Go.field-0-is at c.in-Ok-Go.ensures.turn in
     let go : resume s c.args.number (result_of c.args.came.now) ≡ carried s c.args.number (plan_of c.in-Ok-Go.plan) = go_is s c.args.number c.args.at c.index.result.now (result_of c.args.came.now) (plan_of c.in-Ok-Go.plan) here went in
     let now : resume c.args.self.now c.args.number (result_of c.args.came.now) ≡ carried c.args.self.now c.args.number (plan_of c.in-Ok-Go.plan) = rw (← c.self.view_is) go in
-    now ∙ c.in-Ok.ensures.ok
+    subst (λ (m : Option Moved). IsHanded c.args.self.now c.go.new.self c.args.number m c.in-Ok.handed) (sym now) c.in-Ok.ensures.ok
 
 pub returns-in-Ok-Keep-clause-ok : goal.returns-in-Ok-Keep-clause-ok
 returns-in-Ok-Keep-clause-ok g c =
@@ -42,7 +43,7 @@ returns-in-Ok-Keep-clause-ok g c =
     let kept : IsKept c.index.result.now.phase (went_on s.flash.page c.index.result.now.op c.index.result.now.phase (result_of c.args.came.now)) = rw c.in-Ok-Keep.field-0-is at c.in-Ok-Keep.ensures.turn in
     let keep : resume s c.args.number (result_of c.args.came.now) ≡ kept_job s (job_at c.args.number s.jobs) = keep_is s c.args.number c.args.at c.index.result.now (result_of c.args.came.now) here kept in
     let now : resume c.args.self.now c.args.number (result_of c.args.came.now) ≡ kept_job c.args.self.now (job_at c.args.number c.args.self.now.jobs) = rw (← c.self.view_is) keep in
-    now ∙ c.keep.ensures
+    (now ∙ c.keep.ensures.kept, λ key gets. c.keep.ensures.no_miss)
 
 pub returns-in-Ok-Unknown-clause-unknown : goal.returns-in-Ok-Unknown-clause-unknown
 returns-in-Ok-Unknown-clause-unknown g c =
@@ -51,8 +52,8 @@ returns-in-Ok-Unknown-clause-unknown g c =
     let went : went_on s.flash.page c.index.result.now.op c.index.result.now.phase (result_of c.args.came.now) ≡ None = rw c.in-Ok-Unknown.field-0-is at c.in-Ok-Unknown.ensures.turn in
     rw (← c.self.view_is) (λ _. unknown_is s c.args.number c.args.at c.index.result.now (result_of c.args.came.now) here went)
 
-pub returns-in-Err-carry-clause-awaited : goal.returns-in-Err-carry-clause-awaited
-returns-in-Err-carry-clause-awaited g c =
+pub returns-in-Err-go-clause-awaited : goal.returns-in-Err-go-clause-awaited
+returns-in-Err-go-clause-awaited g c =
     let s : BigHash = record { flash = c.self.inside.flash; words = c.self.inside.words.items; jobs = c.self.inside.jobs.items } in
     let here : At c.args.number c.args.at s.jobs c.index.result.now = job_here c.args.number c.args.at s.jobs c.index.result.now (rw (← c.self.view_is) at c.requires.here) c.index.ensures in
     let went : went_on s.flash.page c.index.result.now.op c.index.result.now.phase (result_of c.args.came.now) ≡ Some (plan_of c.in-Ok-Go.plan) = rw c.in-Ok-Go.field-0-is at c.in-Ok-Go.ensures.turn in

@@ -27,8 +27,8 @@ invariant_of-self g c =
     let made : Made s c.args.at c.remove-job.result (ToKeep c.end_write-bucket.result.word c.end_write-bucket.result.losses.items) c.set_word.new.words.items c.remove-job.new.self.items (Done c.new.result) = record { next_is = ap Done c.new.ensures; jobs_are = c.remove-job.ensures.items; words_are = words } in
     made_sound s c.args.number c.args.at c.remove-job.result (ToKeep c.end_write-bucket.result.word c.end_write-bucket.result.losses.items) c.set_word.new.words.items c.remove-job.new.self.items (Done c.new.result) c.self.invariant here made
 
-pub returns : goal.returns
-returns g c =
+pub returns-clause-kept : goal.returns-clause-kept
+returns-clause-kept g c =
     let s : BigHash = record { flash = c.self.inside.flash; words = c.self.inside.words.items; jobs = c.self.inside.jobs.items } in
     let here : At c.args.number c.args.at s.jobs c.remove-job.result = job_here c.args.number c.args.at s.jobs c.remove-job.result (rw (← c.self.view_is) at c.requires.here) c.remove-job.ensures.value in
     let words : c.set_word.new.words.items ≡ set s.words c.remove-job.result.bucket (Some c.end_write-bucket.result.word) = c.set_word.ensures ∙ ap (λ (b : ℕ). set s.words b (Some c.end_write-bucket.result.word)) c.end_write-bucket.ensures.bucket in
