@@ -1,20 +1,22 @@
 -- What the engine keeps where a region ends, and that its fields then hold the machine's state.
-use Rattle.std.proofs.Common.{◌≡◌, ℕ, ◌<◌, ◌≤◌, Bool, true, false, List, [], ◌∷◌, ◌++◌, length, set, Option, Some, None, refl, arith, ◌∙◌}
+use Rattle.std.proofs.Common.{◌≡◌, ℕ, ◌<◌, Bool, true, false, List, [], ◌∷◌, ◌++◌, length, set, Option, Some, None, refl, arith, ◌∙◌}
 use Rattle.std.proofs.lemmas.List.{length-set}
 use Rattle.std.specs.Prelude.{if◌then◌else◌, ◌==◌, nat_lt, IfSome}
 use Rattle.hc_types.specs.declared.config.FlashConfig.{FlashConfig}
 use Rattle.hc_types.specs.Loss.{Cause, Reclaimed, Fault}
-use Rattle.hc_engines.specs.large.Region.{Status, Clean, Region, Appended, Draining, clean_region, region_len, filled_to, is_clean, region_at}
+use Rattle.hc_engines.specs.large.Region.{Status, Clean, Region, Appended, is_clean, region_at}
 use Rattle.hc_engines.specs.large.Index.{Indexed, leading_into, without_all}
 use Rattle.hc_engines.specs.large.Block.{Block, finished, Writing, work_of, end_job}
 use Rattle.hc_engines.specs.Engine.{Loss, Outcome, nothing, Over}
 use Rattle.hc_engines.specs.large.Numbers.{minus, is_in}
-use Rattle.hc_engines.specs.large.Steps.{lost, emptied, cleared_by, not_current, end_region, oldest, reclaim_of, clean_count, reclaim}
+use Rattle.hc_engines.specs.large.Steps.{lost, emptied, cleared_by, not_current, end_region, oldest, clean_count}
 use Rattle.hc_engines.specs.large.Sound.{is_stored}
 use Rattle.hc_block.specs.Large.{Kept}
-use Rattle.hc_block.specs.Ends.{CanEnd, flushed_left, reclaimed_next}
+use Rattle.hc_engines.specs.large.Choices.{reclaim_next}
+use Rattle.hc_engines.proofs.large.Within.{ended_within}
+use Rattle.hc_block.specs.Ends.{CanEnd, flushed_left}
 use Rattle.hc_region.specs.Numbers.{AllThere}
-use Rattle.hc_engines.proofs.large.Lists.{in_range, each-set, same_num}
+use Rattle.hc_engines.proofs.large.Lists.{in_range, same_num}
 use Rattle.hc_engines.proofs.large.Regions.{oldest_is}
 use Rattle.hc_engines.proofs.large.Ends.{Ending, ended_sound}
 use Rattle.hc_engines.proofs.large.Flushes.{written_ending}
@@ -36,18 +38,11 @@ ended_is cause s r appended start losses regions current sealed flushed index cl
     let left = left_is (region_at r s.regions).pins r s.flushed in
     rw (o, l, n, i, a, rs, cu, se, fl, cl, left) refl
 
-emptied_filled : (flash : FlashConfig) (region : Region) → filled_to flash region ≤ region_len flash → filled_to flash (emptied region) ≤ region_len flash
-emptied_filled flash region h = go (region.pins == 0)
-  where
-    go : (t : Bool) → filled_to flash (if t then clean_region else record region { status = Draining; buffer = []; appended = []; early = false }) ≤ region_len flash
-    go true = omega arith
-    go false = omega (arith, h)
-
 pub ended_kept : (flash : FlashConfig) (cause : Cause) (s : Block) (r : ℕ) → Kept flash s → Ending flash r s → Kept flash (end_region cause r s).state
 ended_kept flash cause s r k e = record {
   limits = k.limits;
   count = length-set s.regions r (emptied (region_at r s.regions)) ∙ k.count;
-  filled = each-set (λ q x. filled_to flash x ≤ region_len flash) s.regions r (emptied (region_at r s.regions)) (in_range s.regions r e.unclean) (emptied_filled flash (region_at r s.regions) (k.filled r)) (λ q n. k.filled q);
+  filled = ended_within flash cause r s k.filled;
   sound = ended_sound flash cause r s e;
 }
 
@@ -67,29 +62,22 @@ all_there regions (x ∷ xs) h = (stored x (h x (rw (same_num x) refl)), all_the
 
 -- ---- reclaim
 
-pub reclaim_is : (flash : FlashConfig) (s : Block) → reclaim flash s ≡ reclaim_of s (reclaimed_next flash s)
-reclaim_is flash s = go (nat_lt (clean_count s.regions) flash.clean)
-  where
-    go : (t : Bool) → (if t then reclaim_of s (oldest s.regions s.flushed) else reclaim_of s None) ≡ reclaim_of s (if t then oldest s.regions s.flushed else None)
-    go true = refl
-    go false = refl
-
-next_oldest : (flash : FlashConfig) (s : Block) (r : ℕ) → reclaimed_next flash s ≡ Some r → oldest s.regions s.flushed ≡ Some r
+next_oldest : (flash : FlashConfig) (s : Block) (r : ℕ) → reclaim_next flash s ≡ Some r → oldest s.regions s.flushed ≡ Some r
 next_oldest flash s r = go (nat_lt (clean_count s.regions) flash.clean)
   where
     go : (t : Bool) → (if t then oldest s.regions s.flushed else None) ≡ Some r → oldest s.regions s.flushed ≡ Some r
     go true e = e
     go false e = absurd (cc)
 
-pub next_ending : (flash : FlashConfig) (s : Block) (r : ℕ) → Kept flash s → reclaimed_next flash s ≡ Some r → Ending flash r s
+pub next_ending : (flash : FlashConfig) (s : Block) (r : ℕ) → Kept flash s → reclaim_next flash s ≡ Some r → Ending flash r s
 next_ending flash s r k e = (oldest_ending flash s r k.sound (oldest_is s.regions s.flushed r (next_oldest flash s r e))).0
 
-pub can_end : (flash : FlashConfig) (s : Block) (r : ℕ) → Kept flash s → reclaimed_next flash s ≡ Some r → CanEnd flash (Reclaimed r) r s
+pub can_end : (flash : FlashConfig) (s : Block) (r : ℕ) → Kept flash s → reclaim_next flash s ≡ Some r → CanEnd flash (Reclaimed r) r s
 can_end flash s r k e =
     let ending = next_ending flash s r k e in
     record { there = in_range s.regions r ending.unclean; in_use = ending.unclean; kept = ended_kept flash (Reclaimed r) s r k ending }
 
-pub all_can_end : (flash : FlashConfig) (s : Block) (o : Option ℕ) → Kept flash s → reclaimed_next flash s ≡ o → IfSome o (λ r. CanEnd flash (Reclaimed r) r s)
+pub all_can_end : (flash : FlashConfig) (s : Block) (o : Option ℕ) → Kept flash s → reclaim_next flash s ≡ o → IfSome o (λ r. CanEnd flash (Reclaimed r) r s)
 all_can_end flash s None k e = tt
 all_can_end flash s (Some r) k e = can_end flash s r k e
 
@@ -104,7 +92,7 @@ can_fail flash s number r bytes k e =
       kept = record {
         limits = k.limits;
         count = length-set s.regions r (emptied (region_at r s.regions)) ∙ k.count;
-        filled = each-set (λ q x. filled_to flash x ≤ region_len flash) s.regions r (emptied (region_at r s.regions)) (in_range s.regions r ending.unclean) (emptied_filled flash (region_at r s.regions) (k.filled r)) (λ q n. k.filled q);
+        filled = ended_within flash Fault r (end_job number s) k.filled;
         sound = ended_sound flash Fault r (end_job number s) ending;
       };
     }

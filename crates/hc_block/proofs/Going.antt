@@ -5,37 +5,24 @@ use Rattle.std.proofs.Math.Nat.{mul-le-mul_left}
 use Rattle.hc_engines.specs.large.Laws.{IsFree}
 use Rattle.std.specs.Prelude.{if◌then◌else◌, IfSome}
 use Rattle.hc_types.specs.declared.config.FlashConfig.{FlashConfig}
-use Rattle.hc_engines.specs.large.Region.{Sealed, Region, region_len, filled_to, is_clean, region_at, can_go, next_page, page_no}
-use Rattle.hc_engines.specs.large.Block.{Block, Job, Moved, Writing, unmoved}
+use Rattle.hc_engines.specs.large.Region.{Sealed, Region, is_clean, region_at, can_go, next_page, page_no}
+use Rattle.hc_engines.specs.large.Block.{Block, Job, Moved, Writing, job_added}
 use Rattle.hc_engines.specs.Engine.{Order, Write, nothing}
 use Rattle.hc_engines.specs.large.Numbers.{is_in}
-use Rattle.hc_engines.specs.large.Steps.{flush, flush_of, early_of, first_ready, write_out}
+use Rattle.hc_engines.specs.large.Steps.{flush, first_ready}
 use Rattle.hc_engines.specs.large.Sound.{Sound}
 use Rattle.hc_block.specs.Large.{Kept}
-use Rattle.hc_region.specs.Stages.{marked}
-use Rattle.hc_block.specs.Going.{left_sealed, early_next, next_from, flush_next, gone_out, flushed_by, CanGoOut}
+use Rattle.hc_region.specs.Stages.{mark_seen}
+use Rattle.hc_engines.specs.large.Choices.{Mark, Early, Flush, marked, left_sealed, early_next, next_from, flush_next, gone_out, flushed_by}
+use Rattle.hc_engines.proofs.large.Choices.{flush_by_choice}
+use Rattle.hc_engines.proofs.large.Within.{flush_within}
+use Rattle.hc_engines.specs.large.Within.{AllWithin}
+use Rattle.hc_block.specs.Going.{choice_seen, CanGoOut}
 use Rattle.hc_region.specs.Numbers.{AllThere}
-use Rattle.hc_engines.proofs.large.Lists.{in_range, each-set, same_num}
+use Rattle.hc_engines.proofs.large.Lists.{in_range, same_num}
 use Rattle.hc_engines.proofs.large.Flushes.{ready_is}
-use Rattle.hc_region.specs.declared.status.Mark.{Mark}
-use Rattle.hc_region.specs.declared.status.Mark.TheVariants as marks
+use Rattle.hc_region.specs.declared.status.Mark as code
 use Rattle.hc_engines.proofs.large.FlushesSound.{flush_sound}
-
--- the plan, carried out, is the machine's flush
-early_by : (flash : FlashConfig) (number : ℕ) (s : Block) (o : Option ℕ) → early_of flash number s o ≡ flushed_by flash number s (early_next flash s o)
-early_by flash number s None = refl
-early_by flash number s (Some r) = go (can_go flash (region_at r s.regions))
-  where
-    go : (t : Bool) → (if t then write_out flash number r (record (region_at r s.regions) { early = true }) s else unmoved s) ≡ flushed_by flash number s (if t then Some (r, marks.Early) else None)
-    go true = refl
-    go false = refl
-
-pub flush_by : (flash : FlashConfig) (number : ℕ) (s : Block) → flush flash number s ≡ flushed_by flash number s (flush_next flash s)
-flush_by flash number s = go (first_ready s.regions s.sealed)
-  where
-    go : (o : Option ℕ) → flush_of flash number s o ≡ flushed_by flash number s (next_from flash s o)
-    go None = early_by flash number s s.current
-    go (Some r) = refl
 
 some_same : (a b : ℕ × Mark) → Some a ≡ Some b → a ≡ b
 some_same a b e = cc
@@ -52,7 +39,7 @@ next_in_use flash s r mark k e = go (first_ready s.regions s.sealed) refl e
     early (Some q) c e = at (can_go flash (region_at q s.regions)) e
       where
         turn : ℕ × Mark
-        turn = (q, marks.Early)
+        turn = (q, Early)
 
         at : (t : Bool) → (if t then Some turn else None) ≡ Some (r, mark) → is_clean (region_at r s.regions).status ≡ false
         at true e = let same : q ≡ r = turn_region turn (r, mark) e in rw (← same, k.sound.current q c) refl
@@ -61,19 +48,20 @@ next_in_use flash s r mark k e = go (first_ready s.regions s.sealed) refl e
     go : (o : Option ℕ) → first_ready s.regions s.sealed ≡ o → next_from flash s o ≡ Some (r, mark) → is_clean (region_at r s.regions).status ≡ false
     go None f e = early s.current refl e
     go (Some q) f e =
-        let same : q ≡ r = turn_region (q, marks.Flush) (r, mark) e in
+        let same : q ≡ r = turn_region (q, Flush) (r, mark) e in
         let is_sealed = k.sound.sealed q (ready_is s.regions s.sealed q f).there in
         rw (← same, is_sealed) refl
 
 pub can_go_out : (flash : FlashConfig) (number : ℕ) (s : Block) (r : ℕ) (mark : Mark) → Kept flash s → IsFree number s → flush_next flash s ≡ Some (r, mark) → CanGoOut flash number r mark s
 can_go_out flash number s r mark k free e = record {
+  free = free;
   there = there;
   in_use = in_use;
   kept = record {
     limits = k.limits;
     count = length-set s.regions r new ∙ k.count;
-    filled = each-set (λ q x. filled_to flash x ≤ region_len flash) s.regions r new there (k.filled r) (λ q n. k.filled q);
-    sound = subst (λ (m : Moved). Sound flash m.state) (flush_by flash number s ∙ ap (flushed_by flash number s) e) (flush_sound flash number s free k.sound);
+    filled = subst (λ (m : Moved). AllWithin flash m.state) goes (flush_within flash number s k.filled);
+    sound = subst (λ (m : Moved). Sound flash m.state) goes (flush_sound flash number s free k.sound);
   };
 }
   where
@@ -86,9 +74,12 @@ can_go_out flash number s r mark k free e = record {
     new : Region
     new = marked mark (region_at r s.regions)
 
-pub all_can_go_out : (flash : FlashConfig) (number : ℕ) (s : Block) (o : Option (ℕ × Mark)) → Kept flash s → IsFree number s → flush_next flash s ≡ o → IfSome o (λ turn. CanGoOut flash number turn.0 turn.1 s)
+    goes : flush flash number s ≡ gone_out flash number r mark s
+    goes = flush_by_choice flash number s ∙ ap (flushed_by flash number s) e
+
+pub all_can_go_out : (flash : FlashConfig) (number : ℕ) (s : Block) (o : Option (ℕ × code.Mark)) → Kept flash s → IsFree number s → flush_next flash s ≡ choice_seen o → IfSome o (λ turn. CanGoOut flash number turn.0 (mark_seen turn.1) s)
 all_can_go_out flash number s None k free e = tt
-all_can_go_out flash number s (Some turn) k free e = can_go_out flash number s turn.0 turn.1 k free e
+all_can_go_out flash number s (Some turn) k free e = can_go_out flash number s turn.0 (mark_seen turn.1) k free e
 
 pub sealed_there : (flash : FlashConfig) (s : Block) → Kept flash s → AllThere (length s.regions) s.sealed
 sealed_there flash s k = go s.sealed k.sound.sealed
@@ -102,7 +93,7 @@ sealed_there flash s k = go s.sealed k.sound.sealed
 
 -- what the fields hold after a page went out is the machine's state
 pub gone_is : (flash : FlashConfig) (number r : ℕ) (mark : Mark) (s : Block) (regions : List Region) (sealed : List ℕ) (jobs : List Job) (order : Order) → regions ≡ set s.regions r (marked mark (region_at r s.regions)) → sealed ≡ left_sealed mark r s.sealed
-    → jobs ≡ record { number = number; work = Writing r (next_page flash (region_at r s.regions)) } ∷ s.jobs → order ≡ Write (page_no flash r (region_at r s.regions).written) (next_page flash (region_at r s.regions))
+    → jobs ≡ job_added number (Writing r (next_page flash (region_at r s.regions))) s.jobs → order ≡ Write (page_no flash r (region_at r s.regions).written) (next_page flash (region_at r s.regions))
     → gone_out flash number r mark s ≡ record { state = record s { regions = regions; sealed = sealed; jobs = jobs }; outcome = nothing; order = Some order }
 gone_is flash number r mark s regions sealed jobs order rs ss js o = rw (rs, ss, js, o) refl
 
@@ -117,5 +108,5 @@ written_fits flash s r k = omega (arith, written_small flash s r k)
 
 -- a region whose page goes out is as clean as before
 pub marked_clean : (mark : Mark) (region : Region) → is_clean region.status ≡ false → is_clean (marked mark region).status ≡ is_clean region.status
-marked_clean marks.Early region h = refl
-marked_clean marks.Flush region h = sym h
+marked_clean Early region h = refl
+marked_clean Flush region h = sym h

@@ -1,6 +1,6 @@
 -- What the engine keeps at all times, over puts.
 use Rattle.std.proofs.Common.{◌≡◌, ℕ, ◌+◌, ◌<◌, ◌≤◌, Bool, true, false, List, length, set, Option, Some, None, refl, sym, ap, arith, ◌∙◌}
-use Rattle.std.proofs.lemmas.List.{length-set, length-append, set-set}
+use Rattle.std.proofs.lemmas.List.{length-set, set-set}
 use Rattle.std.specs.Prelude.{if◌then◌else◌, nat_le, IfSome}
 use Rattle.hc_types.specs.declared.config.FlashConfig.{FlashConfig}
 use Rattle.hc_types.specs.Places.{kept_of}
@@ -15,7 +15,8 @@ use Rattle.hc_block.specs.Large.{Kept, HasRoom, CanOpen}
 use Rattle.hc_region.specs.Growing.{grown}
 use Rattle.hc_region.specs.CleanNumbers.{clean_from, first_of}
 use Rattle.hc_region.proofs.Cleans.{first_lowest, same_clean}
-use Rattle.hc_engines.proofs.large.Lists.{in_range, region_at-set, each-set, same_num}
+use Rattle.hc_engines.proofs.large.Lists.{in_range, region_at-set, same_num}
+use Rattle.hc_engines.proofs.large.Within.{set_within, sealed_within, fitting_is, append_within}
 use Rattle.hc_engines.proofs.large.Regions.{IsLowest, lowest_is}
 use Rattle.hc_engines.proofs.large.Puts.{append_sound, seal_sound, open_sound, sealed_clean, seal-length, seal_step}
 
@@ -33,37 +34,25 @@ pub record Fitted (flash : FlashConfig) (s : Block) (len r : ℕ) : Type 0 where
   pub room : filled_to flash (region_at r s.regions) + len ≤ region_len flash
 
 pub fitted : (flash : FlashConfig) (s : Block) (len r : ℕ) → fitting flash s len s.current ≡ Some r → Fitted flash s len r
-fitted flash s len r h = go s.current refl h
+fitted flash s len r h = record { current = current s.current h; room = fitting_is flash s len r s.current h }
   where
-    room_of : (q : ℕ) (t : Bool) → nat_le (filled_to flash (region_at q s.regions) + len) (region_len flash) ≡ t → (if t then Some q else None) ≡ Some r → (q ≡ r) × (filled_to flash (region_at q s.regions) + len ≤ region_len flash)
-    room_of q true e h = ((cc), grind (arith, e))
-    room_of q false e h = absurd (cc)
-
-    go : (o : Option ℕ) → s.current ≡ o → fitting flash s len o ≡ Some r → Fitted flash s len r
-    go None e h = absurd (cc)
-    go (Some q) e h =
-        let both = room_of q (nat_le (filled_to flash (region_at q s.regions) + len) (region_len flash)) refl h in
-        record { current = e ∙ ap (λ (x : ℕ). Some x) both.0; room = rw (← both.0) both.1 }
+    current : (o : Option ℕ) → fitting flash s len o ≡ Some r → o ≡ Some r
+    current None h = absurd (cc)
+    current (Some q) h = pick (nat_le (filled_to flash (region_at q s.regions) + len) (region_len flash)) h
+      where
+        pick : (t : Bool) → (if t then Some q else None) ≡ Some r → Some q ≡ Some r
+        pick true h = h
+        pick false h = absurd (cc)
 
 -- ---- after a put
 
 pub append_kept : (flash : FlashConfig) (s : Block) (entry : FlashEntry) (r : ℕ) → Kept flash s → (region_at r s.regions).status ≡ Open → filled_to flash (region_at r s.regions) + length (entry_bytes entry) ≤ region_len flash → Kept flash (append flash r entry s)
 append_kept flash s entry r k is_open room = record {
   limits = k.limits;
-  count = length-set s.regions r new ∙ k.count;
-  filled = each-set (λ q x. filled_to flash x ≤ region_len flash) s.regions r new (in_range s.regions r (rw is_open refl)) (omega (arith, room, length-append (region_at r s.regions).buffer (entry_bytes entry))) (λ q n. k.filled q);
+  count = length-set s.regions r (grown flash (kept_of flash.bits entry.key) (entry_bytes entry) (region_at r s.regions)) ∙ k.count;
+  filled = append_within flash entry r s room k.filled;
   sound = append_sound flash r entry s is_open k.sound;
 }
-  where
-    new : Region
-    new = grown flash (kept_of flash.bits entry.key) (entry_bytes entry) (region_at r s.regions)
-
-seal_filled : (flash : FlashConfig) (s : Block) → Kept flash s → (q : ℕ) → filled_to flash (region_at q (seal s.current s.regions)) ≤ region_len flash
-seal_filled flash s k = go s.current refl
-  where
-    go : (o : Option ℕ) → s.current ≡ o → (q : ℕ) → filled_to flash (region_at q (seal o s.regions)) ≤ region_len flash
-    go None e q = k.filled q
-    go (Some c) e q = each-set (λ q x. filled_to flash x ≤ region_len flash) s.regions c (record (region_at c s.regions) { status = Sealed }) (current_there flash s c k e) (k.filled c) (λ q n. k.filled q) q
 
 open_there : (s : Block) (r : ℕ) → lowest_clean 0 s.regions ≡ Some r → IsLowest s.regions r
 open_there s r h = let m = lowest_is s.regions 0 r h in let same : r ≡ m.0 = omega (arith, m.1) in rw same m.2
@@ -72,7 +61,7 @@ pub open_kept : (flash : FlashConfig) (s : Block) (r : ℕ) → Kept flash s →
 open_kept flash s r k h = record {
   limits = k.limits;
   count = length-set (seal s.current s.regions) r opened_region ∙ seal-length s.current s.regions ∙ k.count;
-  filled = each-set (λ q x. filled_to flash x ≤ region_len flash) (seal s.current s.regions) r opened_region there (omega arith) (λ q n. seal_filled flash s k q);
+  filled = set_within flash (seal s.current s.regions) r opened_region (omega arith) (sealed_within flash s.current s.regions k.filled);
   sound = open_sound flash r (seal_step s) (omega (arith, k.limits.some_page)) there (sealed_clean s r k.sound.current ∙ low.clean) (seal_sound flash s k.sound);
 }
   where

@@ -4,32 +4,31 @@ use Rattle.std.proofs.lemmas.List.{length-set}
 use Rattle.std.proofs.lemmas.Bool.{ltb-true}
 use Rattle.std.proofs.Math.Nat.{min-le_left}
 use Rattle.std.specs.Prelude.{if◌then◌else◌, nat_lt, IfSome}
-use Rattle.std.specs.List.{remove}
 use Rattle.hc_types.specs.declared.config.FlashConfig.{FlashConfig}
 use Rattle.hc_types.specs.Places.{kept_of}
 use Rattle.hc_types.specs.FlashEntry.{FlashEntry}
 use Rattle.hc_engines.specs.large.Entries.{entry_in}
 use Rattle.hc_engines.specs.large.Region.{Region, clean_region, region_len, filled_to, region_at, page_no}
 use Rattle.hc_engines.specs.large.Index.{Place, Indexed, place_at, is_place}
-use Rattle.hc_engines.specs.large.Block.{Block, Job, Work, Reading, Moved, Getting, finished, end_job, with_region}
+use Rattle.hc_engines.specs.large.Block.{Block, Job, Reading, Moved, Getting, finished, without_job, job_added, end_job, with_region}
 use Rattle.hc_engines.specs.Engine.{Read, Answer, Absent, Loss, Outcome, nothing}
 use Rattle.hc_engines.specs.large.Numbers.{minus}
 use Rattle.hc_engines.specs.large.Steps.{end_page, reading_of, read_bytes, answered, answer_of, absent, unreadable, failed_read, read_next, pinned, let_go}
 use Rattle.hc_engines.specs.large.Sound.{reads, readers, Sound}
 use Rattle.hc_block.specs.Large.{Kept}
 use Rattle.hc_block.specs.Ends.{flushed_left}
-use Rattle.hc_block.specs.Works.{no_job, job_at, reading_in, reading_now, IsGetting, IsReading, read_on}
-use Rattle.hc_block.specs.Settling.{StandsAt}
-use Rattle.hc_block.specs.Reads.{came_in, came_by, came_failed, came_to, index_left, answer_at, losses_at, next_of, IsReadAt, CanReadOn, CanRead}
+use Rattle.hc_block.specs.Works.{reading_at, IsReading}
+use Rattle.hc_engines.specs.large.Unread.{read_on}
+use Rattle.hc_block.specs.Reads.{came_in, came_by, came_failed, came_to, index_left, answer_at, losses_at, next_of, CanReadOn, CanRead}
 use Rattle.hc_region.specs.Pins.{is_last, released, released_by}
-use Rattle.hc_engines.proofs.large.Lists.{in_range, each-set}
+use Rattle.hc_engines.proofs.large.Lists.{in_range}
+use Rattle.hc_engines.proofs.large.Within.{set_within, no_fuller}
 use Rattle.hc_engines.proofs.large.Jobs.{work_holds}
 use Rattle.hc_engines.proofs.large.GetStays.{indexed_live, take_sound}
 use Rattle.hc_engines.proofs.large.Flushes.{live_unclean}
 use Rattle.hc_engines.proofs.large.Gets.{pinned_by}
 use Rattle.hc_engines.proofs.large.GetsSound.{begins_sound, on_sound, let_go_sound}
 use Rattle.hc_engines.specs.large.Laws.{IsFree}
-use Rattle.hc_block.proofs.Settling.{placed, stands_at}
 use Rattle.hc_block.proofs.Going.{written_small}
 
 -- ---- what a read came to
@@ -91,21 +90,10 @@ take_kept flash hash None s k = record { limits = k.limits; count = k.count; fil
 
 -- ---- a read that is under way
 
-some_same : (a b : Work) → Some a ≡ Some b → a ≡ b
-some_same a b e = cc
-
-pub read_at : (flash : FlashConfig) (number at : ℕ) (s : Block) → Kept flash s → IsReading number at s → IsReadAt number at s
-read_at flash number at s k h =
-    let p = placed number at s.jobs h.stands in
-    let same = some_same (Getting (reading_now number s)) (job_at at s.jobs).work (sym h.reads ∙ p.work no_job) in
-    let holds = work_holds flash s.regions number (Getting (reading_now number s)) s.jobs k.sound.works h.reads in
-    record {
-      job = stands_at flash number at s k.sound h.stands;
-      numbered = p.numbered no_job;
-      reading = sym (ap reading_in same);
-      getting = subst IsGetting same tt;
-      small = omega (arith, holds.0, holds.1, written_small flash s (reading_now number s).place.region k);
-    }
+pub read_small : (flash : FlashConfig) (number : ℕ) (s : Block) → Kept flash s → IsReading number s.jobs → (reading_at number s.jobs).next < 65536
+read_small flash number s k h =
+    let holds = work_holds flash s.regions number (Getting (reading_at number s.jobs)) s.jobs k.sound.works h in
+    omega (arith, holds.0, holds.1, written_small flash s (reading_at number s.jobs).place.region k)
 
 next_more : (flash : FlashConfig) (reading : Reading) (page : ℕ) → next_of flash reading ≡ Some page → reading.next + 1 < reading.until
 next_more flash reading page e = go (nat_lt (reading.next + 1) reading.until) refl e
@@ -114,38 +102,39 @@ next_more flash reading page e = go (nat_lt (reading.next + 1) reading.until) re
     go true t e = ltb-true (reading.next + 1) reading.until t
     go false t e = absurd (cc)
 
-pub all_can_read_on : (flash : FlashConfig) (number at : ℕ) (s : Block) (o : Option ℕ) → Kept flash s → IsReading number at s → next_of flash (reading_now number s) ≡ o → IfSome o (λ page. CanReadOn flash number at s)
-all_can_read_on flash number at s None k h e = tt
-all_can_read_on flash number at s (Some page) k h e = record {
-  read = read_at flash number at s k h;
-  kept = λ bytes. record { limits = k.limits; count = k.count; filled = k.filled; sound = on_sound flash number (reading_now number s) bytes s k.sound h.reads (next_more flash (reading_now number s) page e) };
+pub all_can_read_on : (flash : FlashConfig) (number : ℕ) (s : Block) (o : Option ℕ) → Kept flash s → IsReading number s.jobs → next_of flash (reading_at number s.jobs) ≡ o → IfSome o (λ page. CanReadOn flash number s)
+all_can_read_on flash number s None k h e = tt
+all_can_read_on flash number s (Some page) k h e = record {
+  read = h;
+  small = read_small flash number s k h;
+  kept = λ bytes. record { limits = k.limits; count = k.count; filled = k.filled; sound = on_sound flash number (reading_at number s.jobs) bytes s k.sound h (next_more flash (reading_at number s.jobs) page e) };
 }
 
 -- ---- what the fields hold then
 
-pub on_is : (flash : FlashConfig) (number at : ℕ) (s : Block) (bytes : List ℕ) (jobs : List Job) → IsReadAt number at s → jobs ≡ record { number = (job_at at s.jobs).number; work = Getting (read_on (reading_in (job_at at s.jobs).work) bytes) } ∷ remove s.jobs at
-    → (read_next flash number (read_on (reading_now number s) bytes) (end_job number s)).state ≡ record s { jobs = jobs }
-on_is flash number at s bytes jobs p js = rw (js, p.numbered, p.reading, p.job.left) refl
+pub on_is : (flash : FlashConfig) (number : ℕ) (s : Block) (bytes : List ℕ) (jobs : List Job) → jobs ≡ job_added number (Getting (read_on (reading_at number s.jobs) bytes)) (without_job number s.jobs)
+    → (read_next flash number (read_on (reading_at number s.jobs) bytes) (end_job number s)).state ≡ record s { jobs = jobs }
+on_is flash number s bytes jobs js = rw js refl
 
-pub left_is : (r number at : ℕ) (hash : ℕ) (came : Option Answer) (s : Block) (cleared : Option ℕ) (index : List Indexed) (regions : List Region) (flushed : List ℕ) (jobs : List Job) (losses : List Loss) (answer : Answer) (outcome : Outcome) → StandsAt number at s
-    → index ≡ index_left came hash s.index → regions ≡ set s.regions r (released (region_at r s.regions)) → cleared ≡ released_by (region_at r s.regions) r → flushed ≡ flushed_left cleared r s.flushed → jobs ≡ remove s.jobs at
+pub left_is : (r number : ℕ) (hash : ℕ) (came : Option Answer) (s : Block) (cleared : Option ℕ) (index : List Indexed) (regions : List Region) (flushed : List ℕ) (jobs : List Job) (losses : List Loss) (answer : Answer) (outcome : Outcome)
+    → index ≡ index_left came hash s.index → regions ≡ set s.regions r (released (region_at r s.regions)) → cleared ≡ released_by (region_at r s.regions) r → flushed ≡ flushed_left cleared r s.flushed → jobs ≡ without_job number s.jobs
     → losses ≡ losses_at came hash → answer ≡ answer_at came → outcome ≡ record nothing { answer = answer; losses = losses; cleared = cleared }
     → let_go r (came_to hash (end_job number s) came) ≡ finished (record s { regions = regions; flushed = flushed; index = index; jobs = jobs }) outcome
-left_is r number at hash came s cleared index regions flushed jobs losses answer outcome p is rs cl fl js ls a o = let_go_is r hash number s came ∙ (rw (o, ls, a, js, fl, cl, rs, is, p.left) refl)
+left_is r number hash came s cleared index regions flushed jobs losses answer outcome is rs cl fl js ls a o = let_go_is r hash number s came ∙ (rw (o, ls, a, js, fl, cl, rs, is) refl)
 
-pub read_there : (flash : FlashConfig) (number at : ℕ) (s : Block) → Kept flash s → IsReading number at s → (reading_now number s).place.region < length s.regions
-read_there flash number at s k h = in_range s.regions (reading_now number s).place.region (pinned_by flash number (reading_now number s) s k.sound h.reads).unclean
+pub read_there : (flash : FlashConfig) (number : ℕ) (s : Block) → Kept flash s → IsReading number s.jobs → (reading_at number s.jobs).place.region < length s.regions
+read_there flash number s k h = in_range s.regions (reading_at number s.jobs).place.region (pinned_by flash number (reading_at number s.jobs) s k.sound h).unclean
 
-pub leave_kept : (flash : FlashConfig) (number at hash : ℕ) (came : Option Answer) (s : Block) → Kept flash s → IsReading number at s → Kept flash (let_go (reading_now number s).place.region (came_to hash (end_job number s) came)).state
-leave_kept flash number at hash came s k h = subst (λ (m : Moved). Kept flash m.state) (sym (let_go_is r hash number s came)) (record {
+pub leave_kept : (flash : FlashConfig) (number hash : ℕ) (came : Option Answer) (s : Block) → Kept flash s → IsReading number s.jobs → Kept flash (let_go (reading_at number s.jobs).place.region (came_to hash (end_job number s) came)).state
+leave_kept flash number hash came s k h = subst (λ (m : Moved). Kept flash m.state) (sym (let_go_is r hash number s came)) (record {
   limits = k.limits;
   count = length-set s.regions r (released region) ∙ k.count;
-  filled = each-set (λ q x. filled_to flash x ≤ region_len flash) s.regions r (released region) (read_there flash number at s k h) (released_filled (is_last region)) (λ q n. k.filled q);
+  filled = set_within flash s.regions r (released region) (released_filled (is_last region)) k.filled;
   sound = subst (λ (m : Moved). Sound flash m.state) (let_go_is r hash number s came) (subst (λ (m : Moved). Sound flash (let_go r m).state) (sym (came_is hash (end_job number s) came)) gone);
 })
   where
     r : ℕ
-    r = (reading_now number s).place.region
+    r = (reading_at number s.jobs).place.region
 
     region : Region
     region = region_at r s.regions
@@ -154,7 +143,7 @@ leave_kept flash number at hash came s k h = subst (λ (m : Moved). Kept flash m
     t = record s { index = index_left came hash s.index }
 
     gone : Sound flash (let_go r (finished (end_job number t) (record nothing { answer = answer_at came; losses = losses_at came hash }))).state
-    gone = let_go_sound flash number (reading_now number s) t (record nothing { answer = answer_at came; losses = losses_at came hash }) (take_kept flash hash came s k).sound h.reads
+    gone = let_go_sound flash number (reading_at number s.jobs) t (record nothing { answer = answer_at came; losses = losses_at came hash }) (take_kept flash hash came s k).sound h
 
     released_filled : (b : Bool) → filled_to flash (if b then clean_region else record region { pins = region.pins - 1 }) ≤ region_len flash
     released_filled true = omega arith
@@ -176,13 +165,14 @@ place_there flash s hash place k e = in_range s.regions place.region (live_uncle
 pub can_read : (flash : FlashConfig) (number hash : ℕ) (key : List ℕ) (place : Place) (s : Block) → Kept flash s → place_at hash s.index ≡ Some place → (reading_of flash key place s).next < (reading_of flash key place s).until → IsFree number s
     → CanRead flash number (reading_of flash key place s) s
 can_read flash number hash key place s k e below free = record {
+  free = free;
   there = place_there flash s hash place k e;
   pins = omega (arith, (k.sound.regions place.region).pinned, some_readers place.region s.jobs);
   next = omega (arith, below, within, written_small flash s place.region k);
   kept = record {
     limits = k.limits;
     count = length-set s.regions place.region x ∙ k.count;
-    filled = each-set (λ q y. filled_to flash y ≤ region_len flash) s.regions place.region x (place_there flash s hash place k e) (k.filled place.region) (λ q n. k.filled q);
+    filled = no_fuller flash s.regions place.region x (omega arith) k.filled;
     sound = begins_sound flash number (reading_of flash key place s) s k.sound free (live_unclean (region_at place.region s.regions).status (indexed_live flash s hash place k.sound e)) below within;
   };
 }
@@ -199,6 +189,6 @@ now_is hash s came index losses answer outcome is ls a o = came_is hash s came �
 
 -- what the fields hold where a read began is the machine's state
 pub began_is : (flash : FlashConfig) (number : ℕ) (reading : Reading) (s : Block) (regions : List Region) (jobs : List Job) (page : ℕ) → regions ≡ set s.regions reading.place.region (record (region_at reading.place.region s.regions) { pins = (region_at reading.place.region s.regions).pins + 1 })
-    → jobs ≡ record { number = number; work = Getting reading } ∷ s.jobs → page ≡ page_no flash reading.place.region reading.next
+    → jobs ≡ job_added number (Getting reading) s.jobs → page ≡ page_no flash reading.place.region reading.next
     → read_next flash number reading (pinned reading.place.region s) ≡ record { state = record s { regions = regions; jobs = jobs }; outcome = nothing; order = Some (Read page) }
 began_is flash number reading s regions jobs page rs js p = rw (rs, js, p) refl

@@ -6,8 +6,10 @@ pub mod Ending
 pub mod Going
 pub mod Making
 pub mod Settling
-pub mod Fronts
 pub mod Leaving
 pub mod Turning
+pub mod Joining
+pub mod Ordered
 pub mod Pairs
+pub mod Works
 pub mod Segments

@@ -1,25 +1,15 @@
 -- A new engine.
-use Rattle.std.proofs.Common.{◌≡◌, ℕ, zero, suc, ◌-◌, ◌*◌, ◌≤◌, ◌==◌, Bool, true, false, not, ◌&&◌, ◌||◌, Option, Some, None, refl, arith}
+use Rattle.std.proofs.Common.{◌≡◌, ℕ, zero, suc, ◌-◌, ◌*◌, ◌≤◌, Bool, true, false, ◌&&◌, None, refl, arith}
 use Rattle.std.proofs.lemmas.List.{length-replicate}
 use Rattle.std.proofs.Math.Nat.{mul-le-mul_left}
-use Rattle.std.specs.Prelude.{nat_le, nat_lt, if◌then◌else◌, replicate}
+use Rattle.std.specs.Prelude.{nat_le, nat_lt, replicate}
 use Rattle.hc_types.specs.declared.config.FlashConfig.{FlashConfig}
-use Rattle.hc_types.specs.declared.refusal.Refusal.{Refusal}
 use Rattle.hc_types.specs.Limits.{flash_wrong, is_within, page_fits, regions_fit, queue_fits}
 use Rattle.hc_engines.specs.large.Region.{clean_region, region_at}
 use Rattle.hc_engines.specs.large.Laws.{new_block}
+use Rattle.hc_engines.proofs.small.Limited.{if-none, page-within, within}
 use Rattle.hc_engines.proofs.large.New.{new_good}
 use Rattle.hc_block.specs.Large.{Limits, Kept}
-
-if-none : (t : Bool) (x : Refusal) (o : Option Refusal) → (if not t then Some x else o) ≡ None → (t ≡ true) × (o ≡ None)
-if-none true x o h = (refl, h)
-if-none false x o h = absurd (cc)
-
-page-within : (n : ℕ) → ((n == 512) || (n == 1024) || (n == 2048) || (n == 4096)) ≡ true → (512 ≤ n) × (n ≤ 4096)
-page-within n h = (grind (arith, h), grind (arith, h))
-
-within : (least most n : ℕ) → is_within least most n ≡ true → (least ≤ n) × (n ≤ most)
-within least most n h = (grind (arith, h), grind (arith, h))
 
 -- the first two of what is asked of the regions
 regions-within : (flash : FlashConfig) → regions_fit flash ≡ true → (is_within 2 65536 flash.regions ≡ true) × (is_within 1 4096 flash.region_pages ≡ true)

@@ -1,11 +1,11 @@
 -- Why a region ends, and what that leaves.
-use Rattle.std.specs.Prelude.{◌≡◌, ℕ, ◌<◌, nat_lt, false, List, length, Option, Some, None, if◌then◌else◌}
+use Rattle.std.specs.Prelude.{◌≡◌, ℕ, ◌<◌, false, List, length, Option, Some, None}
 use Rattle.hc_types.specs.declared.config.FlashConfig.{FlashConfig}
 use Rattle.hc_types.specs.Loss.{Cause, Reclaimed, Fault}
 use Rattle.hc_engines.specs.large.Region.{is_clean, region_at}
 use Rattle.hc_engines.specs.large.Block.{Block, Job, without_job}
 use Rattle.hc_engines.specs.large.Numbers.{minus}
-use Rattle.hc_engines.specs.large.Steps.{clean_count, oldest, end_region}
+use Rattle.hc_engines.specs.large.Steps.{end_region}
 use Rattle.hc_block.specs.Large.{Kept}
 use Rattle.hc_block.specs.declared.ends.End.{End}
 use Rattle.hc_block.specs.declared.ends.End.TheVariants as ends
@@ -18,10 +18,6 @@ cause_seen ends.Fault = Fault
 abbrev pub flushed_left : Option ℕ → ℕ → List ℕ → List ℕ
 flushed_left None r flushed = flushed
 flushed_left (Some q) r flushed = minus r flushed
-
--- the region that is reclaimed next
-abbrev pub reclaimed_next : FlashConfig → Block → Option ℕ
-reclaimed_next flash s = if nat_lt (clean_count s.regions) flash.clean then oldest s.regions s.flushed else None
 
 -- the operations under way, where this one is over
 abbrev pub jobs_left : Option ℕ → List Job → List Job

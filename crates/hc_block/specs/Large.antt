@@ -4,6 +4,7 @@ use Rattle.hc_types.specs.declared.config.FlashConfig.{FlashConfig}
 use Rattle.hc_engines.specs.large.Region.{Region, region_len, filled_to, is_clean, region_at, lowest_clean}
 use Rattle.hc_engines.specs.large.Block.{Block}
 use Rattle.hc_engines.specs.large.Sound.{Sound}
+use Rattle.hc_engines.specs.large.Within.{AllWithin}
 use Rattle.hc_region.specs.CleanNumbers.{clean_from}
 
 pub record Large : Type 0 where
@@ -25,7 +26,7 @@ pub record Limits (flash : FlashConfig) : Type 0 where
 pub record Kept (flash : FlashConfig) (s : Block) : Type 0 where
   pub limits : Limits flash
   pub count : length s.regions ≡ flash.regions
-  pub filled : (r : ℕ) → filled_to flash (region_at r s.regions) ≤ region_len flash
+  pub filled : AllWithin flash s
   pub sound : Sound flash s
 
 -- and the numbers of the clean regions are listed

@@ -1,5 +1,5 @@
 -- Reads: what they come to, and that their region is let go.
-use Rattle.std.specs.Prelude.{◌≡◌, ℕ, ◌+◌, ◌<◌, ◌≤◌, ◌%◌, nat_lt, List, [], ◌∷◌, ◌++◌, length, take, drop, Option, Some, None, if◌then◌else◌}
+use Rattle.std.specs.Prelude.{ℕ, ◌+◌, ◌<◌, ◌≤◌, ◌%◌, nat_lt, List, [], ◌∷◌, ◌++◌, length, take, drop, Option, Some, None, if◌then◌else◌}
 use Rattle.hc_types.specs.declared.config.FlashConfig.{FlashConfig}
 use Rattle.hc_types.specs.Places.{kept_of}
 use Rattle.hc_types.specs.Loss.{Hash, Fault}
@@ -11,8 +11,9 @@ use Rattle.hc_engines.specs.large.Index.{Place, Indexed, place_at, without, is_p
 use Rattle.hc_engines.specs.large.Block.{Reading, Block, Moved, finished, end_job}
 use Rattle.hc_engines.specs.large.Steps.{own_entry, unreadable, read_next, pinned}
 use Rattle.hc_block.specs.Large.{Kept}
-use Rattle.hc_block.specs.Settling.{StandsAt}
-use Rattle.hc_block.specs.Works.{job_at, reading_in, reading_now, IsGetting, read_on}
+use Rattle.hc_engines.specs.large.Unread.{read_on}
+use Rattle.hc_engines.specs.large.Laws.{IsFree}
+use Rattle.hc_block.specs.Works.{reading_at, IsReading}
 
 -- ---- what a read came to: an answer, or none where its bytes are no entry
 
@@ -53,21 +54,15 @@ losses_at (Some answer) hash = []
 abbrev pub next_of : FlashConfig → Reading → Option ℕ
 next_of flash reading = if nat_lt (reading.next + 1) reading.until then Some (page_no flash reading.place.region (reading.next + 1)) else None
 
--- the read stands there
-pub record IsReadAt (number at : ℕ) (s : Block) : Type 0 where
-  pub job : StandsAt number at s
-  pub numbered : (job_at at s.jobs).number ≡ number
-  pub reading : reading_in (job_at at s.jobs).work ≡ reading_now number s
-  pub getting : IsGetting (job_at at s.jobs).work
-  pub small : (reading_now number s).next < 65536
-
 -- a read can go on
-pub record CanReadOn (flash : FlashConfig) (number at : ℕ) (s : Block) : Type 0 where
-  pub read : IsReadAt number at s
-  pub kept : (bytes : List ℕ) → Kept flash (read_next flash number (read_on (reading_now number s) bytes) (end_job number s)).state
+pub record CanReadOn (flash : FlashConfig) (number : ℕ) (s : Block) : Type 0 where
+  pub read : IsReading number s.jobs
+  pub small : (reading_at number s.jobs).next < 65536
+  pub kept : (bytes : List ℕ) → Kept flash (read_next flash number (read_on (reading_at number s.jobs) bytes) (end_job number s)).state
 
 -- a read can begin
 pub record CanRead (flash : FlashConfig) (number : ℕ) (reading : Reading) (s : Block) : Type 0 where
+  pub free : IsFree number s
   pub there : reading.place.region < length s.regions
   pub pins : (region_at reading.place.region s.regions).pins ≤ length s.jobs
   pub next : reading.next < 65536

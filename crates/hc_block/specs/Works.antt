@@ -1,6 +1,7 @@
 -- How contracts see the operations under way.
-use Rattle.std.specs.Prelude.{◌≡◌, ⊤, ℕ, get_or, ◌++◌, ◌+◌, ◌==◌, List, [], ◌∷◌, Option, Some, None, option_map, if◌then◌else◌}
-use Rattle.hc_engines.specs.large.Block.{Reading, Work, Writing, Getting, Job, Block, work_of}
+use Rattle.std.specs.Prelude.{◌≡◌, ◌==◌, ℕ, List, [], map, Option, Some, None}
+use Rattle.hc_types.specs.Tally.{count}
+use Rattle.hc_engines.specs.large.Block.{Reading, Work, Writing, Getting, Job, work_of}
 use Rattle.hc_block.specs.declared.jobs.Work.{Work as Works}
 use Rattle.hc_block.specs.declared.jobs.Work.TheVariants as works
 
@@ -8,46 +9,31 @@ abbrev pub work_seen : {A : Type 0} → Works A → Work
 work_seen (works.Writing region bytes) = Writing region bytes
 work_seen (works.Getting reading) = Getting reading
 
--- where the operation with this number stands
-abbrev pub one_further : Option ℕ → Option ℕ
-one_further place = option_map (λ at. at + 1) place
+abbrev pub job_of : {A : Type 0} → ℕ × Works A → Job
+job_of p = record { number = p.0; work = work_seen p.1 }
 
-abbrev pub place_of : ℕ → List Job → Option ℕ
-place_of number [] = None
-place_of number (job ∷ jobs) = if job.number == number then Some 0 else one_further (place_of number jobs)
+-- the operations in order of their numbers
+abbrev pub jobs_of : {A : Type 0} → List (ℕ × Works A) → List Job
+jobs_of entries = map job_of entries
 
-abbrev pub no_job : Job
-no_job = record { number = 0; work = Writing 0 [] }
-
-abbrev pub job_at : ℕ → List Job → Job
-job_at at jobs = get_or jobs at no_job
+-- no operation has the number
+abbrev pub IsFreeIn : ℕ → List Job → Type 0
+IsFreeIn number jobs = count (λ (job : Job). job.number == number) jobs ≡ 0
 
 -- ---- reads
 
 abbrev pub no_reading : Reading
 no_reading = record { key = []; place = record { region = 0; offset = 0; length = 0 }; got = []; next = 0; until = 0; rest = [] }
 
-abbrev pub reading_in : Work → Reading
-reading_in (Writing r bytes) = no_reading
-reading_in (Getting reading) = reading
-
-abbrev pub IsGetting : Work → Type 0
-IsGetting (Writing r bytes) = ⊥
-IsGetting (Getting reading) = ⊤
-
-abbrev pub reading_of_job : Option Work → Reading
-reading_of_job None = no_reading
-reading_of_job (Some work) = reading_in work
+abbrev pub reading_in : Option Work → Reading
+reading_in None = no_reading
+reading_in (Some (Writing r bytes)) = no_reading
+reading_in (Some (Getting reading)) = reading
 
 -- the read that the operation with this number is
-abbrev pub reading_now : ℕ → Block → Reading
-reading_now number s = reading_of_job (work_of number s.jobs)
+abbrev pub reading_at : ℕ → List Job → Reading
+reading_at number jobs = reading_in (work_of number jobs)
 
--- the operation with the number stands at this place, and is a read
-pub record IsReading (number at : ℕ) (s : Block) : Type 0 where
-  pub stands : place_of number s.jobs ≡ Some at
-  pub reads : work_of number s.jobs ≡ Some (Getting (reading_now number s))
-
--- a page of its was read
-abbrev pub read_on : Reading → List ℕ → Reading
-read_on reading bytes = record reading { got = reading.got ++ bytes; next = reading.next + 1 }
+-- the operation with the number is a read
+abbrev pub IsReading : ℕ → List Job → Type 0
+IsReading number jobs = work_of number jobs ≡ Some (Getting (reading_at number jobs))

@@ -4,10 +4,11 @@ ghost use Rattle.hc_types.specs.Limits.{flash_wrong};
 ghost use Rattle.hc_types.specs.Places.{kept_of};
 ghost use Rattle.hc_engines.specs.large.Index.{place_at};
 ghost use Rattle.hc_engines.specs.large.Laws.{new_block};
+ghost use Rattle.hc_engines.specs.large.Sound.{Sound};
 ghost use Rattle.hc_engines.specs.large.Steps.{take_index as take_index_seen};
 
 use crate::index::Index;
-use crate::jobs::Job;
+use crate::jobs::Jobs;
 use hc_region::{Place, Region, all_clean, fill};
 use hc_types::{FlashConfig, Key, kept};
 use std::alloc::{AllocError, Allocator, Global};
@@ -26,7 +27,7 @@ pub struct BlockCache<A: Allocator = Global> {
     pub(crate) sealed: Vec<u32, A>,
     pub(crate) flushed: Vec<u32, A>,
     pub(crate) index: Index<A>,
-    pub(crate) jobs: Vec<Job<A>, A>,
+    pub(crate) jobs: Jobs<A>,
 }
 
 impl<A: Allocator> Model for BlockCache<A> {
@@ -34,9 +35,9 @@ impl<A: Allocator> Model for BlockCache<A> {
 
     ghost Value = { Large };
 
-    ghost view = { λ b. record { flash = b.flash; block = record { regions = b.regions.items; current = b.current; sealed = b.sealed.items; flushed = b.flushed.items; index = b.index; jobs = b.jobs.items } } };
+    ghost view = { λ b. record { flash = b.flash; block = record { regions = b.regions.items; current = b.current; sealed = b.sealed.items; flushed = b.flushed.items; index = b.index; jobs = b.jobs } } };
 
-    ghost invariant = { λ b. IsKept b.flash (record { regions = b.regions.items; current = b.current; sealed = b.sealed.items; flushed = b.flushed.items; index = b.index; jobs = b.jobs.items }) b.clean.items };
+    ghost invariant = { λ b. IsKept b.flash (record { regions = b.regions.items; current = b.current; sealed = b.sealed.items; flushed = b.flushed.items; index = b.index; jobs = b.jobs }) b.clean.items };
 }
 
 impl<A: Allocator + Clone + Copy> BlockCache<A> {
@@ -59,12 +60,13 @@ impl<A: Allocator + Clone + Copy> BlockCache<A> {
             sealed: Vec::new(alloc),
             flushed: Vec::new(alloc),
             index,
-            jobs: Vec::new(alloc),
+            jobs: Jobs::new(alloc),
         })
     }
 
     /// The kept hash of a key.
-    pub(crate) fn hash_of(&self, key: &Key<A>) -> u64
+    #[must_use]
+    pub fn hash_of(&self, key: &Key<A>) -> u64
         ensures { result ≡ kept_of self.now.flash.bits key.now }
     {
         kept(key, self.flash.bits)
@@ -94,5 +96,13 @@ impl<A: Allocator + Clone + Copy> BlockCache<A> {
 
     pub(crate) fn allocator(&self) -> A {
         self.alloc
+    }
+
+    /// What is true of the engine by itself, whatever was handed in: a law to call where a proof asks for it. It does
+    /// nothing.
+    pub fn is_sound(&self)
+        ensures { Sound self.now.flash self.now.block }
+    {
+        let _ = &self.flash;
     }
 }

@@ -1,5 +1,6 @@
 // What a read comes to: the entry at its place, where the place is still the key's, and is an entry.
-ghost use Rattle.std.specs.Prelude.{◌≡◌, ◌≤◌, ◌++◌, ◌%◌, length, take, drop, option_map, IfOk};
+ghost use Rattle.std.specs.Prelude.{◌≡◌, ◌≤◌, ◌++◌, ◌%◌, length, take, drop, min, option_map, OnOk, IfOk};
+ghost use Rattle.std.specs.List.{concat};
 ghost use Rattle.hc_types.specs.FlashEntry.{entry_of};
 ghost use Rattle.hc_types.specs.Places.{kept_of};
 ghost use Rattle.hc_engines.specs.large.Index.{place_at, is_place};
@@ -16,70 +17,68 @@ use hc_region::entry_in;
 use hc_types::{Cause, Entry, FlashConfig, Key, Scope, kept};
 use std::alloc::{AllocError, Allocator};
 
-/// The bytes of two parts, one behind the other, from this one on.
-fn joined<A: Allocator + Clone + Copy>(
-    alloc: A,
-    got: &[u8],
-    page: &[u8],
-    from: usize,
-) -> Result<Vec<u8, A>, AllocError>
-    ensures { IfOk result (λ bytes. bytes.items ≡ drop from (got.now ++ page.now)) }
+/// The smaller number.
+fn at_most(most: usize, n: usize) -> usize
+    ensures { result ≡ min most n }
 {
-    if from <= got.len() {
-        let mut bytes = Vec::from_slice(alloc, &got[from..])?;
-        bytes.extend_from_slice(page)?;
-        return Ok(bytes);
-    }
-    let skipped = from - got.len();
-    if skipped <= page.len() {
-        Vec::from_slice(alloc, &page[skipped..])
-    } else {
-        Ok(Vec::new(alloc))
-    }
+    if most < n { most } else { n }
 }
 
-/// So many bytes from this one on, of pages that were read, of the last page, and of the rest, put together once.
+/// These pages come behind the bytes, one after the other.
+fn push_pages<A: Allocator>(bytes: &mut Vec<u8, A>, pages: &[Bytes<A>]) -> Result<(), AllocError>
+    ensures { OnOk result (bytes.new.items ≡ bytes.old.items ++ concat pages.now) }
+{
+    for page in pages {
+        bytes.extend_from_slice(page.as_slice())?;
+    }
+    Ok(())
+}
+
+/// So many bytes from this one on.
+fn cut<A: Allocator>(mut bytes: Bytes<A>, from: usize, len: usize) -> Bytes<A>
+    requires { from ≤ length bytes }
+    ensures { result ≡ take len (drop from bytes) }
+{
+    bytes.advance(from);
+    bytes.truncate(len);
+    bytes
+}
+
+/// So many bytes from this one on, of pages that were read, of the last page, and of the rest. Each is copied once.
 fn put_together<A: Allocator + Clone + Copy>(
     alloc: A,
-    got: &[u8],
+    got: &[Bytes<A>],
     page: &[u8],
     rest: &[u8],
     from: usize,
     len: usize,
 ) -> Result<Bytes<A>, AllocError>
-    ensures { IfOk result (λ bytes. bytes ≡ take len (drop from (got.now ++ page.now) ++ rest.now)) }
+    ensures { IfOk result (λ bytes. bytes ≡ take len (drop from (concat got.now ++ page.now) ++ rest.now)) }
 {
-    let mut bytes = joined(alloc, got, page, from)?;
+    let room = from.saturating_add(len).saturating_add(page.len());
+    let mut bytes = Vec::with_capacity(alloc, room)?;
+    push_pages(&mut bytes, got)?;
+    bytes.extend_from_slice(page)?;
+    let from = at_most(from, bytes.len());
     bytes.extend_from_slice(rest)?;
-    bytes.truncate(len);
     let bytes = Bytes::from_vec(bytes)?;
-    Ok(bytes)
-}
-
-/// So many bytes of a page from this one on, which share it.
-fn cut<A: Allocator>(page: &Bytes<A>, from: usize, len: usize) -> Result<Bytes<A>, AllocError>
-    requires { from ≤ length page.now }
-    ensures { IfOk result (λ bytes. bytes ≡ take len (drop from page.now)) }
-{
-    let mut bytes = page.clone()?;
-    bytes.advance(from);
-    bytes.truncate(len);
-    Ok(bytes)
+    Ok(cut(bytes, from, len))
 }
 
 /// The same bytes, which share the last page where they lie in it alone.
 fn last_bytes<A: Allocator + Clone + Copy>(
     alloc: A,
-    got: &[u8],
+    got: &[Bytes<A>],
     page: &Bytes<A>,
     rest: &[u8],
     from: usize,
     len: usize,
 ) -> Result<Bytes<A>, AllocError>
-    ensures { IfOk result (λ bytes. bytes ≡ take len (drop from (got.now ++ page.now) ++ rest.now)) }
+    ensures { IfOk result (λ bytes. bytes ≡ take len (drop from (concat got.now ++ page.now) ++ rest.now)) }
 {
     if got.is_empty() && rest.is_empty() && from <= page.len() {
-        cut(page, from, len)
+        let bytes = page.clone()?;
+        Ok(cut(bytes, from, len))
     } else {
         put_together(alloc, got, page.as_slice(), rest, from, len)
     }
@@ -88,12 +87,12 @@ fn last_bytes<A: Allocator + Clone + Copy>(
 /// So many bytes of a read that needs no page, from its rest, which isn't copied.
 fn own_bytes<A: Allocator + Clone + Copy>(
     alloc: A,
-    got: &[u8],
+    got: &[Bytes<A>],
     rest: Vec<u8, A>,
     from: usize,
     len: usize,
 ) -> Result<Bytes<A>, AllocError>
-    ensures { IfOk result (λ bytes. bytes ≡ take len (drop from got.now ++ rest.items)) }
+    ensures { IfOk result (λ bytes. bytes ≡ take len (drop from (concat got.now) ++ rest.items)) }
 {
     if !got.is_empty() {
         return put_together(alloc, got, &[], &rest, from, len);

@@ -3,16 +3,18 @@ ghost use Rattle.std.specs.Prelude.{◌≡◌, ◌<◌, ◌≤◌, ◌+◌, ◌+
 ghost use Rattle.hc_types.specs.Loss.{cause_of, Reclaimed};
 ghost use Rattle.hc_engines.specs.Engine.{Failed};
 ghost use Rattle.hc_engines.specs.large.Index.{is_at as is_place_at, leading_into, without_all};
-ghost use Rattle.hc_engines.specs.large.Block.{finished, without_job, work_of, Writing};
+ghost use Rattle.hc_engines.specs.large.Block.{finished, Writing};
 ghost use Rattle.hc_engines.specs.large.Numbers.{minus as minus_seen};
 ghost use Rattle.hc_engines.specs.large.Steps.{lost, not_current as not_current_seen, end_region, reclaim as reclaim_seen, clean_count as count_of_clean, oldest as oldest_of, resume};
 ghost use Rattle.hc_region.specs.CleanNumbers.{clean_from};
 ghost use Rattle.hc_region.specs.Numbers.{AllThere};
-ghost use Rattle.hc_block.specs.Ends.{jobs_left, left_by, cause_seen, flushed_left, reclaimed_next as reclaimed_next_seen, CanEnd};
+ghost use Rattle.hc_block.specs.Ends.{jobs_left, left_by, cause_seen, flushed_left, CanEnd};
+ghost use Rattle.hc_engines.specs.large.Choices.{reclaim_next};
+ghost use Rattle.hc_block.specs.Settling.{IsWriting};
 
 use crate::block_cache::BlockCache;
 use crate::index::Index;
-use crate::jobs::Job;
+use crate::jobs::Jobs;
 use crate::outcomes::{ended, nothing, reclaimed};
 use hc_bighash::{Loss, Outcome};
 use hc_region::{Appended, Place, Region, appended_at, clean_count, empty_into, oldest};
@@ -133,20 +135,13 @@ pub(crate) fn leave_flushed<A: Allocator>(flushed: &mut Vec<u32, A>, r: u32, cle
 }
 
 /// An operation is over, where one is named.
-fn leave_jobs<A: Allocator + Clone + Copy>(jobs: &mut Vec<Job<A>, A>, job: Option<u64>)
-    ensures { jobs.new.items ≡ jobs_left job jobs.old.items }
+fn leave_jobs<A: Allocator>(jobs: &mut Jobs<A>, job: Option<u64>)
+    ensures { jobs.new ≡ jobs_left job jobs.old }
 {
     match job {
-        Some(number) => end_job(jobs, number),
+        Some(number) => jobs.remove(number),
         None => (),
     }
-}
-
-/// The operation is over.
-fn end_job<A: Allocator + Clone + Copy>(jobs: &mut Vec<Job<A>, A>, number: u64)
-    ensures { jobs.new.items ≡ without_job number jobs.old.items }
-{
-    jobs.retain(|job| !job.is_numbered(number));
 }
 
 impl<A: Allocator + Clone + Copy> BlockCache<A> {
@@ -181,8 +176,8 @@ impl<A: Allocator + Clone + Copy> BlockCache<A> {
     }
 
     /// The region that is reclaimed next, where fewer regions are clean than are to be.
-    fn reclaimed_next(&self) -> Option<u32>
-        ensures value { result ≡ reclaimed_next_seen self.now.flash self.now.block }
+    fn reclaim_next(&self) -> Option<u32>
+        ensures value { result ≡ reclaim_next self.now.flash self.now.block }
         ensures ends { IfSome result (λ r. CanEnd self.now.flash (Reclaimed r) r self.now.block) }
     {
         oldest_if(&self.regions, &self.clean, &self.flushed, &self.flash)
@@ -194,7 +189,7 @@ impl<A: Allocator + Clone + Copy> BlockCache<A> {
         ensures flash { self.new.flash ≡ self.old.flash }
         ensures err { OnErr result (self.new ≡ self.old) }
     {
-        match self.reclaimed_next() {
+        match self.reclaim_next() {
             Some(r) => {
                 let outcome = self.end_region(r, End::Reclaimed(r), None)?;
                 Ok(reclaimed(outcome, r))
@@ -205,7 +200,7 @@ impl<A: Allocator + Clone + Copy> BlockCache<A> {
 
     /// The write of a page of this region failed, under this number: the region ends. Refused only where memory lacks.
     pub(crate) fn write_failed(&mut self, number: u64, r: u32) -> Result<Outcome<A>, AllocError>
-        requires { (bytes : List ℕ) × (work_of number self.old.block.jobs ≡ Some (Writing r bytes)) }
+        requires { IsWriting number r self.old.block }
         ensures ok { IfOk result (λ outcome. (bytes : List ℕ) → resume self.old.flash number (Writing r bytes) Failed self.old.block ≡ finished self.new.block outcome) }
         ensures flash { self.new.flash ≡ self.old.flash }
         ensures err { OnErr result (self.new ≡ self.old) }

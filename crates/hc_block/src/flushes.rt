@@ -1,18 +1,20 @@
 // Pages go out: of sealed regions, or early, of the one in use.
-ghost use Rattle.std.specs.Prelude.{◌≡◌, ◌<◌, ◌≤◌, ◌∷◌, ◌^◌, ℕ, option_map, length, set, Some, None, IfOk, IfSome, OnOk, OnErr};
+ghost use Rattle.std.specs.Prelude.{◌≡◌, ◌<◌, ◌≤◌, ◌^◌, ℕ, option_map, length, set, Some, None, IfOk, IfSome, OnOk, OnErr};
 ghost use Rattle.hc_engines.specs.Engine.{Write, nothing};
 ghost use Rattle.hc_engines.specs.large.Region.{region_at, next_page, page_no};
-ghost use Rattle.hc_engines.specs.large.Block.{Block, Writing};
+ghost use Rattle.hc_engines.specs.large.Block.{Block, Writing, job_added};
 ghost use Rattle.hc_engines.specs.large.Steps.{flush as flush_seen};
 ghost use Rattle.hc_engines.specs.large.Laws.{IsFree};
 ghost use Rattle.hc_bighash.specs.Seen.{order_of};
-ghost use Rattle.hc_region.specs.Stages.{marked};
+ghost use Rattle.hc_region.specs.Stages.{mark_seen};
 ghost use Rattle.hc_region.specs.Numbers.{AllThere};
-ghost use Rattle.hc_block.specs.Going.{left_sealed, early_next, flush_next as flush_next_seen, gone_out, CanGoOut};
+ghost use Rattle.hc_engines.specs.large.Choices.{marked, left_sealed, early_next, flush_next as flush_next_seen, gone_out};
+ghost use Rattle.hc_block.specs.Works.{IsFreeIn};
+ghost use Rattle.hc_block.specs.Going.{choice_seen, CanGoOut};
 
 use crate::block_cache::BlockCache;
 use crate::ends::minus;
-use crate::jobs::{Job, add_job};
+use crate::jobs::{Jobs, Work};
 use crate::reading::page_number;
 use hc_bighash::Order;
 use hc_region::{Mark, Region, can_go_at, first_ready, mark_at, next_page_at, written_at};
@@ -21,7 +23,7 @@ use std::alloc::{AllocError, Allocator};
 
 /// A region's number leaves those that wait for their flush, where it is flushed.
 fn leave_sealed<A: Allocator>(sealed: &mut Vec<u32, A>, r: u32, mark: Mark)
-    ensures { sealed.new.items ≡ left_sealed mark r sealed.old.items }
+    ensures { sealed.new.items ≡ left_sealed (mark_seen mark) r sealed.old.items }
 {
     match mark {
         Mark::Early => (),
@@ -33,7 +35,7 @@ fn leave_sealed<A: Allocator>(sealed: &mut Vec<u32, A>, r: u32, mark: Mark)
 fn write_out<A: Allocator + Clone + Copy>(
     alloc: A,
     regions: &mut Vec<Region<A>, A>,
-    jobs: &mut Vec<Job<A>, A>,
+    jobs: &mut Jobs<A>,
     flash: &FlashConfig,
     number: u64,
     r: u32,
@@ -45,18 +47,22 @@ fn write_out<A: Allocator + Clone + Copy>(
     requires region_pages { flash.now.region_pages ≤ 4096 }
     requires buckets { flash.now.buckets ≤ 1048576 }
     requires written { (region_at r regions.old.items).written < 65536 }
+    requires free { IsFreeIn number jobs.old }
     ensures order { IfOk result (λ order. order_of order ≡ Write (page_no flash.now r (region_at r regions.old.items).written) (next_page flash.now (region_at r regions.old.items))) }
-    ensures regions { OnOk result (regions.new.items ≡ set regions.old.items r (marked mark (region_at r regions.old.items))) }
-    ensures jobs { OnOk result (jobs.new.items ≡ record { number = number; work = Writing r (next_page flash.now (region_at r regions.old.items)) } ∷ jobs.old.items) }
+    ensures regions { OnOk result (regions.new.items ≡ set regions.old.items r (marked (mark_seen mark) (region_at r regions.old.items))) }
+    ensures jobs { OnOk result (jobs.new ≡ job_added number (Writing r (next_page flash.now (region_at r regions.old.items))) jobs.old) }
     ensures err_regions { OnErr result (regions.new.items ≡ regions.old.items) }
-    ensures err_jobs { OnErr result (jobs.new.items ≡ jobs.old.items) }
+    ensures err_jobs { OnErr result (jobs.new ≡ jobs.old) }
 {
     let page = page_number(flash, r, written_at(regions, r));
     let bytes = next_page_at(alloc, regions, r, flash)?;
     let copy = bytes.clone()?;
-    jobs.reserve(1)?;
+    let work = Work::Writing {
+        region: r,
+        bytes: copy,
+    };
+    jobs.insert(number, work)?;
     mark_at(regions, r, mark);
-    add_job(jobs, Job::writing(number, r, copy));
     Ok(Order::Write(page, bytes))
 }
 
@@ -68,7 +74,7 @@ fn early_of<A: Allocator + Clone + Copy>(
 ) -> Option<(u32, Mark)>
     requires there { IfSome current (λ r. r < length regions.now) }
     requires written { (r : ℕ) → (region_at r regions.now).written < 2 ^ 32 }
-    ensures { (s : Block) → s.regions ≡ regions.now → result ≡ early_next flash.now s current }
+    ensures { (s : Block) → s.regions ≡ regions.now → choice_seen result ≡ early_next flash.now s current }
 {
     let Some(r) = current else {
         return None;
@@ -90,7 +96,7 @@ fn next_of<A: Allocator + Clone + Copy>(
     requires sealed { AllThere (length regions.now) sealed.now }
     requires there { IfSome current (λ r. r < length regions.now) }
     requires written { (r : ℕ) → (region_at r regions.now).written < 2 ^ 32 }
-    ensures { (s : Block) → s.regions ≡ regions.now → s.sealed ≡ sealed.now → s.current ≡ current → result ≡ flush_next_seen flash.now s }
+    ensures { (s : Block) → s.regions ≡ regions.now → s.sealed ≡ sealed.now → s.current ≡ current → choice_seen result ≡ flush_next_seen flash.now s }
 {
     match first_ready(regions, sealed) {
         Some(r) => Some((r, Mark::Flush)),
@@ -101,8 +107,8 @@ fn next_of<A: Allocator + Clone + Copy>(
 impl<A: Allocator + Clone + Copy> BlockCache<A> {
     /// A region's next page goes out.
     fn go_out(&mut self, number: u64, r: u32, mark: Mark) -> Result<Order<A>, AllocError>
-        requires { CanGoOut self.old.flash number r mark self.old.block }
-        ensures ok { IfOk result (λ order. gone_out self.old.flash number r mark self.old.block ≡ record { state = self.new.block; outcome = nothing; order = Some (order_of order) }) }
+        requires { CanGoOut self.old.flash number r (mark_seen mark) self.old.block }
+        ensures ok { IfOk result (λ order. gone_out self.old.flash number r (mark_seen mark) self.old.block ≡ record { state = self.new.block; outcome = nothing; order = Some (order_of order) }) }
         ensures flash { self.new.flash ≡ self.old.flash }
         ensures err { OnErr result (self.new ≡ self.old) }
     {
@@ -121,8 +127,8 @@ impl<A: Allocator + Clone + Copy> BlockCache<A> {
 
     /// Which region's page goes out next, and how.
     fn flush_next(&self) -> Option<(u32, Mark)>
-        ensures value { result ≡ flush_next_seen self.now.flash self.now.block }
-        ensures can { (number : ℕ) → IsFree number self.now.block → IfSome result (λ turn. CanGoOut self.now.flash number turn.0 turn.1 self.now.block) }
+        ensures value { choice_seen result ≡ flush_next_seen self.now.flash self.now.block }
+        ensures can { (number : ℕ) → IsFree number self.now.block → IfSome result (λ turn. CanGoOut self.now.flash number turn.0 (mark_seen turn.1) self.now.block) }
     {
         next_of(&self.regions, &self.sealed, self.current, &self.flash)
     }

@@ -1,19 +1,20 @@
 // A get begins: it is answered from the buffer, or its first page is read.
-ghost use Rattle.std.specs.Prelude.{◌≡◌, ◌<◌, ◌≤◌, ◌+◌, ◌∷◌, ◌^◌, ℕ, length, set, min, option_map, Some, IfOk, OnOk, OnErr};
+ghost use Rattle.std.specs.Prelude.{◌≡◌, ◌<◌, ◌≤◌, ◌+◌, ◌^◌, ℕ, length, set, min, option_map, Some, IfOk, OnOk, OnErr};
 ghost use Rattle.hc_types.specs.Places.{kept_of};
 ghost use Rattle.hc_engines.specs.Engine.{Read, nothing};
 ghost use Rattle.hc_engines.specs.large.Region.{region_at};
 ghost use Rattle.hc_engines.specs.large.Index.{place_at};
-ghost use Rattle.hc_engines.specs.large.Block.{Block, Getting, finished};
+ghost use Rattle.hc_engines.specs.large.Block.{Block, Getting, finished, job_added};
 ghost use Rattle.hc_engines.specs.large.Laws.{IsFree};
 ghost use Rattle.hc_engines.specs.large.Steps.{reading_of, read_next, pinned, start_read as start_read_seen, get as get_seen};
 ghost use Rattle.hc_bighash.specs.Seen.{answer_of};
 ghost use Rattle.hc_block.specs.Moves.{moved_with};
+ghost use Rattle.hc_block.specs.Works.{IsFreeIn};
 ghost use Rattle.hc_block.specs.Reads.{came_by, came_to, CanRead};
 
 use crate::block_cache::BlockCache;
 use crate::came::{answer_of_read, leave_index, losses_of};
-use crate::jobs::{Job, add_job};
+use crate::jobs::{Jobs, Work};
 use crate::outcomes::read;
 use crate::reading::Reading;
 use crate::steps::Step;
@@ -25,20 +26,22 @@ use std::alloc::{AllocError, Allocator};
 /// The read's region is pinned, and its first page is read.
 fn start_in<A: Allocator + Clone + Copy>(
     regions: &mut Vec<Region<A>, A>,
-    jobs: &mut Vec<Job<A>, A>,
+    jobs: &mut Jobs<A>,
     number: u64,
     reading: Reading<A>,
 ) -> Result<(), AllocError>
     requires there { reading.place.region < length regions.old.items }
-    requires pins { (region_at reading.place.region regions.old.items).pins ≤ length jobs.old.items }
+    requires pins { (region_at reading.place.region regions.old.items).pins ≤ length jobs.old }
+    requires free { IsFreeIn number jobs.old }
     ensures regions { OnOk result (regions.new.items ≡ set regions.old.items reading.place.region (record (region_at reading.place.region regions.old.items) { pins = (region_at reading.place.region regions.old.items).pins + 1 })) }
-    ensures jobs { OnOk result (jobs.new.items ≡ record { number = number; work = Getting reading } ∷ jobs.old.items) }
+    ensures jobs { OnOk result (jobs.new ≡ job_added number (Getting reading) jobs.old) }
     ensures err_regions { OnErr result (regions.new.items ≡ regions.old.items) }
-    ensures err_jobs { OnErr result (jobs.new.items ≡ jobs.old.items) }
+    ensures err_jobs { OnErr result (jobs.new ≡ jobs.old) }
 {
-    jobs.reserve(1)?;
-    pin_at(regions, reading.region());
-    add_job(jobs, Job::getting(number, reading));
+    let _len = jobs.len();
+    let r = reading.region();
+    jobs.insert(number, Work::Getting(reading))?;
+    pin_at(regions, r);
     Ok(())
 }
 

@@ -3,6 +3,7 @@
 //! written, and is resumed with what came of that.
 #![tactic(auto)]
 
+mod admitting;
 mod block_cache;
 mod came;
 mod ends;
@@ -16,6 +17,7 @@ mod reading;
 mod reads;
 mod resuming;
 mod segment;
+mod shown;
 mod starting;
 mod steps;
 mod turns;

@@ -2,42 +2,45 @@
 ghost use Rattle.std.specs.Prelude.{◌≡◌, ◌<◌, ◌≤◌, nat_lt, OnOk, OnErr};
 ghost use Rattle.hc_types.specs.Places.{kept_of};
 ghost use Rattle.hc_engines.specs.large.Region.{page_no};
-ghost use Rattle.hc_block.specs.Works.{read_on};
+ghost use Rattle.hc_engines.specs.large.Unread.{read_on};
 ghost use Rattle.hc_block.specs.Reads.{next_of};
 
+use bytes::Bytes;
 use hc_region::Place;
 use hc_types::{FlashConfig, Key, kept};
 use std::alloc::{AllocError, Allocator, Global};
 use std::marker::Model;
 
-/// A read of an entry: of which key, from which place, what of its pages was read, which page of the region is read next,
+/// A read of an entry: of which key, from which place, which of its pages were read, which page of the region is read next,
 /// the first page that isn't read, and the bytes that were in the buffer when it began.
 #[derive(Drop)]
 pub(crate) struct Reading<A: Allocator = Global> {
     pub(crate) key: Key<A>,
     pub(crate) place: Place,
-    pub(crate) got: Vec<u8, A>,
+    pub(crate) got: Vec<Bytes<A>, A>,
     pub(crate) next: u64,
     pub(crate) until: u64,
     pub(crate) rest: Vec<u8, A>,
 }
 
 impl<A: Allocator> Model for Reading<A> {
+    ghost use Rattle.std.specs.List.{concat};
     ghost use Rattle.hc_engines.specs.large.Block.{Reading as ReadingSeen};
 
     ghost Value = { ReadingSeen };
 
-    ghost view = { λ r. record { key = r.key; place = r.place; got = r.got.items; next = r.next; until = r.until; rest = r.rest.items } };
+    ghost view = { λ r. record { key = r.key; place = r.place; got = concat r.got.items; next = r.next; until = r.until; rest = r.rest.items } };
 }
 
 impl<A: Allocator> Reading<A> {
-    /// A page was read.
-    pub(crate) fn take_page(&mut self, page: &[u8]) -> Result<(), AllocError>
+    /// A page was read. It is shared.
+    pub(crate) fn take_page(&mut self, page: &Bytes<A>) -> Result<(), AllocError>
         requires { self.old.next < 65536 }
         ensures ok { OnOk result (self.new ≡ read_on self.old page.now) }
         ensures err { OnErr result (self.new ≡ self.old) }
     {
-        self.got.extend_from_slice(page)?;
+        let page = page.clone()?;
+        self.got.push(page)?;
         self.next += 1;
         Ok(())
     }

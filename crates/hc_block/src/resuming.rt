@@ -4,38 +4,30 @@ ghost use Rattle.hc_types.specs.declared.refusal.Refusal.TheVariants.{UnknownJob
 ghost use Rattle.hc_bighash.specs.Seen.{result_of};
 ghost use Rattle.hc_bighash.specs.Next.{next_seen};
 ghost use Rattle.hc_block.specs.Moves.{stepped, moved_with, resume_by};
-ghost use Rattle.hc_block.specs.Works.{place_of};
 ghost use Rattle.hc_block.specs.Turns.{IsTurnOf};
 ghost use Rattle.hc_block.specs.declared.turns.Turn.TheVariants.{PageRead};
 
 use crate::block_cache::BlockCache;
-use crate::jobs::place;
 use crate::steps::Step;
-use crate::turns::{Turn, turn_at};
+use crate::turns::{Turn, turn_of};
 use hc_bighash::{IoResult, Next, Unresumed};
 use hc_types::Refusal;
 use std::alloc::Allocator;
 
 impl<A: Allocator + Clone + Copy> BlockCache<A> {
-    /// Where the operation with this number stands.
-    fn place(&self, number: u64) -> Option<usize>
-        ensures { result ≡ place_of number self.now.block.jobs }
+    /// What this result means for the operation with this number.
+    fn turn(&self, number: u64, came: &IoResult<A>) -> Turn
+        ensures { IsTurnOf self.now.flash number self.now.block (result_of came.now) result }
     {
-        place(&self.jobs, number)
-    }
-
-    /// What this result means for the operation at this place.
-    fn turn(&self, number: u64, at: usize, came: &IoResult<A>) -> Turn
-        requires { place_of number self.now.block.jobs ≡ Some at }
-        ensures { IsTurnOf self.now.flash number at self.now.block (result_of came.now) result }
-    {
-        let _number = number;
-        turn_at(&self.jobs, at, came)
+        match self.jobs.get(number) {
+            Some(work) => turn_of(work, came),
+            None => Turn::Unknown,
+        }
     }
 
     /// The page of a read is handed in.
-    fn hand_page(&mut self, number: u64, at: usize, came: &IoResult<A>) -> Result<Step<A>, Refusal>
-        requires { IsTurnOf self.old.flash number at self.old.block (result_of came.now) PageRead }
+    fn hand_page(&mut self, number: u64, came: &IoResult<A>) -> Result<Step<A>, Refusal>
+        requires { IsTurnOf self.old.flash number self.old.block (result_of came.now) PageRead }
         ensures ok { IfOk result (λ step. resume_by self.old.flash number (result_of came.now) self.old.block ≡ Some (moved_with self.new.block step)) }
         ensures flash { self.new.flash ≡ self.old.flash }
         ensures err { IfErr result (λ refusal. (refusal ≡ NoMemory) × (self.new ≡ self.old)) }
@@ -43,36 +35,9 @@ impl<A: Allocator + Clone + Copy> BlockCache<A> {
         let IoResult::Page(page) = came else {
             unreachable!()
         };
-        match self.page_read(number, at, page) {
+        match self.page_read(number, page) {
             Ok(step) => Ok(step),
             Err(_) => Err(Refusal::NoMemory),
-        }
-    }
-
-    /// A result is handed in for the operation at this place.
-    fn hand_at(&mut self, number: u64, at: usize, came: &IoResult<A>) -> Result<Step<A>, Refusal>
-        requires { place_of number self.old.block.jobs ≡ Some at }
-        ensures ok { IfOk result (λ step. resume_by self.old.flash number (result_of came.now) self.old.block ≡ Some (moved_with self.new.block step)) }
-        ensures flash { self.new.flash ≡ self.old.flash }
-        ensures err { OnErr result (self.new ≡ self.old) }
-        ensures unknown { IfErr result (λ refusal. refusal ≡ UnknownJob → resume_by self.old.flash number (result_of came.now) self.old.block ≡ None) }
-        ensures others { IfErr result (λ refusal. (refusal ≡ UnknownJob) ⊎ (refusal ≡ NoMemory)) }
-    {
-        match self.turn(number, at, came) {
-            Turn::Unknown => Err(Refusal::UnknownJob),
-            Turn::Written(r) => match self.page_written(number, at, r) {
-                Ok(step) => Ok(step),
-                Err(_) => Err(Refusal::NoMemory),
-            },
-            Turn::WriteFailed(r) => match self.write_failed(number, r) {
-                Ok(outcome) => Ok(Step::Done(outcome)),
-                Err(_) => Err(Refusal::NoMemory),
-            },
-            Turn::ReadFailed => match self.read_failed(number, at) {
-                Ok(outcome) => Ok(Step::Done(outcome)),
-                Err(_) => Err(Refusal::NoMemory),
-            },
-            Turn::PageRead => self.hand_page(number, at, came),
         }
     }
 
@@ -84,9 +49,21 @@ impl<A: Allocator + Clone + Copy> BlockCache<A> {
         ensures unknown { IfErr result (λ refusal. refusal ≡ UnknownJob → resume_by self.old.flash number (result_of came.now) self.old.block ≡ None) }
         ensures others { IfErr result (λ refusal. (refusal ≡ UnknownJob) ⊎ (refusal ≡ NoMemory)) }
     {
-        match self.place(number) {
-            Some(at) => self.hand_at(number, at, came),
-            None => Err(Refusal::UnknownJob),
+        match self.turn(number, came) {
+            Turn::Unknown => Err(Refusal::UnknownJob),
+            Turn::Written(r) => match self.page_written(number, r) {
+                Ok(step) => Ok(step),
+                Err(_) => Err(Refusal::NoMemory),
+            },
+            Turn::WriteFailed(r) => match self.write_failed(number, r) {
+                Ok(outcome) => Ok(Step::Done(outcome)),
+                Err(_) => Err(Refusal::NoMemory),
+            },
+            Turn::ReadFailed => match self.read_failed(number) {
+                Ok(outcome) => Ok(Step::Done(outcome)),
+                Err(_) => Err(Refusal::NoMemory),
+            },
+            Turn::PageRead => self.hand_page(number, came),
         }
     }
 

@@ -1,9 +1,8 @@
 // A page of a region was written.
-ghost use Rattle.std.specs.Prelude.{◌≡◌, ◌<◌, ◌≤◌, ◌+◌, ◌∷◌, ℕ, List, length, set, vec_len, vec_capacity, Some, IfOk, OnOk, OnErr};
-ghost use Rattle.std.specs.List.{remove};
+ghost use Rattle.std.specs.Prelude.{◌≡◌, ◌<◌, ◌≤◌, ◌+◌, ℕ, List, length, set, vec_len, vec_capacity, is_some, true, Some, IfOk, OnOk, OnErr};
 ghost use Rattle.hc_engines.specs.Engine.{Write, Written, nothing};
 ghost use Rattle.hc_engines.specs.large.Region.{region_at, next_page, page_no, page_done};
-ghost use Rattle.hc_engines.specs.large.Block.{Writing, end_job};
+ghost use Rattle.hc_engines.specs.large.Block.{Writing, work_of, without_job, job_added, end_job};
 ghost use Rattle.hc_engines.specs.large.Steps.{resume};
 ghost use Rattle.hc_bighash.specs.Seen.{order_of};
 ghost use Rattle.hc_region.specs.Stages.{stage_of, settled};
@@ -13,7 +12,7 @@ ghost use Rattle.hc_block.specs.Settling.{flushed_at, settled_in, settled_by, Ca
 ghost use Rattle.hc_block.specs.Moves.{moved_with};
 
 use crate::block_cache::BlockCache;
-use crate::jobs::{Job, drop_job, replace_job};
+use crate::jobs::{Jobs, Work};
 use crate::outcomes::settled;
 use crate::reading::page_number;
 use crate::steps::Step;
@@ -36,13 +35,12 @@ fn add_flushed<A: Allocator>(flushed: &mut Vec<u32, A>, r: u32, stage: Stage)
 fn write_more<A: Allocator + Clone + Copy>(
     alloc: A,
     regions: &mut Vec<Region<A>, A>,
-    jobs: &mut Vec<Job<A>, A>,
+    jobs: &mut Jobs<A>,
     flash: &FlashConfig,
     number: u64,
-    at: usize,
     r: u32,
 ) -> Result<Order<A>, AllocError>
-    requires job { at < length jobs.old.items }
+    requires job { is_some (work_of number jobs.old) ≡ true }
     requires there { r < length regions.old.items }
     requires small { r < 65536 }
     requires page { flash.now.page ≤ 4096 }
@@ -51,31 +49,35 @@ fn write_more<A: Allocator + Clone + Copy>(
     requires written { (region_at r regions.old.items).written < 65536 }
     ensures order { IfOk result (λ order. order_of order ≡ Write (page_no flash.now r ((region_at r regions.old.items).written + 1)) (next_page flash.now (page_done flash.now (region_at r regions.old.items)))) }
     ensures regions { OnOk result (regions.new.items ≡ set regions.old.items r (settled flash.now More (region_at r regions.old.items))) }
-    ensures jobs { OnOk result (jobs.new.items ≡ record { number = number; work = Writing r (next_page flash.now (page_done flash.now (region_at r regions.old.items))) } ∷ remove jobs.old.items at) }
+    ensures jobs { OnOk result (jobs.new ≡ job_added number (Writing r (next_page flash.now (page_done flash.now (region_at r regions.old.items)))) (without_job number jobs.old)) }
     ensures err_regions { OnErr result (regions.new.items ≡ regions.old.items) }
-    ensures err_jobs { OnErr result (jobs.new.items ≡ jobs.old.items) }
+    ensures err_jobs { OnErr result (jobs.new ≡ jobs.old) }
 {
     let page = page_number(flash, r, written_at(regions, r) + 1);
     let bytes = page_after_at(alloc, regions, r, flash)?;
     let copy = bytes.clone()?;
-    settle_at(regions, r, flash, Stage::More);
-    replace_job(jobs, at, Job::writing(number, r, copy));
+    settle_at(alloc, regions, r, flash, Stage::More);
+    let work = Work::Writing {
+        region: r,
+        bytes: copy,
+    };
+    jobs.replace(number, work);
     Ok(Order::Write(page, bytes))
 }
 
 impl<A: Allocator + Clone + Copy> BlockCache<A> {
     /// What follows the page that this operation wrote.
-    fn stage(&self, number: u64, at: usize, r: u32) -> Stage
-        requires { IsWriting number at r self.now.block }
+    fn stage(&self, number: u64, r: u32) -> Stage
+        requires { IsWriting number r self.now.block }
         ensures value { result ≡ stage_of self.now.flash (region_at r self.now.block.regions) }
-        ensures can { CanSettle self.now.flash number at r result self.now.block }
+        ensures can { CanSettle self.now.flash number r result self.now.block }
     {
         stage_at(&self.regions, r, &self.flash)
     }
 
     /// The flush goes on with the region's next page.
-    fn go_on(&mut self, number: u64, at: usize, r: u32) -> Result<Order<A>, AllocError>
-        requires { CanSettle self.old.flash number at r More self.old.block }
+    fn go_on(&mut self, number: u64, r: u32) -> Result<Order<A>, AllocError>
+        requires { CanSettle self.old.flash number r More self.old.block }
         ensures ok { IfOk result (λ order. settled_by self.old.flash number r More (end_job number self.old.block) ≡ record { state = self.new.block; outcome = nothing; order = Some (order_of order) }) }
         ensures flash { self.new.flash ≡ self.old.flash }
         ensures err { OnErr result (self.new ≡ self.old) }
@@ -86,51 +88,44 @@ impl<A: Allocator + Clone + Copy> BlockCache<A> {
             &mut self.jobs,
             &self.flash,
             number,
-            at,
             r,
         )?;
         Ok(order)
     }
 
     /// The operation is over: the region is on flash, or an early write ends.
-    fn settle(&mut self, number: u64, at: usize, r: u32, stage: Stage) -> Result<(), AllocError>
-        requires can { CanSettle self.old.flash number at r stage self.old.block }
+    fn settle(&mut self, number: u64, r: u32, stage: Stage) -> Result<(), AllocError>
+        requires can { CanSettle self.old.flash number r stage self.old.block }
         requires kept { Kept self.old.flash (settled_in self.old.flash r stage (end_job number self.old.block)) }
         ensures ok { OnOk result (settled_in self.old.flash r stage (end_job number self.old.block) ≡ self.new.block) }
         ensures flash { self.new.flash ≡ self.old.flash }
         ensures err { OnErr result (self.new ≡ self.old) }
     {
-        let _number = number;
         self.flushed.reserve(1)?;
-        settle_at(&mut self.regions, r, &self.flash, stage);
+        settle_at(self.alloc, &mut self.regions, r, &self.flash, stage);
         add_flushed(&mut self.flushed, r, stage);
-        drop_job(&mut self.jobs, at);
+        self.jobs.remove(number);
         Ok(())
     }
 
     /// The page of this region that the operation wrote is written. Refused only where memory lacks.
-    pub(crate) fn page_written(
-        &mut self,
-        number: u64,
-        at: usize,
-        r: u32,
-    ) -> Result<Step<A>, AllocError>
-        requires { IsWriting number at r self.old.block }
+    pub(crate) fn page_written(&mut self, number: u64, r: u32) -> Result<Step<A>, AllocError>
+        requires { IsWriting number r self.old.block }
         ensures ok { IfOk result (λ step. (bytes : List ℕ) → resume self.old.flash number (Writing r bytes) Written self.old.block ≡ moved_with self.new.block step) }
         ensures flash { self.new.flash ≡ self.old.flash }
         ensures err { OnErr result (self.new ≡ self.old) }
     {
-        match self.stage(number, at, r) {
+        match self.stage(number, r) {
             Stage::More => {
-                let order = self.go_on(number, at, r)?;
+                let order = self.go_on(number, r)?;
                 Ok(Step::Io(order))
             }
             Stage::Last => {
-                self.settle(number, at, r, Stage::Last)?;
+                self.settle(number, r, Stage::Last)?;
                 Ok(Step::Done(settled(self.alloc, Some(r))))
             }
             Stage::Early => {
-                self.settle(number, at, r, Stage::Early)?;
+                self.settle(number, r, Stage::Early)?;
                 Ok(Step::Done(settled(self.alloc, None)))
             }
         }

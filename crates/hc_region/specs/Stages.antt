@@ -1,23 +1,18 @@
--- How a region is marked whose page goes out, and what follows when it was written.
-use Rattle.std.specs.Prelude.{◌+◌, nat_lt, Bool, true, false, if◌then◌else◌}
+-- Why a region's page goes out, and what follows when it was written.
+use Rattle.std.specs.Prelude.{◌+◌, nat_lt, Bool, false, if◌then◌else◌}
 use Rattle.hc_types.specs.declared.config.FlashConfig.{FlashConfig}
 use Rattle.hc_region.specs.declared.status.Mark.{Mark}
 use Rattle.hc_region.specs.declared.status.Mark.TheVariants as marks
 use Rattle.hc_region.specs.declared.status.Stage.{Stage}
 use Rattle.hc_region.specs.declared.status.Stage.TheVariants as stages
-use Rattle.hc_engines.specs.large.Region.{Status, Flushing, OnFlash, Region, page_done}
+use Rattle.hc_engines.specs.large.Region.{Status, OnFlash, Region, page_done}
 use Rattle.hc_engines.specs.large.Sound.{is_flushing}
+use Rattle.hc_engines.specs.large.Choices as choices
 
-abbrev pub status_under : Mark → Status → Status
-status_under marks.Early status = status
-status_under marks.Flush status = Flushing
-
-abbrev pub early_under : Mark → Bool → Bool
-early_under marks.Early early = true
-early_under marks.Flush early = early
-
-abbrev pub marked : Mark → Region → Region
-marked mark region = record region { status = status_under mark region.status; early = early_under mark region.early }
+-- why a page goes out, as the machine says it
+abbrev pub mark_seen : Mark → choices.Mark
+mark_seen marks.Early = choices.Early
+mark_seen marks.Flush = choices.Flush
 
 -- a flush goes on with the next page, or that was its last; an early write ends
 abbrev pub stage_of : FlashConfig → Region → Stage

@@ -10,6 +10,7 @@ mod numbered;
 mod pages;
 mod place;
 mod region;
+mod shown;
 mod status;
 mod waiting;
 

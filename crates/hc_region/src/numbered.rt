@@ -3,7 +3,8 @@ ghost use Rattle.std.specs.Prelude.{◌≡◌, ◌<◌, ◌≤◌, ◌+◌, ◌^
 ghost use Rattle.hc_engines.specs.large.Region.{region_at, region_len, filled_to, can_go, next_page, page_done, Sealed};
 ghost use Rattle.hc_engines.specs.large.Steps.{emptied, cleared_by, buffered};
 ghost use Rattle.hc_region.specs.Growing.{grown, undone};
-ghost use Rattle.hc_region.specs.Stages.{marked, stage_of, settled};
+ghost use Rattle.hc_region.specs.Stages.{mark_seen, stage_of, settled};
+ghost use Rattle.hc_engines.specs.large.Choices.{marked};
 ghost use Rattle.hc_region.specs.Pins.{released, released_by};
 
 use crate::place::Place;
@@ -172,7 +173,7 @@ pub fn page_after_at<A: Allocator + Clone + Copy>(
 /// A page of a region is out.
 pub fn mark_at<A: Allocator + Clone + Copy>(regions: &mut Vec<Region<A>, A>, r: u32, mark: Mark)
     requires { r < length regions.old.items }
-    ensures { regions.new.items ≡ set regions.old.items r (marked mark (region_at r regions.old.items)) }
+    ensures { regions.new.items ≡ set regions.old.items r (marked (mark_seen mark) (region_at r regions.old.items)) }
 {
     let region = &mut regions[r as usize];
     region.mark(mark);
@@ -194,6 +195,7 @@ pub fn stage_at<A: Allocator + Clone + Copy>(
 
 /// The page of a region was written, and this follows.
 pub fn settle_at<A: Allocator + Clone + Copy>(
+    alloc: A,
     regions: &mut Vec<Region<A>, A>,
     r: u32,
     flash: &FlashConfig,
@@ -205,7 +207,7 @@ pub fn settle_at<A: Allocator + Clone + Copy>(
     ensures { regions.new.items ≡ set regions.old.items r (settled flash.now stage (region_at r regions.old.items)) }
 {
     let region = &mut regions[r as usize];
-    region.settle(flash, stage);
+    region.settle(alloc, flash, stage);
 }
 
 // ---- reads

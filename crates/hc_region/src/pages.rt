@@ -7,7 +7,7 @@ ghost use Rattle.hc_region.specs.Stages.{stage_of, settled};
 use crate::place::Place;
 use crate::region::Region;
 use crate::status::{Stage, Status};
-use bytes::Bytes;
+use bytes::{Bytes, BytesMut};
 use hc_types::FlashConfig;
 use std::alloc::{AllocError, Allocator};
 
@@ -57,14 +57,17 @@ impl<A: Allocator + Clone + Copy> Region<A> {
         page_of(alloc, &self.buffer.as_slice()[from..], page)
     }
 
-    /// Its next page was written: its bytes leave the buffer.
-    pub fn page_done(&mut self, flash: &FlashConfig)
+    /// Its next page was written: its bytes leave the buffer, and a buffer that is empty is given back.
+    pub fn page_done(&mut self, alloc: A, flash: &FlashConfig)
         requires page { flash.now.page ≤ 4096 }
         requires written { self.old.written < 2 ^ 32 }
         ensures { self.new ≡ page_done_seen flash.now self.old }
     {
         let len = at_most(flash.page as usize, self.buffer.len());
         self.buffer.advance(len);
+        if self.buffer.is_empty() {
+            self.buffer = BytesMut::new(alloc);
+        }
         self.written += 1;
     }
 
@@ -85,12 +88,12 @@ impl<A: Allocator + Clone + Copy> Region<A> {
     }
 
     /// Its page was written, and this follows.
-    pub fn settle(&mut self, flash: &FlashConfig, stage: Stage)
+    pub fn settle(&mut self, alloc: A, flash: &FlashConfig, stage: Stage)
         requires page { flash.now.page ≤ 4096 }
         requires written { self.old.written < 2 ^ 32 }
         ensures { self.new ≡ settled flash.now stage self.old }
     {
-        self.page_done(flash);
+        self.page_done(alloc, flash);
         match stage {
             Stage::More => (),
             Stage::Last => self.status = Status::OnFlash,

@@ -3,7 +3,8 @@ ghost use Rattle.std.specs.Prelude.{◌≡◌, ◌<◌, ◌≤◌, ◌+◌, ◌^
 ghost use Rattle.hc_engines.specs.large.Region.{clean_region, opened_region, filled_to, is_clean as is_status_clean, is_draining as is_status_draining, Sealed as SealedSeen};
 ghost use Rattle.hc_engines.specs.large.Steps.{emptied};
 ghost use Rattle.hc_region.specs.Growing.{grown, undone};
-ghost use Rattle.hc_region.specs.Stages.{marked};
+ghost use Rattle.hc_region.specs.Stages.{mark_seen};
+ghost use Rattle.hc_engines.specs.large.Choices.{marked};
 ghost use Rattle.hc_region.specs.Pins.{is_last, released};
 
 use crate::status::{Mark, Status};
@@ -171,7 +172,7 @@ impl<A: Allocator + Clone + Copy> Region<A> {
 
     /// A page of it is out.
     pub fn mark(&mut self, mark: Mark)
-        ensures { self.new ≡ marked mark self.old }
+        ensures { self.new ≡ marked (mark_seen mark) self.old }
     {
         match mark {
             Mark::Early => self.early = true,
@@ -186,7 +187,7 @@ impl<A: Allocator + Clone + Copy> Region<A> {
     {
         let is_free = self.pins == 0;
         self.buffer = BytesMut::new(alloc);
-        self.appended.clear();
+        self.appended = Vec::new(alloc);
         self.early = false;
         if is_free {
             self.status = Status::Clean;

@@ -15,7 +15,7 @@ empty_into-cleared-requires-clause-clean g c = c.in_ok-reserve.ensures.items ∙
 
 pub invariant_of-self-2 : goal.invariant_of-self-2
 invariant_of-self-2 g c =
-    let s : Block = record { regions = c.self.inside.regions.items; current = c.self.inside.current; sealed = c.self.inside.sealed.items; flushed = c.self.inside.flushed.items; index = c.self.inside.index; jobs = jobs_left c.args.job c.self.inside.jobs.items } in
+    let s : Block = record { regions = c.self.inside.regions.items; current = c.self.inside.current; sealed = c.self.inside.sealed.items; flushed = c.self.inside.flushed.items; index = c.self.inside.index; jobs = jobs_left c.args.job c.self.inside.jobs } in
     let kept = subst (λ (x : Large). CanEnd x.flash (cause_seen c.args.end) c.args.r (left_by c.args.job x.block)) (sym c.self.view_is) c.requires in
     let new = ended_is (cause_seen c.args.end) s c.args.r c.appended_at.result.now c.in_ok-losses.losses.items c.drain_index.new.losses.items c.empty_into-cleared.new.regions.items c.not_current-self-inside.result c.minus.new.rs.items c.leave_flushed.new.flushed.items c.drain_index.new.index c.empty_into-cleared.result c.ended.result
     (c.appended_at.ensures ∙ ap (λ rs. (region_at c.args.r rs).appended) c.deref-2.ensures.value) c.in_ok-losses.ensures.items c.drain_index.ensures.losses c.drain_index.ensures.index c.empty_into-cleared.ensures.regions c.empty_into-cleared.ensures.cleared c.not_current-self-inside.ensures c.minus.ensures c.leave_flushed.ensures c.ended.ensures in (
@@ -25,8 +25,8 @@ invariant_of-self-2 g c =
 
 pub returns-clause-ok : goal.returns-clause-ok
 returns-clause-ok g c =
-    let s : Block = record { regions = c.self.inside.regions.items; current = c.self.inside.current; sealed = c.self.inside.sealed.items; flushed = c.self.inside.flushed.items; index = c.self.inside.index; jobs = jobs_left c.args.job c.self.inside.jobs.items } in
+    let s : Block = record { regions = c.self.inside.regions.items; current = c.self.inside.current; sealed = c.self.inside.sealed.items; flushed = c.self.inside.flushed.items; index = c.self.inside.index; jobs = jobs_left c.args.job c.self.inside.jobs } in
     let new = ended_is (cause_seen c.args.end) s c.args.r c.appended_at.result.now c.in_ok-losses.losses.items c.drain_index.new.losses.items c.empty_into-cleared.new.regions.items c.not_current-self-inside.result c.minus.new.rs.items c.leave_flushed.new.flushed.items c.drain_index.new.index c.empty_into-cleared.result c.ended.result
     (c.appended_at.ensures ∙ ap (λ rs. (region_at c.args.r rs).appended) c.deref-2.ensures.value) c.in_ok-losses.ensures.items c.drain_index.ensures.losses c.drain_index.ensures.index c.empty_into-cleared.ensures.regions c.empty_into-cleared.ensures.cleared c.not_current-self-inside.ensures c.minus.ensures c.leave_flushed.ensures c.ended.ensures in
-    subst (λ (x : Large). end_region (cause_seen c.args.end) c.args.r (left_by c.args.job x.block) ≡ finished (record { regions = c.empty_into-cleared.new.regions.items; current = c.not_current-self-inside.result; sealed = c.minus.new.rs.items; flushed = c.leave_flushed.new.flushed.items; index = c.drain_index.new.index; jobs = c.leave_jobs.new.jobs.items }) c.ended.result) c.self.view_is
+    subst (λ (x : Large). end_region (cause_seen c.args.end) c.args.r (left_by c.args.job x.block) ≡ finished (record { regions = c.empty_into-cleared.new.regions.items; current = c.not_current-self-inside.result; sealed = c.minus.new.rs.items; flushed = c.leave_flushed.new.flushed.items; index = c.drain_index.new.index; jobs = c.leave_jobs.new.jobs }) c.ended.result) c.self.view_is
     (subst (λ (js : List Job). end_region (cause_seen c.args.end) c.args.r s ≡ finished (record { regions = c.empty_into-cleared.new.regions.items; current = c.not_current-self-inside.result; sealed = c.minus.new.rs.items; flushed = c.leave_flushed.new.flushed.items; index = c.drain_index.new.index; jobs = js }) c.ended.result) (sym c.leave_jobs.ensures) new)

@@ -13,34 +13,34 @@ use Rattle.hc_region.proofs.Cleans.{changed_is}
 use Rattle.hc_block.proofs.block_cache.BlockCache.go_on.Goals as goal
 
 pub write_more-requires-clause-job : goal.write_more-requires-clause-job
-write_more-requires-clause-job g c = (subst (λ (x : Large). CanSettle x.flash c.args.number c.args.at c.args.r More x.block) (sym c.self.view_is) c.requires).job.there
+write_more-requires-clause-job g c = (subst (λ (x : Large). CanSettle x.flash c.args.number c.args.r More x.block) (sym c.self.view_is) c.requires).under_way
 
 pub write_more-requires-clause-there : goal.write_more-requires-clause-there
-write_more-requires-clause-there g c = (subst (λ (x : Large). CanSettle x.flash c.args.number c.args.at c.args.r More x.block) (sym c.self.view_is) c.requires).there
+write_more-requires-clause-there g c = (subst (λ (x : Large). CanSettle x.flash c.args.number c.args.r More x.block) (sym c.self.view_is) c.requires).there
 
 pub write_more-requires-clause-small : goal.write_more-requires-clause-small
 write_more-requires-clause-small g c =
-    let there = (subst (λ (x : Large). CanSettle x.flash c.args.number c.args.at c.args.r More x.block) (sym c.self.view_is) c.requires).there in
+    let there = (subst (λ (x : Large). CanSettle x.flash c.args.number c.args.r More x.block) (sym c.self.view_is) c.requires).there in
     omega (arith, there, c.self.invariant.0.count, c.self.invariant.0.limits.regions)
 
 pub write_more-requires-clause-written : goal.write_more-requires-clause-written
 write_more-requires-clause-written g c =
-    let s : Block = record { regions = c.self.inside.regions.items; current = c.self.inside.current; sealed = c.self.inside.sealed.items; flushed = c.self.inside.flushed.items; index = c.self.inside.index; jobs = c.self.inside.jobs.items } in
+    let s : Block = record { regions = c.self.inside.regions.items; current = c.self.inside.current; sealed = c.self.inside.sealed.items; flushed = c.self.inside.flushed.items; index = c.self.inside.index; jobs = c.self.inside.jobs } in
     written_small c.self.inside.flash s c.args.r c.self.invariant.0
 
 pub invariant_of-self-2 : goal.invariant_of-self-2
 invariant_of-self-2 g c =
-    let s : Block = record { regions = c.self.inside.regions.items; current = c.self.inside.current; sealed = c.self.inside.sealed.items; flushed = c.self.inside.flushed.items; index = c.self.inside.index; jobs = c.self.inside.jobs.items } in
-    let can = subst (λ (x : Large). CanSettle x.flash c.args.number c.args.at c.args.r More x.block) (sym c.self.view_is) c.requires in
-    let new = more_is c.self.inside.flash c.args.number c.args.r c.args.at s c.write_more.new.regions.items c.write_more.new.jobs.items (order_of c.in_ok-order.order) can.job c.in_ok-order.ensures.regions c.in_ok-order.ensures.jobs c.in_ok-order.ensures.order in (
+    let s : Block = record { regions = c.self.inside.regions.items; current = c.self.inside.current; sealed = c.self.inside.sealed.items; flushed = c.self.inside.flushed.items; index = c.self.inside.index; jobs = c.self.inside.jobs } in
+    let can = subst (λ (x : Large). CanSettle x.flash c.args.number c.args.r More x.block) (sym c.self.view_is) c.requires in
+    let new = more_is c.self.inside.flash c.args.number c.args.r s c.write_more.new.regions.items c.write_more.new.jobs (order_of c.in_ok-order.order) c.in_ok-order.ensures.regions c.in_ok-order.ensures.jobs c.in_ok-order.ensures.order in (
       subst (λ (m : Moved). Kept c.self.inside.flash m.state) new can.kept,
       changed_is c.args.r s.regions c.write_more.new.regions.items (settled c.self.inside.flash More (region_at c.args.r s.regions)) c.self.inside.clean.items (settled_clean c.self.inside.flash More (region_at c.args.r s.regions) can.in_use) c.self.invariant.1 c.in_ok-order.ensures.regions,
     )
 
 pub returns-clause-ok : goal.returns-clause-ok
 returns-clause-ok g c =
-    let s : Block = record { regions = c.self.inside.regions.items; current = c.self.inside.current; sealed = c.self.inside.sealed.items; flushed = c.self.inside.flushed.items; index = c.self.inside.index; jobs = c.self.inside.jobs.items } in
-    let u : Block = record s { regions = c.write_more.new.regions.items; jobs = c.write_more.new.jobs.items } in
-    let can = subst (λ (x : Large). CanSettle x.flash c.args.number c.args.at c.args.r More x.block) (sym c.self.view_is) c.requires in
-    let new = more_is c.self.inside.flash c.args.number c.args.r c.args.at s c.write_more.new.regions.items c.write_more.new.jobs.items (order_of c.in_ok-order.order) can.job c.in_ok-order.ensures.regions c.in_ok-order.ensures.jobs c.in_ok-order.ensures.order in
+    let s : Block = record { regions = c.self.inside.regions.items; current = c.self.inside.current; sealed = c.self.inside.sealed.items; flushed = c.self.inside.flushed.items; index = c.self.inside.index; jobs = c.self.inside.jobs } in
+    let u : Block = record s { regions = c.write_more.new.regions.items; jobs = c.write_more.new.jobs } in
+    let can = subst (λ (x : Large). CanSettle x.flash c.args.number c.args.r More x.block) (sym c.self.view_is) c.requires in
+    let new = more_is c.self.inside.flash c.args.number c.args.r s c.write_more.new.regions.items c.write_more.new.jobs (order_of c.in_ok-order.order) c.in_ok-order.ensures.regions c.in_ok-order.ensures.jobs c.in_ok-order.ensures.order in
     subst (λ (x : Large). settled_by x.flash c.args.number c.args.r More (end_job c.args.number x.block) ≡ record { state = u; outcome = nothing; order = Some (order_of c.in_ok-order.order) }) c.self.view_is new

@@ -1,76 +1,49 @@
-use Rattle.std.proofs.Common.{◌≡◌, ◌∙◌, ◌<◌, ℕ, sym, ap, subst, length, List}
+use Rattle.std.proofs.Common.{◌≡◌, ◌∙◌, ◌<◌, ℕ, sym, ap, subst, length}
 use Rattle.std.specs.Prelude.{option_map}
 use Rattle.hc_types.specs.Places.{kept_of}
-use Rattle.hc_engines.specs.large.Block.{Block, Job, Reading, Moved, finished, end_job}
+use Rattle.hc_engines.specs.large.Block.{Block, Reading, Moved, finished, end_job}
 use Rattle.hc_engines.specs.large.Steps.{let_go}
 use Rattle.hc_bighash.specs.Seen.{answer_of}
 use Rattle.hc_block.specs.Large.{Large, Kept}
-use Rattle.hc_block.specs.Works.{job_at, reading_in, reading_now, IsReading, IsGetting}
+use Rattle.hc_block.specs.Works.{reading_at, IsReading}
 use Rattle.hc_block.specs.Reads.{came_to}
-use Rattle.hc_block.proofs.Leaving.{read_at, read_there, leave_kept, left_is}
+use Rattle.hc_block.proofs.Leaving.{read_there, leave_kept, left_is}
 use Rattle.hc_block.proofs.block_cache.BlockCache.leave.Goals as goal
-
-pub reading_at-reading-requires-clause-there : goal.reading_at-reading-requires-clause-there
-reading_at-reading-requires-clause-there g c =
-    let s : Block = record { regions = c.self.inside.regions.items; current = c.self.inside.current; sealed = c.self.inside.sealed.items; flushed = c.self.inside.flushed.items; index = c.self.inside.index; jobs = c.self.inside.jobs.items } in
-    let h = subst (λ (x : Large). IsReading c.args.number c.args.at x.block) (sym c.self.view_is) c.requires in
-    let read = read_at c.self.inside.flash c.args.number c.args.at s c.self.invariant.0 h in
-    subst (λ (js : List Job). c.args.at < length js) (sym c.deref.ensures.value) read.job.there
-
-pub reading_at-reading-requires-clause-getting : goal.reading_at-reading-requires-clause-getting
-reading_at-reading-requires-clause-getting g c =
-    let s : Block = record { regions = c.self.inside.regions.items; current = c.self.inside.current; sealed = c.self.inside.sealed.items; flushed = c.self.inside.flushed.items; index = c.self.inside.index; jobs = c.self.inside.jobs.items } in
-    let h = subst (λ (x : Large). IsReading c.args.number c.args.at x.block) (sym c.self.view_is) c.requires in
-    let read = read_at c.self.inside.flash c.args.number c.args.at s c.self.invariant.0 h in
-    subst (λ (js : List Job). IsGetting (job_at c.args.at js).work) (sym c.deref.ensures.value) read.getting
 
 pub release_into-cleared-requires-clause-there : goal.release_into-cleared-requires-clause-there
 release_into-cleared-requires-clause-there g c =
-    let s : Block = record { regions = c.self.inside.regions.items; current = c.self.inside.current; sealed = c.self.inside.sealed.items; flushed = c.self.inside.flushed.items; index = c.self.inside.index; jobs = c.self.inside.jobs.items } in
-    let h = subst (λ (x : Large). IsReading c.args.number c.args.at x.block) (sym c.self.view_is) c.requires in
-    let read = read_at c.self.inside.flash c.args.number c.args.at s c.self.invariant.0 h in
-    let eq : c.reading_at-reading.result.now ≡ reading_now c.args.number s = c.reading_at-reading.ensures ∙ ap (λ (js : List Job). reading_in (job_at c.args.at js).work) c.deref.ensures.value ∙ read.reading in
-    let re : c.region-r.result ≡ (reading_now c.args.number s).place.region = c.region-r.ensures ∙ ap (λ (rd : Reading). rd.place.region) eq in
-    subst (λ (r : ℕ). r < length c.self.inside.regions.items) (sym re) (read_there c.self.inside.flash c.args.number c.args.at s c.self.invariant.0 h)
+    let s : Block = record { regions = c.self.inside.regions.items; current = c.self.inside.current; sealed = c.self.inside.sealed.items; flushed = c.self.inside.flushed.items; index = c.self.inside.index; jobs = c.self.inside.jobs } in
+    let h = subst (λ (x : Large). IsReading c.args.number x.block.jobs) (sym c.self.view_is) c.requires in
+    let re : c.region-r.result ≡ (reading_at c.args.number s.jobs).place.region = c.region-r.ensures ∙ ap (λ (rd : Reading). rd.place.region) c.reading-reading.ensures in
+    subst (λ (r : ℕ). r < length c.self.inside.regions.items) (sym re) (read_there c.self.inside.flash c.args.number s c.self.invariant.0 h)
 
 pub release_into-cleared-requires-clause-clean : goal.release_into-cleared-requires-clause-clean
 release_into-cleared-requires-clause-clean g c = c.in_ok-reserve.ensures.items ∙ c.self.invariant.1
 
-pub drop_job-requires : goal.drop_job-requires
-drop_job-requires g c =
-    let s : Block = record { regions = c.self.inside.regions.items; current = c.self.inside.current; sealed = c.self.inside.sealed.items; flushed = c.self.inside.flushed.items; index = c.self.inside.index; jobs = c.self.inside.jobs.items } in
-    let h = subst (λ (x : Large). IsReading c.args.number c.args.at x.block) (sym c.self.view_is) c.requires in
-    let read = read_at c.self.inside.flash c.args.number c.args.at s c.self.invariant.0 h in
-    read.job.there
-
 pub invariant_of-self-2 : goal.invariant_of-self-2
 invariant_of-self-2 g c =
-    let s : Block = record { regions = c.self.inside.regions.items; current = c.self.inside.current; sealed = c.self.inside.sealed.items; flushed = c.self.inside.flushed.items; index = c.self.inside.index; jobs = c.self.inside.jobs.items } in
-    let h = subst (λ (x : Large). IsReading c.args.number c.args.at x.block) (sym c.self.view_is) c.requires in
-    let read = read_at c.self.inside.flash c.args.number c.args.at s c.self.invariant.0 h in
-    let eq : c.reading_at-reading.result.now ≡ reading_now c.args.number s = c.reading_at-reading.ensures ∙ ap (λ (js : List Job). reading_in (job_at c.args.at js).work) c.deref.ensures.value ∙ read.reading in
-    let re : c.region-r.result ≡ (reading_now c.args.number s).place.region = c.region-r.ensures ∙ ap (λ (rd : Reading). rd.place.region) eq in
-    let he : c.hash-hash.result ≡ kept_of c.self.inside.flash.bits (reading_now c.args.number s).key = c.hash-hash.ensures ∙ ap (λ (rd : Reading). kept_of c.self.inside.flash.bits rd.key) eq in
-    let u : Block = record s { regions = c.release_into-cleared.new.regions.items; flushed = c.leave_flushed.new.flushed.items; index = c.leave_index.new.index; jobs = c.drop_job.new.jobs.items } in
-    let made = left_is c.region-r.result c.args.number c.args.at c.hash-hash.result (option_map answer_of c.args.came) s c.release_into-cleared.result c.leave_index.new.index c.release_into-cleared.new.regions.items c.leave_flushed.new.flushed.items c.drop_job.new.jobs.items c.in_ok-losses.losses.items (answer_of c.answer_of_read.result) c.read.result read.job
-    c.leave_index.ensures c.release_into-cleared.ensures.regions c.release_into-cleared.ensures.cleared c.leave_flushed.ensures c.drop_job.ensures c.in_ok-losses.ensures c.answer_of_read.ensures c.read.ensures in
-    let new = subst (λ (r : ℕ). let_go r (came_to (kept_of c.self.inside.flash.bits (reading_now c.args.number s).key) (end_job c.args.number s) (option_map answer_of c.args.came)) ≡ finished u c.read.result) re
+    let s : Block = record { regions = c.self.inside.regions.items; current = c.self.inside.current; sealed = c.self.inside.sealed.items; flushed = c.self.inside.flushed.items; index = c.self.inside.index; jobs = c.self.inside.jobs } in
+    let h = subst (λ (x : Large). IsReading c.args.number x.block.jobs) (sym c.self.view_is) c.requires in
+    let re : c.region-r.result ≡ (reading_at c.args.number s.jobs).place.region = c.region-r.ensures ∙ ap (λ (rd : Reading). rd.place.region) c.reading-reading.ensures in
+    let he : c.hash-hash.result ≡ kept_of c.self.inside.flash.bits (reading_at c.args.number s.jobs).key = c.hash-hash.ensures ∙ ap (λ (rd : Reading). kept_of c.self.inside.flash.bits rd.key) c.reading-reading.ensures in
+    let u : Block = record s { regions = c.release_into-cleared.new.regions.items; flushed = c.leave_flushed.new.flushed.items; index = c.leave_index.new.index; jobs = c.remove.new.self } in
+    let made = left_is c.region-r.result c.args.number c.hash-hash.result (option_map answer_of c.args.came) s c.release_into-cleared.result c.leave_index.new.index c.release_into-cleared.new.regions.items c.leave_flushed.new.flushed.items c.remove.new.self c.in_ok-losses.losses.items (answer_of c.answer_of_read.result) c.read.result
+    c.leave_index.ensures c.release_into-cleared.ensures.regions c.release_into-cleared.ensures.cleared c.leave_flushed.ensures c.remove.ensures c.in_ok-losses.ensures c.answer_of_read.ensures c.read.ensures in
+    let new = subst (λ (r : ℕ). let_go r (came_to (kept_of c.self.inside.flash.bits (reading_at c.args.number s.jobs).key) (end_job c.args.number s) (option_map answer_of c.args.came)) ≡ finished u c.read.result) re
     (subst (λ (hash : ℕ). let_go c.region-r.result (came_to hash (end_job c.args.number s) (option_map answer_of c.args.came)) ≡ finished u c.read.result) he made) in (
-      subst (λ (m : Moved). Kept c.self.inside.flash m.state) new (leave_kept c.self.inside.flash c.args.number c.args.at (kept_of c.self.inside.flash.bits (reading_now c.args.number s).key) (option_map answer_of c.args.came) s c.self.invariant.0 h),
+      subst (λ (m : Moved). Kept c.self.inside.flash m.state) new (leave_kept c.self.inside.flash c.args.number (kept_of c.self.inside.flash.bits (reading_at c.args.number s.jobs).key) (option_map answer_of c.args.came) s c.self.invariant.0 h),
       c.release_into-cleared.ensures.clean,
     )
 
 pub returns-clause-ok : goal.returns-clause-ok
 returns-clause-ok g c =
-    let s : Block = record { regions = c.self.inside.regions.items; current = c.self.inside.current; sealed = c.self.inside.sealed.items; flushed = c.self.inside.flushed.items; index = c.self.inside.index; jobs = c.self.inside.jobs.items } in
-    let h = subst (λ (x : Large). IsReading c.args.number c.args.at x.block) (sym c.self.view_is) c.requires in
-    let read = read_at c.self.inside.flash c.args.number c.args.at s c.self.invariant.0 h in
-    let eq : c.reading_at-reading.result.now ≡ reading_now c.args.number s = c.reading_at-reading.ensures ∙ ap (λ (js : List Job). reading_in (job_at c.args.at js).work) c.deref.ensures.value ∙ read.reading in
-    let re : c.region-r.result ≡ (reading_now c.args.number s).place.region = c.region-r.ensures ∙ ap (λ (rd : Reading). rd.place.region) eq in
-    let he : c.hash-hash.result ≡ kept_of c.self.inside.flash.bits (reading_now c.args.number s).key = c.hash-hash.ensures ∙ ap (λ (rd : Reading). kept_of c.self.inside.flash.bits rd.key) eq in
-    let u : Block = record s { regions = c.release_into-cleared.new.regions.items; flushed = c.leave_flushed.new.flushed.items; index = c.leave_index.new.index; jobs = c.drop_job.new.jobs.items } in
-    let made = left_is c.region-r.result c.args.number c.args.at c.hash-hash.result (option_map answer_of c.args.came) s c.release_into-cleared.result c.leave_index.new.index c.release_into-cleared.new.regions.items c.leave_flushed.new.flushed.items c.drop_job.new.jobs.items c.in_ok-losses.losses.items (answer_of c.answer_of_read.result) c.read.result read.job
-    c.leave_index.ensures c.release_into-cleared.ensures.regions c.release_into-cleared.ensures.cleared c.leave_flushed.ensures c.drop_job.ensures c.in_ok-losses.ensures c.answer_of_read.ensures c.read.ensures in
-    let new = subst (λ (r : ℕ). let_go r (came_to (kept_of c.self.inside.flash.bits (reading_now c.args.number s).key) (end_job c.args.number s) (option_map answer_of c.args.came)) ≡ finished u c.read.result) re
+    let s : Block = record { regions = c.self.inside.regions.items; current = c.self.inside.current; sealed = c.self.inside.sealed.items; flushed = c.self.inside.flushed.items; index = c.self.inside.index; jobs = c.self.inside.jobs } in
+    let h = subst (λ (x : Large). IsReading c.args.number x.block.jobs) (sym c.self.view_is) c.requires in
+    let re : c.region-r.result ≡ (reading_at c.args.number s.jobs).place.region = c.region-r.ensures ∙ ap (λ (rd : Reading). rd.place.region) c.reading-reading.ensures in
+    let he : c.hash-hash.result ≡ kept_of c.self.inside.flash.bits (reading_at c.args.number s.jobs).key = c.hash-hash.ensures ∙ ap (λ (rd : Reading). kept_of c.self.inside.flash.bits rd.key) c.reading-reading.ensures in
+    let u : Block = record s { regions = c.release_into-cleared.new.regions.items; flushed = c.leave_flushed.new.flushed.items; index = c.leave_index.new.index; jobs = c.remove.new.self } in
+    let made = left_is c.region-r.result c.args.number c.hash-hash.result (option_map answer_of c.args.came) s c.release_into-cleared.result c.leave_index.new.index c.release_into-cleared.new.regions.items c.leave_flushed.new.flushed.items c.remove.new.self c.in_ok-losses.losses.items (answer_of c.answer_of_read.result) c.read.result
+    c.leave_index.ensures c.release_into-cleared.ensures.regions c.release_into-cleared.ensures.cleared c.leave_flushed.ensures c.remove.ensures c.in_ok-losses.ensures c.answer_of_read.ensures c.read.ensures in
+    let new = subst (λ (r : ℕ). let_go r (came_to (kept_of c.self.inside.flash.bits (reading_at c.args.number s.jobs).key) (end_job c.args.number s) (option_map answer_of c.args.came)) ≡ finished u c.read.result) re
     (subst (λ (hash : ℕ). let_go c.region-r.result (came_to hash (end_job c.args.number s) (option_map answer_of c.args.came)) ≡ finished u c.read.result) he made) in
-    subst (λ (x : Large). let_go (reading_now c.args.number x.block).place.region (came_to (kept_of x.flash.bits (reading_now c.args.number x.block).key) (end_job c.args.number x.block) (option_map answer_of c.args.came)) ≡ finished u c.read.result) c.self.view_is new
+    subst (λ (x : Large). let_go (reading_at c.args.number x.block.jobs).place.region (came_to (kept_of x.flash.bits (reading_at c.args.number x.block.jobs).key) (end_job c.args.number x.block) (option_map answer_of c.args.came)) ≡ finished u c.read.result) c.self.view_is new

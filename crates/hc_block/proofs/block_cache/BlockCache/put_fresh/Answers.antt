@@ -9,14 +9,14 @@ use Rattle.hc_block.proofs.block_cache.BlockCache.put_fresh.Goals as goal
 
 pub open_in-requires-clause-can : goal.open_in-requires-clause-can
 open_in-requires-clause-can g c =
-    let s : Block = record { regions = c.self.inside.regions.items; current = c.self.inside.current; sealed = c.self.inside.sealed.items; flushed = c.self.inside.flushed.items; index = c.self.inside.index; jobs = c.self.inside.jobs.items } in
+    let s : Block = record { regions = c.self.inside.regions.items; current = c.self.inside.current; sealed = c.self.inside.sealed.items; flushed = c.self.inside.flushed.items; index = c.self.inside.index; jobs = c.self.inside.jobs } in
     let low = subst (λ (x : Large). lowest_clean 0 x.block.regions ≡ Some c.args.r) (sym c.self.view_is) c.requires.clean in
     let short = subst (λ (x : Large). length c.args.bytes.now ≤ region_len x.flash) (sym c.self.view_is) c.requires.fits in
     can_open c.self.inside.flash s (length c.args.bytes.now) c.args.r c.self.invariant.0 low short
 
 pub invariant_of-self-2 : goal.invariant_of-self-2
 invariant_of-self-2 g c =
-    let s : Block = record { regions = c.self.inside.regions.items; current = c.self.inside.current; sealed = c.self.inside.sealed.items; flushed = c.self.inside.flushed.items; index = c.self.inside.index; jobs = c.self.inside.jobs.items } in
+    let s : Block = record { regions = c.self.inside.regions.items; current = c.self.inside.current; sealed = c.self.inside.sealed.items; flushed = c.self.inside.flushed.items; index = c.self.inside.index; jobs = c.self.inside.jobs } in
     let low = subst (λ (x : Large). lowest_clean 0 x.block.regions ≡ Some c.args.r) (sym c.self.view_is) c.requires.clean in
     let short = subst (λ (x : Large). length c.args.bytes.now ≤ region_len x.flash) (sym c.self.view_is) c.requires.fits in
     let long = subst (λ (bytes : List ℕ). length bytes ≤ region_len c.self.inside.flash) c.requires.bytes short in
@@ -27,7 +27,7 @@ invariant_of-self-2 g c =
 
 pub returns-clause-ok : goal.returns-clause-ok
 returns-clause-ok g c =
-    let s : Block = record { regions = c.self.inside.regions.items; current = c.self.inside.current; sealed = c.self.inside.sealed.items; flushed = c.self.inside.flushed.items; index = c.self.inside.index; jobs = c.self.inside.jobs.items } in
+    let s : Block = record { regions = c.self.inside.regions.items; current = c.self.inside.current; sealed = c.self.inside.sealed.items; flushed = c.self.inside.flushed.items; index = c.self.inside.index; jobs = c.self.inside.jobs } in
     let u : Block = record s { regions = c.open_in.new.regions.items; current = Some c.args.r; sealed = c.open_in.new.sealed.items; index = c.open_in.new.index } in
     let low = subst (λ (x : Large). lowest_clean 0 x.block.regions ≡ Some c.args.r) (sym c.self.view_is) c.requires.clean in
     let new = fresh_is c.self.inside.flash s (entry_of c.args.entry.now) c.args.bytes.now c.kept-hash.result c.args.r c.open_in.new.regions.items c.open_in.new.sealed.items c.open_in.new.index low c.requires.bytes c.kept-hash.ensures c.in_ok-open_in.ensures.regions c.in_ok-open_in.ensures.sealed c.in_ok-open_in.ensures.index in

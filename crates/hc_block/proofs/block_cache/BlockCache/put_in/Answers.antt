@@ -11,13 +11,13 @@ use Rattle.hc_block.proofs.block_cache.BlockCache.put_in.Goals as goal
 
 pub append_in-requires : goal.append_in-requires
 append_in-requires g c =
-    let s : Block = record { regions = c.self.inside.regions.items; current = c.self.inside.current; sealed = c.self.inside.sealed.items; flushed = c.self.inside.flushed.items; index = c.self.inside.index; jobs = c.self.inside.jobs.items } in
+    let s : Block = record { regions = c.self.inside.regions.items; current = c.self.inside.current; sealed = c.self.inside.sealed.items; flushed = c.self.inside.flushed.items; index = c.self.inside.index; jobs = c.self.inside.jobs } in
     let fits = subst (λ (x : Large). fitting x.flash x.block (length c.args.bytes.now) x.block.current ≡ Some c.args.r) (sym c.self.view_is) c.requires.fits in
     ready c.self.inside.flash s (length c.args.bytes.now) c.args.r c.self.invariant.0 fits
 
 pub invariant_of-self-2 : goal.invariant_of-self-2
 invariant_of-self-2 g c =
-    let s : Block = record { regions = c.self.inside.regions.items; current = c.self.inside.current; sealed = c.self.inside.sealed.items; flushed = c.self.inside.flushed.items; index = c.self.inside.index; jobs = c.self.inside.jobs.items } in
+    let s : Block = record { regions = c.self.inside.regions.items; current = c.self.inside.current; sealed = c.self.inside.sealed.items; flushed = c.self.inside.flushed.items; index = c.self.inside.index; jobs = c.self.inside.jobs } in
     let fits = subst (λ (x : Large). fitting x.flash x.block (length c.args.bytes.now) x.block.current ≡ Some c.args.r) (sym c.self.view_is) c.requires.fits in
     let long = subst (λ (bytes : List ℕ). fitting c.self.inside.flash s (length bytes) s.current ≡ Some c.args.r) c.requires.bytes fits in
     let new = put_is c.self.inside.flash s (entry_of c.args.entry.now) c.args.bytes.now c.kept-hash.result c.args.r c.append_in.new.regions.items c.append_in.new.index c.requires.bytes c.kept-hash.ensures c.in_ok-append_in.ensures.regions c.in_ok-append_in.ensures.index in (
@@ -27,7 +27,7 @@ invariant_of-self-2 g c =
 
 pub returns-clause-ok : goal.returns-clause-ok
 returns-clause-ok g c =
-    let s : Block = record { regions = c.self.inside.regions.items; current = c.self.inside.current; sealed = c.self.inside.sealed.items; flushed = c.self.inside.flushed.items; index = c.self.inside.index; jobs = c.self.inside.jobs.items } in
+    let s : Block = record { regions = c.self.inside.regions.items; current = c.self.inside.current; sealed = c.self.inside.sealed.items; flushed = c.self.inside.flushed.items; index = c.self.inside.index; jobs = c.self.inside.jobs } in
     let u : Block = record s { regions = c.append_in.new.regions.items; index = c.append_in.new.index } in
     let new = put_is c.self.inside.flash s (entry_of c.args.entry.now) c.args.bytes.now c.kept-hash.result c.args.r c.append_in.new.regions.items c.append_in.new.index c.requires.bytes c.kept-hash.ensures c.in_ok-append_in.ensures.regions c.in_ok-append_in.ensures.index in
     subst (λ (x : Large). stored x.flash (entry_of c.args.entry.now) x.block None (append x.flash c.args.r (entry_of c.args.entry.now) x.block) ≡ finished u c.stored.result) c.self.view_is

@@ -10,30 +10,27 @@ use Rattle.hc_region.proofs.Cleans.{changed_is}
 use Rattle.hc_block.proofs.block_cache.BlockCache.settle.Goals as goal
 
 pub settle_at-requires-clause-there : goal.settle_at-requires-clause-there
-settle_at-requires-clause-there g c = (subst (λ (x : Large). CanSettle x.flash c.args.number c.args.at c.args.r c.args.stage x.block) (sym c.self.view_is) c.requires.can).there
+settle_at-requires-clause-there g c = (subst (λ (x : Large). CanSettle x.flash c.args.number c.args.r c.args.stage x.block) (sym c.self.view_is) c.requires.can).there
 
 pub settle_at-requires-clause-written : goal.settle_at-requires-clause-written
 settle_at-requires-clause-written g c =
-    let s : Block = record { regions = c.self.inside.regions.items; current = c.self.inside.current; sealed = c.self.inside.sealed.items; flushed = c.self.inside.flushed.items; index = c.self.inside.index; jobs = c.self.inside.jobs.items } in
+    let s : Block = record { regions = c.self.inside.regions.items; current = c.self.inside.current; sealed = c.self.inside.sealed.items; flushed = c.self.inside.flushed.items; index = c.self.inside.index; jobs = c.self.inside.jobs } in
     written_fits c.self.inside.flash s c.args.r c.self.invariant.0
-
-pub drop_job-requires : goal.drop_job-requires
-drop_job-requires g c = (subst (λ (x : Large). CanSettle x.flash c.args.number c.args.at c.args.r c.args.stage x.block) (sym c.self.view_is) c.requires.can).job.there
 
 pub invariant_of-self-2 : goal.invariant_of-self-2
 invariant_of-self-2 g c =
-    let s : Block = record { regions = c.self.inside.regions.items; current = c.self.inside.current; sealed = c.self.inside.sealed.items; flushed = c.self.inside.flushed.items; index = c.self.inside.index; jobs = c.self.inside.jobs.items } in
-    let can = subst (λ (x : Large). CanSettle x.flash c.args.number c.args.at c.args.r c.args.stage x.block) (sym c.self.view_is) c.requires.can in
+    let s : Block = record { regions = c.self.inside.regions.items; current = c.self.inside.current; sealed = c.self.inside.sealed.items; flushed = c.self.inside.flushed.items; index = c.self.inside.index; jobs = c.self.inside.jobs } in
+    let can = subst (λ (x : Large). CanSettle x.flash c.args.number c.args.r c.args.stage x.block) (sym c.self.view_is) c.requires.can in
     let kept = subst (λ (x : Large). Kept x.flash (settled_in x.flash c.args.r c.args.stage (end_job c.args.number x.block))) (sym c.self.view_is) c.requires.kept in
-    let new = settled_in_is c.self.inside.flash c.args.number c.args.r c.args.at c.args.stage s c.settle_at.new.regions.items c.add_flushed.new.flushed.items c.drop_job.new.jobs.items can.job c.settle_at.ensures (c.add_flushed.ensures ∙ ap (flushed_at c.args.stage c.args.r) c.in_ok-reserve.ensures.items) c.drop_job.ensures in (
+    let new = settled_in_is c.self.inside.flash c.args.number c.args.r c.args.stage s c.settle_at.new.regions.items c.add_flushed.new.flushed.items c.remove.new.self c.settle_at.ensures (c.add_flushed.ensures ∙ ap (flushed_at c.args.stage c.args.r) c.in_ok-reserve.ensures.items) c.remove.ensures in (
       subst (λ (t : Block). Kept c.self.inside.flash t) new kept,
       changed_is c.args.r s.regions c.settle_at.new.regions.items (settled c.self.inside.flash c.args.stage (region_at c.args.r s.regions)) c.self.inside.clean.items (settled_clean c.self.inside.flash c.args.stage (region_at c.args.r s.regions) can.in_use) c.self.invariant.1 c.settle_at.ensures,
     )
 
 pub returns-clause-ok : goal.returns-clause-ok
 returns-clause-ok g c =
-    let s : Block = record { regions = c.self.inside.regions.items; current = c.self.inside.current; sealed = c.self.inside.sealed.items; flushed = c.self.inside.flushed.items; index = c.self.inside.index; jobs = c.self.inside.jobs.items } in
-    let u : Block = record s { regions = c.settle_at.new.regions.items; flushed = c.add_flushed.new.flushed.items; jobs = c.drop_job.new.jobs.items } in
-    let can = subst (λ (x : Large). CanSettle x.flash c.args.number c.args.at c.args.r c.args.stage x.block) (sym c.self.view_is) c.requires.can in
-    let new = settled_in_is c.self.inside.flash c.args.number c.args.r c.args.at c.args.stage s c.settle_at.new.regions.items c.add_flushed.new.flushed.items c.drop_job.new.jobs.items can.job c.settle_at.ensures (c.add_flushed.ensures ∙ ap (flushed_at c.args.stage c.args.r) c.in_ok-reserve.ensures.items) c.drop_job.ensures in
+    let s : Block = record { regions = c.self.inside.regions.items; current = c.self.inside.current; sealed = c.self.inside.sealed.items; flushed = c.self.inside.flushed.items; index = c.self.inside.index; jobs = c.self.inside.jobs } in
+    let u : Block = record s { regions = c.settle_at.new.regions.items; flushed = c.add_flushed.new.flushed.items; jobs = c.remove.new.self } in
+    let can = subst (λ (x : Large). CanSettle x.flash c.args.number c.args.r c.args.stage x.block) (sym c.self.view_is) c.requires.can in
+    let new = settled_in_is c.self.inside.flash c.args.number c.args.r c.args.stage s c.settle_at.new.regions.items c.add_flushed.new.flushed.items c.remove.new.self c.settle_at.ensures (c.add_flushed.ensures ∙ ap (flushed_at c.args.stage c.args.r) c.in_ok-reserve.ensures.items) c.remove.ensures in
     subst (λ (x : Large). settled_in x.flash c.args.r c.args.stage (end_job c.args.number x.block) ≡ u) c.self.view_is new

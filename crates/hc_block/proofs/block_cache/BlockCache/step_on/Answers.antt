@@ -1,7 +1,9 @@
-use Rattle.std.proofs.Common.{◌∙◌, sym}
-use Rattle.hc_bighash.specs.Seen.{result_of}
-use Rattle.hc_block.proofs.Turning.{unknown_is}
+use Rattle.std.proofs.Common.{◌∙◌, ap, Some, []}
+use Rattle.hc_engines.specs.large.Block.{Moved}
 use Rattle.hc_block.proofs.block_cache.BlockCache.step_on.Goals as goal
 
-pub returns-in-None-clause-unknown : goal.returns-in-None-clause-unknown
-returns-in-None-clause-unknown g c = λ same. unknown_is c.args.self.now.flash c.args.number c.args.self.now.block (result_of c.args.came.now) (sym c.place.ensures ∙ c.in-None.is)
+pub returns-in-Ok-clause-ok : goal.returns-in-Ok-clause-ok
+returns-in-Ok-clause-ok g c = c.in-Written.ensures.1 ∙ ap (λ (m : Moved). Some m) (c.in-Ok.ensures.ok [])
+
+pub returns-in-Ok-write_failed-clause-ok : goal.returns-in-Ok-write_failed-clause-ok
+returns-in-Ok-write_failed-clause-ok g c = c.in-WriteFailed.ensures.1 ∙ ap (λ (m : Moved). Some m) (c.in-Ok-write_failed.ensures.ok [])
