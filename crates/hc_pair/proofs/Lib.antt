@@ -1,0 +1,2 @@
+-- What is proved of both engines as one.
+pub mod Steps

@@ -1,0 +1,2 @@
+-- How contracts see both engines as one.
+pub mod Joined

@@ -1,0 +1,11 @@
+//! The engines for small and for large objects on flash as one: who serves which size. It calls no device: an operation is
+//! started, answers which page is to be read or written, and is resumed with what came of that.
+#![tactic(auto)]
+
+mod joining;
+mod pair;
+mod resuming;
+mod shown;
+mod starting;
+
+pub use pair::Pair;

@@ -1,0 +1,11 @@
+//! Tests of both engines on flash as one: who serves which size, a get that goes on, want of memory, and what is printed.
+#![tactic(auto)]
+
+#[cfg(test)]
+mod driving;
+#[cfg(test)]
+mod making;
+#[cfg(test)]
+mod memory;
+#[cfg(test)]
+mod rows;
