@@ -92,9 +92,11 @@ impl<A: Allocator + Copy> Driver<A> {
     }
 
     /// Hands in what came of a device operation.
-    #[tactic(auto, using(crate::proofs::Numbered::went_on))]
     pub fn resume(&mut self, number: u64, came: IoResult<A>) -> Result<Next<A>, Unresumed<A>> {
         self.engine.is_sound();
-        self.engine.resume(number, came)
+        match self.engine.resume(number, came) {
+            Ok(next) => Ok(next),
+            Err(refused) => Err(refused),
+        }
     }
 }

@@ -90,7 +90,10 @@ impl<A: Allocator + Copy> Driver<A> {
     /// Hands in what came of a device operation.
     pub fn resume(&mut self, number: u64, came: IoResult<A>) -> Result<Next<A>, Unresumed<A>> {
         self.pair.is_sound();
-        self.pair.resume(number, came)
+        match self.pair.resume(number, came) {
+            Ok(next) => Ok(next),
+            Err(refused) => Err(refused),
+        }
     }
 }
 
@@ -105,9 +108,15 @@ pub fn over<A: Allocator>(rt: &impl Abort, next: Next<A>) -> Outcome<A> {
 /// The page that is to be written, by its number.
 pub fn written<A: Allocator>(rt: &impl Abort, next: Next<A>, page: u32) -> Bytes<A> {
     match next {
-        Next::Io(Order::Write(number, bytes), _) => {
-            assert!(rt; number == page);
-            bytes
+        Next::Io(order, outcome) => {
+            drop(outcome);
+            match order {
+                Order::Write(number, bytes) => {
+                    assert!(rt; number == page);
+                    bytes
+                }
+                Order::Read(_) => panic!(rt; "a page is to be read"),
+            }
         }
         _ => panic!(rt; "no page is to be written"),
     }

@@ -1,0 +1,2 @@
+-- Which numbers operations have.
+mod Numbered
