@@ -1,5 +1,7 @@
 -- The numbers of the clean regions, rising.
-use Rattle.std.specs.Prelude.{ℕ, ◌+◌, nat_lt, List, [], ◌∷◌, Option, Some, None, if◌then◌else◌}
+use Rattle.std.specs.BTreeSet.{insert_key}
+use Rattle.std.specs.Ordering.{nat_cmp}
+use Rattle.std.specs.Prelude.{ℕ, ◌+◌, List, [], ◌∷◌, Option, Some, None, if◌then◌else◌}
 use Rattle.hc_engines.specs.large.Region.{Region, is_clean}
 
 -- the numbers of the clean ones of these regions, the first of which has the number n
@@ -17,10 +19,4 @@ rest_of (x ∷ xs) = xs
 
 -- rising numbers, with this one
 abbrev pub with_number : ℕ → List ℕ → List ℕ
-with_number r [] = r ∷ []
-with_number r (x ∷ xs) = if nat_lt x r then x ∷ with_number r xs else r ∷ x ∷ xs
-
--- with this number, where a region was cleared
-abbrev pub clean_left : Option ℕ → ℕ → List ℕ → List ℕ
-clean_left None r clean = clean
-clean_left (Some q) r clean = with_number r clean
+with_number r clean = insert_key nat_cmp clean r

@@ -1,63 +1,77 @@
-// The clean regions, by their numbers: a list that rises, so that the lowest is found, and all are counted, with no scan.
-ghost use Rattle.std.specs.Prelude.{◌≡◌, ◌<◌, ◌≤◌, ◌+◌, false, length, set, vec_len, vec_capacity, Some};
-ghost use Rattle.std.specs.List.{insert};
-ghost use Rattle.hc_engines.specs.large.Region.{is_clean, region_at, lowest_clean as lowest};
-ghost use Rattle.hc_engines.specs.large.Steps.{clean_count as count_of_clean, emptied, cleared_by};
-ghost use Rattle.hc_region.specs.CleanNumbers.{clean_from, first_of, rest_of, with_number, clean_left};
-ghost use Rattle.hc_region.specs.Pins.{released, released_by};
+// The clean regions, by their numbers: an ordered set, so that the lowest is taken, one comes in, and all are counted, with no
+// scan.
+ghost use Rattle.std.specs.Prelude.{◌≡◌, ◌<◌, ◌≤◌, ◌^◌, false, [], length, replicate, set, Some, OnOk, OnErr, IfOk};
+ghost use Rattle.hc_engines.specs.large.Region.{clean_region, is_clean, region_at, lowest_clean as lowest};
+ghost use Rattle.hc_engines.specs.large.Steps.{clean_count as count_of_clean, emptied};
+ghost use Rattle.hc_region.specs.CleanNumbers.{clean_from, first_of, rest_of, with_number};
+ghost use Rattle.hc_region.specs.Pins.{released};
 
-use crate::numbered::{empty_at, release_at, store_at};
+use crate::numbered::{is_free_at, is_last_read_at, store_at};
 use crate::region::Region;
-use std::alloc::Allocator;
+use std::alloc::{AllocError, Allocator, Global};
+use std::collections::BTreeSet;
+use std::marker::Model;
 
-/// The lowest number.
-fn lowest_of(clean: &[u32]) -> Option<u32>
-    ensures first { result ≡ first_of clean.now }
-{
-    match clean {
-        [] => None,
-        [first, ..] => Some(*first),
-    }
+/// The numbers of the clean regions. Contracts see the list of them, rising.
+#[derive(Drop)]
+pub struct CleanRegions<A: Allocator = Global> {
+    numbers: BTreeSet<u32, A>,
 }
 
-/// The lowest number goes.
-fn take_lowest<A: Allocator>(clean: &mut Vec<u32, A>)
-    ensures { clean.new.items ≡ rest_of clean.old.items }
-{
-    if !clean.is_empty() {
-        let _ = clean.remove(0);
-    }
+impl<A: Allocator> Model for CleanRegions<A> {
+    ghost use Rattle.std.specs.Prelude.{List, ℕ};
+
+    ghost Value = { List ℕ };
+
+    ghost view = { λ clean. clean.numbers.keys };
 }
 
-/// How many numbers are below this one, up to the first that isn't.
-fn below(clean: &[u32], r: u32) -> usize
-    ensures within { result ≤ length clean.now }
-    ensures spot { insert clean.now result r ≡ with_number r clean.now }
-{
-    for (at, number) in clean.iter().enumerate() {
-        if *number >= r {
-            return at;
+impl<A: Allocator> CleanRegions<A> {
+    /// None is clean.
+    fn new(alloc: A) -> CleanRegions<A>
+        ensures { result ≡ [] }
+    {
+        CleanRegions {
+            numbers: BTreeSet::new(alloc),
         }
     }
-    clean.len()
+
+    /// How many there are.
+    #[must_use]
+    pub fn len(&self) -> usize
+        ensures { result ≡ length self.now }
+    {
+        self.numbers.len()
+    }
+
+    /// The lowest number.
+    fn lowest(&self) -> Option<u32>
+        ensures { result ≡ first_of self.now }
+    {
+        match self.numbers.first() {
+            Some(r) => Some(*r),
+            None => None,
+        }
+    }
+
+    /// The lowest number goes.
+    fn take_lowest(&mut self)
+        ensures { self.new ≡ rest_of self.old }
+    {
+        let _ = self.numbers.pop_first();
+    }
 }
 
-/// This number comes in.
-fn add<A: Allocator>(clean: &mut Vec<u32, A>, r: u32)
-    requires { vec_len clean.old < vec_capacity clean.old }
-    ensures { clean.new.items ≡ with_number r clean.old.items }
-{
-    let at = below(clean, r);
-    let _ = clean.insert(at, r);
-}
-
-/// This number comes in, where its region was cleared.
-fn add_if<A: Allocator>(clean: &mut Vec<u32, A>, r: u32, cleared: Option<u32>)
-    requires { vec_len clean.old < vec_capacity clean.old }
-    ensures { clean.new.items ≡ clean_left cleared r clean.old.items }
-{
-    if cleared.is_some() {
-        add(clean, r);
+impl<A: Allocator + Clone> CleanRegions<A> {
+    /// This number comes in. Refused only where memory lacks.
+    fn insert(&mut self, r: u32) -> Result<(), AllocError>
+        ensures ok { OnOk result (self.new ≡ with_number r self.old) }
+        ensures err { OnErr result (self.new ≡ self.old) }
+    {
+        match self.numbers.insert(r) {
+            Ok(_) => Ok(()),
+            Err(_) => Err(AllocError),
+        }
     }
 }
 
@@ -66,19 +80,22 @@ fn add_if<A: Allocator>(clean: &mut Vec<u32, A>, r: u32, cleared: Option<u32>)
 #[tactic(auto, using(crate::proofs::Cleans::first_lowest))]
 pub fn lowest_clean<A: Allocator + Clone + Copy>(
     regions: &[Region<A>],
-    clean: &[u32],
+    clean: &CleanRegions<A>,
 ) -> Option<u32>
     requires { clean.now ≡ clean_from 0 regions.now }
     ensures { result ≡ lowest 0 regions.now }
 {
     let _regions = regions.len();
-    lowest_of(clean)
+    clean.lowest()
 }
 
 /// How many regions are clean.
 #[must_use]
 #[tactic(auto, using(crate::proofs::Cleans::as_many))]
-pub fn clean_count<A: Allocator + Clone + Copy>(regions: &[Region<A>], clean: &[u32]) -> usize
+pub fn clean_count<A: Allocator + Clone + Copy>(
+    regions: &[Region<A>],
+    clean: &CleanRegions<A>,
+) -> usize
     requires { clean.now ≡ clean_from 0 regions.now }
     ensures { result ≡ count_of_clean regions.now }
 {
@@ -89,56 +106,66 @@ pub fn clean_count<A: Allocator + Clone + Copy>(regions: &[Region<A>], clean: &[
 /// The clean region with the lowest number is opened, with what it has from the first on.
 pub fn open_lowest<A: Allocator + Clone + Copy>(
     regions: &mut Vec<Region<A>, A>,
-    clean: &mut Vec<u32, A>,
+    clean: &mut CleanRegions<A>,
     r: u32,
     region: Region<A>,
 )
     requires there { r < length regions.old.items }
     requires lowest { lowest 0 regions.old.items ≡ Some r }
-    requires clean { clean.old.items ≡ clean_from 0 regions.old.items }
+    requires clean { clean.old ≡ clean_from 0 regions.old.items }
     requires in_use { is_clean region.status ≡ false }
     ensures regions { regions.new.items ≡ set regions.old.items r region }
-    ensures clean { clean.new.items ≡ clean_from 0 regions.new.items }
+    ensures clean { clean.new ≡ clean_from 0 regions.new.items }
 {
-    take_lowest(clean);
+    clean.take_lowest();
     store_at(regions, r, region);
 }
 
-/// Nothing leads to a region any more. Its number where it is clean, and doesn't drain.
-pub fn empty_into<A: Allocator + Clone + Copy>(
-    alloc: A,
-    regions: &mut Vec<Region<A>, A>,
-    clean: &mut Vec<u32, A>,
+/// The number of a region comes in that is about to be emptied, where no read holds it: then it is clean. Refused only where
+/// memory lacks.
+pub fn add_emptied<A: Allocator + Clone + Copy>(
+    regions: &[Region<A>],
+    clean: &mut CleanRegions<A>,
     r: u32,
-) -> Option<u32>
-    requires there { r < length regions.old.items }
-    requires in_use { is_clean (region_at r regions.old.items).status ≡ false }
-    requires clean { clean.old.items ≡ clean_from 0 regions.old.items }
-    requires room { vec_len clean.old < vec_capacity clean.old }
-    ensures regions { regions.new.items ≡ set regions.old.items r (emptied (region_at r regions.old.items)) }
-    ensures cleared { result ≡ cleared_by (region_at r regions.old.items).pins r }
-    ensures clean { clean.new.items ≡ clean_from 0 regions.new.items }
+) -> Result<(), AllocError>
+    requires there { r < length regions.now }
+    requires in_use { is_clean (region_at r regions.now).status ≡ false }
+    requires clean { clean.old ≡ clean_from 0 regions.now }
+    ensures ok { OnOk result (clean.new ≡ clean_from 0 (set regions.now r (emptied (region_at r regions.now)))) }
+    ensures err { OnErr result (clean.new ≡ clean.old) }
 {
-    let cleared = empty_at(alloc, regions, r);
-    add_if(clean, r, cleared);
-    cleared
+    if is_free_at(regions, r) {
+        clean.insert(r)?;
+    }
+    Ok(())
 }
 
-/// A read lets a region go. Its number where it drained and is clean now.
-pub fn release_into<A: Allocator + Clone + Copy>(
-    alloc: A,
-    regions: &mut Vec<Region<A>, A>,
-    clean: &mut Vec<u32, A>,
+/// The number of a region comes in that a read is about to let go, where it drains and no other read holds it: then it is
+/// clean. Refused only where memory lacks.
+pub fn add_released<A: Allocator + Clone + Copy>(
+    regions: &[Region<A>],
+    clean: &mut CleanRegions<A>,
     r: u32,
-) -> Option<u32>
-    requires there { r < length regions.old.items }
-    requires clean { clean.old.items ≡ clean_from 0 regions.old.items }
-    requires room { vec_len clean.old < vec_capacity clean.old }
-    ensures regions { regions.new.items ≡ set regions.old.items r (released (region_at r regions.old.items)) }
-    ensures cleared { result ≡ released_by (region_at r regions.old.items) r }
-    ensures clean { clean.new.items ≡ clean_from 0 regions.new.items }
+) -> Result<(), AllocError>
+    requires there { r < length regions.now }
+    requires clean { clean.old ≡ clean_from 0 regions.now }
+    ensures ok { OnOk result (clean.new ≡ clean_from 0 (set regions.now r (released (region_at r regions.now)))) }
+    ensures err { OnErr result (clean.new ≡ clean.old) }
 {
-    let cleared = release_at(alloc, regions, r);
-    add_if(clean, r, cleared);
-    cleared
+    if is_last_read_at(regions, r) {
+        clean.insert(r)?;
+    }
+    Ok(())
+}
+
+/// The numbers of so many clean regions. Refused only where memory lacks.
+pub fn all_clean<A: Allocator + Clone>(alloc: A, n: u64) -> Result<CleanRegions<A>, AllocError>
+    requires { n ≤ 2 ^ 32 }
+    ensures { IfOk result (λ clean. clean ≡ clean_from 0 (replicate n clean_region)) }
+{
+    let mut clean = CleanRegions::new(alloc);
+    for r in 0..n {
+        clean.insert(r as u32)?;
+    }
+    Ok(clean)
 }

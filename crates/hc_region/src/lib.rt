@@ -14,10 +14,12 @@ mod shown;
 mod status;
 mod waiting;
 
-pub use clean::{clean_count, empty_into, lowest_clean, open_lowest, release_into};
+pub use clean::{
+    CleanRegions, add_emptied, add_released, all_clean, clean_count, lowest_clean, open_lowest,
+};
 pub use decoding::entry_in;
 pub use entries::entry_bytes;
-pub use filling::{all_clean, fill};
+pub use filling::fill;
 pub use numbered::{
     append_at, appended_at, buffered_at, can_go_at, empty_at, filled_at, if_fits, mark_at,
     next_page_at, page_after_at, pin_at, release_at, seal_at, settle_at, stage_at, store_at,

@@ -1,11 +1,11 @@
 // The regions, by number.
-ghost use Rattle.std.specs.Prelude.{◌≡◌, ◌<◌, ◌≤◌, ◌+◌, ◌^◌, length, set, nat_le, if◌then◌else◌, Some, None, IfOk, OnOk, OnErr};
+ghost use Rattle.std.specs.Prelude.{◌≡◌, ◌<◌, ◌≤◌, ◌+◌, ◌^◌, ◌==◌, length, set, nat_le, if◌then◌else◌, Some, None, IfOk, OnOk, OnErr};
 ghost use Rattle.hc_engines.specs.large.Region.{region_at, region_len, filled_to, can_go, next_page, page_done, Sealed};
 ghost use Rattle.hc_engines.specs.large.Steps.{emptied, cleared_by, buffered};
 ghost use Rattle.hc_region.specs.Growing.{grown, undone};
 ghost use Rattle.hc_region.specs.Stages.{mark_seen, stage_of, settled};
 ghost use Rattle.hc_engines.specs.large.Choices.{marked};
-ghost use Rattle.hc_region.specs.Pins.{released, released_by};
+ghost use Rattle.hc_region.specs.Pins.{is_last, released, released_by};
 
 use crate::place::Place;
 use crate::region::{Appended, Region};
@@ -225,6 +225,24 @@ pub fn buffered_at<A: Allocator + Clone + Copy>(
     ensures { IfOk result (λ bytes. bytes.items ≡ buffered flash.now (region_at place.region regions.now) place) }
 {
     regions[place.region() as usize].buffered(alloc, flash, place)
+}
+
+/// Whether no read holds a region.
+#[must_use]
+pub(crate) fn is_free_at<A: Allocator + Clone + Copy>(regions: &[Region<A>], r: u32) -> bool
+    requires { r < length regions.now }
+    ensures { result ≡ ((region_at r regions.now).pins == 0) }
+{
+    regions[r as usize].is_free()
+}
+
+/// Whether a region drains, and one read holds it.
+#[must_use]
+pub(crate) fn is_last_read_at<A: Allocator + Clone + Copy>(regions: &[Region<A>], r: u32) -> bool
+    requires { r < length regions.now }
+    ensures { result ≡ is_last (region_at r regions.now) }
+{
+    regions[r as usize].is_last_read()
 }
 
 /// One more read holds a region.

@@ -163,6 +163,22 @@ impl<A: Allocator + Clone + Copy> Region<A> {
         matches!(self.status, Status::Draining)
     }
 
+    /// Whether no read holds it.
+    #[must_use]
+    pub fn is_free(&self) -> bool
+        ensures { result ≡ (self.now.pins == 0) }
+    {
+        self.pins == 0
+    }
+
+    /// Whether it drains, and one read holds it.
+    #[must_use]
+    pub fn is_last_read(&self) -> bool
+        ensures { result ≡ is_last self.now }
+    {
+        self.is_draining() && self.pins == 1
+    }
+
     /// It is full.
     pub fn seal(&mut self)
         ensures { self.new ≡ record self.old { status = SealedSeen } }
@@ -185,7 +201,7 @@ impl<A: Allocator + Clone + Copy> Region<A> {
         ensures value { self.new ≡ emptied self.old }
         ensures clean { result ≡ (self.old.pins == 0) }
     {
-        let is_free = self.pins == 0;
+        let is_free = self.is_free();
         self.buffer = BytesMut::new(alloc);
         self.appended = Vec::new(alloc);
         self.early = false;
@@ -211,7 +227,7 @@ impl<A: Allocator + Clone + Copy> Region<A> {
         ensures value { self.new ≡ released self.old }
         ensures last { result ≡ is_last self.old }
     {
-        if self.is_draining() && self.pins == 1 {
+        if self.is_last_read() {
             *self = Region::clean(alloc);
             true
         } else {
