@@ -9,7 +9,7 @@ ghost use Rattle.hc_engines.specs.large.Steps.{take_index as take_index_seen};
 
 use crate::index::Index;
 use crate::jobs::Jobs;
-use hc_region::{Place, Region, all_clean, fill};
+use hc_region::{CleanRegions, Place, Region, all_clean, fill};
 use hc_types::{FlashConfig, Key, kept};
 use std::alloc::{AllocError, Allocator, Global};
 use std::marker::Model;
@@ -21,8 +21,8 @@ pub struct BlockCache<A: Allocator = Global> {
     pub(crate) alloc: A,
     pub(crate) flash: FlashConfig,
     pub(crate) regions: Vec<Region<A>, A>,
-    /// The numbers of the clean regions, rising.
-    pub(crate) clean: Vec<u32, A>,
+    /// The numbers of the clean regions.
+    pub(crate) clean: CleanRegions<A>,
     pub(crate) current: Option<u32>,
     pub(crate) sealed: Vec<u32, A>,
     pub(crate) flushed: Vec<u32, A>,
@@ -37,7 +37,7 @@ impl<A: Allocator> Model for BlockCache<A> {
 
     ghost view = { λ b. record { flash = b.flash; block = record { regions = b.regions.items; current = b.current; sealed = b.sealed.items; flushed = b.flushed.items; index = b.index; jobs = b.jobs } } };
 
-    ghost invariant = { λ b. IsKept b.flash (record { regions = b.regions.items; current = b.current; sealed = b.sealed.items; flushed = b.flushed.items; index = b.index; jobs = b.jobs }) b.clean.items };
+    ghost invariant = { λ b. IsKept b.flash (record { regions = b.regions.items; current = b.current; sealed = b.sealed.items; flushed = b.flushed.items; index = b.index; jobs = b.jobs }) b.clean };
 }
 
 impl<A: Allocator + Clone + Copy> BlockCache<A> {

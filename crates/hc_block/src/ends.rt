@@ -17,7 +17,9 @@ use crate::index::Index;
 use crate::jobs::Jobs;
 use crate::outcomes::{ended, nothing, reclaimed};
 use hc_bighash::{Loss, Outcome};
-use hc_region::{Appended, Place, Region, appended_at, clean_count, empty_into, oldest};
+use hc_region::{
+    Appended, CleanRegions, Place, Region, add_emptied, appended_at, clean_count, empty_at, oldest,
+};
 use hc_types::{Cause, FlashConfig, Scope};
 use std::alloc::{AllocError, Allocator};
 
@@ -110,7 +112,7 @@ fn not_current(r: u32, current: Option<u32>) -> Option<u32>
 /// The region flushed first of those that don't drain yet, where fewer regions are clean than are to be.
 fn oldest_if<A: Allocator + Clone + Copy>(
     regions: &[Region<A>],
-    clean: &[u32],
+    clean: &CleanRegions<A>,
     flushed: &[u32],
     flash: &FlashConfig,
 ) -> Option<u32>
@@ -159,7 +161,7 @@ impl<A: Allocator + Clone + Copy> BlockCache<A> {
     {
         let most = appended_at(&self.regions, r).len();
         let mut losses = Vec::with_capacity(self.alloc, most)?;
-        self.clean.reserve(1)?;
+        add_emptied(&self.regions, &mut self.clean, r)?;
         drain_index(
             &mut self.index,
             &mut losses,
@@ -167,7 +169,7 @@ impl<A: Allocator + Clone + Copy> BlockCache<A> {
             appended_at(&self.regions, r),
             end,
         );
-        let cleared = empty_into(self.alloc, &mut self.regions, &mut self.clean, r);
+        let cleared = empty_at(self.alloc, &mut self.regions, r);
         self.current = not_current(r, self.current);
         minus(&mut self.sealed, r);
         leave_flushed(&mut self.flushed, r, cleared);

@@ -16,8 +16,8 @@ use crate::index::Index;
 use crate::outcomes::{collided, no_clean_region, stored};
 use hc_bighash::Outcome;
 use hc_region::{
-    Place, Region, append_at, entry_bytes, filled_at, if_fits, lowest_clean, open_lowest, seal_at,
-    undo_at,
+    CleanRegions, Place, Region, append_at, entry_bytes, filled_at, if_fits, lowest_clean,
+    open_lowest, seal_at, undo_at,
 };
 use hc_types::{Entry, FlashConfig, kept};
 use std::alloc::{AllocError, Allocator};
@@ -72,7 +72,7 @@ fn seal_in<A: Allocator + Clone + Copy>(
 fn open_in<A: Allocator + Clone + Copy>(
     alloc: A,
     regions: &mut Vec<Region<A>, A>,
-    clean: &mut Vec<u32, A>,
+    clean: &mut CleanRegions<A>,
     sealed: &mut Vec<u32, A>,
     index: &mut Index<A>,
     flash: &FlashConfig,
@@ -82,13 +82,13 @@ fn open_in<A: Allocator + Clone + Copy>(
     bytes: &[u8],
 ) -> Result<(), AllocError>
     requires can { CanOpen flash.now regions.old.items current r (length bytes.now) }
-    requires clean { clean.old.items ≡ clean_from 0 regions.old.items }
+    requires clean { clean.old ≡ clean_from 0 regions.old.items }
     ensures regions { OnOk result (regions.new.items ≡ set (seal current regions.old.items) r (grown flash.now hash bytes.now opened_region)) }
-    ensures clean { OnOk result (clean.new.items ≡ clean_from 0 regions.new.items) }
+    ensures clean { OnOk result (clean.new ≡ clean_from 0 regions.new.items) }
     ensures sealed { OnOk result (sealed.new.items ≡ sealed_too current sealed.old.items) }
     ensures index { OnOk result (index.new ≡ leading hash (record { region = r; offset = 0; length = length bytes.now }) index.old) }
     ensures err_regions { OnErr result (regions.new.items ≡ regions.old.items) }
-    ensures err_clean { OnErr result (clean.new.items ≡ clean.old.items) }
+    ensures err_clean { OnErr result (clean.new ≡ clean.old) }
     ensures err_sealed { OnErr result (sealed.new.items ≡ sealed.old.items) }
     ensures err_index { OnErr result (index.new ≡ index.old) }
 {

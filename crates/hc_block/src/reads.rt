@@ -16,7 +16,7 @@ use crate::outcomes::read;
 use crate::steps::Step;
 use bytes::Bytes;
 use hc_bighash::{Answer, Order, Outcome};
-use hc_region::release_into;
+use hc_region::{add_released, release_at};
 use std::alloc::{AllocError, Allocator};
 
 impl<A: Allocator + Clone + Copy> BlockCache<A> {
@@ -71,9 +71,9 @@ impl<A: Allocator + Clone + Copy> BlockCache<A> {
         let r = reading.region();
         let hash = reading.hash(&self.flash);
         let losses = losses_of(self.alloc, hash, &came)?;
-        self.clean.reserve(1)?;
+        add_released(&self.regions, &mut self.clean, r)?;
         leave_index(&mut self.index, hash, &came);
-        let cleared = release_into(self.alloc, &mut self.regions, &mut self.clean, r);
+        let cleared = release_at(self.alloc, &mut self.regions, r);
         leave_flushed(&mut self.flushed, r, cleared);
         self.jobs.remove(number);
         Ok(read(answer_of_read(came), losses, cleared))

@@ -34,7 +34,7 @@ invariant_of-self-2 g c =
     let can = subst (λ (x : Large). CanSettle x.flash c.args.number c.args.r More x.block) (sym c.self.view_is) c.requires in
     let new = more_is c.self.inside.flash c.args.number c.args.r s c.write_more.new.regions.items c.write_more.new.jobs (order_of c.in_ok-order.order) c.in_ok-order.ensures.regions c.in_ok-order.ensures.jobs c.in_ok-order.ensures.order in (
       subst (λ (m : Moved). Kept c.self.inside.flash m.state) new can.kept,
-      changed_is c.args.r s.regions c.write_more.new.regions.items (settled c.self.inside.flash More (region_at c.args.r s.regions)) c.self.inside.clean.items (settled_clean c.self.inside.flash More (region_at c.args.r s.regions) can.in_use) c.self.invariant.1 c.in_ok-order.ensures.regions,
+      changed_is c.args.r s.regions c.write_more.new.regions.items (settled c.self.inside.flash More (region_at c.args.r s.regions)) c.self.inside.clean (settled_clean c.self.inside.flash More (region_at c.args.r s.regions) can.in_use) c.self.invariant.1 c.in_ok-order.ensures.regions,
     )
 
 pub returns-clause-ok : goal.returns-clause-ok

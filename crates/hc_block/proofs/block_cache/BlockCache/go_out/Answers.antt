@@ -28,7 +28,7 @@ invariant_of-self-2 g c =
     let can = subst (λ (x : Large). CanGoOut x.flash c.args.number c.args.r (mark_seen c.args.mark) x.block) (sym c.self.view_is) c.requires in
     let new = gone_is c.self.inside.flash c.args.number c.args.r (mark_seen c.args.mark) s c.write_out.new.regions.items c.leave_sealed.new.sealed.items c.write_out.new.jobs (order_of c.in_ok-order.order) c.in_ok-order.ensures.regions c.leave_sealed.ensures c.in_ok-order.ensures.jobs c.in_ok-order.ensures.order in (
       subst (λ (m : Moved). Kept c.self.inside.flash m.state) new can.kept,
-      changed_is c.args.r s.regions c.write_out.new.regions.items (marked (mark_seen c.args.mark) (region_at c.args.r s.regions)) c.self.inside.clean.items (marked_clean (mark_seen c.args.mark) (region_at c.args.r s.regions) can.in_use) c.self.invariant.1 c.in_ok-order.ensures.regions,
+      changed_is c.args.r s.regions c.write_out.new.regions.items (marked (mark_seen c.args.mark) (region_at c.args.r s.regions)) c.self.inside.clean (marked_clean (mark_seen c.args.mark) (region_at c.args.r s.regions) can.in_use) c.self.invariant.1 c.in_ok-order.ensures.regions,
     )
 
 pub returns-clause-ok : goal.returns-clause-ok

@@ -22,7 +22,7 @@ invariant_of-self-2 g c =
     let long = subst (λ (bytes : List ℕ). fitting c.self.inside.flash s (length bytes) s.current ≡ Some c.args.r) c.requires.bytes fits in
     let new = put_is c.self.inside.flash s (entry_of c.args.entry.now) c.args.bytes.now c.kept-hash.result c.args.r c.append_in.new.regions.items c.append_in.new.index c.requires.bytes c.kept-hash.ensures c.in_ok-append_in.ensures.regions c.in_ok-append_in.ensures.index in (
       subst (λ (t : Block). Kept c.self.inside.flash t) new (put_kept c.self.inside.flash s (entry_of c.args.entry.now) c.args.r c.self.invariant.0 long),
-      changed_is c.args.r s.regions c.append_in.new.regions.items (grown c.self.inside.flash c.kept-hash.result c.args.bytes.now (region_at c.args.r s.regions)) c.self.inside.clean.items refl c.self.invariant.1 c.in_ok-append_in.ensures.regions,
+      changed_is c.args.r s.regions c.append_in.new.regions.items (grown c.self.inside.flash c.kept-hash.result c.args.bytes.now (region_at c.args.r s.regions)) c.self.inside.clean refl c.self.invariant.1 c.in_ok-append_in.ensures.regions,
     )
 
 pub returns-clause-ok : goal.returns-clause-ok

@@ -24,7 +24,7 @@ invariant_of-self-2 g c =
     let kept = subst (λ (x : Large). Kept x.flash (settled_in x.flash c.args.r c.args.stage (end_job c.args.number x.block))) (sym c.self.view_is) c.requires.kept in
     let new = settled_in_is c.self.inside.flash c.args.number c.args.r c.args.stage s c.settle_at.new.regions.items c.add_flushed.new.flushed.items c.remove.new.self c.settle_at.ensures (c.add_flushed.ensures ∙ ap (flushed_at c.args.stage c.args.r) c.in_ok-reserve.ensures.items) c.remove.ensures in (
       subst (λ (t : Block). Kept c.self.inside.flash t) new kept,
-      changed_is c.args.r s.regions c.settle_at.new.regions.items (settled c.self.inside.flash c.args.stage (region_at c.args.r s.regions)) c.self.inside.clean.items (settled_clean c.self.inside.flash c.args.stage (region_at c.args.r s.regions) can.in_use) c.self.invariant.1 c.settle_at.ensures,
+      changed_is c.args.r s.regions c.settle_at.new.regions.items (settled c.self.inside.flash c.args.stage (region_at c.args.r s.regions)) c.self.inside.clean (settled_clean c.self.inside.flash c.args.stage (region_at c.args.r s.regions) can.in_use) c.self.invariant.1 c.settle_at.ensures,
     )
 
 pub returns-clause-ok : goal.returns-clause-ok

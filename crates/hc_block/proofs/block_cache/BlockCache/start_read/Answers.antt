@@ -18,7 +18,7 @@ invariant_of-self-2 g c =
     let can = subst (λ (x : Large). CanRead x.flash c.args.number c.args.reading x.block) (sym c.self.view_is) c.requires in
     let new = began_is c.self.inside.flash c.args.number c.args.reading s c.start_in.new.regions.items c.start_in.new.jobs c.page-page.result c.in_ok-start_in.ensures.regions c.in_ok-start_in.ensures.jobs c.page-page.ensures in (
       subst (λ (m : Moved). Kept c.self.inside.flash m.state) new can.kept,
-      changed_is c.args.reading.place.region s.regions c.start_in.new.regions.items (record (region_at c.args.reading.place.region s.regions) { pins = (region_at c.args.reading.place.region s.regions).pins + 1 }) c.self.inside.clean.items refl c.self.invariant.1 c.in_ok-start_in.ensures.regions,
+      changed_is c.args.reading.place.region s.regions c.start_in.new.regions.items (record (region_at c.args.reading.place.region s.regions) { pins = (region_at c.args.reading.place.region s.regions).pins + 1 }) c.self.inside.clean refl c.self.invariant.1 c.in_ok-start_in.ensures.regions,
     )
 
 pub start_in-requires-clause-free : goal.start_in-requires-clause-free
