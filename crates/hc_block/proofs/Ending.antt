@@ -16,6 +16,8 @@ use Rattle.hc_engines.specs.large.Choices.{reclaim_next}
 use Rattle.hc_engines.proofs.large.Within.{ended_within}
 use Rattle.hc_block.specs.Ends.{CanEnd, flushed_left}
 use Rattle.hc_region.specs.Numbers.{AllThere}
+use Rattle.hc_region.proofs.Listed.{minus_distinct}
+use Rattle.hc_block.proofs.Waiting.{left_once}
 use Rattle.hc_engines.proofs.large.Lists.{in_range, same_num}
 use Rattle.hc_engines.proofs.large.Regions.{oldest_is}
 use Rattle.hc_engines.proofs.large.Ends.{Ending, ended_sound}
@@ -44,6 +46,8 @@ ended_kept flash cause s r k e = record {
   count = length-set s.regions r (emptied (region_at r s.regions)) ∙ k.count;
   filled = ended_within flash cause r s k.filled;
   sound = ended_sound flash cause r s e;
+  sealed_once = minus_distinct r s.sealed k.sealed_once;
+  flushed_once = left_once ((region_at r s.regions).pins == 0) r s.flushed k.flushed_once;
 }
 
 pub all_there : (regions : List Region) (rs : List ℕ) → ((r : ℕ) → is_in r rs ≡ true → is_stored (region_at r regions).status ≡ true) → AllThere (length regions) rs
@@ -94,5 +98,7 @@ can_fail flash s number r bytes k e =
         count = length-set s.regions r (emptied (region_at r s.regions)) ∙ k.count;
         filled = ended_within flash Fault r (end_job number s) k.filled;
         sound = ended_sound flash Fault r (end_job number s) ending;
+        sealed_once = minus_distinct r s.sealed k.sealed_once;
+        flushed_once = left_once ((region_at r s.regions).pins == 0) r s.flushed k.flushed_once;
       };
     }

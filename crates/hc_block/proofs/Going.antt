@@ -19,6 +19,7 @@ use Rattle.hc_engines.proofs.large.Within.{flush_within}
 use Rattle.hc_engines.specs.large.Within.{AllWithin}
 use Rattle.hc_block.specs.Going.{choice_seen, CanGoOut}
 use Rattle.hc_region.specs.Numbers.{AllThere}
+use Rattle.hc_block.proofs.Waiting.{left_sealed_once}
 use Rattle.hc_engines.proofs.large.Lists.{in_range, same_num}
 use Rattle.hc_engines.proofs.large.Flushes.{ready_is}
 use Rattle.hc_region.specs.declared.status.Mark as code
@@ -62,6 +63,8 @@ can_go_out flash number s r mark k free e = record {
     count = length-set s.regions r new ∙ k.count;
     filled = subst (λ (m : Moved). AllWithin flash m.state) goes (flush_within flash number s k.filled);
     sound = subst (λ (m : Moved). Sound flash m.state) goes (flush_sound flash number s free k.sound);
+    sealed_once = left_sealed_once mark r s.sealed k.sealed_once;
+    flushed_once = k.flushed_once;
   };
 }
   where

@@ -18,6 +18,7 @@ use Rattle.hc_region.proofs.Cleans.{first_lowest, same_clean}
 use Rattle.hc_engines.proofs.large.Lists.{in_range, region_at-set, same_num}
 use Rattle.hc_engines.proofs.large.Within.{set_within, sealed_within, fitting_is, append_within}
 use Rattle.hc_engines.proofs.large.Regions.{IsLowest, lowest_is}
+use Rattle.hc_block.proofs.Waiting.{sealed_too_once}
 use Rattle.hc_engines.proofs.large.Puts.{append_sound, seal_sound, open_sound, sealed_clean, seal-length, seal_step}
 
 -- ---- what a call may rely on
@@ -52,6 +53,8 @@ append_kept flash s entry r k is_open room = record {
   count = length-set s.regions r (grown flash (kept_of flash.bits entry.key) (entry_bytes entry) (region_at r s.regions)) ∙ k.count;
   filled = append_within flash entry r s room k.filled;
   sound = append_sound flash r entry s is_open k.sound;
+  sealed_once = k.sealed_once;
+  flushed_once = k.flushed_once;
 }
 
 open_there : (s : Block) (r : ℕ) → lowest_clean 0 s.regions ≡ Some r → IsLowest s.regions r
@@ -63,6 +66,8 @@ open_kept flash s r k h = record {
   count = length-set (seal s.current s.regions) r opened_region ∙ seal-length s.current s.regions ∙ k.count;
   filled = set_within flash (seal s.current s.regions) r opened_region (omega arith) (sealed_within flash s.current s.regions k.filled);
   sound = open_sound flash r (seal_step s) (omega (arith, k.limits.some_page)) there (sealed_clean s r k.sound.current ∙ low.clean) (seal_sound flash s k.sound);
+  sealed_once = sealed_too_once flash s k.sound k.sealed_once;
+  flushed_once = k.flushed_once;
 }
   where
     low : IsLowest s.regions r

@@ -30,6 +30,7 @@ use Rattle.hc_engines.proofs.large.Gets.{pinned_by}
 use Rattle.hc_engines.proofs.large.GetsSound.{begins_sound, on_sound, let_go_sound}
 use Rattle.hc_engines.specs.large.Laws.{IsFree}
 use Rattle.hc_block.proofs.Going.{written_small}
+use Rattle.hc_block.proofs.Waiting.{flushed_left_once}
 
 -- ---- what a read came to
 
@@ -86,7 +87,7 @@ let_go_is r hash number s came = ap (let_go r) (came_is hash (end_job number s) 
 
 pub take_kept : (flash : FlashConfig) (hash : ℕ) (came : Option Answer) (s : Block) → Kept flash s → Kept flash (record s { index = index_left came hash s.index })
 take_kept flash hash (Some answer) s k = k
-take_kept flash hash None s k = record { limits = k.limits; count = k.count; filled = k.filled; sound = take_sound flash hash s k.sound }
+take_kept flash hash None s k = record { limits = k.limits; count = k.count; filled = k.filled; sound = take_sound flash hash s k.sound; sealed_once = k.sealed_once; flushed_once = k.flushed_once }
 
 -- ---- a read that is under way
 
@@ -107,7 +108,7 @@ all_can_read_on flash number s None k h e = tt
 all_can_read_on flash number s (Some page) k h e = record {
   read = h;
   small = read_small flash number s k h;
-  kept = λ bytes. record { limits = k.limits; count = k.count; filled = k.filled; sound = on_sound flash number (reading_at number s.jobs) bytes s k.sound h (next_more flash (reading_at number s.jobs) page e) };
+  kept = λ bytes. record { limits = k.limits; count = k.count; filled = k.filled; sound = on_sound flash number (reading_at number s.jobs) bytes s k.sound h (next_more flash (reading_at number s.jobs) page e); sealed_once = k.sealed_once; flushed_once = k.flushed_once };
 }
 
 -- ---- what the fields hold then
@@ -131,6 +132,8 @@ leave_kept flash number hash came s k h = subst (λ (m : Moved). Kept flash m.st
   count = length-set s.regions r (released region) ∙ k.count;
   filled = set_within flash s.regions r (released region) (released_filled (is_last region)) k.filled;
   sound = subst (λ (m : Moved). Sound flash m.state) (let_go_is r hash number s came) (subst (λ (m : Moved). Sound flash (let_go r m).state) (sym (came_is hash (end_job number s) came)) gone);
+  sealed_once = k.sealed_once;
+  flushed_once = flushed_left_once (released_by region r) r s.flushed k.flushed_once;
 })
   where
     r : ℕ
@@ -174,6 +177,8 @@ can_read flash number hash key place s k e below free = record {
     count = length-set s.regions place.region x ∙ k.count;
     filled = no_fuller flash s.regions place.region x (omega arith) k.filled;
     sound = begins_sound flash number (reading_of flash key place s) s k.sound free (live_unclean (region_at place.region s.regions).status (indexed_live flash s hash place k.sound e)) below within;
+    sealed_once = k.sealed_once;
+    flushed_once = k.flushed_once;
   };
 }
   where

@@ -1,7 +1,7 @@
 -- What is proved of the large engine's code.
-pub mod Filtered
 pub mod Keeping
 pub mod Undoing
+pub mod Waiting
 pub mod Ending
 pub mod Going
 pub mod Making

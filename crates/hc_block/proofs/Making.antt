@@ -51,4 +51,6 @@ new_kept flash right = record {
   count = length-replicate flash.regions clean_region;
   filled = λ r. rw (all_clean flash.regions r) (omega arith);
   sound = (new_good flash (λ page. None)).sound;
+  sealed_once = tt;
+  flushed_once = tt;
 }

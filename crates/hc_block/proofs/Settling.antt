@@ -18,6 +18,7 @@ use Rattle.hc_engines.proofs.large.Flushes.{Wrote1, wrote_one, out_unclean}
 use Rattle.hc_region.specs.declared.status.Stage.{Stage}
 use Rattle.hc_region.specs.declared.status.Stage.TheVariants as stages
 use Rattle.hc_engines.proofs.large.FlushesSound.{wrote_sound}
+use Rattle.hc_block.proofs.Waiting.{flushed_at_once}
 
 -- ---- the plan, carried out, is the machine's step
 
@@ -46,6 +47,16 @@ settled_regions flash number r stages.More s = refl
 settled_regions flash number r stages.Last s = refl
 settled_regions flash number r stages.Early s = refl
 
+settled_sealed : (flash : FlashConfig) (number r : ℕ) (stage : Stage) (s : Block) → (settled_by flash number r stage s).state.sealed ≡ s.sealed
+settled_sealed flash number r stages.More s = refl
+settled_sealed flash number r stages.Last s = refl
+settled_sealed flash number r stages.Early s = refl
+
+settled_flushed : (flash : FlashConfig) (number r : ℕ) (stage : Stage) (s : Block) → (settled_by flash number r stage s).state.flushed ≡ flushed_at stage r s.flushed
+settled_flushed flash number r stages.More s = refl
+settled_flushed flash number r stages.Last s = refl
+settled_flushed flash number r stages.Early s = refl
+
 pub can_settle : (flash : FlashConfig) (number r : ℕ) (s : Block) → Kept flash s → IsWriting number r s → CanSettle flash number r (stage_of flash (region_at r s.regions)) s
 can_settle flash number r s k w = record {
   under_way = rw w.1 refl;
@@ -56,6 +67,8 @@ can_settle flash number r s k w = record {
     count = rw (settled_regions flash number r stage (end_job number s)) (length-set s.regions r (settled flash stage region) ∙ k.count);
     filled = subst (λ (m : Moved). AllWithin flash m.state) (settled_is flash number r (end_job number s)) (wrote_within flash number r region.status (end_job number s) ((k.sound.regions r).unwritten out.1) k.filled);
     sound = subst (λ (m : Moved). Sound flash m.state) (settled_is flash number r (end_job number s)) (wrote_sound flash number r w.0 s k.sound w.1);
+    sealed_once = rw (settled_sealed flash number r stage (end_job number s)) k.sealed_once;
+    flushed_once = rw (settled_flushed flash number r stage (end_job number s)) (flushed_at_once flash stage r s k.sound out.1 k.flushed_once);
   };
 }
   where

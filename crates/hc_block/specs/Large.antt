@@ -6,6 +6,7 @@ use Rattle.hc_engines.specs.large.Block.{Block}
 use Rattle.hc_engines.specs.large.Sound.{Sound}
 use Rattle.hc_engines.specs.large.Within.{AllWithin}
 use Rattle.hc_region.specs.CleanNumbers.{clean_from}
+use Rattle.hc_region.specs.Numbers.{AreDistinct}
 
 pub record Large : Type 0 where
   pub flash : FlashConfig
@@ -28,6 +29,9 @@ pub record Kept (flash : FlashConfig) (s : Block) : Type 0 where
   pub count : length s.regions ≡ flash.regions
   pub filled : AllWithin flash s
   pub sound : Sound flash s
+  -- no region waits twice
+  pub sealed_once : AreDistinct s.sealed
+  pub flushed_once : AreDistinct s.flushed
 
 -- and the numbers of the clean regions are listed
 abbrev pub IsKept : FlashConfig → Block → List ℕ → Type 0

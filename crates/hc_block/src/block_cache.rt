@@ -12,6 +12,7 @@ use crate::jobs::Jobs;
 use hc_region::{CleanRegions, Place, Region, all_clean, fill};
 use hc_types::{FlashConfig, Key, kept};
 use std::alloc::{AllocError, Allocator, Global};
+use std::collections::VecDeque;
 use std::marker::Model;
 
 /// The engine for large objects: regions that are filled one after the other, and an index of where each kept hash leads.
@@ -24,8 +25,8 @@ pub struct BlockCache<A: Allocator = Global> {
     /// The numbers of the clean regions.
     pub(crate) clean: CleanRegions<A>,
     pub(crate) current: Option<u32>,
-    pub(crate) sealed: Vec<u32, A>,
-    pub(crate) flushed: Vec<u32, A>,
+    pub(crate) sealed: VecDeque<u32, A>,
+    pub(crate) flushed: VecDeque<u32, A>,
     pub(crate) index: Index<A>,
     pub(crate) jobs: Jobs<A>,
 }
@@ -57,8 +58,8 @@ impl<A: Allocator + Clone + Copy> BlockCache<A> {
             regions,
             clean,
             current: None,
-            sealed: Vec::new(alloc),
-            flushed: Vec::new(alloc),
+            sealed: VecDeque::new(alloc),
+            flushed: VecDeque::new(alloc),
             index,
             jobs: Jobs::new(alloc),
         })

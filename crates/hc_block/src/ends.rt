@@ -4,10 +4,9 @@ ghost use Rattle.hc_types.specs.Loss.{cause_of, Reclaimed};
 ghost use Rattle.hc_engines.specs.Engine.{Failed};
 ghost use Rattle.hc_engines.specs.large.Index.{is_at as is_place_at, leading_into, without_all};
 ghost use Rattle.hc_engines.specs.large.Block.{finished, Writing};
-ghost use Rattle.hc_engines.specs.large.Numbers.{minus as minus_seen};
 ghost use Rattle.hc_engines.specs.large.Steps.{lost, not_current as not_current_seen, end_region, reclaim as reclaim_seen, clean_count as count_of_clean, oldest as oldest_of, resume};
 ghost use Rattle.hc_region.specs.CleanNumbers.{clean_from};
-ghost use Rattle.hc_region.specs.Numbers.{AllThere};
+ghost use Rattle.hc_region.specs.Numbers.{AllThere, AreDistinct};
 ghost use Rattle.hc_block.specs.Ends.{jobs_left, left_by, cause_seen, flushed_left, CanEnd};
 ghost use Rattle.hc_engines.specs.large.Choices.{reclaim_next};
 ghost use Rattle.hc_block.specs.Settling.{IsWriting};
@@ -19,9 +18,11 @@ use crate::outcomes::{ended, nothing, reclaimed};
 use hc_bighash::{Loss, Outcome};
 use hc_region::{
     Appended, CleanRegions, Place, Region, add_emptied, appended_at, clean_count, empty_at, oldest,
+    take_out, take_sealed_out,
 };
 use hc_types::{Cause, FlashConfig, Scope};
 use std::alloc::{AllocError, Allocator};
+use std::collections::VecDeque;
 
 /// Why a region ends.
 #[derive(Clone, Copy)]
@@ -93,13 +94,6 @@ fn drain_index<A: Allocator + Clone + Copy>(
     }
 }
 
-/// The number is taken out.
-pub(crate) fn minus<A: Allocator>(rs: &mut Vec<u32, A>, r: u32)
-    ensures { rs.new.items ≡ minus_seen r rs.old.items }
-{
-    rs.retain(|x| *x != r);
-}
-
 fn not_current(r: u32, current: Option<u32>) -> Option<u32>
     ensures { result ≡ not_current_seen r current }
 {
@@ -113,12 +107,12 @@ fn not_current(r: u32, current: Option<u32>) -> Option<u32>
 fn oldest_if<A: Allocator + Clone + Copy>(
     regions: &[Region<A>],
     clean: &CleanRegions<A>,
-    flushed: &[u32],
+    flushed: &VecDeque<u32, A>,
     flash: &FlashConfig,
 ) -> Option<u32>
-    requires there { AllThere (length regions.now) flushed.now }
+    requires there { AllThere (length regions.now) flushed.now.items }
     requires clean { clean.now ≡ clean_from 0 regions.now }
-    ensures { result ≡ (if nat_lt (count_of_clean regions.now) flash.now.clean then oldest_of regions.now flushed.now else None) }
+    ensures { result ≡ (if nat_lt (count_of_clean regions.now) flash.now.clean then oldest_of regions.now flushed.now.items else None) }
 {
     if (clean_count(regions, clean) as u64) < flash.clean {
         oldest(regions, flushed)
@@ -128,11 +122,16 @@ fn oldest_if<A: Allocator + Clone + Copy>(
 }
 
 /// The regions flushed, where one was cleared.
-pub(crate) fn leave_flushed<A: Allocator>(flushed: &mut Vec<u32, A>, r: u32, cleared: Option<u32>)
+pub(crate) fn leave_flushed<A: Allocator>(
+    flushed: &mut VecDeque<u32, A>,
+    r: u32,
+    cleared: Option<u32>,
+)
+    requires { AreDistinct flushed.old.items }
     ensures { flushed.new.items ≡ flushed_left cleared r flushed.old.items }
 {
     if cleared.is_some() {
-        minus(flushed, r);
+        take_out(flushed, r);
     }
 }
 
@@ -169,9 +168,9 @@ impl<A: Allocator + Clone + Copy> BlockCache<A> {
             appended_at(&self.regions, r),
             end,
         );
+        take_sealed_out(&self.regions, &mut self.sealed, r);
         let cleared = empty_at(self.alloc, &mut self.regions, r);
         self.current = not_current(r, self.current);
-        minus(&mut self.sealed, r);
         leave_flushed(&mut self.flushed, r, cleared);
         leave_jobs(&mut self.jobs, job);
         Ok(ended(losses, cleared))

@@ -7,27 +7,30 @@ ghost use Rattle.hc_engines.specs.large.Steps.{flush as flush_seen};
 ghost use Rattle.hc_engines.specs.large.Laws.{IsFree};
 ghost use Rattle.hc_bighash.specs.Seen.{order_of};
 ghost use Rattle.hc_region.specs.Stages.{mark_seen};
-ghost use Rattle.hc_region.specs.Numbers.{AllThere};
+ghost use Rattle.hc_region.specs.Numbers.{AllThere, AreDistinct};
 ghost use Rattle.hc_engines.specs.large.Choices.{marked, left_sealed, early_next, flush_next as flush_next_seen, gone_out};
 ghost use Rattle.hc_block.specs.Works.{IsFreeIn};
 ghost use Rattle.hc_block.specs.Going.{choice_seen, CanGoOut};
 
 use crate::block_cache::BlockCache;
-use crate::ends::minus;
 use crate::jobs::{Jobs, Work};
 use crate::reading::page_number;
 use hc_bighash::Order;
-use hc_region::{Mark, Region, can_go_at, first_ready, mark_at, next_page_at, written_at};
+use hc_region::{
+    Mark, Region, can_go_at, first_ready, mark_at, next_page_at, take_out, written_at,
+};
 use hc_types::FlashConfig;
 use std::alloc::{AllocError, Allocator};
+use std::collections::VecDeque;
 
 /// A region's number leaves those that wait for their flush, where it is flushed.
-fn leave_sealed<A: Allocator>(sealed: &mut Vec<u32, A>, r: u32, mark: Mark)
+fn leave_sealed<A: Allocator>(sealed: &mut VecDeque<u32, A>, r: u32, mark: Mark)
+    requires { AreDistinct sealed.old.items }
     ensures { sealed.new.items ≡ left_sealed (mark_seen mark) r sealed.old.items }
 {
     match mark {
         Mark::Early => (),
-        Mark::Flush => minus(sealed, r),
+        Mark::Flush => take_out(sealed, r),
     }
 }
 
@@ -89,14 +92,14 @@ fn early_of<A: Allocator + Clone + Copy>(
 /// The region sealed first of those of which no page is out, or else the one in use.
 fn next_of<A: Allocator + Clone + Copy>(
     regions: &[Region<A>],
-    sealed: &[u32],
+    sealed: &VecDeque<u32, A>,
     current: Option<u32>,
     flash: &FlashConfig,
 ) -> Option<(u32, Mark)>
-    requires sealed { AllThere (length regions.now) sealed.now }
+    requires sealed { AllThere (length regions.now) sealed.now.items }
     requires there { IfSome current (λ r. r < length regions.now) }
     requires written { (r : ℕ) → (region_at r regions.now).written < 2 ^ 32 }
-    ensures { (s : Block) → s.regions ≡ regions.now → s.sealed ≡ sealed.now → s.current ≡ current → choice_seen result ≡ flush_next_seen flash.now s }
+    ensures { (s : Block) → s.regions ≡ regions.now → s.sealed ≡ sealed.now.items → s.current ≡ current → choice_seen result ≡ flush_next_seen flash.now s }
 {
     match first_ready(regions, sealed) {
         Some(r) => Some((r, Mark::Flush)),

@@ -1,5 +1,6 @@
 // Puts: an entry goes behind what the region in use has, or into the next clean region.
-ghost use Rattle.std.specs.Prelude.{◌≡◌, ◌<◌, ◌≤◌, ◌^◌, Some, None, false, length, set, vec_len, vec_capacity, IfSome, IfOk, OnOk, OnErr};
+ghost use Rattle.std.specs.Prelude.{◌≡◌, ◌<◌, ◌≤◌, ◌^◌, Some, None, false, length, set, IfSome, IfOk, OnOk, OnErr};
+ghost use Rattle.std.specs.VecDeque.{deque_len, deque_capacity};
 ghost use Rattle.hc_types.specs.Places.{kept_of};
 ghost use Rattle.hc_types.specs.FlashEntry.{entry_of};
 ghost use Rattle.hc_engines.specs.large.Entries.{entry_bytes as bytes_of};
@@ -21,6 +22,7 @@ use hc_region::{
 };
 use hc_types::{Entry, FlashConfig, kept};
 use std::alloc::{AllocError, Allocator};
+use std::collections::VecDeque;
 
 /// These bytes go behind what a region has, and the hash leads there. The index is asked last, and where it is refused the
 /// bytes leave the region again.
@@ -52,19 +54,19 @@ fn append_in<A: Allocator + Clone + Copy>(
 /// The region in use is sealed, where there is one.
 fn seal_in<A: Allocator + Clone + Copy>(
     regions: &mut Vec<Region<A>, A>,
-    sealed: &mut Vec<u32, A>,
+    sealed: &mut VecDeque<u32, A>,
     current: Option<u32>,
 )
     requires there { IfSome current (λ r. r < length regions.old.items) }
     requires in_use { IfSome current (λ r. is_clean (region_at r regions.old.items).status ≡ false) }
-    requires room { vec_len sealed.old < vec_capacity sealed.old }
+    requires room { deque_len sealed.old < deque_capacity sealed.old }
     ensures regions { regions.new.items ≡ seal current regions.old.items }
     ensures sealed { sealed.new.items ≡ sealed_too current sealed.old.items }
     ensures clean { clean_from 0 regions.new.items ≡ clean_from 0 regions.old.items }
 {
     if let Some(r) = current {
         seal_at(regions, r);
-        let _ = sealed.push(r);
+        let _ = sealed.push_back(r);
     }
 }
 
@@ -73,7 +75,7 @@ fn open_in<A: Allocator + Clone + Copy>(
     alloc: A,
     regions: &mut Vec<Region<A>, A>,
     clean: &mut CleanRegions<A>,
-    sealed: &mut Vec<u32, A>,
+    sealed: &mut VecDeque<u32, A>,
     index: &mut Index<A>,
     flash: &FlashConfig,
     current: Option<u32>,

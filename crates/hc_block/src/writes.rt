@@ -1,5 +1,6 @@
 // A page of a region was written.
-ghost use Rattle.std.specs.Prelude.{◌≡◌, ◌<◌, ◌≤◌, ◌+◌, ℕ, List, length, set, vec_len, vec_capacity, is_some, true, Some, IfOk, OnOk, OnErr};
+ghost use Rattle.std.specs.Prelude.{◌≡◌, ◌<◌, ◌≤◌, ◌+◌, ℕ, List, length, set, is_some, true, Some, IfOk, OnOk, OnErr};
+ghost use Rattle.std.specs.VecDeque.{deque_len, deque_capacity};
 ghost use Rattle.hc_engines.specs.Engine.{Write, Written, nothing};
 ghost use Rattle.hc_engines.specs.large.Region.{region_at, next_page, page_no, page_done};
 ghost use Rattle.hc_engines.specs.large.Block.{Writing, work_of, without_job, job_added, end_job};
@@ -20,14 +21,15 @@ use hc_bighash::Order;
 use hc_region::{Region, Stage, page_after_at, settle_at, stage_at, written_at};
 use hc_types::FlashConfig;
 use std::alloc::{AllocError, Allocator};
+use std::collections::VecDeque;
 
 /// The region is on flash, where that was its last page.
-fn add_flushed<A: Allocator>(flushed: &mut Vec<u32, A>, r: u32, stage: Stage)
-    requires { vec_len flushed.old < vec_capacity flushed.old }
+fn add_flushed<A: Allocator>(flushed: &mut VecDeque<u32, A>, r: u32, stage: Stage)
+    requires { deque_len flushed.old < deque_capacity flushed.old }
     ensures { flushed.new.items ≡ flushed_at stage r flushed.old.items }
 {
     if let Stage::Last = stage {
-        let _ = flushed.push(r);
+        let _ = flushed.push_back(r);
     }
 }
 

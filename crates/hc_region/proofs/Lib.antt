@@ -1,3 +1,4 @@
 -- What is proved of the regions of the code.
 pub mod Cleans
+pub mod Listed
 pub mod Making

@@ -28,4 +28,4 @@ pub use numbered::{
 pub use place::Place;
 pub use region::{Appended, Region};
 pub use status::{Mark, Stage};
-pub use waiting::{first_ready, oldest};
+pub use waiting::{first_ready, oldest, take_out, take_sealed_out};

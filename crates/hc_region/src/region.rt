@@ -5,6 +5,7 @@ ghost use Rattle.hc_engines.specs.large.Steps.{emptied};
 ghost use Rattle.hc_region.specs.Growing.{grown, undone};
 ghost use Rattle.hc_region.specs.Stages.{mark_seen};
 ghost use Rattle.hc_engines.specs.large.Choices.{marked};
+ghost use Rattle.hc_region.specs.Numbers.{is_sealed as is_status_sealed};
 ghost use Rattle.hc_region.specs.Pins.{is_last, released};
 
 use crate::status::{Mark, Status};
@@ -177,6 +178,14 @@ impl<A: Allocator + Clone + Copy> Region<A> {
         ensures { result ≡ is_last self.now }
     {
         self.is_draining() && self.pins == 1
+    }
+
+    /// Whether it waits for its flush.
+    #[must_use]
+    pub fn is_sealed(&self) -> bool
+        ensures { result ≡ is_status_sealed self.now.status }
+    {
+        matches!(self.status, Status::Sealed)
     }
 
     /// It is full.

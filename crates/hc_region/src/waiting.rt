@@ -1,11 +1,13 @@
-// Which region comes first of those that wait: the sealed ones for their flush, those on flash for their reclaim.
-ghost use Rattle.std.specs.Prelude.{◌≡◌, ◌<◌, length};
-ghost use Rattle.hc_engines.specs.large.Region.{region_at, is_draining};
+// The regions that wait, first come first: the sealed ones for their flush, those on flash for their reclaim.
+ghost use Rattle.std.specs.Prelude.{◌≡◌, ◌<◌, length, true};
+ghost use Rattle.hc_engines.specs.large.Numbers.{is_in, minus};
+ghost use Rattle.hc_engines.specs.large.Region.{region_at, is_draining, Sealed};
 ghost use Rattle.hc_engines.specs.large.Steps.{first_ready as first_ready_seen, oldest as oldest_seen};
-ghost use Rattle.hc_region.specs.Numbers.{AllThere};
+ghost use Rattle.hc_region.specs.Numbers.{AllThere, AreDistinct, first_place, is_sealed};
 
 use crate::region::Region;
 use std::alloc::Allocator;
+use std::collections::VecDeque;
 
 fn is_early_at<A: Allocator + Clone + Copy>(regions: &[Region<A>], r: u32) -> bool
     requires { r < length regions.now }
@@ -18,10 +20,10 @@ fn is_early_at<A: Allocator + Clone + Copy>(regions: &[Region<A>], r: u32) -> bo
 #[must_use]
 pub fn first_ready<A: Allocator + Clone + Copy>(
     regions: &[Region<A>],
-    sealed: &[u32],
+    sealed: &VecDeque<u32, A>,
 ) -> Option<u32>
-    requires { AllThere (length regions.now) sealed.now }
-    ensures { result ≡ first_ready_seen regions.now sealed.now }
+    requires { AllThere (length regions.now) sealed.now.items }
+    ensures { result ≡ first_ready_seen regions.now sealed.now.items }
 {
     for r in sealed {
         if !is_early_at(regions, *r) {
@@ -40,9 +42,12 @@ fn drains_at<A: Allocator + Clone + Copy>(regions: &[Region<A>], r: u32) -> bool
 
 /// The first of these regions that doesn't drain yet.
 #[must_use]
-pub fn oldest<A: Allocator + Clone + Copy>(regions: &[Region<A>], flushed: &[u32]) -> Option<u32>
-    requires { AllThere (length regions.now) flushed.now }
-    ensures { result ≡ oldest_seen regions.now flushed.now }
+pub fn oldest<A: Allocator + Clone + Copy>(
+    regions: &[Region<A>],
+    flushed: &VecDeque<u32, A>,
+) -> Option<u32>
+    requires { AllThere (length regions.now) flushed.now.items }
+    ensures { result ≡ oldest_seen regions.now flushed.now.items }
 {
     for r in flushed {
         if !drains_at(regions, *r) {
@@ -50,4 +55,49 @@ pub fn oldest<A: Allocator + Clone + Copy>(regions: &[Region<A>], flushed: &[u32
         }
     }
     None
+}
+
+/// Where a number stands first.
+fn place_of<A: Allocator>(numbers: &VecDeque<u32, A>, r: u32) -> Option<usize>
+    ensures { result ≡ first_place r 0 numbers.now.items }
+{
+    for (at, number) in numbers.iter().enumerate() {
+        if *number == r {
+            return Some(at);
+        }
+    }
+    None
+}
+
+/// A number is taken out where it stands. What stands in front of it is looked at, and nothing behind it.
+pub fn take_out<A: Allocator>(numbers: &mut VecDeque<u32, A>, r: u32)
+    requires { AreDistinct numbers.old.items }
+    ensures { numbers.new.items ≡ minus r numbers.old.items }
+{
+    if let Some(at) = place_of(numbers, r) {
+        let _ = numbers.remove(at);
+    }
+}
+
+fn is_sealed_at<A: Allocator + Clone + Copy>(regions: &[Region<A>], r: u32) -> bool
+    requires { r < length regions.now }
+    ensures { result ≡ is_sealed (region_at r regions.now).status }
+{
+    regions[r as usize].is_sealed()
+}
+
+/// A region that is sealed leaves those that wait for their flush.
+pub fn take_sealed_out<A: Allocator + Clone + Copy>(
+    regions: &[Region<A>],
+    sealed: &mut VecDeque<u32, A>,
+    r: u32,
+)
+    requires there { r < length regions.now }
+    requires distinct { AreDistinct sealed.old.items }
+    requires listed { is_in r sealed.old.items ≡ true → (region_at r regions.now).status ≡ Sealed }
+    ensures { sealed.new.items ≡ minus r sealed.old.items }
+{
+    if is_sealed_at(regions, r) {
+        take_out(sealed, r);
+    }
 }

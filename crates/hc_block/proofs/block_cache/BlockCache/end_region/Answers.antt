@@ -14,20 +14,29 @@ add_emptied-requires-clause-in_use g c = rw c.deref-2.ensures.value ((subst (λ 
 pub add_emptied-requires-clause-clean : goal.add_emptied-requires-clause-clean
 add_emptied-requires-clause-clean g c = rw c.deref-2.ensures.value c.self.invariant.1
 
+pub take_sealed_out-requires-clause-distinct : goal.take_sealed_out-requires-clause-distinct
+take_sealed_out-requires-clause-distinct g c = c.self.invariant.0.sealed_once
+
+pub take_sealed_out-requires-clause-listed : goal.take_sealed_out-requires-clause-listed
+take_sealed_out-requires-clause-listed g c = rw c.deref-4.ensures.value (c.self.invariant.0.sound.sealed c.args.r)
+
+pub leave_flushed-requires : goal.leave_flushed-requires
+leave_flushed-requires g c = c.self.invariant.0.flushed_once
+
 pub invariant_of-self-2 : goal.invariant_of-self-2
 invariant_of-self-2 g c =
     let s : Block = record { regions = c.self.inside.regions.items; current = c.self.inside.current; sealed = c.self.inside.sealed.items; flushed = c.self.inside.flushed.items; index = c.self.inside.index; jobs = jobs_left c.args.job c.self.inside.jobs } in
     let kept = subst (λ (x : Large). CanEnd x.flash (cause_seen c.args.end) c.args.r (left_by c.args.job x.block)) (sym c.self.view_is) c.requires in
-    let new = ended_is (cause_seen c.args.end) s c.args.r c.appended_at.result.now c.in_ok-losses.losses.items c.drain_index.new.losses.items c.empty_at-cleared.new.regions.items c.not_current-self-inside.result c.minus.new.rs.items c.leave_flushed.new.flushed.items c.drain_index.new.index c.empty_at-cleared.result c.ended.result
-    (c.appended_at.ensures ∙ ap (λ rs. (region_at c.args.r rs).appended) c.deref-3.ensures.value) c.in_ok-losses.ensures.items c.drain_index.ensures.losses c.drain_index.ensures.index c.empty_at-cleared.ensures.regions c.empty_at-cleared.ensures.cleared c.not_current-self-inside.ensures c.minus.ensures c.leave_flushed.ensures c.ended.ensures in (
-      subst (λ (js : List Job). Kept c.self.inside.flash (record { regions = c.empty_at-cleared.new.regions.items; current = c.not_current-self-inside.result; sealed = c.minus.new.rs.items; flushed = c.leave_flushed.new.flushed.items; index = c.drain_index.new.index; jobs = js })) (sym c.leave_jobs.ensures) (subst (λ (m : Moved). Kept c.self.inside.flash m.state) new kept.kept),
+    let new = ended_is (cause_seen c.args.end) s c.args.r c.appended_at.result.now c.in_ok-losses.losses.items c.drain_index.new.losses.items c.empty_at-cleared.new.regions.items c.not_current-self-inside.result c.take_sealed_out.new.sealed.items c.leave_flushed.new.flushed.items c.drain_index.new.index c.empty_at-cleared.result c.ended.result
+    (c.appended_at.ensures ∙ ap (λ rs. (region_at c.args.r rs).appended) c.deref-3.ensures.value) c.in_ok-losses.ensures.items c.drain_index.ensures.losses c.drain_index.ensures.index c.empty_at-cleared.ensures.regions c.empty_at-cleared.ensures.cleared c.not_current-self-inside.ensures c.take_sealed_out.ensures c.leave_flushed.ensures c.ended.ensures in (
+      subst (λ (js : List Job). Kept c.self.inside.flash (record { regions = c.empty_at-cleared.new.regions.items; current = c.not_current-self-inside.result; sealed = c.take_sealed_out.new.sealed.items; flushed = c.leave_flushed.new.flushed.items; index = c.drain_index.new.index; jobs = js })) (sym c.leave_jobs.ensures) (subst (λ (m : Moved). Kept c.self.inside.flash m.state) new kept.kept),
       c.in_ok-add_emptied.ensures.ok ∙ ap (λ rs. clean_from 0 (set rs c.args.r (emptied (region_at c.args.r rs)))) c.deref-2.ensures.value ∙ sym (ap (clean_from 0) c.empty_at-cleared.ensures.regions),
     )
 
 pub returns-clause-ok : goal.returns-clause-ok
 returns-clause-ok g c =
     let s : Block = record { regions = c.self.inside.regions.items; current = c.self.inside.current; sealed = c.self.inside.sealed.items; flushed = c.self.inside.flushed.items; index = c.self.inside.index; jobs = jobs_left c.args.job c.self.inside.jobs } in
-    let new = ended_is (cause_seen c.args.end) s c.args.r c.appended_at.result.now c.in_ok-losses.losses.items c.drain_index.new.losses.items c.empty_at-cleared.new.regions.items c.not_current-self-inside.result c.minus.new.rs.items c.leave_flushed.new.flushed.items c.drain_index.new.index c.empty_at-cleared.result c.ended.result
-    (c.appended_at.ensures ∙ ap (λ rs. (region_at c.args.r rs).appended) c.deref-3.ensures.value) c.in_ok-losses.ensures.items c.drain_index.ensures.losses c.drain_index.ensures.index c.empty_at-cleared.ensures.regions c.empty_at-cleared.ensures.cleared c.not_current-self-inside.ensures c.minus.ensures c.leave_flushed.ensures c.ended.ensures in
-    subst (λ (x : Large). end_region (cause_seen c.args.end) c.args.r (left_by c.args.job x.block) ≡ finished (record { regions = c.empty_at-cleared.new.regions.items; current = c.not_current-self-inside.result; sealed = c.minus.new.rs.items; flushed = c.leave_flushed.new.flushed.items; index = c.drain_index.new.index; jobs = c.leave_jobs.new.jobs }) c.ended.result) c.self.view_is
-    (subst (λ (js : List Job). end_region (cause_seen c.args.end) c.args.r s ≡ finished (record { regions = c.empty_at-cleared.new.regions.items; current = c.not_current-self-inside.result; sealed = c.minus.new.rs.items; flushed = c.leave_flushed.new.flushed.items; index = c.drain_index.new.index; jobs = js }) c.ended.result) (sym c.leave_jobs.ensures) new)
+    let new = ended_is (cause_seen c.args.end) s c.args.r c.appended_at.result.now c.in_ok-losses.losses.items c.drain_index.new.losses.items c.empty_at-cleared.new.regions.items c.not_current-self-inside.result c.take_sealed_out.new.sealed.items c.leave_flushed.new.flushed.items c.drain_index.new.index c.empty_at-cleared.result c.ended.result
+    (c.appended_at.ensures ∙ ap (λ rs. (region_at c.args.r rs).appended) c.deref-3.ensures.value) c.in_ok-losses.ensures.items c.drain_index.ensures.losses c.drain_index.ensures.index c.empty_at-cleared.ensures.regions c.empty_at-cleared.ensures.cleared c.not_current-self-inside.ensures c.take_sealed_out.ensures c.leave_flushed.ensures c.ended.ensures in
+    subst (λ (x : Large). end_region (cause_seen c.args.end) c.args.r (left_by c.args.job x.block) ≡ finished (record { regions = c.empty_at-cleared.new.regions.items; current = c.not_current-self-inside.result; sealed = c.take_sealed_out.new.sealed.items; flushed = c.leave_flushed.new.flushed.items; index = c.drain_index.new.index; jobs = c.leave_jobs.new.jobs }) c.ended.result) c.self.view_is
+    (subst (λ (js : List Job). end_region (cause_seen c.args.end) c.args.r s ≡ finished (record { regions = c.empty_at-cleared.new.regions.items; current = c.not_current-self-inside.result; sealed = c.take_sealed_out.new.sealed.items; flushed = c.leave_flushed.new.flushed.items; index = c.drain_index.new.index; jobs = js }) c.ended.result) (sym c.leave_jobs.ensures) new)

@@ -14,7 +14,7 @@ use Rattle.hc_block.proofs.block_cache.BlockCache.flush_next.Goals as goal
 pub next_of-requires-clause-sealed : goal.next_of-requires-clause-sealed
 next_of-requires-clause-sealed g c =
     let s : Block = record { regions = c.self.inside.regions.items; current = c.self.inside.current; sealed = c.self.inside.sealed.items; flushed = c.self.inside.flushed.items; index = c.self.inside.index; jobs = c.self.inside.jobs } in
-    rw (c.deref.ensures.value, c.deref-2.ensures.value) (sealed_there c.self.inside.flash s c.self.invariant.0)
+    rw c.deref.ensures.value (sealed_there c.self.inside.flash s c.self.invariant.0)
 
 pub next_of-requires-clause-there : goal.next_of-requires-clause-there
 next_of-requires-clause-there g c =
@@ -29,10 +29,10 @@ next_of-requires-clause-written g c =
 pub returns-clause-value : goal.returns-clause-value
 returns-clause-value g c =
     let s : Block = record { regions = c.self.inside.regions.items; current = c.self.inside.current; sealed = c.self.inside.sealed.items; flushed = c.self.inside.flushed.items; index = c.self.inside.index; jobs = c.self.inside.jobs } in
-    subst (λ (x : Large). choice_seen c.next_of.result ≡ flush_next x.flash x.block) c.self.view_is (c.next_of.ensures s (sym c.deref.ensures.value) (sym c.deref-2.ensures.value) refl)
+    subst (λ (x : Large). choice_seen c.next_of.result ≡ flush_next x.flash x.block) c.self.view_is (c.next_of.ensures s (sym c.deref.ensures.value) refl refl)
 
 pub returns-clause-can : goal.returns-clause-can
 returns-clause-can g c =
     let s : Block = record { regions = c.self.inside.regions.items; current = c.self.inside.current; sealed = c.self.inside.sealed.items; flushed = c.self.inside.flushed.items; index = c.self.inside.index; jobs = c.self.inside.jobs } in
     subst (λ (x : Large). (number : ℕ) → IsFree number x.block → IfSome c.next_of.result (λ turn. CanGoOut x.flash number turn.0 (mark_seen turn.1) x.block)) c.self.view_is
-    (λ number free. all_can_go_out c.self.inside.flash number s c.next_of.result c.self.invariant.0 free (sym (c.next_of.ensures s (sym c.deref.ensures.value) (sym c.deref-2.ensures.value) refl)))
+    (λ number free. all_can_go_out c.self.inside.flash number s c.next_of.result c.self.invariant.0 free (sym (c.next_of.ensures s (sym c.deref.ensures.value) refl refl)))

@@ -22,6 +22,9 @@ write_out-requires-clause-written g c =
 pub write_out-requires-clause-few : goal.write_out-requires-clause-few
 write_out-requires-clause-few g c = omega (arith, c.self.invariant.0.count, c.self.invariant.0.limits.regions)
 
+pub leave_sealed-requires : goal.leave_sealed-requires
+leave_sealed-requires g c = c.self.invariant.0.sealed_once
+
 pub invariant_of-self-2 : goal.invariant_of-self-2
 invariant_of-self-2 g c =
     let s : Block = record { regions = c.self.inside.regions.items; current = c.self.inside.current; sealed = c.self.inside.sealed.items; flushed = c.self.inside.flushed.items; index = c.self.inside.index; jobs = c.self.inside.jobs } in

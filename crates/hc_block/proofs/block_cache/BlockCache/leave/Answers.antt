@@ -31,6 +31,9 @@ release_at-cleared-requires g c =
 pub add_released-requires-clause-clean : goal.add_released-requires-clause-clean
 add_released-requires-clause-clean g c = rw c.deref.ensures.value c.self.invariant.1
 
+pub leave_flushed-requires : goal.leave_flushed-requires
+leave_flushed-requires g c = c.self.invariant.0.flushed_once
+
 pub invariant_of-self-2 : goal.invariant_of-self-2
 invariant_of-self-2 g c =
     let s : Block = record { regions = c.self.inside.regions.items; current = c.self.inside.current; sealed = c.self.inside.sealed.items; flushed = c.self.inside.flushed.items; index = c.self.inside.index; jobs = c.self.inside.jobs } in

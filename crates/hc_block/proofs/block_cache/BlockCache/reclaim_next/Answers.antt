@@ -10,7 +10,7 @@ use Rattle.hc_block.proofs.Ending.{all_there, all_can_end}
 use Rattle.hc_block.proofs.block_cache.BlockCache.reclaim_next.Goals as goal
 
 pub oldest_if-requires-clause-there : goal.oldest_if-requires-clause-there
-oldest_if-requires-clause-there g c = rw (c.deref.ensures.value, c.deref-2.ensures.value) (all_there c.self.inside.regions.items c.self.inside.flushed.items c.self.invariant.0.sound.flushed)
+oldest_if-requires-clause-there g c = rw c.deref.ensures.value (all_there c.self.inside.regions.items c.self.inside.flushed.items c.self.invariant.0.sound.flushed)
 
 pub oldest_if-requires-clause-clean : goal.oldest_if-requires-clause-clean
 oldest_if-requires-clause-clean g c = rw c.deref.ensures.value c.self.invariant.1
@@ -19,6 +19,5 @@ pub returns-clause-ends : goal.returns-clause-ends
 returns-clause-ends g c =
     let s : Block = record { regions = c.self.inside.regions.items; current = c.self.inside.current; sealed = c.self.inside.sealed.items; flushed = c.self.inside.flushed.items; index = c.self.inside.index; jobs = c.self.inside.jobs } in
     let next : c.oldest_if.result ≡ reclaim_next c.self.inside.flash s =
-    c.oldest_if.ensures ∙ ap (λ rs. if nat_lt (clean_count rs) c.self.inside.flash.clean then oldest rs c.deref-2.result.now else None) c.deref.ensures.value
-    ∙ ap (λ fs. if nat_lt (clean_count c.self.inside.regions.items) c.self.inside.flash.clean then oldest c.self.inside.regions.items fs else None) c.deref-2.ensures.value in
+    c.oldest_if.ensures ∙ ap (λ rs. if nat_lt (clean_count rs) c.self.inside.flash.clean then oldest rs c.self.inside.flushed.items else None) c.deref.ensures.value in
     subst (λ (x : Large). IfSome c.oldest_if.result (λ r. CanEnd x.flash (Reclaimed r) r x.block)) c.self.view_is (all_can_end c.self.inside.flash s c.oldest_if.result c.self.invariant.0 (sym next))
