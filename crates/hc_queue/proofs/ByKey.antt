@@ -1,0 +1,150 @@
+-- Pieces by their keys.
+use Rattle.std.proofs.Common.{◌≡◌, ℕ, ◌+◌, ◌==◌, ◌≤◌, Bool, true, false, not, List, [], ◌∷◌, ◌++◌, Option, Some, None, refl, sym, ap, subst, arith, ◌∙◌}
+use Rattle.std.specs.Prelude.{if◌then◌else◌}
+use Rattle.std.specs.Cmp.Lexicographic.{nat_list_eq_equiv}
+use Rattle.hc_queue.specs.declared.queue.Piece.{Piece}
+use Rattle.hc_queue.specs.Queue.{Rises, without_number, taken_at}
+use Rattle.hc_queue.proofs.Gone.{none-gone}
+use Rattle.hc_queue.specs.declared.keyed.Named.{Named}
+use Rattle.std.specs.Map.{lookup}
+use Rattle.indexmap.specs.IndexMap.{IndexMap, get, IsUnchanged}
+use Rattle.hc_queue.specs.Keys.{same_key, number_of, without_key, AreApart, IsIndexed}
+
+pub same-number : {V A : Type 0} (q k : List ℕ) (es : List (ℕ × Piece (Named V A))) → same_key q k ≡ true → number_of q es ≡ number_of k es
+same-number q k [] s = refl
+same-number q k (e ∷ es) s = λ i. if nat_list_eq_equiv.congr q k e.1.value.key s i then Some e.0 else same-number q k es s i
+
+pub number-from : {V A : Type 0} (k : List ℕ) (n low high : ℕ) (es : List (ℕ × Piece (Named V A))) → Rises low high es → number_of k es ≡ Some n → low ≤ n
+number-from k n low high [] r h = cc
+number-from k n low high (e ∷ es) r h = go (same_key k e.1.value.key) (number-from k n (e.0 + 1) high es r.1) h
+  where
+    go : (t : Bool) → (number_of k es ≡ Some n → e.0 + 1 ≤ n) → (if t then Some e.0 else number_of k es) ≡ Some n → low ≤ n
+    go true more h = let p : e.0 ≡ n = cc in omega (arith, p, r.0)
+    go false more h = let p : e.0 + 1 ≤ n = more h in omega (arith, p, r.0)
+
+pub number-push : {V A : Type 0} (q k : List ℕ) (n : ℕ) (p : Piece (Named V A)) (es : List (ℕ × Piece (Named V A))) → p.value.key ≡ k → number_of k es ≡ None
+    → number_of q (es ++ (n, p) ∷ []) ≡ (if same_key q k then Some n else number_of q es)
+number-push q k n p [] e h = rw e refl
+number-push q k n p (x ∷ es) e h = go (same_key k x.1.value.key) refl h (number-push q k n p es e)
+  where
+    go : (t : Bool) → same_key k x.1.value.key ≡ t → (if t then Some x.0 else number_of k es) ≡ None
+        → (number_of k es ≡ None → number_of q (es ++ (n, p) ∷ []) ≡ (if same_key q k then Some n else number_of q es))
+        → (if same_key q x.1.value.key then Some x.0 else number_of q (es ++ (n, p) ∷ [])) ≡ (if same_key q k then Some n else (if same_key q x.1.value.key then Some x.0 else number_of q es))
+    go true s h more = absurd (cc)
+    go false s h more = go2 (same_key q k) refl (same_key q x.1.value.key) refl (more h)
+      where
+        go2 : (a : Bool) → same_key q k ≡ a → (b : Bool) → same_key q x.1.value.key ≡ b → number_of q (es ++ (n, p) ∷ []) ≡ (if same_key q k then Some n else number_of q es)
+            → (if b then Some x.0 else number_of q (es ++ (n, p) ∷ [])) ≡ (if a then Some n else (if b then Some x.0 else number_of q es))
+        go2 true u true v m = let w : true ≡ false = sym v ∙ (nat_list_eq_equiv.congr q k x.1.value.key u ∙ s) in absurd (cc)
+        go2 true u false v m = m ∙ rw u refl
+        go2 false u true v m = refl
+        go2 false u false v m = m ∙ rw u refl
+
+pub apart-push : {V A : Type 0} (k : List ℕ) (n : ℕ) (p : Piece (Named V A)) (es : List (ℕ × Piece (Named V A))) → p.value.key ≡ k → number_of k es ≡ None → AreApart es → AreApart (es ++ (n, p) ∷ [])
+apart-push k n p [] e h a = (refl, tt)
+apart-push k n p (x ∷ es) e h a = go (same_key k x.1.value.key) refl h (λ i. apart-push k n p es e i a.1)
+  where
+    go : (t : Bool) → same_key k x.1.value.key ≡ t → (if t then Some x.0 else number_of k es) ≡ None → (number_of k es ≡ None → AreApart (es ++ (n, p) ∷ [])) → AreApart (x ∷ (es ++ (n, p) ∷ []))
+    go true s h more = absurd (cc)
+    go false s h more = (number-push x.1.value.key k n p es e h ∙ rw (nat_list_eq_equiv.symm x.1.value.key k ∙ s) a.0, more h)
+
+-- ---- a piece that goes
+
+-- nothing is left out where no piece has the key
+pub none-without : {V A : Type 0} (k : List ℕ) (es : List (ℕ × Piece (Named V A))) → number_of k es ≡ None → without_key k es ≡ es
+none-without k [] h = refl
+none-without k (e ∷ es) h = go (same_key k e.1.value.key) h (none-without k es)
+  where
+    go : (t : Bool) → (if t then Some e.0 else number_of k es) ≡ None → (number_of k es ≡ None → without_key k es ≡ es) → (if not t then e ∷ without_key k es else without_key k es) ≡ e ∷ es
+    go true h more = absurd (cc)
+    go false h more = ap (λ (xs : List (ℕ × Piece (Named _ _))). e ∷ xs) (more h)
+
+-- the piece with the number is the one with the key
+pub by-key : {V A : Type 0} (k : List ℕ) (n low high : ℕ) (es : List (ℕ × Piece (Named V A))) → Rises low high es → AreApart es → number_of k es ≡ Some n → without_number n es ≡ without_key k es
+by-key k n low high [] r a h = refl
+by-key k n low high (e ∷ es) r a h = go (same_key k e.1.value.key) refl h (by-key k n (e.0 + 1) high es r.1 a.1) (number-from k n (e.0 + 1) high es r.1)
+  where
+    go : (t : Bool) → same_key k e.1.value.key ≡ t → (if t then Some e.0 else number_of k es) ≡ Some n → (number_of k es ≡ Some n → without_number n es ≡ without_key k es) → (number_of k es ≡ Some n → e.0 + 1 ≤ n)
+        → (if not (e.0 == n) then e ∷ without_number n es else without_number n es) ≡ (if not t then e ∷ without_key k es else without_key k es)
+    go true s h more low =
+        let p : e.0 ≡ n = cc in
+        let x : (e.0 == n) ≡ true = (grind (arith, p)) in
+        rw x (none-gone n (e.0 + 1) high es r.1 (omega (arith, p)) ∙ sym (none-without k es (same-number k e.1.value.key es s ∙ a.0)))
+    go false s h more low =
+        let p : e.0 + 1 ≤ n = low h in
+        let x : (e.0 == n) ≡ false = (grind (arith, p)) in
+        rw x (ap (λ (xs : List (ℕ × Piece (Named _ _))). e ∷ xs) (more h))
+
+pub number-without : {V A : Type 0} (q k : List ℕ) (es : List (ℕ × Piece (Named V A))) → number_of q (without_key k es) ≡ (if same_key k q then None else number_of q es)
+number-without q k [] = go (same_key k q)
+  where
+    go : (t : Bool) → ◌≡◌ {A = Option ℕ} None (if t then None else None)
+    go true = refl
+    go false = refl
+number-without q k (e ∷ es) = go (same_key k q) refl (same_key k e.1.value.key) refl (same_key q e.1.value.key) refl (number-without q k es)
+  where
+    go : (a : Bool) → same_key k q ≡ a → (b : Bool) → same_key k e.1.value.key ≡ b → (c : Bool) → same_key q e.1.value.key ≡ c → number_of q (without_key k es) ≡ (if same_key k q then None else number_of q es)
+        → number_of q (if not b then e ∷ without_key k es else without_key k es) ≡ (if a then None else (if c then Some e.0 else number_of q es))
+    go true u true v c w m = m ∙ rw u refl
+    go true u false v true w m = let z : false ≡ true = sym v ∙ (nat_list_eq_equiv.congr k q e.1.value.key u ∙ w) in absurd (cc)
+    go true u false v false w m = rw w (m ∙ rw u refl)
+    go false u true v true w m =
+        let y : same_key e.1.value.key q ≡ true = nat_list_eq_equiv.symm e.1.value.key q ∙ w in
+        let z : false ≡ true = sym u ∙ (nat_list_eq_equiv.congr k e.1.value.key q v ∙ y) in absurd (cc)
+    go false u true v false w m = m ∙ rw u refl
+    go false u false v true w m = rw w refl
+    go false u false v false w m = rw w (m ∙ rw u refl)
+
+pub apart-without : {V A : Type 0} (k : List ℕ) (es : List (ℕ × Piece (Named V A))) → AreApart es → AreApart (without_key k es)
+apart-without k [] a = tt
+apart-without k (e ∷ es) a = go (same_key k e.1.value.key) refl (apart-without k es a.1)
+  where
+    go : (t : Bool) → same_key k e.1.value.key ≡ t → AreApart (without_key k es) → AreApart (if not t then e ∷ without_key k es else without_key k es)
+    go true s more = more
+    go false s more = (number-without e.1.value.key k es ∙ rw s a.0, more)
+
+-- ---- the map
+
+pub indexed-push : {V A S : Type 0} (m m2 : IndexMap (List ℕ) ℕ S) (k copy : List ℕ) (n : ℕ) (p : Piece (Named V A)) (es es2 : List (ℕ × Piece (Named V A))) → copy ≡ k → p.value.key ≡ k → number_of k es ≡ None → IsIndexed es m → es2 ≡ es ++ (n, p) ∷ []
+    → ((q : List ℕ) → get same_key m2 q ≡ (if same_key copy q then Some n else get same_key m q)) → IsIndexed es2 m2
+indexed-push m m2 k copy n p es es2 c e none i is h = record {
+  found = λ q. h q ∙ ((λ j. if same_key (c j) q then Some n else i.found q j) ∙ ((λ j. if nat_list_eq_equiv.symm k q j then Some n else number_of q es) ∙ (sym (number-push q k n p es e none) ∙ ap (number_of q) (sym is))));
+  apart = subst AreApart (sym is) (apart-push k n p es e none i.apart);
+}
+
+pub indexed-remove : {V A S : Type 0} (m m2 : IndexMap (List ℕ) ℕ S) (k : List ℕ) (n : ℕ) (es es2 : List (ℕ × Piece (Named V A))) → es2 ≡ without_key k es → IsIndexed es m
+    → ((q : List ℕ) → get same_key m2 q ≡ (if same_key k q then None else get same_key m q)) → IsIndexed es2 m2
+indexed-remove m m2 k n es es2 is i h = record {
+  found = λ q. h q ∙ ((λ j. if same_key k q then None else i.found q j) ∙ (sym (number-without q k es) ∙ ap (number_of q) (sym is)));
+  apart = subst AreApart (sym is) (apart-without k es i.apart);
+}
+
+pub indexed-same : {V A S : Type 0} (m m2 : IndexMap (List ℕ) ℕ S) (es : List (ℕ × Piece (Named V A))) → IsUnchanged m m2 → IsIndexed es m → IsIndexed es m2
+indexed-same m m2 es same i = record { found = λ q. (λ j. lookup (same_key q) (same j)) ∙ i.found q; apart = i.apart }
+
+-- ---- a piece that is taken
+
+number-taken : {V A : Type 0} (q : List ℕ) (n : ℕ) (es : List (ℕ × Piece (Named V A))) → number_of q (taken_at n es) ≡ number_of q es
+number-taken q n [] = refl
+number-taken q n (e ∷ es) = go (e.0 == n) (number-taken q n es)
+  where
+    go : (t : Bool) → number_of q (taken_at n es) ≡ number_of q es → number_of q ((if t then (e.0, record e.1 { taken = true }) else e) ∷ taken_at n es) ≡ number_of q (e ∷ es)
+    go true rest = ap (λ (o : Option ℕ). if same_key q e.1.value.key then Some e.0 else o) rest
+    go false rest = ap (λ (o : Option ℕ). if same_key q e.1.value.key then Some e.0 else o) rest
+
+apart-taken : {V A : Type 0} (n : ℕ) (es : List (ℕ × Piece (Named V A))) → AreApart es → AreApart (taken_at n es)
+apart-taken n [] a = tt
+apart-taken n (e ∷ es) a = go (e.0 == n) (apart-taken n es a.1)
+  where
+    go : (t : Bool) → AreApart (taken_at n es) → AreApart ((if t then (e.0, record e.1 { taken = true }) else e) ∷ taken_at n es)
+    go true more = (number-taken e.1.value.key n es ∙ a.0, more)
+    go false more = (number-taken e.1.value.key n es ∙ a.0, more)
+
+pub indexed-taken : {V A S : Type 0} (m : IndexMap (List ℕ) ℕ S) (n : ℕ) (es es2 : List (ℕ × Piece (Named V A))) → es2 ≡ taken_at n es → IsIndexed es m → IsIndexed es2 m
+indexed-taken m n es es2 is i = record {
+  found = λ q. i.found q ∙ (sym (number-taken q n es) ∙ ap (number_of q) (sym is));
+  apart = subst AreApart (sym is) (apart-taken n es i.apart);
+}
+
+pub indexed-moved : {V A S : Type 0} (m : IndexMap (List ℕ) ℕ S) (es es2 : List (ℕ × Piece (Named V A))) → es2 ≡ es → IsIndexed es m → IsIndexed es2 m
+indexed-moved m es es2 is i = record { found = λ q. i.found q ∙ ap (number_of q) (sym is); apart = subst AreApart (sym is) i.apart }

@@ -1,0 +1,22 @@
+// How a queue is shown: by how many pieces there are, and how many may go.
+use crate::keyed::KeyedQueue;
+use crate::queue::Queue;
+use std::alloc::Allocator;
+use std::fmt;
+
+impl<V, A: Allocator> fmt::Debug for Queue<V, A> {
+    fn fmt<W: fmt::Write>(&self, f: &mut fmt::Formatter<W>) -> fmt::Result {
+        write!(
+            f,
+            "Queue {{ pieces: {}, ready: {} }}",
+            self.len(),
+            self.ready.len()
+        )
+    }
+}
+
+impl<V, A: Allocator> fmt::Debug for KeyedQueue<V, A> {
+    fn fmt<W: fmt::Write>(&self, f: &mut fmt::Formatter<W>) -> fmt::Result {
+        write!(f, "KeyedQueue {{ pieces: {} }}", self.len())
+    }
+}
