@@ -12,7 +12,7 @@ use Rattle.hc_engines.specs.small.Bloom.{word_of}
 use Rattle.hc_engines.specs.small.Entries.{without, page_put}
 use Rattle.hc_engines.specs.small.BigHash as bighash
 use Rattle.hc_engines.specs.small.Held as small
-use Rattle.hc_engines.specs.large.Region.{Status, Open, Sealed, Flushing, Region, Appended, is_clean, is_draining, filled_to, next_page, region_at, page_no, region_len}
+use Rattle.hc_engines.specs.large.Region.{Status, Open, Sealed, Flushing, Region, Appended, is_clean, is_draining, filled_to, next_page, region_at, page_no, region_len, is_sealed}
 use Rattle.hc_types.specs.FlashEntry.{FlashEntry}
 use Rattle.hc_engines.specs.large.Entries.{entry_in}
 use Rattle.hc_engines.specs.large.Index.{Indexed, place_at, is_place}
@@ -115,10 +115,6 @@ region_holds flash reads writes region =
 abbrev pub work_holds : FlashConfig → List Region → block.Work → Bool
 work_holds flash regions (block.Writing r bytes) = bytes_eq bytes (next_page flash (region_at r regions))
 work_holds flash regions (block.Getting reading) = nat_lt reading.next reading.until && nat_le reading.until (region_at reading.place.region regions).written
-
-abbrev pub is_sealed : Status → Bool
-is_sealed Sealed = true
-is_sealed status = false
 
 abbrev pub is_open_status : Status → Bool
 is_open_status Open = true

@@ -3,9 +3,9 @@ use Rattle.std.proofs.Common.{◌≡◌, ℕ, suc, ◌+◌, ◌<◌, Bool, true,
 use Rattle.std.specs.Prelude.{if◌then◌else◌, ◌==◌}
 use Rattle.std.specs.List.{remove}
 use Rattle.hc_engines.specs.large.Numbers.{is_in, minus}
-use Rattle.hc_engines.specs.large.Region.{Status, Sealed}
+use Rattle.hc_engines.specs.large.Region.{Status, Sealed, is_sealed}
 use Rattle.hc_engines.proofs.large.Lists.{minus_none, is_in-minus, is_in-push}
-use Rattle.hc_region.specs.Numbers.{AreDistinct, first_place, is_sealed}
+use Rattle.hc_region.specs.Numbers.{AreDistinct, first_place}
 
 -- the number stands behind so many others, in a list that begins at this place
 record Behind (r at n : ℕ) (rs : List ℕ) : Type 0 where

@@ -1,7 +1,6 @@
 -- Lists of regions' numbers.
 use Rattle.std.specs.Prelude.{◌≡◌, ℕ, ◌+◌, ◌<◌, ◌==◌, Bool, true, false, List, [], ◌∷◌, ⊤, Option, Some, None, if◌then◌else◌}
 use Rattle.hc_engines.specs.large.Numbers.{is_in}
-use Rattle.hc_engines.specs.large.Region.{Status, Sealed}
 
 -- each is the number of one of so many regions
 abbrev pub AllThere : ℕ → List ℕ → Type 0
@@ -17,7 +16,3 @@ AreDistinct (r ∷ rs) = (is_in r rs ≡ false) × AreDistinct rs
 abbrev pub first_place : ℕ → ℕ → List ℕ → Option ℕ
 first_place r at [] = None
 first_place r at (x ∷ xs) = if x == r then Some at else first_place r (at + 1) xs
-
-abbrev pub is_sealed : Status → Bool
-is_sealed Sealed = true
-is_sealed status = false

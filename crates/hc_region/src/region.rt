@@ -1,11 +1,10 @@
 // A region of the flash: what was appended to it, and the reads that hold it.
 ghost use Rattle.std.specs.Prelude.{◌≡◌, ◌<◌, ◌≤◌, ◌+◌, ◌^◌, ◌==◌, length, IfOk, OnOk, OnErr};
-ghost use Rattle.hc_engines.specs.large.Region.{clean_region, opened_region, filled_to, is_clean as is_status_clean, is_draining as is_status_draining, Sealed as SealedSeen};
+ghost use Rattle.hc_engines.specs.large.Region.{clean_region, opened_region, filled_to, is_clean as is_status_clean, is_draining as is_status_draining, is_sealed as is_status_sealed, Sealed as SealedSeen};
 ghost use Rattle.hc_engines.specs.large.Steps.{emptied};
 ghost use Rattle.hc_region.specs.Growing.{grown, undone};
 ghost use Rattle.hc_region.specs.Stages.{mark_seen};
 ghost use Rattle.hc_engines.specs.large.Choices.{marked};
-ghost use Rattle.hc_region.specs.Numbers.{is_sealed as is_status_sealed};
 ghost use Rattle.hc_region.specs.Pins.{is_last, released};
 
 use crate::status::{Mark, Status};

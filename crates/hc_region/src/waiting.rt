@@ -1,9 +1,9 @@
 // The regions that wait, first come first: the sealed ones for their flush, those on flash for their reclaim.
 ghost use Rattle.std.specs.Prelude.{◌≡◌, ◌<◌, length, true};
 ghost use Rattle.hc_engines.specs.large.Numbers.{is_in, minus};
-ghost use Rattle.hc_engines.specs.large.Region.{region_at, is_draining, Sealed};
+ghost use Rattle.hc_engines.specs.large.Region.{region_at, is_draining, is_sealed, Sealed};
 ghost use Rattle.hc_engines.specs.large.Steps.{first_ready as first_ready_seen, oldest as oldest_seen};
-ghost use Rattle.hc_region.specs.Numbers.{AllThere, AreDistinct, first_place, is_sealed};
+ghost use Rattle.hc_region.specs.Numbers.{AllThere, AreDistinct, first_place};
 
 use crate::region::Region;
 use std::alloc::Allocator;
