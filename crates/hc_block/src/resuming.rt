@@ -1,5 +1,5 @@
 // What came of a device operation is handed in.
-ghost use Rattle.std.specs.Prelude.{◌≡◌, ◌⊎◌, option_map, Some, None, IfOk, IfErr, OnErr};
+ghost use Rattle.std.specs.Prelude.{◌≡◌, ◌⊎◌, option_map, Some, None, IfOk, IfErr, OnErr, IsSome};
 ghost use Rattle.hc_types.specs.declared.refusal.Refusal.TheVariants.{UnknownJob, NoMemory};
 ghost use Rattle.hc_bighash.specs.Seen.{result_of};
 ghost use Rattle.hc_bighash.specs.Next.{next_seen};
@@ -47,6 +47,7 @@ impl<A: Allocator + Clone + Copy> BlockCache<A> {
         ensures flash { self.new.flash ≡ self.old.flash }
         ensures err { OnErr result (self.new ≡ self.old) }
         ensures unknown { IfErr result (λ refusal. refusal ≡ UnknownJob → resume_by self.old.flash number (result_of came.now) self.old.block ≡ None) }
+        ensures awaited { IfErr result (λ refusal. refusal ≡ NoMemory → IsSome (resume_by self.old.flash number (result_of came.now) self.old.block)) }
         ensures others { IfErr result (λ refusal. (refusal ≡ UnknownJob) ⊎ (refusal ≡ NoMemory)) }
     {
         match self.turn(number, came) {
@@ -75,6 +76,7 @@ impl<A: Allocator + Clone + Copy> BlockCache<A> {
         ensures flash { self.new.flash ≡ self.old.flash }
         ensures err { OnErr result (self.new ≡ self.old) }
         ensures unknown { IfErr result (λ refusal. refusal ≡ UnknownJob → resume_by self.old.flash number (result_of came.now) self.old.block ≡ None) }
+        ensures awaited { IfErr result (λ refusal. refusal ≡ NoMemory → IsSome (resume_by self.old.flash number (result_of came.now) self.old.block)) }
         ensures others { IfErr result (λ refusal. (refusal ≡ UnknownJob) ⊎ (refusal ≡ NoMemory)) }
     {
         let alloc = self.allocator();
@@ -91,6 +93,7 @@ impl<A: Allocator + Clone + Copy> BlockCache<A> {
         ensures err { OnErr result (self.new ≡ self.old) }
         ensures given_back { IfErr result (λ refused. result_of refused.came ≡ result_of came) }
         ensures unknown { IfErr result (λ refused. refused.refusal ≡ UnknownJob → resume_by self.old.flash number (result_of came) self.old.block ≡ None) }
+        ensures awaited { IfErr result (λ refused. refused.refusal ≡ NoMemory → IsSome (resume_by self.old.flash number (result_of came) self.old.block)) }
         ensures others { IfErr result (λ refused. (refused.refusal ≡ UnknownJob) ⊎ (refused.refusal ≡ NoMemory)) }
     {
         match self.hand_in(number, &came) {

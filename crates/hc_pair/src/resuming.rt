@@ -1,5 +1,5 @@
 // What came of a device operation is handed in.
-ghost use Rattle.std.specs.Prelude.{◌≡◌, ◌≤◌, ◌⊎◌, ℕ, List, length, Some, None, true, IfOk, IfErr, OnErr};
+ghost use Rattle.std.specs.Prelude.{◌≡◌, ◌≤◌, ◌⊎◌, ℕ, List, length, Some, None, true, IfOk, IfErr, OnErr, IsSome};
 ghost use Rattle.hc_types.specs.declared.refusal.Refusal.TheVariants.{UnknownJob, NoMemory};
 ghost use Rattle.hc_engines.specs.Engine.{Op, Get};
 ghost use Rattle.hc_engines.specs.small.BigHash.{carried, resume as resume_in_small};
@@ -28,6 +28,7 @@ impl<A: Allocator + Clone + Copy> Pair<A> {
         ensures err { OnErr result (self.new ≡ self.old) }
         ensures given_back { IfErr result (λ refused. refused.came ≡ came) }
         ensures unknown { IfErr result (λ refused. refused.refusal ≡ UnknownJob → resume_step number (result_of came) self.old ≡ None) }
+        ensures awaited { IfErr result (λ refused. refused.refusal ≡ NoMemory → IsSome (resume_step number (result_of came) self.old)) }
         ensures others { IfErr result (λ refused. (refused.refusal ≡ UnknownJob) ⊎ (refused.refusal ≡ NoMemory)) }
     {
         match self.hand_in(number, &came) {
@@ -41,6 +42,7 @@ impl<A: Allocator + Clone + Copy> Pair<A> {
         ensures ok { IfOk result (λ next. resume_step number (result_of came.now) self.old ≡ Some (record { pair = self.new; next = next_seen next })) }
         ensures err { OnErr result (self.new ≡ self.old) }
         ensures unknown { IfErr result (λ refusal. refusal ≡ UnknownJob → resume_step number (result_of came.now) self.old ≡ None) }
+        ensures awaited { IfErr result (λ refusal. refusal ≡ NoMemory → IsSome (resume_step number (result_of came.now) self.old)) }
         ensures others { IfErr result (λ refusal. (refusal ≡ UnknownJob) ⊎ (refusal ≡ NoMemory)) }
     {
         match self.small.op(number) {
@@ -55,6 +57,7 @@ impl<A: Allocator + Clone + Copy> Pair<A> {
         ensures ok { IfOk result (λ next. resume_step number (result_of came.now) self.old ≡ Some (record { pair = self.new; next = next_seen next })) }
         ensures err { OnErr result (self.new ≡ self.old) }
         ensures unknown { IfErr result (λ refusal. refusal ≡ UnknownJob → resume_step number (result_of came.now) self.old ≡ None) }
+        ensures awaited { IfErr result (λ refusal. refusal ≡ NoMemory → IsSome (resume_step number (result_of came.now) self.old)) }
         ensures others { IfErr result (λ refusal. (refusal ≡ UnknownJob) ⊎ (refusal ≡ NoMemory)) }
     {
         self.large.is_sound();
@@ -68,6 +71,7 @@ impl<A: Allocator + Clone + Copy> Pair<A> {
         ensures ok { IfOk result (λ next. resume_step number (result_of came.now) self.old ≡ Some (record { pair = self.new; next = next_seen next })) }
         ensures err { OnErr result (self.new ≡ self.old) }
         ensures unknown { IfErr result (λ refusal. refusal ≡ UnknownJob → resume_step number (result_of came.now) self.old ≡ None) }
+        ensures awaited { IfErr result (λ refusal. refusal ≡ NoMemory → IsSome (resume_step number (result_of came.now) self.old)) }
         ensures others { IfErr result (λ refusal. (refusal ≡ UnknownJob) ⊎ (refusal ≡ NoMemory)) }
     {
         self.large.is_sound();
