@@ -2,6 +2,7 @@
 use Rattle.std.proofs.Common.{◌≡◌, ℕ, zero, suc, ◌-◌, ◌*◌, ◌≤◌, Bool, true, false, ◌&&◌, None, refl, arith}
 use Rattle.std.proofs.lemmas.List.{length-replicate}
 use Rattle.std.proofs.Math.Nat.{mul-le-mul_left}
+use Rattle.std.specs.List.{IsDistinct}
 use Rattle.std.specs.Prelude.{nat_le, nat_lt, replicate}
 use Rattle.hc_types.specs.declared.config.FlashConfig.{FlashConfig}
 use Rattle.hc_types.specs.Limits.{flash_wrong, is_within, page_fits, regions_fit, queue_fits}
@@ -46,6 +47,7 @@ all_clean (suc n) zero = refl
 all_clean (suc n) (suc r) = all_clean n r
 
 pub new_kept : (flash : FlashConfig) → flash_wrong flash ≡ None → Kept flash (new_block flash)
+unfolding IsDistinct
 new_kept flash right = record {
   limits = limits_from flash right;
   count = length-replicate flash.regions clean_region;

@@ -1,12 +1,12 @@
 -- The large engine as contracts see it: its configuration and its machine's state.
-use Rattle.std.specs.Prelude.{◌≡◌, ℕ, ◌<◌, ◌≤◌, false, List, length, Option, Some, IfSome}
+use Rattle.std.specs.Prelude.{◌≡◌, ℕ, ◌<◌, ◌≤◌, false, nat_eq, List, length, Option, Some, IfSome}
+use Rattle.std.specs.List.{IsDistinct}
 use Rattle.hc_types.specs.declared.config.FlashConfig.{FlashConfig}
 use Rattle.hc_engines.specs.large.Region.{Region, region_len, filled_to, is_clean, region_at, lowest_clean}
 use Rattle.hc_engines.specs.large.Block.{Block}
 use Rattle.hc_engines.specs.large.Sound.{Sound}
 use Rattle.hc_engines.specs.large.Within.{AllWithin}
 use Rattle.hc_region.specs.CleanNumbers.{clean_from}
-use Rattle.hc_region.specs.Numbers.{AreDistinct}
 
 pub record Large : Type 0 where
   pub flash : FlashConfig
@@ -30,8 +30,8 @@ pub record Kept (flash : FlashConfig) (s : Block) : Type 0 where
   pub filled : AllWithin flash s
   pub sound : Sound flash s
   -- no region waits twice
-  pub sealed_once : AreDistinct s.sealed
-  pub flushed_once : AreDistinct s.flushed
+  pub sealed_once : IsDistinct nat_eq s.sealed
+  pub flushed_once : IsDistinct nat_eq s.flushed
 
 -- and the numbers of the clean regions are listed
 abbrev pub IsKept : FlashConfig → Block → List ℕ → Type 0

@@ -1,12 +1,13 @@
 // A region ends: what leads into it is lost, and it is clean, or drains while reads hold it.
-ghost use Rattle.std.specs.Prelude.{◌≡◌, ◌<◌, ◌≤◌, ◌+◌, ◌++◌, nat_lt, ℕ, List, [], ◌∷◌, length, if◌then◌else◌, None, Some, vec_len, vec_capacity, IfSome, IfOk, OnErr};
+ghost use Rattle.std.specs.Prelude.{◌≡◌, ◌<◌, ◌≤◌, ◌+◌, ◌++◌, nat_eq, nat_lt, ℕ, List, [], ◌∷◌, length, if◌then◌else◌, None, Some, vec_len, vec_capacity, IfSome, IfOk, OnErr};
+ghost use Rattle.std.specs.List.{IsDistinct};
 ghost use Rattle.hc_types.specs.Loss.{cause_of, Reclaimed};
 ghost use Rattle.hc_engines.specs.Engine.{Failed};
 ghost use Rattle.hc_engines.specs.large.Index.{is_at as is_place_at, leading_into, without_all};
 ghost use Rattle.hc_engines.specs.large.Block.{finished, Writing};
 ghost use Rattle.hc_engines.specs.large.Steps.{lost, not_current as not_current_seen, end_region, reclaim as reclaim_seen, clean_count as count_of_clean, oldest as oldest_of, resume};
 ghost use Rattle.hc_region.specs.CleanNumbers.{clean_from};
-ghost use Rattle.hc_region.specs.Numbers.{AllThere, AreDistinct};
+ghost use Rattle.hc_region.specs.Numbers.{AllThere};
 ghost use Rattle.hc_block.specs.Ends.{jobs_left, left_by, cause_seen, flushed_left, CanEnd};
 ghost use Rattle.hc_engines.specs.large.Choices.{reclaim_next};
 ghost use Rattle.hc_block.specs.Settling.{IsWriting};
@@ -127,7 +128,7 @@ pub(crate) fn leave_flushed<A: Allocator>(
     r: u32,
     cleared: Option<u32>,
 )
-    requires { AreDistinct flushed.old.items }
+    requires { IsDistinct nat_eq flushed.old.items }
     ensures { flushed.new.items ≡ flushed_left cleared r flushed.old.items }
 {
     if cleared.is_some() {

@@ -1,5 +1,6 @@
 // Pages go out: of sealed regions, or early, of the one in use.
-ghost use Rattle.std.specs.Prelude.{◌≡◌, ◌<◌, ◌≤◌, ◌^◌, ℕ, option_map, length, set, Some, None, IfOk, IfSome, OnOk, OnErr};
+ghost use Rattle.std.specs.Prelude.{◌≡◌, ◌<◌, ◌≤◌, ◌^◌, ℕ, option_map, length, set, nat_eq, Some, None, IfOk, IfSome, OnOk, OnErr};
+ghost use Rattle.std.specs.List.{IsDistinct};
 ghost use Rattle.hc_engines.specs.Engine.{Write, nothing};
 ghost use Rattle.hc_engines.specs.large.Region.{region_at, next_page, page_no};
 ghost use Rattle.hc_engines.specs.large.Block.{Block, Writing, job_added};
@@ -7,7 +8,7 @@ ghost use Rattle.hc_engines.specs.large.Steps.{flush as flush_seen};
 ghost use Rattle.hc_engines.specs.large.Laws.{IsFree};
 ghost use Rattle.hc_bighash.specs.Seen.{order_of};
 ghost use Rattle.hc_region.specs.Stages.{mark_seen};
-ghost use Rattle.hc_region.specs.Numbers.{AllThere, AreDistinct};
+ghost use Rattle.hc_region.specs.Numbers.{AllThere};
 ghost use Rattle.hc_engines.specs.large.Choices.{marked, left_sealed, early_next, flush_next as flush_next_seen, gone_out};
 ghost use Rattle.hc_block.specs.Works.{IsFreeIn};
 ghost use Rattle.hc_block.specs.Going.{choice_seen, CanGoOut};
@@ -25,7 +26,7 @@ use std::collections::VecDeque;
 
 /// A region's number leaves those that wait for their flush, where it is flushed.
 fn leave_sealed<A: Allocator>(sealed: &mut VecDeque<u32, A>, r: u32, mark: Mark)
-    requires { AreDistinct sealed.old.items }
+    requires { IsDistinct nat_eq sealed.old.items }
     ensures { sealed.new.items ≡ left_sealed (mark_seen mark) r sealed.old.items }
 {
     match mark {

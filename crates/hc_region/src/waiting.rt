@@ -1,9 +1,10 @@
 // The regions that wait, first come first: the sealed ones for their flush, those on flash for their reclaim.
-ghost use Rattle.std.specs.Prelude.{◌≡◌, ◌<◌, length, true};
+ghost use Rattle.std.specs.Prelude.{◌≡◌, ◌<◌, ◌==◌, nat_eq, length, position, true};
+ghost use Rattle.std.specs.List.{IsDistinct};
 ghost use Rattle.hc_engines.specs.large.Numbers.{is_in, minus};
 ghost use Rattle.hc_engines.specs.large.Region.{region_at, is_draining, is_sealed, Sealed};
 ghost use Rattle.hc_engines.specs.large.Steps.{first_ready as first_ready_seen, oldest as oldest_seen};
-ghost use Rattle.hc_region.specs.Numbers.{AllThere, AreDistinct, first_place};
+ghost use Rattle.hc_region.specs.Numbers.{AllThere};
 
 use crate::region::Region;
 use std::alloc::Allocator;
@@ -59,19 +60,14 @@ pub fn oldest<A: Allocator + Clone + Copy>(
 
 /// Where a number stands first.
 fn place_of<A: Allocator>(numbers: &VecDeque<u32, A>, r: u32) -> Option<usize>
-    ensures { result ≡ first_place r 0 numbers.now.items }
+    ensures { result ≡ position (λ number. number == r) numbers.now.items }
 {
-    for (at, number) in numbers.iter().enumerate() {
-        if *number == r {
-            return Some(at);
-        }
-    }
-    None
+    numbers.iter().position(|number| *number == r)
 }
 
 /// A number is taken out where it stands. What stands in front of it is looked at, and nothing behind it.
 pub fn take_out<A: Allocator>(numbers: &mut VecDeque<u32, A>, r: u32)
-    requires { AreDistinct numbers.old.items }
+    requires { IsDistinct nat_eq numbers.old.items }
     ensures { numbers.new.items ≡ minus r numbers.old.items }
 {
     if let Some(at) = place_of(numbers, r) {
@@ -93,7 +89,7 @@ pub fn take_sealed_out<A: Allocator + Clone + Copy>(
     r: u32,
 )
     requires there { r < length regions.now }
-    requires distinct { AreDistinct sealed.old.items }
+    requires distinct { IsDistinct nat_eq sealed.old.items }
     requires listed { is_in r sealed.old.items ≡ true → (region_at r regions.now).status ≡ Sealed }
     ensures { sealed.new.items ≡ minus r sealed.old.items }
 {
