@@ -1,12 +1,12 @@
 -- The numbers beside a lane, of pairs in order.
-use Rattle.std.proofs.Common.{◌≡◌, ℕ, ◌+◌, ◌==◌, ◌<◌, ◌⊎◌, inl, inr, nat_lt, Bool, true, false, ◌&&◌, List, [], ◌∷◌, ◌++◌, Option, Some, None, find, filter, refl, sym, ap, subst, arith, ◌∙◌, Ordering, Less, Equal, Greater}
+use Rattle.std.proofs.Common.{◌≡◌, ℕ, ◌+◌, ◌==◌, ◌<◌, ◌⊎◌, inl, inr, nat_lt, Bool, true, false, ◌&&◌, ◌||◌, List, [], ◌∷◌, ◌++◌, Option, Some, None, find, filter, refl, sym, ap, subst, arith, ◌∙◌, Ordering, Less, Equal, Greater}
 use Rattle.std.specs.Prelude.{if◌then◌else◌, nat_le}
 use Rattle.std.specs.Ordering.{nat_cmp, is_le}
 use Rattle.std.specs.BTreeMap.{is_at}
 use Rattle.std.specs.BTreeMap.Range.{range_contains}
 use Rattle.std.specs.BTreeSet.{insert_key}
 use Rattle.std.specs.Set.{remove_key}
-use Rattle.std.specs.List.{AllByRecursion}
+use Rattle.std.specs.List.{AllByRecursion, list_any}
 use Rattle.std.specs.List.Sorted.{IsStrictlySortedBy}
 use Rattle.std.specs.declared.ops.Bound.{Bound}
 use Rattle.std.proofs.lemmas.Bool.{eqb-true}
@@ -209,6 +209,27 @@ undo-number n (m ∷ ns) b = let lt : m < n = b.0 in let z : nat_lt n m ≡ fals
 pub insert-end : (n : ℕ) (ns : List ℕ) → AllBelow n ns → insert_key nat_cmp ns n ≡ ns ++ n ∷ []
 insert-end n [] b = refl
 insert-end n (m ∷ ns) b = let lt : m < n = b.0 in let z : nat_lt n m ≡ false = (grind (arith, lt)) in let w : (n == m) ≡ false = (grind (arith, lt)) in rw (z, w) (ap (λ (xs : List ℕ). m ∷ xs) (insert-end n ns b.1))
+
+-- a number beside a lane stands there as a pair
+pub beside-pair : (l n : ℕ) (ps : List (ℕ × ℕ)) → list_any (is_at (nat_cmp n)) (beside l ps) ≡ true → list_any (is_at (pair_cmp (l, n))) ps ≡ true
+beside-pair l n [] h = absurd (cc)
+beside-pair l n (p ∷ ps) h = go (p.0 == l) refl (is_at (nat_cmp n) p.1) refl h (beside-pair l n ps)
+  where
+    or-right : (b c : Bool) → c ≡ true → (b || c) ≡ true
+    or-right true c h = refl
+    or-right false c h = h
+
+    later : list_any (is_at (pair_cmp (l, n))) ps ≡ true → list_any (is_at (pair_cmp (l, n))) (p ∷ ps) ≡ true
+    later more = or-right (is_at (pair_cmp (l, n)) p) _ more
+
+    go : (s : Bool) → (p.0 == l) ≡ s → (t : Bool) → is_at (nat_cmp n) p.1 ≡ t → list_any (is_at (nat_cmp n)) (if s then p.1 ∷ beside l ps else beside l ps) ≡ true
+        → (list_any (is_at (nat_cmp n)) (beside l ps) ≡ true → list_any (is_at (pair_cmp (l, n))) ps ≡ true) → list_any (is_at (pair_cmp (l, n))) (p ∷ ps) ≡ true
+    go true q true u h more =
+        let x : nat_lt l p.0 ≡ false = (grind (arith, q)) in let y : (l == p.0) ≡ true = (grind (arith, q)) in
+        let z : is_at (pair_cmp (l, n)) p ≡ true = rw (x, y) u in
+        rw z refl
+    go true q false u h more = later (more (rw u at h))
+    go false q t u h more = later (more h)
 
 pub undo-lane : (o : Option ℕ) (n : ℕ) (ps : List (ℕ × ℕ)) → IsNew o n ps → left o n (joined o n ps) ≡ ps
 undo-lane None n ps h = refl

@@ -7,7 +7,7 @@ use Rattle.hc_queue.specs.Queue.{Rises, without_number, taken_at}
 use Rattle.hc_queue.proofs.Gone.{none-gone}
 use Rattle.hc_queue.specs.declared.keyed.Named.{Named}
 use Rattle.std.specs.Map.{lookup}
-use Rattle.indexmap.specs.IndexMap.{IndexMap, get, IsUnchanged}
+use Rattle.indexmap.specs.IndexMap.{IndexMap, get, spare, IsUnchanged}
 use Rattle.hc_queue.specs.Keys.{same_key, number_of, without_key, AreApart, IsIndexed}
 
 pub same-number : {V A : Type 0} (q k : List ℕ) (es : List (ℕ × Piece (Named V A))) → same_key q k ≡ true → number_of q es ≡ number_of k es
@@ -105,22 +105,25 @@ apart-without k (e ∷ es) a = go (same_key k e.1.value.key) refl (apart-without
 
 -- ---- the map
 
-pub indexed-push : {V A S : Type 0} (m m2 : IndexMap (List ℕ) ℕ S) (k copy : List ℕ) (n : ℕ) (p : Piece (Named V A)) (es es2 : List (ℕ × Piece (Named V A))) → copy ≡ k → p.value.key ≡ k → number_of k es ≡ None → IsIndexed es m → es2 ≡ es ++ (n, p) ∷ []
-    → ((q : List ℕ) → get same_key m2 q ≡ (if same_key copy q then Some n else get same_key m q)) → IsIndexed es2 m2
-indexed-push m m2 k copy n p es es2 c e none i is h = record {
+pub indexed-push : {V A S : Type 0} (m m2 : IndexMap (List ℕ) ℕ S) (k copy : List ℕ) (n room room2 : ℕ) (p : Piece (Named V A)) (es es2 : List (ℕ × Piece (Named V A))) → copy ≡ k → p.value.key ≡ k → number_of k es ≡ None → IsIndexed es room m → es2 ≡ es ++ (n, p) ∷ []
+    → room ≡ room2 + 1 → spare m ≤ spare m2 + 1 → ((q : List ℕ) → get same_key m2 q ≡ (if same_key copy q then Some n else get same_key m q)) → IsIndexed es2 room2 m2
+indexed-push m m2 k copy n room room2 p es es2 c e none i is less free h = record {
   found = λ q. h q ∙ ((λ j. if same_key (c j) q then Some n else i.found q j) ∙ ((λ j. if nat_list_eq_equiv.symm k q j then Some n else number_of q es) ∙ (sym (number-push q k n p es e none) ∙ ap (number_of q) (sym is))));
   apart = subst AreApart (sym is) (apart-push k n p es e none i.apart);
+  room = (let was = i.room in omega (arith, was, less, free));
 }
 
-pub indexed-remove : {V A S : Type 0} (m m2 : IndexMap (List ℕ) ℕ S) (k : List ℕ) (n : ℕ) (es es2 : List (ℕ × Piece (Named V A))) → es2 ≡ without_key k es → IsIndexed es m
-    → ((q : List ℕ) → get same_key m2 q ≡ (if same_key k q then None else get same_key m q)) → IsIndexed es2 m2
-indexed-remove m m2 k n es es2 is i h = record {
+pub indexed-remove : {V A S : Type 0} (m m2 : IndexMap (List ℕ) ℕ S) (k : List ℕ) (room room2 : ℕ) (es es2 : List (ℕ × Piece (Named V A))) → es2 ≡ without_key k es → IsIndexed es room m
+    → room2 ≡ room → spare m ≤ spare m2 → ((q : List ℕ) → get same_key m2 q ≡ (if same_key k q then None else get same_key m q)) → IsIndexed es2 room2 m2
+indexed-remove m m2 k room room2 es es2 is i same free h = record {
   found = λ q. h q ∙ ((λ j. if same_key k q then None else i.found q j) ∙ (sym (number-without q k es) ∙ ap (number_of q) (sym is)));
   apart = subst AreApart (sym is) (apart-without k es i.apart);
+  room = (let was = i.room in omega (arith, was, same, free));
 }
 
-pub indexed-same : {V A S : Type 0} (m m2 : IndexMap (List ℕ) ℕ S) (es : List (ℕ × Piece (Named V A))) → IsUnchanged m m2 → IsIndexed es m → IsIndexed es m2
-indexed-same m m2 es same i = record { found = λ q. (λ j. lookup (same_key q) (same j)) ∙ i.found q; apart = i.apart }
+-- a map with the same entries, and with room
+pub indexed-same : {V A S : Type 0} (m m2 : IndexMap (List ℕ) ℕ S) (room room2 : ℕ) (es es2 : List (ℕ × Piece (Named V A))) → IsUnchanged m m2 → es2 ≡ es → room2 ≤ spare m2 → IsIndexed es room m → IsIndexed es2 room2 m2
+indexed-same m m2 room room2 es es2 same is free i = record { found = λ q. (λ j. lookup (same_key q) (same j)) ∙ (i.found q ∙ ap (number_of q) (sym is)); apart = subst AreApart (sym is) i.apart; room = free }
 
 -- ---- a piece that is taken
 
@@ -140,11 +143,9 @@ apart-taken n (e ∷ es) a = go (e.0 == n) (apart-taken n es a.1)
     go true more = (number-taken e.1.value.key n es ∙ a.0, more)
     go false more = (number-taken e.1.value.key n es ∙ a.0, more)
 
-pub indexed-taken : {V A S : Type 0} (m : IndexMap (List ℕ) ℕ S) (n : ℕ) (es es2 : List (ℕ × Piece (Named V A))) → es2 ≡ taken_at n es → IsIndexed es m → IsIndexed es2 m
-indexed-taken m n es es2 is i = record {
+pub indexed-taken : {V A S : Type 0} (m : IndexMap (List ℕ) ℕ S) (n room room2 : ℕ) (es es2 : List (ℕ × Piece (Named V A))) → es2 ≡ taken_at n es → room2 ≡ room → IsIndexed es room m → IsIndexed es2 room2 m
+indexed-taken m n room room2 es es2 is same i = record {
   found = λ q. i.found q ∙ (sym (number-taken q n es) ∙ ap (number_of q) (sym is));
   apart = subst AreApart (sym is) (apart-taken n es i.apart);
+  room = (let was = i.room in omega (arith, was, same));
 }
-
-pub indexed-moved : {V A S : Type 0} (m : IndexMap (List ℕ) ℕ S) (es es2 : List (ℕ × Piece (Named V A))) → es2 ≡ es → IsIndexed es m → IsIndexed es2 m
-indexed-moved m es es2 is i = record { found = λ q. i.found q ∙ ap (number_of q) (sym is); apart = subst AreApart (sym is) i.apart }

@@ -9,16 +9,6 @@ use Rattle.std.proofs.lemmas.Bool.{eqb-true}
 use Rattle.hc_queue.specs.declared.queue.Piece.{Piece}
 use Rattle.hc_queue.specs.Queue.{can_go, also, closing, firsts, is_in, waiting, first_of, with, without, Rises, pieces_of, piece_by}
 
--- the first of the firsts is the first that can go
-pub first-is : {V : Type 0} (busy : ℕ → Bool) (es : List (ℕ × Piece V)) → first_of (firsts busy es) ≡ option_map (λ (e : ℕ × Piece V). e.0) (find (λ (e : ℕ × Piece V). can_go busy e.1) es)
-first-is busy [] = refl
-first-is busy (e ∷ es) = go (can_go busy e.1) refl (first-is busy es)
-  where
-    go : (t : Bool) → can_go busy e.1 ≡ t → first_of (firsts busy es) ≡ option_map (λ (e : ℕ × Piece _). e.0) (find (λ (e : ℕ × Piece _). can_go busy e.1) es)
-        → first_of (if t then e.0 ∷ firsts (closing e.1.lane busy) es else firsts busy es) ≡ option_map (λ (e : ℕ × Piece _). e.0) (if t then Some e else find (λ (e : ℕ × Piece _). can_go busy e.1) es)
-    go true p more = refl
-    go false p more = more
-
 -- ---- sets of numbers
 
 pub is-at : (n x : ℕ) → is_at (nat_cmp n) x ≡ (n == x)
@@ -136,15 +126,26 @@ held busy l (e ∷ es) low high r free = go e.1.taken refl e.1.lane refl (λ b f
 
 -- ---- the piece with the first number
 
-skipped : {V : Type 0} (e : ℕ × Piece V) (es : List (ℕ × Piece V)) (ns : List ℕ) → AllFrom (e.0 + 1) ns → piece_by (first_of ns) (e ∷ es) ≡ piece_by (first_of ns) es
-skipped e es [] h = refl
-skipped e es (n ∷ ns) h = let x : (e.0 == n) ≡ false = (grind (arith, h.0)) in rw x refl
-
-pub first-piece : {V : Type 0} (busy : ℕ → Bool) (es : List (ℕ × Piece V)) (low high : ℕ) → Rises low high es → piece_by (first_of (firsts busy es)) es ≡ find (can_go busy) (pieces_of es)
-first-piece busy [] low high r = refl
-first-piece busy (e ∷ es) low high r = go (can_go busy e.1) (first-piece busy es (e.0 + 1) high r.1)
+found-above : {V : Type 0} (busy : ℕ → Bool) (low high n : ℕ) (es : List (ℕ × Piece V)) → Rises low high es → option_map (λ (e : ℕ × Piece V). e.0) (find (λ (e : ℕ × Piece V). can_go busy e.1) es) ≡ Some n → low ≤ n
+found-above busy low high n [] r h = absurd (cc)
+found-above busy low high n (e ∷ es) r h = go (can_go busy e.1) h (found-above busy (e.0 + 1) high n es r.1)
   where
-    go : (t : Bool) → piece_by (first_of (firsts busy es)) es ≡ find (can_go busy) (pieces_of es)
-        → piece_by (first_of (if t then e.0 ∷ firsts (closing e.1.lane busy) es else firsts busy es)) (e ∷ es) ≡ (if t then Some e.1 else find (can_go busy) (pieces_of es))
+    go : (t : Bool) → option_map (λ (x : ℕ × Piece _). x.0) (if t then Some e else find (λ (x : ℕ × Piece _). can_go busy x.1) es) ≡ Some n
+        → (option_map (λ (x : ℕ × Piece _). x.0) (find (λ (x : ℕ × Piece _). can_go busy x.1) es) ≡ Some n → e.0 + 1 ≤ n) → low ≤ n
+    go true h more = let k : e.0 ≡ n = cc in omega (arith, k, r.0)
+    go false h more = let k : e.0 + 1 ≤ n = more h in omega (arith, k, r.0)
+
+-- the number of what was found leads to it
+pub found-piece : {V : Type 0} (busy : ℕ → Bool) (low high : ℕ) (es : List (ℕ × Piece V)) → Rises low high es
+    → piece_by (option_map (λ (e : ℕ × Piece V). e.0) (find (λ (e : ℕ × Piece V). can_go busy e.1) es)) es ≡ find (can_go busy) (pieces_of es)
+found-piece busy low high [] r = refl
+found-piece busy low high (e ∷ es) r = go (can_go busy e.1) (found-piece busy (e.0 + 1) high es r.1)
+  where
+    skipped : (o : Option ℕ) → ((n : ℕ) → o ≡ Some n → e.0 + 1 ≤ n) → piece_by o (e ∷ es) ≡ piece_by o es
+    skipped None h = refl
+    skipped (Some n) h = let k : e.0 + 1 ≤ n = h n refl in let x : (e.0 == n) ≡ false = (grind (arith, k)) in rw x refl
+
+    go : (t : Bool) → piece_by (option_map (λ (x : ℕ × Piece _). x.0) (find (λ (x : ℕ × Piece _). can_go busy x.1) es)) es ≡ find (can_go busy) (pieces_of es)
+        → piece_by (option_map (λ (x : ℕ × Piece _). x.0) (if t then Some e else find (λ (x : ℕ × Piece _). can_go busy x.1) es)) (e ∷ es) ≡ (if t then Some e.1 else find (can_go busy) (pieces_of es))
     go true more = let x : (e.0 == e.0) ≡ true = (grind (arith)) in rw x refl
-    go false more = skipped e es (firsts busy es) (firsts-from busy es (e.0 + 1) high r.1) ∙ more
+    go false more = skipped _ (λ n. found-above busy (e.0 + 1) high n es r.1) ∙ more

@@ -8,8 +8,8 @@ use Rattle.std.specs.Map.{remove_entry}
 use Rattle.std.specs.Set.{remove_key}
 use Rattle.std.proofs.lemmas.Bool.{eqb-true}
 use Rattle.hc_queue.specs.declared.queue.Piece.{Piece}
-use Rattle.hc_queue.specs.Queue.{can_go, also, closing, firsts, is_in, waiting, first_of, above, with, Rises, without_number, turn_of, taken_at}
-use Rattle.hc_queue.proofs.Firsts.{AllFrom, from-less, is-at, insert-pass, remove-pass, remove-front, with-pass, firsts-from, waiting-from, released}
+use Rattle.hc_queue.specs.Queue.{can_go, also, closing, firsts, is_in, in_lane, waiting, first_of, Rises, without_number, turn_of, lane_at, taken_at}
+use Rattle.hc_queue.proofs.Firsts.{AllFrom, from-less, is-at, remove-pass, remove-front, firsts-from}
 
 -- the piece with the number waits in this lane, or in none
 abbrev pub At : {V : Type 0} → ℕ → Option ℕ → List (ℕ × Piece V) → Type 0
@@ -29,7 +29,7 @@ pub rises-less : {V : Type 0} (low high : ℕ) (es : List (ℕ × Piece V)) → 
 rises-less low high [] r = r
 rises-less low high (e ∷ es) r = let k : e.0 + 1 ≤ high = rises-less (e.0 + 1) high es r.1 in omega (arith, r.0, k)
 
-rises-lower : {V : Type 0} (a b high : ℕ) (es : List (ℕ × Piece V)) → a ≤ b → Rises b high es → Rises a high es
+pub rises-lower : {V : Type 0} (a b high : ℕ) (es : List (ℕ × Piece V)) → a ≤ b → Rises b high es → Rises a high es
 rises-lower a b high [] le r = omega (arith, le, r)
 rises-lower a b high (e ∷ es) le r = (omega (arith, le, r.0), r.1)
 
@@ -106,7 +106,7 @@ gone-none busy n low high (e ∷ es) r (inr a) =
     go true p lt more other = ap (λ (ns : List ℕ). e.0 ∷ ns) more ∙ sym (remove-pass e.0 n (firsts (closing e.1.lane busy) es) lt)
     go false p lt more other = other
 
-not-among : (n : ℕ) (ns : List ℕ) → AllFrom (n + 1) ns → list_any (is_at (nat_cmp n)) ns ≡ false
+pub not-among : (n : ℕ) (ns : List ℕ) → AllFrom (n + 1) ns → list_any (is_at (nat_cmp n)) ns ≡ false
 not-among n [] h = refl
 not-among n (m ∷ ns) h = let x : is_at (nat_cmp n) m ≡ false = is-at n m ∙ grind (arith, h.0) in rw x (not-among n ns h.1)
 
@@ -134,61 +134,6 @@ gone-other busy n low high o (e ∷ es) r (inr a) out =
         → (if t then e.0 ∷ firsts (closing e.1.lane busy) (without_number n es) else firsts busy (without_number n es)) ≡ (if t then e.0 ∷ firsts (closing e.1.lane busy) es else firsts busy es)
     go true y more other out = ap (λ (ns : List ℕ). e.0 ∷ ns) (more (rw y at out))
     go false y more other out = other out
-
-above-first : (n : ℕ) (ns : List ℕ) → AllFrom (n + 1) ns → above n ns ≡ first_of ns
-above-first n [] h = refl
-above-first n (m ∷ ns) h = let x : nat_lt n m ≡ true = (grind (arith, h.0)) in rw x refl
-
-with-above : (n m : ℕ) (ws ns : List ℕ) → m ≤ n → with (above n ws) (m ∷ ns) ≡ m ∷ with (above n ws) ns
-with-above n m [] ns le = refl
-with-above n m (w ∷ ws) ns le = go (nat_lt n w) refl (with-above n m ws ns le)
-  where
-    go : (t : Bool) → nat_lt n w ≡ t → with (above n ws) (m ∷ ns) ≡ m ∷ with (above n ws) ns → with (if t then Some w else above n ws) (m ∷ ns) ≡ m ∷ with (if t then Some w else above n ws) ns
-    go true p more = insert-pass m w ns (grind (arith, p, le))
-    go false p more = more
-
-pub gone-first : {V : Type 0} (busy : ℕ → Bool) (n low high l : ℕ) (es : List (ℕ × Piece V)) → Rises low high es → At n (Some l) es
-    → list_any (is_at (nat_cmp n)) (firsts busy es) ≡ true → firsts busy (without_number n es) ≡ remove_key (is_at (nat_cmp n)) (with (above n (waiting l es)) (firsts busy es))
-gone-first busy n low high l [] r a among = absurd a
-gone-first busy n low high l (e ∷ es) r (inl (p, q, s)) among =
-    let x : (e.0 == n) ≡ true = (grind (arith, p)) in
-    let k : without_number n es ≡ es = none-gone n (e.0 + 1) high es r.1 (omega (arith, p)) in
-    rw x (ap (firsts busy) k ∙ go (busy l) refl)
-  where
-    same : (l == l) ≡ true
-    same = grind (arith)
-
-    go : (t : Bool) → busy l ≡ t → firsts busy es ≡ remove_key (is_at (nat_cmp n)) (with (above n (waiting l (e ∷ es))) (firsts busy (e ∷ es)))
-    go true u =
-        let f : firsts busy (e ∷ es) ≡ firsts busy es = rw (q, s, u) refl in
-        let z : list_any (is_at (nat_cmp n)) (firsts busy es) ≡ false = not-among n _ (from-less (n + 1) (e.0 + 1) _ (omega (arith, p)) (firsts-from busy es (e.0 + 1) high r.1)) in
-        let k : true ≡ false = sym among ∙ (ap (list_any (is_at (nat_cmp n))) f ∙ z) in absurd (cc)
-    go false u =
-        let f : firsts busy (e ∷ es) ≡ e.0 ∷ firsts (also l busy) es = rw (q, s, u) refl in
-        let w : waiting l (e ∷ es) ≡ e.0 ∷ waiting l es = rw (q, s, same) refl in
-        let y : nat_lt n e.0 ≡ false = (grind (arith, p)) in
-        let z : above n (waiting l (e ∷ es)) ≡ first_of (waiting l es) = ap (above n) w ∙ rw y (above-first n _ (from-less (n + 1) (e.0 + 1) _ (omega (arith, p)) (waiting-from l es (e.0 + 1) high r.1))) in
-        rw (z, f, with-pass e.0 (waiting l es) (firsts (also l busy) es) (waiting-from l es (e.0 + 1) high r.1))
-        (released busy l es (e.0 + 1) high r.1 u ∙ sym (subst (λ (k : ℕ). remove_key (is_at (nat_cmp n)) (k ∷ with (first_of (waiting l es)) (firsts (also l busy) es)) ≡ with (first_of (waiting l es)) (firsts (also l busy) es)) (sym p) (remove-front n _)))
-gone-first busy n low high l (e ∷ es) r (inr a) among =
-    let k : (e.0 + 1 ≤ n) × (n < high) = at-from n (e.0 + 1) high (Some l) es r.1 a in
-    let x : (e.0 == n) ≡ false = (grind (arith, k.0)) in
-    let y : is_at (nat_cmp n) e.0 ≡ false = is-at n e.0 ∙ grind (arith, k.0) in
-    let z : nat_lt n e.0 ≡ false = (grind (arith, k.0)) in
-    rw (x, skipped (not e.1.taken && is_in l e.1.lane) z) (go (can_go busy e.1) y (omega (arith, k.0)) (gone-first (closing e.1.lane busy) n (e.0 + 1) high l es r.1 a) (gone-first busy n (e.0 + 1) high l es r.1 a) among)
-  where
-    skipped : (t : Bool) → nat_lt n e.0 ≡ false → above n (if t then e.0 ∷ waiting l es else waiting l es) ≡ above n (waiting l es)
-    skipped true z = rw z refl
-    skipped false z = refl
-
-    go : (t : Bool) → is_at (nat_cmp n) e.0 ≡ false → e.0 < n
-        → (list_any (is_at (nat_cmp n)) (firsts (closing e.1.lane busy) es) ≡ true → firsts (closing e.1.lane busy) (without_number n es) ≡ remove_key (is_at (nat_cmp n)) (with (above n (waiting l es)) (firsts (closing e.1.lane busy) es)))
-        → (list_any (is_at (nat_cmp n)) (firsts busy es) ≡ true → firsts busy (without_number n es) ≡ remove_key (is_at (nat_cmp n)) (with (above n (waiting l es)) (firsts busy es)))
-        → list_any (is_at (nat_cmp n)) (if t then e.0 ∷ firsts (closing e.1.lane busy) es else firsts busy es) ≡ true
-        → (if t then e.0 ∷ firsts (closing e.1.lane busy) (without_number n es) else firsts busy (without_number n es)) ≡ remove_key (is_at (nat_cmp n)) (with (above n (waiting l es)) (if t then e.0 ∷ firsts (closing e.1.lane busy) es else firsts busy es))
-    go true y lt more other among = ap (λ (ns : List ℕ). e.0 ∷ ns) (more (rw y at among))
-        ∙ sym (ap (remove_key (is_at (nat_cmp n))) (with-above n e.0 (waiting l es) (firsts (closing e.1.lane busy) es) (omega (arith, lt))) ∙ remove-pass e.0 n (with (above n (waiting l es)) (firsts (closing e.1.lane busy) es)) lt)
-    go false y lt more other among = other among
 
 -- ---- a piece that doesn't wait changes nothing
 
@@ -276,3 +221,80 @@ not-first busy n low high l (e ∷ es) r (inr a) b =
         → list_any (is_at (nat_cmp n)) (if t then e.0 ∷ firsts (closing e.1.lane busy) es else firsts busy es) ≡ false
     go true y more other = rw y more
     go false y more other = other
+
+-- what is among the first ones is the first of its lane
+pub first-waits : {V : Type 0} (busy : ℕ → Bool) (n low high l : ℕ) (es : List (ℕ × Piece V)) → Rises low high es → At n (Some l) es → list_any (is_at (nat_cmp n)) (firsts busy es) ≡ true → first_of (waiting l es) ≡ Some n
+first-waits busy n low high l [] r a among = absurd a
+first-waits busy n low high l (e ∷ es) r (inl (p, q, s)) among = let same : (l == l) ≡ true = (grind (arith)) in rw (q, s, same) (ap (λ (k : ℕ). Some k) p)
+first-waits busy n low high l (e ∷ es) r (inr a) among =
+    let k : (e.0 + 1 ≤ n) × (n < high) = at-from n (e.0 + 1) high (Some l) es r.1 a in
+    let y : is_at (nat_cmp n) e.0 ≡ false = is-at n e.0 ∙ grind (arith, k.0) in
+    go e.1.taken refl e.1.lane refl (λ b m. first-waits b n (e.0 + 1) high l es r.1 a m) (λ b m. not-first b n (e.0 + 1) high l es r.1 a m) y among
+  where
+    go2 : (m : ℕ) → e.1.taken ≡ false → e.1.lane ≡ Some m → (s : Bool) → (m == l) ≡ s → (u : Bool) → busy m ≡ u
+        → ((b : ℕ → Bool) → list_any (is_at (nat_cmp n)) (firsts b es) ≡ true → first_of (waiting l es) ≡ Some n)
+        → ((b : ℕ → Bool) → b l ≡ true → list_any (is_at (nat_cmp n)) (firsts b es) ≡ false) → is_at (nat_cmp n) e.0 ≡ false
+        → list_any (is_at (nat_cmp n)) (firsts busy (e ∷ es)) ≡ true → first_of (waiting l (e ∷ es)) ≡ Some n
+    go2 m p q true s true u more none y h =
+        let b : busy l ≡ true = subst (λ (x : ℕ). busy x ≡ true) (eqb-true m l s) u in
+        let k : true ≡ false = sym (rw (p, q, u) at h) ∙ none busy b in absurd (cc)
+    go2 m p q true s false u more none y h =
+        let x : (l == m) ≡ true = (grind (arith, s)) in
+        let b : also m busy l ≡ true = rw x refl in
+        let k : true ≡ false = sym (rw (p, q, u, y) at h) ∙ none (also m busy) b in absurd (cc)
+    go2 m p q false s true u more none y h = rw (p, q, s) (more busy (rw (p, q, u) at h))
+    go2 m p q false s false u more none y h = rw (p, q, s) (more (also m busy) (rw (p, q, u, y) at h))
+
+    go : (t : Bool) → e.1.taken ≡ t → (o : Option ℕ) → e.1.lane ≡ o
+        → ((b : ℕ → Bool) → list_any (is_at (nat_cmp n)) (firsts b es) ≡ true → first_of (waiting l es) ≡ Some n)
+        → ((b : ℕ → Bool) → b l ≡ true → list_any (is_at (nat_cmp n)) (firsts b es) ≡ false) → is_at (nat_cmp n) e.0 ≡ false
+        → list_any (is_at (nat_cmp n)) (firsts busy (e ∷ es)) ≡ true → first_of (waiting l (e ∷ es)) ≡ Some n
+    go true p o q more none y h = rw p (more busy (rw p at h))
+    go false p None q more none y h = rw (p, q) (more busy (rw (p, q, y) at h))
+    go false p (Some m) q more none y h = go2 m p q (m == l) refl (busy m) refl more none y h
+
+-- what waits in a lane stands there
+pub at-waits : {V : Type 0} (n l : ℕ) (es : List (ℕ × Piece V)) → At n (Some l) es → list_any (is_at (nat_cmp n)) (waiting l es) ≡ true
+at-waits n l [] a = absurd a
+at-waits n l (e ∷ es) (inl (p, q, s)) =
+    let same : (l == l) ≡ true = (grind (arith)) in let y : is_at (nat_cmp n) e.0 ≡ true = is-at n e.0 ∙ grind (arith, p) in rw (q, s, same, y) refl
+at-waits n l (e ∷ es) (inr a) = go (not e.1.taken && is_in l e.1.lane) (is_at (nat_cmp n) e.0) refl (at-waits n l es a)
+  where
+    go : (t u : Bool) → is_at (nat_cmp n) e.0 ≡ u → list_any (is_at (nat_cmp n)) (waiting l es) ≡ true → list_any (is_at (nat_cmp n)) (if t then e.0 ∷ waiting l es else waiting l es) ≡ true
+    go true true y more = rw y refl
+    go true false y more = rw y more
+    go false u y more = more
+
+-- ---- the lanes' pieces, taken or not
+
+pub lane-gone : {V : Type 0} (m n low high : ℕ) (es : List (ℕ × Piece V)) → Rises low high es
+    → in_lane m (without_number n es) ≡ (if is_in m (lane_at n es) then remove_key (is_at (nat_cmp n)) (in_lane m es) else in_lane m es)
+lane-gone m n low high [] r = refl
+lane-gone m n low high (e ∷ es) r = go (n == e.0) refl (is_in m e.1.lane) refl (lane-gone m n (e.0 + 1) high es r.1)
+  where
+    go : (t : Bool) → (n == e.0) ≡ t → (u : Bool) → is_in m e.1.lane ≡ u
+        → in_lane m (without_number n es) ≡ (if is_in m (lane_at n es) then remove_key (is_at (nat_cmp n)) (in_lane m es) else in_lane m es)
+        → in_lane m (without_number n (e ∷ es)) ≡ (if is_in m (lane_at n (e ∷ es)) then remove_key (is_at (nat_cmp n)) (in_lane m (e ∷ es)) else in_lane m (e ∷ es))
+    go true p true q more =
+        let z : n ≡ e.0 = eqb-true n e.0 p in
+        let x : (e.0 == n) ≡ true = (grind (arith, p)) in
+        let y : is_at (nat_cmp n) e.0 ≡ true = is-at n e.0 ∙ p in
+        rw (x, p, q, y) (ap (in_lane m) (none-gone n (e.0 + 1) high es r.1 (omega (arith, z))))
+    go true p false q more =
+        let z : n ≡ e.0 = eqb-true n e.0 p in
+        let x : (e.0 == n) ≡ true = (grind (arith, p)) in
+        rw (x, p, q) (ap (in_lane m) (none-gone n (e.0 + 1) high es r.1 (omega (arith, z))))
+    go false p true q more = let x : (e.0 == n) ≡ false = (grind (arith, p)) in let y : is_at (nat_cmp n) e.0 ≡ false = is-at n e.0 ∙ p in rw (x, p, q, y) (ap (λ (ns : List ℕ). e.0 ∷ ns) more ∙ go2 (is_in m (lane_at n es)))
+      where
+        go2 : (w : Bool) → e.0 ∷ (if w then remove_key (is_at (nat_cmp n)) (in_lane m es) else in_lane m es) ≡ (if w then e.0 ∷ remove_key (is_at (nat_cmp n)) (in_lane m es) else e.0 ∷ in_lane m es)
+        go2 true = refl
+        go2 false = refl
+    go false p false q more = let x : (e.0 == n) ≡ false = (grind (arith, p)) in rw (x, p, q) more
+
+pub lane-taken : {V : Type 0} (m n : ℕ) (es : List (ℕ × Piece V)) → in_lane m (taken_at n es) ≡ in_lane m es
+lane-taken m n [] = refl
+lane-taken m n (e ∷ es) = go (e.0 == n) (lane-taken m n es)
+  where
+    go : (t : Bool) → in_lane m (taken_at n es) ≡ in_lane m es → in_lane m ((if t then (e.0, record e.1 { taken = true }) else e) ∷ taken_at n es) ≡ in_lane m (e ∷ es)
+    go true more = ap (λ (ns : List ℕ). if is_in m e.1.lane then e.0 ∷ ns else ns) more
+    go false more = ap (λ (ns : List ℕ). if is_in m e.1.lane then e.0 ∷ ns else ns) more

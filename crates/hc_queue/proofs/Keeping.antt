@@ -1,7 +1,7 @@
--- What holds of a queue at every time, through its steps.
-use Rattle.std.proofs.Common.{◌≡◌, ℕ, ◌+◌, ◌==◌, ◌<◌, nat_lt, Bool, true, false, not, ◌&&◌, List, [], ◌∷◌, ◌++◌, Option, Some, None, refl, sym, ap, subst, arith, ◌∙◌, cond}
+-- What holds of the pieces that stand in order at every time, through its steps.
+use Rattle.std.proofs.Common.{◌≡◌, ℕ, ◌+◌, ◌-◌, ◌==◌, ◌<◌, ◌≤◌, nat_lt, Bool, true, false, not, ◌&&◌, List, [], ◌∷◌, ◌++◌, length, Option, Some, None, refl, sym, ap, subst, arith, ◌∙◌, cond, Ordering, Less, Equal, Greater}
 use Rattle.std.specs.Prelude.{if◌then◌else◌, is_some, IsSome}
-use Rattle.std.specs.Ordering.{nat_cmp}
+use Rattle.std.specs.Ordering.{nat_cmp, match_ordering}
 use Rattle.std.specs.BTreeMap.{is_at}
 use Rattle.std.specs.BTreeSet.{insert_key}
 use Rattle.std.specs.List.{list_any}
@@ -10,11 +10,12 @@ use Rattle.std.specs.Map.{lookup, set_value}
 use Rattle.std.specs.Set.{remove_key}
 use Rattle.std.proofs.lemmas.Bool.{eqb-true}
 use Rattle.hc_queue.specs.declared.queue.Piece.{Piece}
-use Rattle.hc_queue.specs.Queue.{is_open, also, firsts, waiting, first_of, above, with, without, Rises, without_number, turn_of, piece_at, taken_at, AllBelow, Kept, beside, joined, left, withdrawn, left_by, ready_by, goes, only_if, IsNew, pair_cmp, is_alone, frees_none}
-use Rattle.hc_queue.proofs.Firsts.{is-at, released, held}
-use Rattle.hc_queue.proofs.Besides.{beside-insert, beside-remove, insert-end}
-use Rattle.hc_queue.proofs.Gone.{At, at-turn, at-from, rises-gone, waiting-gone, gone-none, gone-other, gone-first, gone-idle, waiting-idle, rises-taken, waiting-taken, not-first}
-use Rattle.hc_queue.proofs.Pushed.{rises-push, waiting-below, waiting-push, push-none, push-some}
+use Rattle.hc_queue.specs.Queue.{is_open, also, firsts, in_lane, waiting, first_of, with, Rises, IsRising, without_number, turn_of, lane_at, piece_at, taken_at, AllBelow, Kept, beside, joined, left, left_by, unready_by, noted_by, comes_first, only_if, open_lane, IsNew, Waits, is_among, AreDistinct, pair_cmp}
+use Rattle.hc_queue.proofs.Firsts.{is-at}
+use Rattle.hc_queue.proofs.Besides.{beside-insert, beside-remove, insert-end, beside-pair}
+use Rattle.hc_queue.proofs.Gone.{At, at-turn, at-waits, rises-gone, waiting-gone, lane-gone, lane-taken, gone-idle, waiting-idle, rises-taken, firsts-taken, waiting-taken}
+use Rattle.hc_queue.proofs.Noted.{ended, ended-distinct, caught, distinct-front}
+use Rattle.hc_queue.proofs.Pushed.{rises-push, lane-below, waiting-below, firsts-below, lane-push, waiting-push, push-taken, push-none, push-some}
 
 -- ---- a piece by its number
 
@@ -38,144 +39,179 @@ turn-is n (e ∷ es) = go (n == e.0) refl (turn-is n es)
     go true p more = let y : is_at (nat_cmp n) e.0 ≡ true = is-at n e.0 ∙ p in rw (y, p) refl
     go false p more = let y : is_at (nat_cmp n) e.0 ≡ false = is-at n e.0 ∙ p in rw (y, p) more
 
--- ---- bounds
+abbrev pub lane_of : {V : Type 0} → Option (Piece V) → Option ℕ
+lane_of None = None
+lane_of (Some p) = p.lane
 
-below-insert : (h n : ℕ) (rs : List ℕ) → n < h → AllBelow h rs → AllBelow h (insert_key nat_cmp rs n)
-below-insert h n [] lt b = (lt, tt)
-below-insert h n (r ∷ rs) lt b = go (nat_lt n r) refl (n == r) refl (below-insert h n rs lt b.1)
+pub lane-is : {V : Type 0} (n : ℕ) (es : List (ℕ × Piece V)) → lane_at n es ≡ lane_of (lookup (is_at (nat_cmp n)) es)
+lane-is n [] = refl
+lane-is n (e ∷ es) = go (n == e.0) refl (lane-is n es)
   where
-    go : (s : Bool) → nat_lt n r ≡ s → (t : Bool) → (n == r) ≡ t → AllBelow h (insert_key nat_cmp rs n) → AllBelow h (insert_key nat_cmp (r ∷ rs) n)
-    go true p t q more = rw p (lt, b)
-    go false p true q more = rw (p, q) b
-    go false p false q more = rw (p, q) (b.0, more)
-
-pub below-remove : (h : ℕ) (test : ℕ → Bool) (rs : List ℕ) → AllBelow h rs → AllBelow h (remove_key test rs)
-below-remove h test [] b = tt
-below-remove h test (r ∷ rs) b = go (test r) (below-remove h test rs b.1)
-  where
-    go : (t : Bool) → AllBelow h (remove_key test rs) → AllBelow h (cond t rs (r ∷ remove_key test rs))
-    go true more = b.1
-    go false more = (b.0, more)
-
-pub below-with : (h : ℕ) (ns rs : List ℕ) → AllBelow h ns → AllBelow h rs → AllBelow h (with (first_of ns) rs)
-below-with h [] rs a b = b
-below-with h (n ∷ ns) rs a b = below-insert h n rs a.0 b
-
-pub below-above : (h n : ℕ) (ns rs : List ℕ) → AllBelow h ns → AllBelow h rs → AllBelow h (with (above n ns) rs)
-below-above h n [] rs a b = b
-below-above h n (m ∷ ns) rs a b = go (nat_lt n m) (below-above h n ns rs a.1 b)
-  where
-    go : (t : Bool) → AllBelow h (with (above n ns) rs) → AllBelow h (with (if t then Some m else above n ns) rs)
-    go true more = below-insert h m rs a.0 b
-    go false more = more
-
-below-without : (h : ℕ) (o : Option ℕ) (rs : List ℕ) → AllBelow h rs → AllBelow h (without o rs)
-below-without h None rs b = b
-below-without h (Some n) rs b = below-remove h _ rs b
-
-below-more : (h : ℕ) (rs : List ℕ) → AllBelow h rs → AllBelow (h + 1) rs
-below-more h [] b = tt
-below-more h (r ∷ rs) b = (omega (arith, b.0), below-more h rs b.1)
-
--- ---- a lane that is busy, or free again
-
-pub kept-held : {V : Type 0} (l : ℕ) (es : List (ℕ × Piece V)) (ps : List (ℕ × ℕ)) (rs : List ℕ) (next : ℕ) → Kept es ps rs next → Kept es ps (without (first_of (beside l ps)) rs) next
-kept-held l es ps rs next k = record { rises = k.rises; by_lane = k.by_lane; below = below-without next (first_of (beside l ps)) rs k.below }
-
-pub kept-released : {V : Type 0} (l : ℕ) (es : List (ℕ × Piece V)) (ps : List (ℕ × ℕ)) (rs : List ℕ) (next : ℕ) → Kept es ps rs next → Kept es ps (with (first_of (beside l ps)) rs) next
-kept-released l es ps rs next k = record {
-  rises = k.rises;
-  by_lane = k.by_lane;
-  below = below-with next (beside l ps) rs (subst (AllBelow next) (sym (k.by_lane l)) (waiting-below l 0 next es k.rises)) k.below;
-}
-
-pub serves-held : {V : Type 0} (l : ℕ) (busy : ℕ → Bool) (es : List (ℕ × Piece V)) (ps : List (ℕ × ℕ)) (rs : List ℕ) (next : ℕ) → Kept es ps rs next → busy l ≡ false → rs ≡ firsts busy es
-    → without (first_of (beside l ps)) rs ≡ firsts (also l busy) es
-serves-held l busy es ps rs next k free s = (λ i. without (first_of (k.by_lane l i)) (s i)) ∙ sym (held busy l es 0 next k.rises free)
-
-pub serves-released : {V : Type 0} (l : ℕ) (busy : ℕ → Bool) (es : List (ℕ × Piece V)) (ps : List (ℕ × ℕ)) (rs : List ℕ) (next : ℕ) → Kept es ps rs next → busy l ≡ false → rs ≡ firsts (also l busy) es
-    → with (first_of (beside l ps)) rs ≡ firsts busy es
-serves-released l busy es ps rs next k free s = (λ i. with (first_of (k.by_lane l i)) (s i)) ∙ sym (released busy l es 0 next k.rises free)
+    go : (t : Bool) → (n == e.0) ≡ t → lane_at n es ≡ lane_of (lookup (is_at (nat_cmp n)) es) → lane_at n (e ∷ es) ≡ lane_of (lookup (is_at (nat_cmp n)) (e ∷ es))
+    go true p more = let y : is_at (nat_cmp n) e.0 ≡ true = is-at n e.0 ∙ p in rw (y, p) refl
+    go false p more = let y : is_at (nat_cmp n) e.0 ≡ false = is-at n e.0 ∙ p in rw (y, p) more
 
 -- ---- a piece that comes last
 
-pub new-lane : {V : Type 0} (o : Option ℕ) (es : List (ℕ × Piece V)) (ps : List (ℕ × ℕ)) (rs : List ℕ) (next : ℕ) → Kept es ps rs next → IsNew o next ps
-new-lane None es ps rs next k = tt
-new-lane (Some l) es ps rs next k = subst (AllBelow next) (sym (k.by_lane l)) (waiting-below l 0 next es k.rises)
+pub new-in-lane : {V : Type 0} (o : Option ℕ) (n : ℕ) (es : List (ℕ × Piece V)) (ps : List (ℕ × ℕ)) → Rises 0 n es → ((l : ℕ) → beside l ps ≡ in_lane l es) → IsNew o n ps
+new-in-lane None n es ps r e = tt
+new-in-lane (Some l) n es ps r e = subst (AllBelow n) (sym (e l)) (lane-below l 0 n es r)
 
-by_lane-push : {V : Type 0} (m n : ℕ) (p : Piece V) (o : Option ℕ) (es : List (ℕ × Piece V)) (ps : List (ℕ × ℕ)) → p.taken ≡ false → p.lane ≡ o → IsStrictlySortedBy pair_cmp ps → IsNew o n ps → beside m ps ≡ waiting m es
+pub new-waiting : {V : Type 0} (o : Option ℕ) (n : ℕ) (es : List (ℕ × Piece V)) (ps : List (ℕ × ℕ)) → Rises 0 n es → ((l : ℕ) → beside l ps ≡ waiting l es) → IsNew o n ps
+new-waiting None n es ps r e = tt
+new-waiting (Some l) n es ps r e = subst (AllBelow n) (sym (e l)) (waiting-below l 0 n es r)
+
+pub ready-below : {V : Type 0} (n : ℕ) (busy : ℕ → Bool) (es : List (ℕ × Piece V)) (rs : List ℕ) → Rises 0 n es → rs ≡ firsts busy es → AllBelow n rs
+ready-below n busy es rs r s = subst (AllBelow n) (sym s) (firsts-below busy 0 n es r)
+
+lane-pushed : {V : Type 0} (m n : ℕ) (p : Piece V) (o : Option ℕ) (es : List (ℕ × Piece V)) (ps : List (ℕ × ℕ)) → p.lane ≡ o → IsStrictlySortedBy pair_cmp ps → IsNew o n ps → beside m ps ≡ in_lane m es
+    → beside m (joined o n ps) ≡ in_lane m (es ++ (n, p) ∷ [])
+lane-pushed m n p None es ps g s new e = e ∙ sym (lane-push m n p es ∙ rw g refl)
+lane-pushed m n p (Some l) es ps g s new e = beside-insert m l n ps s new ∙ (ap (λ (ns : List ℕ). if l == m then ns ++ n ∷ [] else ns) e ∙ sym (lane-push m n p es ∙ rw g refl))
+
+waiting-pushed : {V : Type 0} (m n : ℕ) (p : Piece V) (o : Option ℕ) (es : List (ℕ × Piece V)) (ps : List (ℕ × ℕ)) → open_lane p ≡ o → IsStrictlySortedBy pair_cmp ps → IsNew o n ps → beside m ps ≡ waiting m es
     → beside m (joined o n ps) ≡ waiting m (es ++ (n, p) ∷ [])
-by_lane-push m n p None es ps f g s new e = e ∙ sym (waiting-push m n p es f ∙ rw g refl)
-by_lane-push m n p (Some l) es ps f g s new e = beside-insert m l n ps s new ∙ (ap (λ (ns : List ℕ). if l == m then ns ++ n ∷ [] else ns) e ∙ sym (waiting-push m n p es f ∙ rw g refl))
+waiting-pushed m n p None es ps g s new e = e ∙ sym (waiting-push m n p es ∙ rw g refl)
+waiting-pushed m n p (Some l) es ps g s new e = beside-insert m l n ps s new ∙ (ap (λ (ns : List ℕ). if l == m then ns ++ n ∷ [] else ns) e ∙ sym (waiting-push m n p es ∙ rw g refl))
 
-below-only : (b : Bool) (n : ℕ) (rs : List ℕ) → AllBelow n rs → AllBelow (n + 1) (with (only_if b n) rs)
-below-only true n rs b = below-insert (n + 1) n rs (omega arith) (below-more n rs b)
-below-only false n rs b = below-more n rs b
+none-more : (xs : List ℕ) → xs ≡ xs ++ []
+none-more [] = refl
+none-more (x ∷ xs) = ap (λ (ns : List ℕ). x ∷ ns) (none-more xs)
 
-pub kept-pushed : {V : Type 0} (n : ℕ) (p : Piece V) (b : Bool) (es : List (ℕ × Piece V)) (ps : List (ℕ × ℕ)) (rs : List ℕ) → p.taken ≡ false → IsStrictlySortedBy pair_cmp ps → Kept es ps rs n
-    → Kept (es ++ (n, p) ∷ []) (joined p.lane n ps) (with (only_if b n) rs) (n + 1)
-kept-pushed n p b es ps rs f s k = record {
-  rises = rises-push 0 n p es k.rises;
-  by_lane = λ m. by_lane-push m n p p.lane es ps f refl s (new-lane p.lane es ps rs n k) (k.by_lane m);
-  below = below-only b n rs k.below;
-}
-
-pub serves-pushed : {V : Type 0} (n : ℕ) (p : Piece V) (o : Option ℕ) (held : ℕ → Bool) (es : List (ℕ × Piece V)) (ps : List (ℕ × ℕ)) (rs : List ℕ) → p.taken ≡ false → p.lane ≡ o → Kept es ps rs n → rs ≡ firsts held es
-    → with (only_if (goes (not (is_open held o)) o ps) n) rs ≡ firsts held (es ++ (n, p) ∷ [])
-serves-pushed n p None held es ps rs f g k s = insert-end n rs k.below ∙ (ap (λ (ns : List ℕ). ns ++ n ∷ []) s ∙ sym (push-none held n p es f g))
-serves-pushed n p (Some l) held es ps rs f g k s =
-    rw (k.by_lane l) (go (held l) (is_some (first_of (waiting l es))) ∙ (ap (λ (ns : List ℕ). ns ++ (if not (held l) && not (is_some (first_of (waiting l es))) then n ∷ [] else [])) s ∙ sym (push-some held n l p es f g)))
+serves-pushed : {V : Type 0} (n : ℕ) (p : Piece V) (t : Bool) (o : Option ℕ) (es : List (ℕ × Piece V)) (ps : List (ℕ × ℕ)) (rs : List ℕ) → p.taken ≡ t → p.lane ≡ o → Rises 0 n es → ((l : ℕ) → beside l ps ≡ waiting l es)
+    → rs ≡ firsts (is_among []) es → with (only_if (not t && comes_first o ps) n) rs ≡ firsts (is_among []) (es ++ (n, p) ∷ [])
+serves-pushed n p true o es ps rs f g r e s = s ∙ sym (push-taken (is_among []) n p es f)
+serves-pushed n p false None es ps rs f g r e s = insert-end n rs (ready-below n (is_among []) es rs r s) ∙ (ap (λ (ns : List ℕ). ns ++ n ∷ []) s ∙ sym (push-none (is_among []) n p es f g))
+serves-pushed n p false (Some l) es ps rs f g r e s =
+    rw (e l) (go (is_some (first_of (waiting l es))) ∙ (ap (λ (ns : List ℕ). ns ++ (if not (is_some (first_of (waiting l es))) then n ∷ [] else [])) s ∙ sym (push-some (is_among []) n l p es f g)))
   where
-    none : (xs : List ℕ) → xs ≡ xs ++ []
-    none [] = refl
-    none (x ∷ xs) = ap (λ (ns : List ℕ). x ∷ ns) (none xs)
+    go : (u : Bool) → with (only_if (not u) n) rs ≡ rs ++ (if not u then n ∷ [] else [])
+    go true = none-more rs
+    go false = insert-end n rs (ready-below n (is_among []) es rs r s)
 
-    go : (t u : Bool) → with (only_if (not (not (not t)) && not u) n) rs ≡ rs ++ (if not t && not u then n ∷ [] else [])
-    go true true = none rs
-    go true false = none rs
-    go false true = none rs
-    go false false = insert-end n rs k.below
+longer : (ps : List (ℕ × ℕ)) (q : ℕ × ℕ) → length (insert_key pair_cmp ps q) ≤ length ps + 1
+longer [] q = omega arith
+longer (p ∷ ps) q = go (pair_cmp q p) (longer ps q)
+  where
+    go : (o : Ordering) → length (insert_key pair_cmp ps q) ≤ length ps + 1 → length (match_ordering o (q ∷ p ∷ ps) (p ∷ ps) (p ∷ insert_key pair_cmp ps q)) ≤ length (p ∷ ps) + 1
+    go Less h = omega arith
+    go Equal h = omega arith
+    go Greater h = omega (arith, h)
+
+pub joined-length : (o : Option ℕ) (n : ℕ) (ps : List (ℕ × ℕ)) → length (joined o n ps) ≤ length ps + 1
+joined-length None n ps = omega arith
+joined-length (Some l) n ps = longer ps (l, n)
+
+-- at most one more lane will be noted
+pub joined-spare : (o : Option ℕ) (n : ℕ) (ls : List ℕ) (ws ws2 : List (ℕ × ℕ)) (most : ℕ) → ws2 ≡ joined o n ws → most - (length ls + length ws) ≤ most - (length ls + length ws2) + 1
+joined-spare o n ls ws ws2 most e = let p : length ws2 ≡ length (joined o n ws) = ap length e in let q : length (joined o n ws) ≤ length ws + 1 = joined-length o n ws in omega (arith, p, q)
+
+pub kept-entered : {V : Type 0} (n : ℕ) (p : Piece V) (es : List (ℕ × Piece V)) (ps ws : List (ℕ × ℕ)) (rs ls : List ℕ) (most : ℕ) → IsStrictlySortedBy pair_cmp ps → IsStrictlySortedBy pair_cmp ws → Rises 0 n es → ls ≡ [] → 0 < most - (length ls + length ws) → Kept es ps ws rs ls most
+    → Kept (es ++ (n, p) ∷ []) (joined p.lane n ps) (joined (open_lane p) n ws) (with (only_if (not p.taken && comes_first p.lane ws) n) rs) ls most
+kept-entered n p es ps ws rs ls most s t r e room k = record {
+  rises = (n + 1, rises-push 0 n p es r);
+  in_lanes = λ m. lane-pushed m n p p.lane es ps refl s (new-in-lane p.lane n es ps r k.in_lanes) (k.in_lanes m);
+  by_lane = λ m. waiting-pushed m n p (open_lane p) es ws refl t (new-waiting (open_lane p) n es ws r k.by_lane) (k.by_lane m);
+  serves = serves-pushed n p p.taken p.lane es ws rs refl refl r k.by_lane (k.serves ∙ ap (λ (xs : List ℕ). firsts (is_among xs) es) e) ∙ ap (λ (xs : List ℕ). firsts (is_among xs) (es ++ (n, p) ∷ [])) (sym e);
+  distinct = k.distinct;
+  room = let j : length (joined (open_lane p) n ws) ≤ length ws + 1 = joined-length (open_lane p) n ws in omega (arith, j, room);
+}
 
 -- ---- a piece whose turn ends
 
-below-withdrawn : (h n : ℕ) (o : Option ℕ) (ps : List (ℕ × ℕ)) (rs : List ℕ) → ((l : ℕ) → AllBelow h (beside l ps)) → AllBelow h rs → AllBelow h (withdrawn o n ps rs)
-below-withdrawn h n None ps rs a b = below-remove h _ rs b
-below-withdrawn h n (Some l) ps rs a b = go (list_any (is_at (nat_cmp n)) rs)
-  where
-    go : (t : Bool) → AllBelow h (if t then without (Some n) (with (above n (beside l ps)) rs) else rs)
-    go true = below-remove h _ _ (below-above h n (beside l ps) rs (a l) b)
-    go false = b
+lane-left : {V : Type 0} (m n high : ℕ) (o : Option ℕ) (es : List (ℕ × Piece V)) (ps : List (ℕ × ℕ)) → Rises 0 high es → lane_at n es ≡ o → beside m ps ≡ in_lane m es → beside m (left o n ps) ≡ in_lane m (without_number n es)
+lane-left m n high None es ps r q e = e ∙ sym (lane-gone m n 0 high es r ∙ rw q refl)
+lane-left m n high (Some l) es ps r q e = beside-remove m l n ps ∙ (ap (λ (ns : List ℕ). if l == m then remove_key (is_at (nat_cmp n)) ns else ns) e ∙ sym (lane-gone m n 0 high es r ∙ rw q refl))
 
-by_lane-left : {V : Type 0} (m n high : ℕ) (o : Option ℕ) (es : List (ℕ × Piece V)) (ps : List (ℕ × ℕ)) → Rises 0 high es → At n o es → beside m ps ≡ waiting m es → beside m (left o n ps) ≡ waiting m (without_number n es)
-by_lane-left m n high None es ps r a e = e ∙ sym (waiting-gone m n 0 high None es r a)
-by_lane-left m n high (Some l) es ps r a e = beside-remove m l n ps ∙ (ap (λ (ns : List ℕ). if l == m then remove_key (is_at (nat_cmp n)) ns else ns) e ∙ sym (waiting-gone m n 0 high (Some l) es r a))
+waiting-left : {V : Type 0} (m n high : ℕ) (o : Option ℕ) (es : List (ℕ × Piece V)) (ps : List (ℕ × ℕ)) → Rises 0 high es → At n o es → beside m ps ≡ waiting m es → beside m (left o n ps) ≡ waiting m (without_number n es)
+waiting-left m n high None es ps r a e = e ∙ sym (waiting-gone m n 0 high None es r a)
+waiting-left m n high (Some l) es ps r a e = beside-remove m l n ps ∙ (ap (λ (ns : List ℕ). if l == m then remove_key (is_at (nat_cmp n)) ns else ns) e ∙ sym (waiting-gone m n 0 high (Some l) es r a))
 
-serves-withdrawn : {V : Type 0} (busy : ℕ → Bool) (n high : ℕ) (o : Option ℕ) (es : List (ℕ × Piece V)) (ps : List (ℕ × ℕ)) (rs : List ℕ) → Kept es ps rs high → At n o es → rs ≡ firsts busy es
-    → withdrawn o n ps rs ≡ firsts busy (without_number n es)
-serves-withdrawn busy n high None es ps rs k a s = ap (remove_key (is_at (nat_cmp n))) s ∙ sym (gone-none busy n 0 high es k.rises a)
-serves-withdrawn busy n high (Some l) es ps rs k a s = go (list_any (is_at (nat_cmp n)) rs) refl
-  where
-    go : (t : Bool) → list_any (is_at (nat_cmp n)) rs ≡ t → (if t then without (Some n) (with (above n (beside l ps)) rs) else rs) ≡ firsts busy (without_number n es)
-    go true h = (λ i. remove_key (is_at (nat_cmp n)) (with (above n (k.by_lane l i)) (s i))) ∙ sym (gone-first busy n 0 high l es k.rises a (ap (list_any (is_at (nat_cmp n))) (sym s) ∙ h))
-    go false h = s ∙ sym (gone-other busy n 0 high (Some l) es k.rises a (ap (list_any (is_at (nat_cmp n))) (sym s) ∙ h))
+-- a piece whose turn may come stands where it waits
+pub turn-waits : {V : Type 0} (n : ℕ) (t : Option (Option ℕ)) (es : List (ℕ × Piece V)) (ws : List (ℕ × ℕ)) → ((l : ℕ) → beside l ws ≡ waiting l es) → turn_of n es ≡ t → Waits t n ws
+turn-waits n None es ws e q = tt
+turn-waits n (Some None) es ws e q = tt
+turn-waits n (Some (Some l)) es ws e q = beside-pair l n ws (ap (list_any (is_at (nat_cmp n))) (e l) ∙ at-waits n l es (at-turn n (Some l) es q))
 
-pub turn-below : {V : Type 0} (n : ℕ) (t : Option (Option ℕ)) (es : List (ℕ × Piece V)) (ps : List (ℕ × ℕ)) (rs : List ℕ) (next : ℕ) → Kept es ps rs next → turn_of n es ≡ t → IsSome t → n < next
-turn-below n None es ps rs next k e some = absurd (cc)
-turn-below n (Some o) es ps rs next k e some = (at-from n 0 next o es k.rises (at-turn n o es e)).1
+-- what holds of the pieces whose turn may come, once that of one has ended
+record Ends {V : Type 0} (es : List (ℕ × Piece V)) (ws : List (ℕ × ℕ)) (rs ls : List ℕ) : Type 0 where
+  pub by_lane : (lane : ℕ) → beside lane ws ≡ waiting lane es
+  pub serves : rs ≡ firsts (is_among ls) es
+  pub distinct : AreDistinct ls
 
-pub kept-ended : {V : Type 0} (n : ℕ) (t : Option (Option ℕ)) (es : List (ℕ × Piece V)) (ps : List (ℕ × ℕ)) (rs : List ℕ) (next : ℕ) → Kept es ps rs next → turn_of n es ≡ t
-    → Kept (without_number n es) (left_by t n ps) (ready_by t n ps rs) next
-kept-ended n None es ps rs next k e = record { rises = rises-gone n 0 next es k.rises; by_lane = λ m. k.by_lane m ∙ sym (waiting-idle m n 0 next es k.rises e); below = k.below }
-kept-ended n (Some o) es ps rs next k e = record {
-  rises = rises-gone n 0 next es k.rises;
-  by_lane = λ m. by_lane-left m n next o es ps k.rises (at-turn n o es e) (k.by_lane m);
-  below = below-withdrawn next n o ps rs (λ l. subst (AllBelow next) (sym (k.by_lane l)) (waiting-below l 0 next es k.rises)) k.below;
+ends : {V : Type 0} (n high : ℕ) (t : Option (Option ℕ)) (es : List (ℕ × Piece V)) (ws : List (ℕ × ℕ)) (rs ls : List ℕ) → Rises 0 high es → Ends es ws rs ls → turn_of n es ≡ t
+    → Ends (without_number n es) (left_by t n ws) (unready_by t n rs) (noted_by t n rs ls)
+ends n high None es ws rs ls r k e = record {
+  by_lane = λ m. k.by_lane m ∙ sym (waiting-idle m n 0 high es r e);
+  serves = k.serves ∙ sym (gone-idle (is_among ls) n 0 high es r e);
+  distinct = k.distinct;
+}
+ends n high (Some o) es ws rs ls r k e =
+    let a : At n o es = at-turn n o es e in
+    record {
+      by_lane = λ m. waiting-left m n high o es ws r a (k.by_lane m);
+      serves = ended n 0 high o ls rs es r a k.serves;
+      distinct = ended-distinct n 0 high o ls rs es r a k.serves k.distinct;
+    }
+
+-- as many lanes are noted as pieces wait no more
+pub room-ended : (n : ℕ) (t : Option (Option ℕ)) (ws : List (ℕ × ℕ)) (rs ls : List ℕ) (ws2 : List (ℕ × ℕ)) (ls2 : List ℕ) → ws2 ≡ left_by t n ws → ls2 ≡ noted_by t n rs ls → length ls2 + length ws2 ≤ length ls + length ws
+    → length (noted_by t n rs ls) + length (left_by t n ws) ≤ length ls + length ws
+room-ended n t ws rs ls ws2 ls2 w l room = let p : length ws2 ≡ length (left_by t n ws) = ap length w in let q : length ls2 ≡ length (noted_by t n rs ls) = ap length l in omega (arith, p, q, room)
+
+pub kept-gone : {V : Type 0} (n : ℕ) (t : Option (Option ℕ)) (es : List (ℕ × Piece V)) (ps ws : List (ℕ × ℕ)) (rs ls : List ℕ) (most : ℕ) → Kept es ps ws rs ls most → turn_of n es ≡ t
+    → length (noted_by t n rs ls) + length (left_by t n ws) ≤ length ls + length ws
+    → Kept (without_number n es) (left (lane_at n es) n ps) (left_by t n ws) (unready_by t n rs) (noted_by t n rs ls) most
+kept-gone n t es ps ws rs ls most k e room =
+    let high = k.rises.0 in
+    let j = ends n high t es ws rs ls k.rises.1 (record { by_lane = k.by_lane; serves = k.serves; distinct = k.distinct }) e in
+    record {
+      rises = (high, rises-gone n 0 high es k.rises.1);
+      in_lanes = λ m. lane-left m n high (lane_at n es) es ps k.rises.1 refl (k.in_lanes m);
+      by_lane = j.by_lane;
+      serves = j.serves;
+      distinct = j.distinct;
+      room = (let was = k.room in omega (arith, room, was));
+    }
+
+pub kept-marked : {V : Type 0} (n : ℕ) (t : Option (Option ℕ)) (es : List (ℕ × Piece V)) (ps ws : List (ℕ × ℕ)) (rs ls : List ℕ) (most : ℕ) → Kept es ps ws rs ls most → turn_of n es ≡ t
+    → length (noted_by t n rs ls) + length (left_by t n ws) ≤ length ls + length ws
+    → Kept (taken_at n es) ps (left_by t n ws) (unready_by t n rs) (noted_by t n rs ls) most
+kept-marked n t es ps ws rs ls most k e room =
+    let high = k.rises.0 in
+    let j = ends n high t es ws rs ls k.rises.1 (record { by_lane = k.by_lane; serves = k.serves; distinct = k.distinct }) e in
+    record {
+      rises = (high, rises-taken n 0 high es k.rises.1);
+      in_lanes = λ m. k.in_lanes m ∙ sym (lane-taken m n es);
+      by_lane = λ m. j.by_lane m ∙ sym (waiting-taken m n es);
+      serves = j.serves ∙ sym (firsts-taken (is_among (noted_by t n rs ls)) n es);
+      distinct = j.distinct;
+      room = (let was = k.room in omega (arith, room, was));
+    }
+
+pub end-length : (xs : List ℕ) (x : ℕ) → length (xs ++ x ∷ []) ≡ length xs + 1
+end-length [] x = refl
+end-length (y ∷ xs) x = let h = end-length xs x in omega (arith, h)
+
+-- ---- a lane that catches up
+
+pub kept-caught : {V : Type 0} (l : ℕ) (es : List (ℕ × Piece V)) (ps ws : List (ℕ × ℕ)) (rs ls older : List ℕ) (most : ℕ) → older ≡ ls ++ l ∷ [] → Kept es ps ws rs older most
+    → Kept es ps ws (with (first_of (beside l ws)) rs) ls most
+kept-caught l es ps ws rs ls older most e k = record {
+  rises = k.rises;
+  in_lanes = k.in_lanes;
+  by_lane = k.by_lane;
+  serves = ap (λ (ns : List ℕ). with (first_of ns) rs) (k.by_lane l) ∙ caught l 0 k.rises.0 ls rs es k.rises.1 (subst AreDistinct e k.distinct) (k.serves ∙ ap (λ (xs : List ℕ). firsts (is_among xs) es) e);
+  distinct = (distinct-front ls l (subst AreDistinct e k.distinct)).1;
+  room = (let was = k.room in let less : length older ≡ length ls + 1 = ap length e ∙ end-length ls l in omega (arith, was, less));
 }
 
-pub serves-ended : {V : Type 0} (busy : ℕ → Bool) (n : ℕ) (t : Option (Option ℕ)) (es : List (ℕ × Piece V)) (ps : List (ℕ × ℕ)) (rs : List ℕ) (next : ℕ) → Kept es ps rs next → turn_of n es ≡ t → rs ≡ firsts busy es
-    → ready_by t n ps rs ≡ firsts busy (without_number n es)
-serves-ended busy n None es ps rs next k e s = s ∙ sym (gone-idle busy n 0 next es k.rises e)
-serves-ended busy n (Some o) es ps rs next k e s = serves-withdrawn busy n next o es ps rs k (at-turn n o es e) s
+pub kept-new : {V : Type 0} (most : ℕ) → Kept {V = V} [] [] [] [] [] most
+kept-new most = record { rises = (0, omega arith); in_lanes = λ m. refl; by_lane = λ m. refl; serves = refl; distinct = tt; room = omega arith }
+
+-- more room
+pub kept-more : {V : Type 0} (es : List (ℕ × Piece V)) (ps ws : List (ℕ × ℕ)) (rs ls : List ℕ) (most more : ℕ) → most ≤ more → Kept es ps ws rs ls most → Kept es ps ws rs ls more
+kept-more es ps ws rs ls most more le k = record { rises = k.rises; in_lanes = k.in_lanes; by_lane = k.by_lane; serves = k.serves; distinct = k.distinct; room = (let was = k.room in omega (arith, was, le)) }
 
 -- ---- a piece that is taken
 
@@ -211,15 +247,3 @@ idle-taken n (e ∷ es) h = go (n == e.0) refl (λ k. idle-taken n es k)
     go false q more =
         let x : (e.0 == n) ≡ false = (grind (arith, q)) in let y : is_at (nat_cmp n) e.0 ≡ false = is-at n e.0 ∙ q in
         rw x (ap (λ (xs : List (ℕ × Piece _)). e ∷ xs) (more (rw y at h)))
-
-pub kept-marked : {V : Type 0} (n : ℕ) (t : Option (Option ℕ)) (es : List (ℕ × Piece V)) (ps : List (ℕ × ℕ)) (rs : List ℕ) (next : ℕ) → Kept es ps rs next → turn_of n es ≡ t
-    → Kept (taken_at n es) (left_by t n ps) (ready_by t n ps rs) next
-kept-marked n t es ps rs next k e =
-    let j = kept-ended n t es ps rs next k e in
-    record { rises = rises-taken n 0 next es k.rises; by_lane = λ m. j.by_lane m ∙ sym (waiting-taken m n es); below = j.below }
-
-pub alone-frees : {V : Type 0} (busy : ℕ → Bool) (n : ℕ) (t : Option (Option ℕ)) (es : List (ℕ × Piece V)) (ps : List (ℕ × ℕ)) (rs : List ℕ) (next : ℕ) → Kept es ps rs next → turn_of n es ≡ t → rs ≡ firsts busy es
-    → is_alone busy t ≡ true → frees_none t n rs ≡ true
-alone-frees busy n None es ps rs next k e s b = refl
-alone-frees busy n (Some None) es ps rs next k e s b = refl
-alone-frees busy n (Some (Some l)) es ps rs next k e s b = ap not (ap (list_any (is_at (nat_cmp n))) s ∙ not-first busy n 0 next l es k.rises (at-turn n (Some l) es e) b)

@@ -5,7 +5,7 @@ use Rattle.std.specs.Ordering.{nat_cmp}
 use Rattle.std.specs.BTreeMap.{insert_entry}
 use Rattle.std.proofs.lemmas.Bool.{eqb-true}
 use Rattle.hc_queue.specs.declared.queue.Piece.{Piece}
-use Rattle.hc_queue.specs.Queue.{can_go, also, closing, firsts, is_in, waiting, first_of, Rises, AllBelow}
+use Rattle.hc_queue.specs.Queue.{can_go, also, closing, firsts, is_in, in_lane, waiting, open_lane, first_of, Rises, AllBelow}
 
 pub rises-push : {V : Type 0} (low n : ℕ) (p : Piece V) (es : List (ℕ × Piece V)) → Rises low n es → Rises low (n + 1) (es ++ (n, p) ∷ [])
 rises-push low n p [] r = (r, omega arith)
@@ -30,16 +30,56 @@ waiting-below lane low high (e ∷ es) r = go (not e.1.taken && is_in lane e.1.l
     go true a = (let k : e.0 + 1 ≤ high = high-above (e.0 + 1) high es r.1 in omega (arith, k), a)
     go false a = a
 
-pub waiting-push : {V : Type 0} (m n : ℕ) (p : Piece V) (es : List (ℕ × Piece V)) → p.taken ≡ false → waiting m (es ++ (n, p) ∷ []) ≡ (if is_in m p.lane then waiting m es ++ n ∷ [] else waiting m es)
-waiting-push m n p [] f = rw f refl
-waiting-push m n p (e ∷ es) f = go (not e.1.taken && is_in m e.1.lane) (is_in m p.lane) refl (waiting-push m n p es f)
+pub lane-below : {V : Type 0} (lane low high : ℕ) (es : List (ℕ × Piece V)) → Rises low high es → AllBelow high (in_lane lane es)
+lane-below lane low high [] r = tt
+lane-below lane low high (e ∷ es) r = go (is_in lane e.1.lane) (lane-below lane (e.0 + 1) high es r.1)
   where
-    go : (t : Bool) (u : Bool) → is_in m p.lane ≡ u → waiting m (es ++ (n, p) ∷ []) ≡ (if is_in m p.lane then waiting m es ++ n ∷ [] else waiting m es)
-        → (if t then e.0 ∷ waiting m (es ++ (n, p) ∷ []) else waiting m (es ++ (n, p) ∷ [])) ≡ (if is_in m p.lane then (if t then e.0 ∷ waiting m es else waiting m es) ++ n ∷ [] else (if t then e.0 ∷ waiting m es else waiting m es))
+    go : (t : Bool) → AllBelow high (in_lane lane es) → AllBelow high (if t then e.0 ∷ in_lane lane es else in_lane lane es)
+    go true a = (let k : e.0 + 1 ≤ high = high-above (e.0 + 1) high es r.1 in omega (arith, k), a)
+    go false a = a
+
+pub firsts-below : {V : Type 0} (busy : ℕ → Bool) (low high : ℕ) (es : List (ℕ × Piece V)) → Rises low high es → AllBelow high (firsts busy es)
+firsts-below busy low high [] r = tt
+firsts-below busy low high (e ∷ es) r = go (can_go busy e.1) (firsts-below (closing e.1.lane busy) (e.0 + 1) high es r.1) (firsts-below busy (e.0 + 1) high es r.1)
+  where
+    go : (t : Bool) → AllBelow high (firsts (closing e.1.lane busy) es) → AllBelow high (firsts busy es) → AllBelow high (if t then e.0 ∷ firsts (closing e.1.lane busy) es else firsts busy es)
+    go true a b = (let k : e.0 + 1 ≤ high = high-above (e.0 + 1) high es r.1 in omega (arith, k), a)
+    go false a b = b
+
+pub waiting-push : {V : Type 0} (m n : ℕ) (p : Piece V) (es : List (ℕ × Piece V)) → waiting m (es ++ (n, p) ∷ []) ≡ (if is_in m (open_lane p) then waiting m es ++ n ∷ [] else waiting m es)
+waiting-push m n p [] = go p.taken
+  where
+    go : (t : Bool) → (if not t && is_in m p.lane then n ∷ [] else []) ≡ (if is_in m (if t then None else p.lane) then n ∷ [] else [])
+    go true = refl
+    go false = refl
+waiting-push m n p (e ∷ es) = go (not e.1.taken && is_in m e.1.lane) (is_in m (open_lane p)) refl (waiting-push m n p es)
+  where
+    go : (t : Bool) (u : Bool) → is_in m (open_lane p) ≡ u → waiting m (es ++ (n, p) ∷ []) ≡ (if is_in m (open_lane p) then waiting m es ++ n ∷ [] else waiting m es)
+        → (if t then e.0 ∷ waiting m (es ++ (n, p) ∷ []) else waiting m (es ++ (n, p) ∷ [])) ≡ (if is_in m (open_lane p) then (if t then e.0 ∷ waiting m es else waiting m es) ++ n ∷ [] else (if t then e.0 ∷ waiting m es else waiting m es))
     go true true q more = rw q (ap (λ (ns : List ℕ). e.0 ∷ ns) (more ∙ rw q refl))
     go true false q more = rw q (ap (λ (ns : List ℕ). e.0 ∷ ns) (more ∙ rw q refl))
     go false true q more = rw q (more ∙ rw q refl)
     go false false q more = rw q (more ∙ rw q refl)
+
+pub lane-push : {V : Type 0} (m n : ℕ) (p : Piece V) (es : List (ℕ × Piece V)) → in_lane m (es ++ (n, p) ∷ []) ≡ (if is_in m p.lane then in_lane m es ++ n ∷ [] else in_lane m es)
+lane-push m n p [] = refl
+lane-push m n p (e ∷ es) = go (is_in m e.1.lane) (is_in m p.lane) refl (lane-push m n p es)
+  where
+    go : (t : Bool) (u : Bool) → is_in m p.lane ≡ u → in_lane m (es ++ (n, p) ∷ []) ≡ (if is_in m p.lane then in_lane m es ++ n ∷ [] else in_lane m es)
+        → (if t then e.0 ∷ in_lane m (es ++ (n, p) ∷ []) else in_lane m (es ++ (n, p) ∷ [])) ≡ (if is_in m p.lane then (if t then e.0 ∷ in_lane m es else in_lane m es) ++ n ∷ [] else (if t then e.0 ∷ in_lane m es else in_lane m es))
+    go true true q more = rw q (ap (λ (ns : List ℕ). e.0 ∷ ns) (more ∙ rw q refl))
+    go true false q more = rw q (ap (λ (ns : List ℕ). e.0 ∷ ns) (more ∙ rw q refl))
+    go false true q more = rw q (more ∙ rw q refl)
+    go false false q more = rw q (more ∙ rw q refl)
+
+pub push-taken : {V : Type 0} (busy : ℕ → Bool) (n : ℕ) (p : Piece V) (es : List (ℕ × Piece V)) → p.taken ≡ true → firsts busy (es ++ (n, p) ∷ []) ≡ firsts busy es
+push-taken busy n p [] f = rw f refl
+push-taken busy n p (e ∷ es) f = go (can_go busy e.1) (push-taken (closing e.1.lane busy) n p es f) (push-taken busy n p es f)
+  where
+    go : (t : Bool) → firsts (closing e.1.lane busy) (es ++ (n, p) ∷ []) ≡ firsts (closing e.1.lane busy) es → firsts busy (es ++ (n, p) ∷ []) ≡ firsts busy es
+        → (if t then e.0 ∷ firsts (closing e.1.lane busy) (es ++ (n, p) ∷ []) else firsts busy (es ++ (n, p) ∷ [])) ≡ (if t then e.0 ∷ firsts (closing e.1.lane busy) es else firsts busy es)
+    go true a b = ap (λ (ns : List ℕ). e.0 ∷ ns) a
+    go false a b = b
 
 pub push-none : {V : Type 0} (busy : ℕ → Bool) (n : ℕ) (p : Piece V) (es : List (ℕ × Piece V)) → p.taken ≡ false → p.lane ≡ None → firsts busy (es ++ (n, p) ∷ []) ≡ firsts busy es ++ n ∷ []
 push-none busy n p [] f o = rw (f, o) refl

@@ -1,7 +1,7 @@
 -- A queue whose pieces have keys.
-use Rattle.std.specs.Prelude.{◌≡◌, ℕ, Bool, not, List, [], ◌∷◌, Option, Some, None, filter, nat_eq, if◌then◌else◌}
+use Rattle.std.specs.Prelude.{◌≡◌, ℕ, ◌≤◌, Bool, not, List, [], ◌∷◌, Option, Some, None, filter, nat_eq, if◌then◌else◌}
 use Rattle.std.specs.Cmp.Lexicographic.{pointwise}
-use Rattle.indexmap.specs.IndexMap.{IndexMap, get}
+use Rattle.indexmap.specs.IndexMap.{IndexMap, get, spare}
 use Rattle.hc_queue.specs.declared.queue.Piece.{Piece}
 use Rattle.hc_queue.specs.declared.keyed.Named.{Named}
 
@@ -21,7 +21,8 @@ abbrev pub AreApart : {V A : Type 0} → List (ℕ × Piece (Named V A)) → Typ
 AreApart [] = Unit {0}
 AreApart (e ∷ es) = (number_of e.1.value.key es ≡ None) × AreApart es
 
--- the map leads from each key to the number of its piece
-pub record IsIndexed {V A S : Type 0} (es : List (ℕ × Piece (Named V A))) (numbers : IndexMap (List ℕ) ℕ S) : Type 0 where
+-- the map leads from each key to the number of its piece, and has as much room as the queue
+pub record IsIndexed {V A S : Type 0} (es : List (ℕ × Piece (Named V A))) (most : ℕ) (numbers : IndexMap (List ℕ) ℕ S) : Type 0 where
   pub found : (key : List ℕ) → get same_key numbers key ≡ number_of key es
   pub apart : AreApart es
+  pub room : most ≤ spare numbers

@@ -1,8 +1,8 @@
 // A queue whose pieces have keys, of which no two are the same.
-ghost use Rattle.std.specs.Prelude.{◌≡◌, ◌<◌, ◌==◌, ◌++◌, length, IsOk, List, if◌then◌else◌, [], ◌∷◌, ℕ, Bool, not, true, false, find, option_map, IfOk, OnOk, OnErr, Some, None};
+ghost use Rattle.std.specs.Prelude.{◌≡◌, ◌+◌, ◌<◌, ◌≤◌, ◌==◌, ◌++◌, length, List, if◌then◌else◌, [], ◌∷◌, ℕ, Bool, false, find, option_map, is_some, IfOk, OnOk, OnErr, max, Some, None};
 ghost use Rattle.std.specs.Option.{option_copied};
 ghost use Rattle.indexmap.specs.IndexMap.{get, spare};
-ghost use Rattle.hc_queue.specs.Queue.{Serves, can_go, also, is_open, piece_at, taken_at, piece_by, pieces_of, first_in_lane, above, waiting, is_alone, turn_of, turn_by};
+ghost use Rattle.hc_queue.specs.Queue.{Answers, can_go, piece_at, taken_at, piece_by, pieces_of, in_lane, first_in_lane, above};
 ghost use Rattle.hc_queue.specs.Keys.{number_of, without_key, same_key};
 
 use crate::queue::{Piece, Queue};
@@ -35,43 +35,22 @@ impl<V, A: Allocator> Model for KeyedQueue<V, A> {
 
     ghost view = { λ s. s.queue };
 
-    ghost invariant = { λ s. IsIndexed s.queue.entries s.numbers };
+    ghost invariant = { λ s. IsIndexed s.queue.entries s.queue.room s.numbers };
 }
 
 impl<V, A: Allocator + Copy> KeyedQueue<V, A> {
-    /// Nothing waits.
+    /// Nothing waits, and there is no room.
     pub fn new(alloc: A) -> KeyedQueue<V, A>
-        ensures { result ≡ record { entries = []; ready = [] } }
+        ensures { result ≡ record { entries = []; room = 0 } }
     {
         KeyedQueue {
             queue: Queue::new(alloc),
             numbers: IndexMap::new(alloc),
         }
     }
-
-    /// The lane isn't busy any more: its first piece may go. Refused only where memory lacks; then nothing changes.
-    pub fn release(&mut self, lane: u32) -> Result<(), AllocError>
-        ensures entries { self.new.entries ≡ self.old.entries }
-        ensures serves { (busy : ℕ → Bool) → busy lane ≡ false → Serves (also lane busy) self.old → OnOk result (Serves busy self.new) }
-        ensures err { OnErr result (self.new ≡ self.old) }
-    {
-        match self.queue.release(lane) {
-            Ok(()) => Ok(()),
-            Err(error) => Err(error),
-        }
-    }
 }
 
 impl<V, A: Allocator> KeyedQueue<V, A> {
-    /// The number of the first piece whose turn has come: of all that aren't taken and wait in no busy lane, the first.
-    #[must_use]
-    pub fn first(&self) -> Option<u64>
-        ensures number { (busy : ℕ → Bool) → Serves busy self.now → result ≡ option_map (λ e. e.0) (find (λ e. can_go busy e.1) self.now.entries) }
-        ensures piece { (busy : ℕ → Bool) → Serves busy self.now → piece_by result self.now.entries ≡ find (can_go busy) (pieces_of self.now.entries) }
-    {
-        self.queue.first()
-    }
-
     /// How many pieces there are, the taken ones among them.
     #[must_use]
     pub fn len(&self) -> usize
@@ -88,21 +67,12 @@ impl<V, A: Allocator> KeyedQueue<V, A> {
         self.queue.is_empty()
     }
 
-    /// The number of the first piece that waits in the lane, busy or not.
+    /// How many more pieces can be pushed.
     #[must_use]
-    pub fn first_of(&self, lane: u32) -> Option<u64>
-        ensures { result ≡ first_in_lane lane self.now.entries }
+    pub fn room(&self) -> usize
+        ensures { result ≡ self.now.room }
     {
-        self.queue.first_of(lane)
-    }
-
-    /// The number of the first piece that waits in the lane behind this number.
-    #[must_use]
-    pub fn next_of(&self, lane: u32, number: u64) -> Option<u64>
-        requires { number < u64.MAX }
-        ensures { result ≡ above number (waiting lane self.now.entries) }
-    {
-        self.queue.next_of(lane, number)
+        self.queue.room()
     }
 
     /// The piece with this number.
@@ -113,14 +83,6 @@ impl<V, A: Allocator> KeyedQueue<V, A> {
         self.queue.get(number)
     }
 
-    /// The lane is busy from here on: none of its pieces goes. Nothing is refused, so that a job begins with it.
-    pub fn hold(&mut self, lane: u32)
-        ensures entries { self.new.entries ≡ self.old.entries }
-        ensures serves { (busy : ℕ → Bool) → busy lane ≡ false → Serves busy self.old → Serves (also lane busy) self.new }
-    {
-        self.queue.hold(lane);
-    }
-
     /// The number of the piece with this key.
     #[must_use]
     pub fn number_of(&self, key: &Key<A>) -> Option<u64>
@@ -128,65 +90,93 @@ impl<V, A: Allocator> KeyedQueue<V, A> {
     {
         self.numbers.get(key).copied()
     }
-}
 
-impl<V: Drop, A: Allocator + Copy> KeyedQueue<V, A> {
-    /// The value waits behind all others. Refused only where memory lacks; then nothing changes.
-    pub fn push(
-        &mut self,
-        key: Key<A>,
-        lane: Option<u32>,
-        busy: bool,
-        value: V,
-    ) -> Result<u64, AllocError>
-        requires { number_of key self.old.entries ≡ None }
-        ensures entries { IfOk result (λ number. self.new.entries ≡ self.old.entries ++ (number, record { lane = lane; taken = false; value = record { key = key; value = value } }) ∷ []) }
-        ensures serves { (held : ℕ → Bool) → busy ≡ not (is_open held lane) → Serves held self.old → OnOk result (Serves held self.new) }
-        ensures err { OnErr result (self.new ≡ self.old) }
+    /// Whether a piece has this key.
+    #[must_use]
+    pub fn contains(&self, key: &Key<A>) -> bool
+        ensures { result ≡ is_some (number_of key.now self.now.entries) }
     {
-        let copy = key.clone()?;
-        self.numbers.reserve(1)?;
-        match self.queue.push(lane, busy, Named { key, value }) {
-            Ok(number) => {
-                note(&mut self.numbers, copy, number);
-                Ok(number)
-            }
-            Err(_) => Err(AllocError),
-        }
+        self.numbers.get(key).is_some()
     }
 
-    /// The piece with this number stays, but its turn doesn't come again. Refused only where memory lacks; then nothing changes.
-    pub fn mark(&mut self, number: u64) -> Result<(), AllocError>
-        ensures entries { OnOk result (self.new.entries ≡ taken_at number self.old.entries) }
-        ensures serves { (busy : ℕ → Bool) → Serves busy self.old → OnOk result (Serves busy self.new) }
-        ensures sure { (busy : ℕ → Bool) → Serves busy self.old → is_alone busy (turn_of number self.old.entries) ≡ true → IsOk result }
-        ensures err { OnErr result (self.new ≡ self.old) }
+    /// The value waits behind all others under a key that no piece has; its number is answered. It needs room, and the key
+    /// twice: nothing is copied here, so that nothing is refused.
+    pub fn push(&mut self, copy: Key<A>, key: Key<A>, lane: Option<u32>, value: V) -> u64
+        requires same { copy ≡ key }
+        requires apart { number_of key self.old.entries ≡ None }
+        requires room { 1 ≤ self.old.room }
+        ensures entries { self.new.entries ≡ self.old.entries ++ (result, record { lane = lane; taken = false; value = record { key = key; value = value } }) ∷ [] }
+        ensures room { self.old.room ≡ self.new.room + 1 }
     {
-        match self.queue.mark(number) {
-            Ok(()) => Ok(()),
-            Err(error) => Err(error),
-        }
+        let number = self.queue.push(lane, Named { key, value });
+        note(&mut self.numbers, copy, number);
+        number
     }
 
-    /// Takes the piece with this key out. Refused only where memory lacks; then nothing changes.
-    pub fn remove(&mut self, key: &Key<A>) -> Result<Option<Piece<Named<V, A>>>, AllocError>
-        ensures piece { IfOk result (λ piece. piece ≡ piece_by (number_of key.now self.old.entries) self.old.entries) }
-        ensures entries { OnOk result (self.new.entries ≡ without_key key.now self.old.entries) }
-        ensures serves { (busy : ℕ → Bool) → Serves busy self.old → OnOk result (Serves busy self.new) }
-        ensures sure { (busy : ℕ → Bool) → Serves busy self.old → is_alone busy (turn_by (number_of key.now self.old.entries) self.old.entries) ≡ true → IsOk result }
-        ensures err { OnErr result (self.new ≡ self.old) }
+    /// The piece with this number stays, but its turn doesn't come again. Nothing is refused.
+    pub fn mark(&mut self, number: u64)
+        ensures entries { self.new.entries ≡ taken_at number self.old.entries }
+        ensures room { self.new.room ≡ self.old.room }
+    {
+        self.queue.mark(number);
+    }
+
+    /// Takes the piece with this key out, where there is one. Nothing is refused.
+    pub fn remove(&mut self, key: &Key<A>) -> Option<Piece<Named<V, A>>>
+        ensures piece { result ≡ piece_by (number_of key.now self.old.entries) self.old.entries }
+        ensures entries { self.new.entries ≡ without_key key.now self.old.entries }
+        ensures room { self.new.room ≡ self.old.room }
     {
         let _len = self.queue.len();
         let Some(number) = self.numbers.get(key).copied() else {
-            return Ok(None);
+            return None;
         };
-        match self.queue.remove(number) {
-            Ok(piece) => {
-                forget(&mut self.numbers, key);
-                Ok(piece)
-            }
-            Err(error) => Err(error),
-        }
+        forget(&mut self.numbers, key);
+        self.queue.remove(number)
+    }
+}
+
+impl<V: Drop, A: Allocator + Copy> KeyedQueue<V, A> {
+    /// Room for so many more pieces. Refused only where memory lacks, or where the numbers run out; the pieces stay as they
+    /// were.
+    pub fn reserve(&mut self, more: usize) -> Result<(), AllocError>
+        ensures entries { self.new.entries ≡ self.old.entries }
+        ensures grows { self.old.room ≤ self.new.room }
+        ensures most { self.new.room ≤ max self.old.room more }
+        ensures ok { OnOk result (more ≤ self.new.room) }
+        ensures err { OnErr result (self.new ≡ self.old) }
+    {
+        self.numbers.reserve(more)?;
+        self.queue.reserve(more)
+    }
+
+    /// The number of the first piece whose turn has come: of all that aren't taken and wait in no busy lane, the first. Refused
+    /// only where memory lacks; the pieces stay as they were.
+    pub fn first<F: Fn(u32) -> bool>(&mut self, is_busy: F) -> Result<Option<u64>, AllocError>
+        requires { F.IsAlwaysCallable is_busy }
+        ensures same { self.new ≡ self.old }
+        ensures number { (busy : ℕ → Bool) → Answers (F.post is_busy) busy → IfOk result (λ number. number ≡ option_map (λ e. e.0) (find (λ e. can_go busy e.1) self.old.entries)) }
+        ensures piece { (busy : ℕ → Bool) → Answers (F.post is_busy) busy → IfOk result (λ number. piece_by number self.old.entries ≡ find (can_go busy) (pieces_of self.old.entries)) }
+    {
+        self.queue.first(is_busy)
+    }
+
+    /// The number of the lane's first piece, taken or not. Refused only where memory lacks; the pieces stay as they were.
+    pub fn first_of(&mut self, lane: u32) -> Result<Option<u64>, AllocError>
+        ensures same { self.new ≡ self.old }
+        ensures number { IfOk result (λ number. number ≡ first_in_lane lane self.old.entries) }
+    {
+        self.queue.first_of(lane)
+    }
+
+    /// The number of the lane's first piece behind this number, taken or not. Refused only where memory lacks; the pieces stay
+    /// as they were.
+    pub fn next_of(&mut self, lane: u32, number: u64) -> Result<Option<u64>, AllocError>
+        requires { number < u64.MAX }
+        ensures same { self.new ≡ self.old }
+        ensures number { IfOk result (λ next. next ≡ above number (in_lane lane self.old.entries)) }
+    {
+        self.queue.next_of(lane, number)
     }
 }
 
@@ -195,14 +185,16 @@ type Numbers<A> = IndexMap<Key<A>, u64, BuildHasherDefault<FoldHasher>, A>;
 /// The key leads to the number from here on.
 fn note<A: Allocator>(numbers: &mut Numbers<A>, key: Key<A>, number: u64)
     requires { 0 < spare numbers.old }
-    ensures { (q : List ℕ) → get same_key numbers.new q ≡ (if same_key key q then Some number else get same_key numbers.old q) }
+    ensures leads { (q : List ℕ) → get same_key numbers.new q ≡ (if same_key key q then Some number else get same_key numbers.old q) }
+    ensures room { spare numbers.old ≤ spare numbers.new + 1 }
 {
     let _ = numbers.insert(key, number);
 }
 
 /// The key leads nowhere from here on.
 fn forget<A: Allocator>(numbers: &mut Numbers<A>, key: &Key<A>)
-    ensures { (q : List ℕ) → get same_key numbers.new q ≡ (if same_key key.now q then None else get same_key numbers.old q) }
+    ensures leads { (q : List ℕ) → get same_key numbers.new q ≡ (if same_key key.now q then None else get same_key numbers.old q) }
+    ensures room { spare numbers.old ≤ spare numbers.new }
 {
     numbers.swap_remove(key);
 }

@@ -1,8 +1,10 @@
 //! What waits for its turn, in order: pieces of work in lanes, where a busy lane is passed over without a scan.
 #![tactic(auto)]
 
+mod inbox;
 mod keyed;
 mod lanes;
+mod order;
 mod queue;
 mod shown;
 

@@ -1,14 +1,13 @@
 // Pieces of work in order, and the first whose turn has come.
-ghost use Rattle.std.specs.Prelude.{◌≡◌, ◌+◌, ◌<◌, ◌==◌, ◌++◌, [], ◌∷◌, ℕ, Bool, not, true, false, length, find, option_map, IfOk, OnOk, OnErr, IfErr, IsOk, Some, None};
+ghost use Rattle.std.specs.Prelude.{◌≡◌, ◌+◌, ◌<◌, ◌≤◌, ◌^◌, ◌==◌, ◌++◌, [], ◌∷◌, ℕ, Bool, false, length, find, option_map, IfOk, OnOk, OnErr, max, Some, None};
 ghost use Rattle.std.specs.Option.{option_copied};
-ghost use Rattle.std.specs.List.Sorted.{IsStrictlySortedBy};
-ghost use Rattle.hc_queue.specs.Queue.{Serves, can_go, also, is_open, piece_at, without_number, taken_at, waiting, first_in_lane, above, pieces_of, piece_by, IsRising, is_alone, turn_of, Rises, IsNew, AllBelow, joined, with, only_if, pair_cmp};
+ghost use Rattle.std.specs.VecDeque.{deque_len, deque_capacity};
+ghost use Rattle.hc_queue.specs.Queue.{Answers, can_go, piece_at, without_number, taken_at, in_lane, first_in_lane, above, pieces_of, piece_by, IsRising, Rises, numbered};
 
-use crate::lanes::{
-    Pairs, add, drop_out, end_turn, enter, first_in, given, goes_first, least, leave, next_in,
-};
-use std::alloc::{AllocError, AllocFailed, Allocator, Global};
-use std::collections::{BTreeMap, BTreeSet};
+use crate::inbox::{Inbox, get_in, mark_in, settle, take_in};
+use crate::order::Order;
+use std::alloc::{AllocError, Allocator, Global};
+use std::collections::VecDeque;
 use std::marker::Model;
 
 /// A piece of work that waits in a lane, or in none. One that was taken stays, but its turn doesn't come again.
@@ -20,65 +19,63 @@ pub struct Piece<V> {
 }
 
 /// Pieces of work in order. A piece in no lane may always go, one in a lane while that isn't busy, and of each lane the first
-/// goes first. Which lanes are busy is the caller's to say: it holds a lane as a job on it begins, and releases it as that
-/// ends. No call looks at more than a lane's next piece, however many pieces or lanes there are.
+/// goes first; which lanes are busy is the caller's to say. No call looks at more than a piece of each busy lane, however many
+/// pieces or lanes there are.
 ///
-/// Contracts see the pieces with their numbers, which rise, and the numbers of those whose turn may come, which `Serves` ties
-/// to the lanes that are busy.
+/// Room is made first, by `reserve`: then a piece is pushed, taken out or marked without an allocation, so that these can't be
+/// refused. What they change is put in order by the next call that may be.
+///
+/// Contracts see the pieces with their numbers, which rise, and how many more can be pushed.
 #[derive(Drop)]
 pub struct Queue<V, A: Allocator = Global> {
-    pieces: BTreeMap<u64, Piece<V>, A>,
-    /// The pieces that wait in a lane: the lane, and the number.
-    lanes: BTreeSet<(u64, u64), A>,
-    /// The numbers of the pieces that can go and are the first of their lane, or in none.
-    pub(crate) ready: BTreeSet<u64, A>,
-    /// The number of the piece that comes next.
-    next: u64,
+    /// The pieces that stand in order.
+    order: Order<V, A>,
+    /// The pieces that were pushed since.
+    inbox: Inbox<V, A>,
+    /// The number of the inbox's first place.
+    from: u64,
+    /// How many more pieces can be pushed.
+    room: usize,
+    /// How many pieces there are.
+    count: usize,
 }
 
 impl<V, A: Allocator> Model for Queue<V, A> {
+    ghost use Rattle.std.specs.Prelude.{◌++◌};
     ghost use Rattle.hc_queue.specs.Queued.{Queued};
-    ghost use Rattle.hc_queue.specs.Queue.{Kept};
+    ghost use Rattle.hc_queue.specs.Queue.{Stands, numbered};
 
     ghost Value = { Queued V };
 
-    ghost view = { λ s. record { entries = s.pieces.entries; ready = s.ready.keys } };
+    ghost view = { λ s. record { entries = s.order.entries ++ numbered s.from s.inbox.items; room = s.room } };
 
-    ghost invariant = { λ s. Kept s.pieces.entries s.lanes.keys s.ready.keys s.next };
+    ghost invariant = { λ s. Stands s.order s.inbox s.from s.room s.count };
 }
 
 impl<V, A: Allocator + Copy> Queue<V, A> {
-    /// Nothing waits.
+    /// Nothing waits, and there is no room.
     pub fn new(alloc: A) -> Queue<V, A>
-        ensures { result ≡ record { entries = []; ready = [] } }
+        ensures { result ≡ record { entries = []; room = 0 } }
     {
         Queue {
-            pieces: BTreeMap::new(alloc),
-            lanes: BTreeSet::new(alloc),
-            ready: BTreeSet::new(alloc),
-            next: 0,
+            order: Order::new(alloc),
+            inbox: VecDeque::new(alloc),
+            from: 0,
+            room: 0,
+            count: 0,
         }
     }
 }
 
 impl<V, A: Allocator> Queue<V, A> {
-    /// The number of the first piece whose turn has come: of all that aren't taken and wait in no busy lane, the first.
-    #[must_use]
-    pub fn first(&self) -> Option<u64>
-        ensures number { (busy : ℕ → Bool) → Serves busy self.now → result ≡ option_map (λ e. e.0) (find (λ e. can_go busy e.1) self.now.entries) }
-        ensures piece { (busy : ℕ → Bool) → Serves busy self.now → piece_by result self.now.entries ≡ find (can_go busy) (pieces_of self.now.entries) }
-    {
-        least(&self.ready)
-    }
-
     /// How many pieces there are, the taken ones among them.
     #[must_use]
     pub fn len(&self) -> usize
         ensures len { result ≡ length self.now.entries }
         ensures rising { IsRising self.now.entries }
     {
-        let _next = self.next;
-        self.pieces.len()
+        let _from = self.from;
+        self.count
     }
 
     /// Whether there is no piece.
@@ -86,7 +83,15 @@ impl<V, A: Allocator> Queue<V, A> {
     pub fn is_empty(&self) -> bool
         ensures { result ≡ (length self.now.entries == 0) }
     {
-        self.pieces.is_empty()
+        self.count == 0
+    }
+
+    /// How many more pieces can be pushed.
+    #[must_use]
+    pub fn room(&self) -> usize
+        ensures { result ≡ self.now.room }
+    {
+        self.room
     }
 
     /// The piece with this number.
@@ -94,165 +99,129 @@ impl<V, A: Allocator> Queue<V, A> {
     pub fn get(&self, number: u64) -> Option<&Piece<V>>
         ensures { option_copied result ≡ piece_at number self.now.entries }
     {
-        self.pieces.get(&number)
+        if number < self.from {
+            self.order.get(number)
+        } else {
+            get_in(&self.inbox, (number - self.from) as usize)
+        }
     }
 
-    /// The number of the first piece that waits in the lane, busy or not.
-    #[must_use]
-    pub fn first_of(&self, lane: u32) -> Option<u64>
-        ensures { result ≡ first_in_lane lane self.now.entries }
+    /// The value waits in the lane, or in none, behind all others; its number is answered. It needs room.
+    pub fn push(&mut self, lane: Option<u32>, value: V) -> u64
+        requires { 1 ≤ self.old.room }
+        ensures entries { self.new.entries ≡ self.old.entries ++ (result, record { lane = lane; taken = false; value = value }) ∷ [] }
+        ensures room { self.old.room ≡ self.new.room + 1 }
     {
-        first_in(&self.lanes, lane)
+        let number = self.from + self.inbox.len() as u64;
+        let taken = false;
+        self.inbox
+            .push_back_reserved(Some(Piece { lane, taken, value }));
+        self.room -= 1;
+        self.count += 1;
+        number
     }
 
-    /// The number of the first piece that waits in the lane behind this number.
-    #[must_use]
-    pub fn next_of(&self, lane: u32, number: u64) -> Option<u64>
-        requires { number < u64.MAX }
-        ensures { result ≡ above number (waiting lane self.now.entries) }
+    /// Takes the piece with this number out, where there is one. Nothing is refused.
+    pub fn remove(&mut self, number: u64) -> Option<Piece<V>>
+        ensures piece { result ≡ piece_at number self.old.entries }
+        ensures entries { self.new.entries ≡ without_number number self.old.entries }
+        ensures room { self.new.room ≡ self.old.room }
     {
-        next_in(&self.lanes, lane, number)
+        let piece = take(&mut self.order, &mut self.inbox, self.from, number);
+        if piece.is_some() {
+            self.count -= 1;
+        }
+        piece
     }
 
-    /// The lane is busy from here on: none of its pieces goes. Nothing is refused, so that a job begins with it.
-    pub fn hold(&mut self, lane: u32)
-        ensures entries { self.new.entries ≡ self.old.entries }
-        ensures serves { (busy : ℕ → Bool) → busy lane ≡ false → Serves busy self.old → Serves (also lane busy) self.new }
+    /// The piece with this number stays, but its turn doesn't come again. Nothing is refused.
+    pub fn mark(&mut self, number: u64)
+        ensures entries { self.new.entries ≡ taken_at number self.old.entries }
+        ensures room { self.new.room ≡ self.old.room }
     {
-        let first = first_in(&self.lanes, lane);
-        drop_out(&mut self.ready, first);
-    }
-}
-
-impl<V, A: Allocator + Copy> Queue<V, A> {
-    /// The lane isn't busy any more: its first piece may go. Refused only where memory lacks; then nothing changes.
-    pub fn release(&mut self, lane: u32) -> Result<(), AllocError>
-        ensures entries { self.new.entries ≡ self.old.entries }
-        ensures serves { (busy : ℕ → Bool) → busy lane ≡ false → Serves (also lane busy) self.old → OnOk result (Serves busy self.new) }
-        ensures err { OnErr result (self.new ≡ self.old) }
-    {
-        let first = first_in(&self.lanes, lane);
-        match add(&mut self.ready, first) {
-            Ok(()) => Ok(()),
-            Err(error) => Err(error),
+        if number < self.from {
+            self.order.mark(number);
+        } else {
+            mark_in(&mut self.inbox, (number - self.from) as usize);
         }
     }
 }
 
 impl<V: Drop, A: Allocator + Copy> Queue<V, A> {
-    /// The value waits in the lane, or in none, behind all others; its number is answered. `busy` says whether the lane is
-    /// busy. Refused only where memory lacks; then nothing changes, and the value comes back.
-    pub fn push(&mut self, lane: Option<u32>, busy: bool, value: V) -> Result<u64, AllocFailed<V>>
-        ensures entries { IfOk result (λ number. self.new.entries ≡ self.old.entries ++ (number, record { lane = lane; taken = false; value = value }) ∷ []) }
-        ensures serves { (held : ℕ → Bool) → busy ≡ not (is_open held lane) → Serves held self.old → OnOk result (Serves held self.new) }
+    /// Room for so many more pieces. Refused only where memory lacks, or where the numbers run out; the pieces stay as they
+    /// were.
+    pub fn reserve(&mut self, more: usize) -> Result<(), AllocError>
+        ensures entries { self.new.entries ≡ self.old.entries }
+        ensures grows { self.old.room ≤ self.new.room }
+        ensures most { self.new.room ≤ max self.old.room more }
+        ensures ok { OnOk result (more ≤ self.new.room) }
         ensures err { OnErr result (self.new ≡ self.old) }
-        ensures value_returned { IfErr result (λ refused. refused.value ≡ value) }
     {
-        let number = self.next;
-        if number == u64::MAX {
-            return Err(AllocFailed { value });
+        if more <= self.room {
+            return Ok(());
         }
-        let first = goes_first(&self.lanes, lane, busy);
-        match settle(
-            &mut self.pieces,
-            &mut self.lanes,
-            &mut self.ready,
-            number,
-            lane,
-            first,
-            value,
-        ) {
-            Ok(()) => {
-                self.next = number + 1;
-                Ok(number)
-            }
-            Err(refused) => Err(refused),
+        settle(&mut self.order, &mut self.inbox, &mut self.from)?;
+        if more as u64 >= u64::MAX - self.from {
+            return Err(AllocError);
         }
-    }
-
-    /// Takes the piece with this number out, where there is one. Refused only where memory lacks, and then nothing changes;
-    /// never where the piece's lane is busy, or it waits in none.
-    pub fn remove(&mut self, number: u64) -> Result<Option<Piece<V>>, AllocError>
-        ensures piece { IfOk result (λ piece. piece ≡ piece_at number self.old.entries) }
-        ensures entries { OnOk result (self.new.entries ≡ without_number number self.old.entries) }
-        ensures serves { (busy : ℕ → Bool) → Serves busy self.old → OnOk result (Serves busy self.new) }
-        ensures sure { (busy : ℕ → Bool) → Serves busy self.old → is_alone busy (turn_of number self.old.entries) ≡ true → IsOk result }
-        ensures err { OnErr result (self.new ≡ self.old) }
-    {
-        let _next = self.next;
-        let turn = turn_in(&self.pieces, number);
-        end_turn(&mut self.lanes, &mut self.ready, turn, number)?;
-        Ok(self.pieces.remove(&number))
-    }
-
-    /// The piece with this number stays, but its turn doesn't come again. Refused only where memory lacks, and then nothing
-    /// changes; never where the piece's lane is busy, or it waits in none.
-    pub fn mark(&mut self, number: u64) -> Result<(), AllocError>
-        ensures entries { OnOk result (self.new.entries ≡ taken_at number self.old.entries) }
-        ensures serves { (busy : ℕ → Bool) → Serves busy self.old → OnOk result (Serves busy self.new) }
-        ensures sure { (busy : ℕ → Bool) → Serves busy self.old → is_alone busy (turn_of number self.old.entries) ≡ true → IsOk result }
-        ensures err { OnErr result (self.new ≡ self.old) }
-    {
-        let _next = self.next;
-        let turn = turn_in(&self.pieces, number);
-        end_turn(&mut self.lanes, &mut self.ready, turn, number)?;
-        mark_in(&mut self.pieces, number);
+        self.order.reserve(more)?;
+        self.inbox.reserve(more)?;
+        self.room = more;
         Ok(())
     }
-}
 
-/// The lane of the piece with this number, where it waits.
-fn turn_in<V, A: Allocator>(pieces: &BTreeMap<u64, Piece<V>, A>, number: u64) -> Option<Option<u32>>
-    ensures { result ≡ turn_of number pieces.now.entries }
-{
-    match pieces.get(&number) {
-        Some(piece) => { if piece.taken { None } else { Some(piece.lane) } }
-        None => None,
+    /// The number of the first piece whose turn has come: of all that aren't taken and wait in no busy lane, the first. Refused
+    /// only where memory lacks; the pieces stay as they were.
+    pub fn first<F: Fn(u32) -> bool>(&mut self, is_busy: F) -> Result<Option<u64>, AllocError>
+        requires { F.IsAlwaysCallable is_busy }
+        ensures same { self.new ≡ self.old }
+        ensures number { (busy : ℕ → Bool) → Answers (F.post is_busy) busy → IfOk result (λ number. number ≡ option_map (λ e. e.0) (find (λ e. can_go busy e.1) self.old.entries)) }
+        ensures piece { (busy : ℕ → Bool) → Answers (F.post is_busy) busy → IfOk result (λ number. piece_by number self.old.entries ≡ find (can_go busy) (pieces_of self.old.entries)) }
+    {
+        settle(&mut self.order, &mut self.inbox, &mut self.from)?;
+        Ok(self.order.first_open(&is_busy))
+    }
+
+    /// The number of the lane's first piece, taken or not. Refused only where memory lacks; the pieces stay as they were.
+    pub fn first_of(&mut self, lane: u32) -> Result<Option<u64>, AllocError>
+        ensures same { self.new ≡ self.old }
+        ensures number { IfOk result (λ number. number ≡ first_in_lane lane self.old.entries) }
+    {
+        settle(&mut self.order, &mut self.inbox, &mut self.from)?;
+        Ok(self.order.first_of(lane))
+    }
+
+    /// The number of the lane's first piece behind this number, taken or not. Refused only where memory lacks; the pieces stay
+    /// as they were.
+    pub fn next_of(&mut self, lane: u32, number: u64) -> Result<Option<u64>, AllocError>
+        requires { number < u64.MAX }
+        ensures same { self.new ≡ self.old }
+        ensures number { IfOk result (λ next. next ≡ above number (in_lane lane self.old.entries)) }
+    {
+        settle(&mut self.order, &mut self.inbox, &mut self.from)?;
+        Ok(self.order.next_of(lane, number))
     }
 }
 
-/// The piece with this number is taken.
-fn mark_in<V, A: Allocator>(pieces: &mut BTreeMap<u64, Piece<V>, A>, number: u64)
-    ensures { (high : ℕ) → Rises 0 high pieces.old.entries → pieces.new.entries ≡ taken_at number pieces.old.entries }
-{
-    if let Some(piece) = pieces.get_mut(&number) {
-        piece.taken = true;
-    }
-}
-
-/// The value waits behind all others. Refused only where memory lacks; then nothing changes.
-fn settle<V: Drop, A: Allocator + Copy>(
-    pieces: &mut BTreeMap<u64, Piece<V>, A>,
-    lanes: &mut Pairs<A>,
-    ready: &mut BTreeSet<u64, A>,
+/// Takes the piece with this number out, wherever it stands.
+fn take<V, A: Allocator>(
+    order: &mut Order<V, A>,
+    inbox: &mut Inbox<V, A>,
+    from: u64,
     number: u64,
-    lane: Option<u32>,
-    first: bool,
-    value: V,
-) -> Result<(), AllocFailed<V>>
-    requires rises { Rises 0 number pieces.old.entries }
-    requires pairs { IsNew lane number lanes.old.keys }
-    requires below { AllBelow number ready.old.keys }
-    ensures pieces { OnOk result (pieces.new.entries ≡ pieces.old.entries ++ (number, record { lane = lane; taken = false; value = value }) ∷ []) }
-    ensures joined { OnOk result (lanes.new.keys ≡ joined lane number lanes.old.keys) }
-    ensures ready { OnOk result (ready.new.keys ≡ with (only_if first number) ready.old.keys) }
-    ensures ordered { IsStrictlySortedBy pair_cmp lanes.old.keys }
-    ensures same_pieces { OnErr result (pieces.new.entries ≡ pieces.old.entries) }
-    ensures same_lanes { OnErr result (lanes.new.keys ≡ lanes.old.keys) }
-    ensures same_ready { OnErr result (ready.new.keys ≡ ready.old.keys) }
-    ensures value_returned { IfErr result (λ refused. refused.value ≡ value) }
+) -> Option<Piece<V>>
+    requires rises { Rises 0 from order.old.entries }
+    requires numbers { from + deque_len inbox.old < 2 ^ 64 }
+    ensures piece { result ≡ piece_at number (order.old.entries ++ numbered from inbox.old.items) }
+    ensures entries { order.new.entries ++ numbered from inbox.new.items ≡ without_number number (order.old.entries ++ numbered from inbox.old.items) }
+    ensures rises { Rises 0 from order.new.entries }
+    ensures grows { order.old.spare ≤ order.new.spare }
+    ensures len { deque_len inbox.new ≡ deque_len inbox.old }
+    ensures capacity { deque_capacity inbox.new ≡ deque_capacity inbox.old }
 {
-    let Ok(()) = enter(lanes, ready, lane, number, first) else {
-        return Err(AllocFailed { value });
-    };
-    let taken = false;
-    match pieces.insert(number, Piece { lane, taken, value }) {
-        Ok(_) => Ok(()),
-        Err(refused) => {
-            leave(lanes, lane, number);
-            drop_out(ready, given(first, number));
-            let (_, piece) = refused.value;
-            Err(AllocFailed { value: piece.value })
-        }
+    if number < from {
+        order.remove(number)
+    } else {
+        take_in(inbox, (number - from) as usize)
     }
 }

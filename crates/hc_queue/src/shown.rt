@@ -1,4 +1,4 @@
-// How a queue is shown: by how many pieces there are, and how many may go.
+// How a queue is shown: by how many pieces there are.
 use crate::keyed::KeyedQueue;
 use crate::queue::Queue;
 use std::alloc::Allocator;
@@ -6,12 +6,7 @@ use std::fmt;
 
 impl<V, A: Allocator> fmt::Debug for Queue<V, A> {
     fn fmt<W: fmt::Write>(&self, f: &mut fmt::Formatter<W>) -> fmt::Result {
-        write!(
-            f,
-            "Queue {{ pieces: {}, ready: {} }}",
-            self.len(),
-            self.ready.len()
-        )
+        write!(f, "Queue {{ pieces: {} }}", self.len())
     }
 }
 

@@ -1,30 +1,46 @@
-use Rattle.std.proofs.Common.{◌≡◌, ◌<◌, true, false, ap, sym, arith, ◌∙◌}
-use Rattle.hc_queue.specs.Queue.{firsts, is_alone}
-use Rattle.hc_queue.proofs.Gone.{firsts-taken}
-use Rattle.hc_queue.proofs.Keeping.{turn-below, alone-frees, kept-marked, serves-ended}
+use Rattle.std.proofs.Common.{◌≡◌, ◌+◌, ◌≤◌, ◌<◌, ◌++◌, length, ap, subst, sym, ◌∙◌, arith}
+use Rattle.std.specs.VecDeque.{deque_len, deque_capacity}
+use Rattle.hc_queue.specs.Queue.{Rises, numbered, taken_at}
+use Rattle.hc_queue.proofs.Gone.{rises-taken}
+use Rattle.hc_queue.proofs.Places.{taken-front, taken-back, length-taken}
 use Rattle.hc_queue.proofs.queue.Queue.mark.Goals as goal
 
-pub end_turn-requires : goal.end_turn-requires
-end_turn-requires g c = λ some.
+pub invariant_of-self : goal.invariant_of-self
+invariant_of-self g c =
     let s = c.self.inside in
-    let k : c.args.number < s.next = turn-below c.args.number c.turn_in-turn.result s.pieces.entries s.lanes.keys s.ready.keys s.next c.self.invariant (sym c.turn_in-turn.ensures) some in
-    omega (arith, k)
+    let h = c.if-number-self.true in
+    let same = ap (λ es. es ++ numbered s.from s.inbox.items) c.mark.ensures.entries ∙ taken-front c.args.number s.from s.order.entries s.inbox.items (grind (arith, h)) in
+    record {
+      rises = subst (Rises 0 s.from) (sym c.mark.ensures.entries) (rises-taken c.args.number 0 s.from s.order.entries c.self.invariant.rises);
+      fits = c.self.invariant.fits;
+      spare = (let was = c.self.invariant.spare in let more = c.mark.ensures.grows in omega (arith, was, more));
+      numbers = c.self.invariant.numbers;
+      counts = c.self.invariant.counts ∙ (sym (length-taken c.args.number (s.order.entries ++ numbered s.from s.inbox.items)) ∙ ap length (sym same));
+    }
 
-pub invariant_of-self-2 : goal.invariant_of-self-2
-invariant_of-self-2 g c =
+pub invariant_of-self-else-number-self : goal.invariant_of-self-else-number-self
+invariant_of-self-else-number-self g c =
     let s = c.self.inside in
-    rw (c.mark_in.ensures s.next c.self.invariant.rises, c.in_ok-end_turn.ensures.lanes, c.in_ok-end_turn.ensures.ready)
-    (kept-marked c.args.number c.turn_in-turn.result s.pieces.entries s.lanes.keys s.ready.keys s.next c.self.invariant (sym c.turn_in-turn.ensures))
+    let h = c.if-number-self.false in
+    let same = ap (λ xs. s.order.entries ++ numbered s.from xs) c.mark_in.ensures.items ∙ taken-back c.args.number s.from s.order.entries s.inbox.items c.self.invariant.rises (grind (arith, h)) in
+    let len = c.mark_in.ensures.len in
+    let capacity = c.mark_in.ensures.capacity in
+    record {
+      rises = c.self.invariant.rises;
+      fits = (let was = c.self.invariant.fits in omega (arith, was, len, capacity));
+      spare = (let was = c.self.invariant.spare in omega (arith, was, len));
+      numbers = (let was = c.self.invariant.numbers in omega (arith, was, len));
+      counts = c.self.invariant.counts ∙ (sym (length-taken c.args.number (s.order.entries ++ numbered s.from s.inbox.items)) ∙ ap length (sym same));
+    }
 
-pub returns-clause-serves : goal.returns-clause-serves
-returns-clause-serves g c = λ busy serves.
+pub returns-then-number-self-clause-entries : goal.returns-then-number-self-clause-entries
+returns-then-number-self-clause-entries g c =
     let s = c.self.inside in
-    c.in_ok-end_turn.ensures.ready
-    ∙ (serves-ended busy c.args.number c.turn_in-turn.result s.pieces.entries s.lanes.keys s.ready.keys s.next c.self.invariant (sym c.turn_in-turn.ensures) (rw (← c.self.view_is) at serves)
-    ∙ (sym (firsts-taken busy c.args.number s.pieces.entries) ∙ ap (firsts busy) (sym (c.mark_in.ensures s.next c.self.invariant.rises))))
+    let h = c.if-number-self.true in
+    rw (← c.self.view_is) (ap (λ es. es ++ numbered s.from s.inbox.items) c.mark.ensures.entries ∙ taken-front c.args.number s.from s.order.entries s.inbox.items (grind (arith, h)))
 
-pub returns-in_err-end_turn-clause-sure : goal.returns-in_err-end_turn-clause-sure
-returns-in_err-end_turn-clause-sure g c = λ busy serves alone.
+pub returns-else-number-self-clause-entries : goal.returns-else-number-self-clause-entries
+returns-else-number-self-clause-entries g c =
     let s = c.self.inside in
-    let out : is_alone busy c.turn_in-turn.result ≡ true = ap (is_alone busy) c.turn_in-turn.ensures ∙ (rw (← c.self.view_is) at alone) in
-    let z : false ≡ true = c.in_err-end_turn.ensures.sure (alone-frees busy c.args.number c.turn_in-turn.result s.pieces.entries s.lanes.keys s.ready.keys s.next c.self.invariant (sym c.turn_in-turn.ensures) (rw (← c.self.view_is) at serves) out) in absurd (cc)
+    let h = c.if-number-self.false in
+    rw (← c.self.view_is) (ap (λ xs. s.order.entries ++ numbered s.from xs) c.mark_in.ensures.items ∙ taken-back c.args.number s.from s.order.entries s.inbox.items c.self.invariant.rises (grind (arith, h)))
