@@ -1,0 +1,8 @@
+-- Proofs. What each step of the machine does, law by law.
+pub mod Evicts
+pub mod Firsts
+pub mod Homes
+pub mod Finds
+pub mod Inserts
+pub mod Refuses
+pub mod Serves

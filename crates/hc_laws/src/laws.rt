@@ -1,0 +1,38 @@
+// What each step of the machine does. A function here does nothing: its contract is the law.
+ghost use Rattle.hc_laws.specs.Evicting.{EvictedItemsLeaveByTheTable};
+ghost use Rattle.hc_laws.specs.Finding.{FindTakesTheFirstCase};
+ghost use Rattle.hc_laws.specs.Inserting.{InsertIsDue};
+ghost use Rattle.hc_laws.specs.Refusing.{RefusedChangesNothing};
+ghost use Rattle.hc_laws.specs.Serving.{WriterServesTheFirst, FillerServesTheFirst};
+
+/// The writer serves a page of a region where one is to go out, or else the first delete or else the first put that can be
+/// served, and is idle only where there is none of them.
+pub fn writer_serves_the_first()
+    ensures { WriterServesTheFirst }
+{}
+
+/// The filler serves the first fill that can be served, and is idle only where there is none.
+pub fn filler_serves_the_first()
+    ensures { FillerServesTheFirst }
+{}
+
+/// A find takes the first case that holds: an item, no flash, a waiting put, a tombstone, an open fill, what flash may have.
+pub fn find_takes_the_first_case()
+    ensures { FindTakesTheFirstCase }
+{}
+
+/// An insert that leaves an unexpired value as it is finds one, waits for one, or stores.
+pub fn insert_is_due()
+    ensures { InsertIsDue }
+{}
+
+/// A step that is refused changes nothing; which are refused, and with what.
+pub fn refused_changes_nothing()
+    ensures { RefusedChangesNothing }
+{}
+
+/// A clean item that is evicted is neither queued nor lost; of another the key is forgotten for the first reason that holds, or
+/// else it waits for flash, last in the queue.
+pub fn evicted_items_leave_by_the_table()
+    ensures { EvictedItemsLeaveByTheTable }
+{}

@@ -1,0 +1,9 @@
+//! What each step of the machine does, law by law.
+#![tactic(auto)]
+
+mod laws;
+
+pub use laws::{
+    evicted_items_leave_by_the_table, filler_serves_the_first, find_takes_the_first_case,
+    insert_is_due, refused_changes_nothing, writer_serves_the_first,
+};
