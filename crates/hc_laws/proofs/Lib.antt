@@ -1,5 +1,7 @@
 -- Proofs. What each step of the machine does, law by law.
 pub mod Evicts
+pub mod Bringing
+pub mod Fills
 pub mod Firsts
 pub mod Homes
 pub mod Finds

@@ -1,5 +1,6 @@
 // What each step of the machine does. A function here does nothing: its contract is the law.
 ghost use Rattle.hc_laws.specs.Evicting.{EvictedItemsLeaveByTheTable};
+ghost use Rattle.hc_laws.specs.Filling.{FillsAreLinkedClean, OrphansBringNothing};
 ghost use Rattle.hc_laws.specs.Finding.{FindTakesTheFirstCase};
 ghost use Rattle.hc_laws.specs.Inserting.{InsertIsDue};
 ghost use Rattle.hc_laws.specs.Refusing.{RefusedChangesNothing};
@@ -35,4 +36,15 @@ pub fn refused_changes_nothing()
 /// else it waits for flash, last in the queue.
 pub fn evicted_items_leave_by_the_table()
     ensures { EvictedItemsLeaveByTheTable }
+{}
+
+/// An unexpired entry that a fill brings is linked, clean, exactly where its pool is there and makes room; both ways the calls
+/// that wait for it are answered by its value.
+pub fn fills_are_linked_clean()
+    ensures { FillsAreLinkedClean }
+{}
+
+/// A fill that is an orphan links nothing and answers nobody.
+pub fn orphans_bring_nothing()
+    ensures { OrphansBringNothing }
 {}

@@ -4,6 +4,7 @@
 mod laws;
 
 pub use laws::{
-    evicted_items_leave_by_the_table, filler_serves_the_first, find_takes_the_first_case,
-    insert_is_due, refused_changes_nothing, writer_serves_the_first,
+    evicted_items_leave_by_the_table, filler_serves_the_first, fills_are_linked_clean,
+    find_takes_the_first_case, insert_is_due, orphans_bring_nothing, refused_changes_nothing,
+    writer_serves_the_first,
 };
