@@ -1,6 +1,10 @@
 -- Proofs. What each step of the machine does, law by law.
 pub mod Evicts
 pub mod Bringing
+pub mod Buried
+pub mod Ended
+pub mod Raised
+pub mod Starts
 pub mod Fills
 pub mod Firsts
 pub mod Homes

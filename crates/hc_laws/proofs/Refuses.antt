@@ -78,7 +78,7 @@ module _ (cache : Cache) where
 
   -- ---- a result that is handed in
 
-  finish_is : (number : ℕ) (result : IoResult) (nvm : Nvm) (job : Job) (o : Option pairs.Moved) → cache.nvm ≡ Some nvm → job_at number nvm.jobs ≡ Some job → resume job.number result nvm.pair ≡ o → finish number result cache ≡ after_finish (option_map (resumed job result nvm) o) cache
+  pub finish_is : (number : ℕ) (result : IoResult) (nvm : Nvm) (job : Job) (o : Option pairs.Moved) → cache.nvm ≡ Some nvm → job_at number nvm.jobs ≡ Some job → resume job.number result nvm.pair ≡ o → finish number result cache ≡ after_finish (option_map (resumed job result nvm) o) cache
   finish_is number result nvm job o n j r = (λ i. finish_on (n i) number result cache) ∙ (λ i. after_finish (finish_job (j i) result nvm) cache) ∙ (λ i. after_finish (option_map (resumed job result nvm) (r i)) cache)
 
   awaited : (number : ℕ) (result : IoResult) → WaitsFor number result cache → IsRefused None cache (finish number result cache)

@@ -49,12 +49,11 @@ launch_works task op nvm n = launched_works task (start (nvm.made + 1) op nvm.pa
 
 -- ---- what the writer does, by what the large engine chooses
 
-writer_by : Option (ℕ × Mark) → Nvm → Taken
+abbrev pub writer_by : Option (ℕ × Mark) → Nvm → Taken
 writer_by None nvm = take_delete (next_delete nvm) nvm
 writer_by (Some turn) nvm = page_goes turn.0 turn.1 nvm
 
-writer_is : (nvm : Nvm) → takes.writer_take nvm ≡ writer_by (next_page nvm) nvm
-unfolding writer_by
+pub writer_is : (nvm : Nvm) → takes.writer_take nvm ≡ writer_by (next_page nvm) nvm
 writer_is nvm = ap (λ (m : block.Moved). take_page (by_large nvm.pair [] m) nvm) (flush_by_choice nvm.pair.small.flash (nvm.made + 1) nvm.pair.large) ∙ by (next_page nvm)
   where
     by : (o : Option (ℕ × Mark)) → take_page (by_large nvm.pair [] (flushed_by nvm.pair.small.flash (nvm.made + 1) nvm.pair.large o)) nvm ≡ writer_by o nvm
@@ -81,18 +80,15 @@ written_works nvm (APut put) turn = by (is_small_by nvm.pair.small.flash put.key
     by true e can = launch_works (Putting put.key) (Put put) (record nvm { queue = without_put put.key nvm.queue }) (not_busy nvm.pair (nvm.made + 1) (Put put) (and_free true _ can))
     by false e can = launch_works Flushing (Put put) (record nvm { queue = without_put put.key nvm.queue }) (rw e (next_goes _ _))
 
-served : (nvm : Nvm) (piece : Piece) → IsTurn nvm piece → takes.writer_take nvm ≡ written piece nvm
-unfolding writer_by
+pub served : (nvm : Nvm) (piece : Piece) → IsTurn nvm piece → takes.writer_take nvm ≡ written piece nvm
 served nvm (APage region mark) turn = writer_is nvm ∙ ap (λ o. writer_by o nvm) turn
 served nvm (ADelete stone) turn = writer_is nvm ∙ ap (λ o. writer_by o nvm) turn.0 ∙ ap (λ o. take_delete o nvm) (first_found (can_delete nvm) nvm.tombstones stone turn.1)
 served nvm (APut put) turn = writer_is nvm ∙ ap (λ o. writer_by o nvm) turn.0 ∙ ap (λ o. take_delete o nvm) (none_found (can_delete nvm) nvm.tombstones turn.1) ∙ ap (λ o. take_put o nvm) (first_found (can_put nvm) nvm.queue put turn.2)
 
 idled : (nvm : Nvm) → NothingToWrite nvm → takes.writer_take nvm ≡ idle nvm
-unfolding writer_by
 idled nvm n = writer_is nvm ∙ ap (λ o. writer_by o nvm) n.no_page ∙ ap (λ o. take_delete o nvm) (none_found (can_delete nvm) nvm.tombstones n.no_delete) ∙ ap (λ o. take_put o nvm) (none_found (can_put nvm) nvm.queue n.no_put)
 
 nothing : (nvm : Nvm) → (takes.writer_take nvm).take ≡ Idle → NothingToWrite nvm
-unfolding writer_by
 nothing nvm h = pages (next_page nvm) refl (subst (λ (t : Taken). t.take ≡ Idle) (writer_is nvm) h)
   where
     puts : (o : Option FlashEntry) → next_page nvm ≡ None → next_delete nvm ≡ None → next_put nvm ≡ o → (take_put o nvm).take ≡ Idle → NothingToWrite nvm

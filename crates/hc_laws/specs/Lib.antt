@@ -6,3 +6,4 @@ pub mod Finding
 pub mod Inserting
 pub mod Refusing
 pub mod Serving
+pub mod Tombstones

@@ -5,6 +5,7 @@ ghost use Rattle.hc_laws.specs.Finding.{FindTakesTheFirstCase};
 ghost use Rattle.hc_laws.specs.Inserting.{InsertIsDue};
 ghost use Rattle.hc_laws.specs.Refusing.{RefusedChangesNothing};
 ghost use Rattle.hc_laws.specs.Serving.{WriterServesTheFirst, FillerServesTheFirst};
+ghost use Rattle.hc_laws.specs.Tombstones.{TombstonesEndByDeletesAndLosses};
 
 /// The writer serves a page of a region where one is to go out, or else the first delete or else the first put that can be
 /// served, and is idle only where there is none of them.
@@ -47,4 +48,9 @@ pub fn fills_are_linked_clean()
 /// A fill that is an orphan links nothing and answers nobody.
 pub fn orphans_bring_nothing()
     ensures { OrphansBringNothing }
+{}
+
+/// A tombstone ends exactly where its key's delete is over, or its bucket is given up; no call of a client ends one.
+pub fn tombstones_end_by_deletes_and_losses()
+    ensures { TombstonesEndByDeletesAndLosses }
 {}

@@ -6,5 +6,5 @@ mod laws;
 pub use laws::{
     evicted_items_leave_by_the_table, filler_serves_the_first, fills_are_linked_clean,
     find_takes_the_first_case, insert_is_due, orphans_bring_nothing, refused_changes_nothing,
-    writer_serves_the_first,
+    tombstones_end_by_deletes_and_losses, writer_serves_the_first,
 };
