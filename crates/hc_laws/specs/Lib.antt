@@ -6,4 +6,5 @@ pub mod Finding
 pub mod Inserting
 pub mod Refusing
 pub mod Serving
+pub mod Telling
 pub mod Tombstones

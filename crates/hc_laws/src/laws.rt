@@ -5,6 +5,7 @@ ghost use Rattle.hc_laws.specs.Finding.{FindTakesTheFirstCase};
 ghost use Rattle.hc_laws.specs.Inserting.{InsertIsDue};
 ghost use Rattle.hc_laws.specs.Refusing.{RefusedChangesNothing};
 ghost use Rattle.hc_laws.specs.Serving.{WriterServesTheFirst, FillerServesTheFirst};
+ghost use Rattle.hc_laws.specs.Telling.{AnswersAreFramed};
 ghost use Rattle.hc_laws.specs.Tombstones.{TombstonesEndByDeletesAndLosses};
 
 /// The writer serves a page of a region where one is to go out, or else the first delete or else the first put that can be
@@ -53,4 +54,10 @@ pub fn orphans_bring_nothing()
 /// A tombstone ends exactly where its key's delete is over, or its bucket is given up; no call of a client ends one.
 pub fn tombstones_end_by_deletes_and_losses()
     ensures { TombstonesEndByDeletesAndLosses }
+{}
+
+/// A call that is answered at once tells its begin, its answer and its end, under a number of its own, and of other calls nothing
+/// but answers, behind its own.
+pub fn answers_are_framed()
+    ensures { AnswersAreFramed }
 {}

@@ -4,7 +4,7 @@
 mod laws;
 
 pub use laws::{
-    evicted_items_leave_by_the_table, filler_serves_the_first, fills_are_linked_clean,
-    find_takes_the_first_case, insert_is_due, orphans_bring_nothing, refused_changes_nothing,
-    tombstones_end_by_deletes_and_losses, writer_serves_the_first,
+    answers_are_framed, evicted_items_leave_by_the_table, filler_serves_the_first,
+    fills_are_linked_clean, find_takes_the_first_case, insert_is_due, orphans_bring_nothing,
+    refused_changes_nothing, tombstones_end_by_deletes_and_losses, writer_serves_the_first,
 };
