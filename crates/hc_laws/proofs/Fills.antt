@@ -1,6 +1,6 @@
 -- What a fill brings, and who is answered by it.
 use Rattle.std.proofs.Common.{◌≡◌, ℕ, Bool, true, false, not, ◌&&◌, List, [], ◌∷◌, ◌++◌, length, Option, Some, None, refl, ap, sym, ◌∙◌, subst}
-use Rattle.std.specs.Prelude.{if◌then◌else◌, is_some}
+use Rattle.std.specs.Prelude.{if◌then◌else◌, is_some, option_map}
 use Rattle.std.proofs.lemmas.List.{append-nil}
 use Rattle.hc_types.specs.Charge.{charge_of}
 use Rattle.hc_types.specs.declared.refusal.Refusal.{Refusal}
@@ -9,16 +9,17 @@ use Rattle.hc_memory.specs.Item.{Item, Handle, item_by}
 use Rattle.hc_memory.specs.Pool.{Pool, kept}
 use Rattle.hc_memory.specs.Charges.{usage_of}
 use Rattle.hc_memory.specs.Memory.{Memory, linked_at, change_at, unlinked, victims_of, after_room}
+use Rattle.hc_engines.specs.Engine.{Outcome}
 use Rattle.hc_items.specs.Allocating.{refusal_of}
 use Rattle.hc_items.proofs.Items.{bytes_eq-refl}
-use Rattle.hc_machine.specs.Nvm.{Nvm, Wish, ToFind, ToAdd, Waiter}
-use Rattle.hc_machine.specs.Leaving.{is_over}
-use Rattle.hc_machine.specs.Takes.{Taken, Filled}
+use Rattle.hc_machine.specs.Nvm.{Nvm, Wish, ToFind, ToAdd, Waiter, Fill, Task, Filling, Job, fill_by, without_job}
+use Rattle.hc_machine.specs.Leaving.{Changed, is_over}
+use Rattle.hc_machine.specs.Takes.{Taken, Filled, bucket_lost, raise_all, settled, found_in, fill_out, ends, goes_on, finish_job, resumed}
 use Rattle.hc_machine.specs.Cache.{Cache, Moved, Took, Told, tells, and_then, answers, with_memory}
 use Rattle.hc_machine.specs.Evicting.{leaves_for, leaves, all_leave, make_charge, handle_for, with_charge}
 use Rattle.hc_machine.specs.Waiting.{live, serve, there_after, serve_all}
 use Rattle.hc_machine.specs.Workers.{link_clean, bring, fill, after_take}
-use Rattle.hc_laws.specs.Filling.{all_told, all_owed, met, FillsAreLinkedClean, OrphansBringNothing}
+use Rattle.hc_laws.specs.Filling.{all_told, all_owed, met, FillsAreLinkedClean, GetsEndTheirFill, OrphansBringNothing, NothingLiveBringsNothing}
 use Rattle.hc_laws.proofs.Homes.{change_away}
 use Rattle.hc_laws.proofs.Bringing.{bare_changed, got_changed, pushed, kept_bare, room_there}
 
@@ -136,3 +137,31 @@ fills taken entry waiters cache b =
 
 pub orphans : OrphansBringNothing
 orphans taken cache e = (ap (λ (m : Moved). m.cache) (after_is taken cache None e), ap (λ (m : Moved). m.part) (after_is taken cache None e) ∙ append-nil taken.part)
+
+pub nothing_live : NothingLiveBringsNothing
+nothing_live None cache h = refl
+nothing_live (Some entry) cache h = ap (λ o. if is_some o && not (is_some (refusal_of cache.memory entry.pool entry.key (length entry.value))) then and_then (make_charge entry.pool entry.key (length entry.value) cache) (link_clean (handle_for cache entry.pool entry.key entry.value entry.expiry)) else tells [] cache) h
+
+-- ---- whose fill it is
+
+settled_fills : (task : Task) (outcome : Outcome) (nvm : Nvm) → (settled task outcome nvm).nvm.fills ≡ nvm.fills
+settled_fills task outcome nvm = by (bucket_lost outcome.losses)
+  where
+    by : (o : Option ℕ) → (raise_all o nvm).nvm.fills ≡ nvm.fills
+    by None = refl
+    by (Some bucket) = refl
+
+get_ends : (number : ℕ) (outcome : Outcome) (nvm : Nvm) → (ends number Filling outcome nvm).filled ≡ option_map (λ (own : Fill). record { entry = found_in outcome.answer; waiters = own.waiters }) (fill_by number nvm.fills)
+get_ends number outcome nvm = by (fill_by number (settled Filling outcome nvm).nvm.fills) (settled Filling outcome nvm) ∙ ap (λ fs. option_map (λ (own : Fill). record { entry = found_in outcome.answer; waiters = own.waiters }) (fill_by number fs)) (settled_fills Filling outcome nvm)
+  where
+    by : (o : Option Fill) (change : Changed) → (fill_out o outcome.answer change).filled ≡ option_map (λ (own : Fill). record { entry = found_in outcome.answer; waiters = own.waiters }) o
+    by None change = refl
+    by (Some own) change = refl
+
+pub gets_end : GetsEndTheirFill
+gets_end nvm number result job moved outcome taken j t r n f =
+    let made : Some (resumed job result nvm moved) ≡ Some taken = sym ((λ i. finish_job (j i) result nvm) ∙ ap (option_map (resumed job result nvm)) r) ∙ f in
+    let same : resumed job result nvm moved ≡ taken = cc in
+    ap (λ (x : Taken). x.filled) (sym same) ∙ ap (λ next. (goes_on job next (record nvm { pair = moved.pair })).filled) n
+    ∙ ap (λ task. (ends job.number task outcome (record nvm { pair = moved.pair; jobs = without_job job.number nvm.jobs })).filled) t
+    ∙ get_ends job.number outcome (record nvm { pair = moved.pair; jobs = without_job job.number nvm.jobs })

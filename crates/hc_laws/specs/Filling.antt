@@ -1,15 +1,19 @@
 -- What a fill brings that isn't an orphan: its entry is linked, clean, exactly where it can be, and the calls that wait for it are
 -- answered.
-use Rattle.std.specs.Prelude.{◌≡◌, ℕ, ◌+◌, true, false, List, [], ◌∷◌, ◌++◌, length, Some, None}
+use Rattle.std.specs.Prelude.{◌≡◌, ℕ, ◌+◌, true, false, List, [], ◌∷◌, ◌++◌, length, Option, Some, None, option_map}
 use Rattle.hc_types.specs.declared.refusal.Refusal.{Refusal}
 use Rattle.hc_types.specs.FlashEntry.{FlashEntry}
+use Rattle.hc_engines.specs.Engine.{IoResult, Outcome, Done}
+use Rattle.hc_engines.specs.pair.Pair as pairs
+use Rattle.hc_engines.specs.pair.Pair.{resume}
 use Rattle.hc_memory.specs.Memory.{linked_at}
 use Rattle.hc_items.specs.Allocating.{refusal_of}
 use Rattle.hc_history.specs.Note.{Note, Reply, Exists, Hit, Did, Freed}
-use Rattle.hc_machine.specs.Nvm.{Wish, ToFind, ToAdd, Waiter}
+use Rattle.hc_machine.specs.Nvm.{Nvm, Wish, ToFind, ToAdd, Waiter, Fill, Filling, Job, job_at, fill_by}
 use Rattle.hc_machine.specs.Leaving.{is_over}
-use Rattle.hc_machine.specs.Takes.{Taken}
+use Rattle.hc_machine.specs.Takes.{Taken, found_in, finish}
 use Rattle.hc_machine.specs.Cache.{Cache, Owed, Told, tells, takes_in, owed_with}
+use Rattle.hc_machine.specs.Waiting.{live}
 use Rattle.hc_machine.specs.Workers.{bring, after_take}
 
 -- ---- the calls that wait
@@ -60,7 +64,19 @@ pub record FillCase (taken : Taken) (entry : FlashEntry) (waiters : List Waiter)
 abbrev pub FillsAreLinkedClean : Type 0
 FillsAreLinkedClean = (taken : Taken) (entry : FlashEntry) (waiters : List Waiter) (cache : Cache) → BringsLive taken entry waiters cache → FillCase taken entry waiters cache
 
+-- ---- the others
+
+-- a get that is over ends the fill that its job was to bring, with what it found; where there is none any more it is an orphan's
+abbrev pub GetsEndTheirFill : Type 0
+GetsEndTheirFill = (nvm : Nvm) (number : ℕ) (result : IoResult) (job : Job) (moved : pairs.Moved) (outcome : Outcome) (taken : Taken)
+    → job_at number nvm.jobs ≡ Some job → job.task ≡ Filling → resume job.number result nvm.pair ≡ Some moved → moved.next ≡ Done outcome → finish number result nvm ≡ Some taken
+    → taken.filled ≡ option_map (λ (own : Fill). record { entry = found_in outcome.answer; waiters = own.waiters }) (fill_by job.number nvm.fills)
+
 -- an orphan's bytes are nobody's: nothing is linked, and nobody is answered
 abbrev pub OrphansBringNothing : Type 0
 OrphansBringNothing = (taken : Taken) (cache : Cache) → taken.filled ≡ None
     → ((after_take taken cache).cache ≡ (met taken cache).cache) × ((after_take taken cache).part ≡ taken.part)
+
+-- what wasn't found, or is expired, isn't linked
+abbrev pub NothingLiveBringsNothing : Type 0
+NothingLiveBringsNothing = (there : Option FlashEntry) (cache : Cache) → live cache.now there ≡ None → bring there cache ≡ tells [] cache

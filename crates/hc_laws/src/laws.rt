@@ -1,6 +1,6 @@
 // What each step of the machine does. A function here does nothing: its contract is the law.
 ghost use Rattle.hc_laws.specs.Evicting.{EvictedItemsLeaveByTheTable};
-ghost use Rattle.hc_laws.specs.Filling.{FillsAreLinkedClean, OrphansBringNothing};
+ghost use Rattle.hc_laws.specs.Filling.{FillsAreLinkedClean, GetsEndTheirFill, OrphansBringNothing, NothingLiveBringsNothing};
 ghost use Rattle.hc_laws.specs.Finding.{FindTakesTheFirstCase};
 ghost use Rattle.hc_laws.specs.Inserting.{InsertIsDue};
 ghost use Rattle.hc_laws.specs.Refusing.{RefusedChangesNothing};
@@ -46,9 +46,19 @@ pub fn fills_are_linked_clean()
     ensures { FillsAreLinkedClean }
 {}
 
+/// A get that is over ends the fill that its job was to bring, unless that is an orphan.
+pub fn gets_end_their_fill()
+    ensures { GetsEndTheirFill }
+{}
+
 /// A fill that is an orphan links nothing and answers nobody.
 pub fn orphans_bring_nothing()
     ensures { OrphansBringNothing }
+{}
+
+/// What flash hasn't got, or what is expired there, isn't linked.
+pub fn nothing_live_brings_nothing()
+    ensures { NothingLiveBringsNothing }
 {}
 
 /// A tombstone ends exactly where its key's delete is over, or its bucket is given up; no call of a client ends one.
