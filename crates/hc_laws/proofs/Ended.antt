@@ -2,7 +2,7 @@
 use Rattle.std.proofs.Common.{◌≡◌, ◌≢◌, ℕ, ◌+◌, Bool, true, false, not, ◌&&◌, ◌||◌, List, length, Option, Some, None, refl, ap, sym, ◌∙◌}
 use Rattle.std.specs.Prelude.{option_map}
 use Rattle.std.specs.Str.{bytes_eq}
-use Rattle.hc_types.specs.Places.{is_small_by}
+use Rattle.hc_types.specs.Places.{bucket_at, is_small_by}
 use Rattle.hc_types.specs.FlashEntry.{FlashEntry}
 use Rattle.hc_engines.specs.Engine.{Op, Put, Get, Delete, IoResult, Outcome, Next, Busy, Io, Done}
 use Rattle.hc_engines.specs.large.Choices.{Mark}
@@ -20,6 +20,7 @@ use Rattle.hc_laws.specs.Tombstones.{is_buried_on, Stays, is_delete_over, is_los
 use Rattle.hc_laws.proofs.Firsts.{found_first}
 use Rattle.hc_laws.proofs.Serves.{writer_by, writer_is, served}
 use Rattle.hc_laws.proofs.Refuses.{finish_is}
+use Rattle.hc_laws.proofs.Kept.{resume_keeps_flash}
 use Rattle.hc_laws.proofs.Starts.{put_gives_none, get_gives_none, delete_gives_none, reclaim_none}
 use Rattle.hc_laws.proofs.Raised.{ended, launched_left, goes_on_left, taken_left, settled_left}
 use Rattle.hc_laws.proofs.Buried.{fill_stays, allocate_stays, discard_stays, replace_stays, insert_stays, find_stays, remove_stays, reply_stays}
@@ -161,8 +162,9 @@ module _ (key : List ℕ) where
 
     -- ---- results
 
-    result_left : (nvm : Nvm) (job : Job) (result : IoResult) (moved : pairs.Moved) → is_buried (resumed job result nvm moved).nvm key ≡ (is_buried nvm key && not (is_delete_over key job.task moved.next || gives_up (bucket_in moved.pair key) moved.next))
-    result_left nvm job result moved = goes_on_left key job moved.next (record nvm { pair = moved.pair })
+    result_left : (nvm : Nvm) (job : Job) (result : IoResult) (moved : pairs.Moved) → resume job.number result nvm.pair ≡ Some moved → is_buried (resumed job result nvm moved).nvm key ≡ (is_buried nvm key && not (is_delete_over key job.task moved.next || gives_up (bucket_in nvm.pair key) moved.next))
+    result_left nvm job result moved r = goes_on_left key job moved.next (record nvm { pair = moved.pair })
+        ∙ ap (λ flash. is_buried nvm key && not (is_delete_over key job.task moved.next || gives_up (bucket_at flash key) moved.next)) (resume_keeps_flash job.number result nvm.pair moved r)
 
     module _ (nvm : Nvm) (number : ℕ) (result : IoResult) where
       unchanged : cache.nvm ≡ Some nvm → is_buried nvm key ≡ true → (moved : Moved) → finish number result cache ≡ moved → moved.cache ≡ cache → is_buried_on (finish number result cache).cache.nvm key ≡ false → ⊥
@@ -175,8 +177,8 @@ module _ (key : List ℕ) where
       by_resume job (Some moved) e j r there h =
           let f = finish_is cache number result nvm job (Some moved) e j r in
           let less = went (resumed job result nvm moved) cache (sym (ap (λ (m : Moved). is_buried_on m.cache.nvm key) f) ∙ h) in
-          let over = is_delete_over key job.task moved.next || gives_up (bucket_in moved.pair key) moved.next in
-          record { job = job; has_job = j; moved = moved; resumes = r; ends = gone _ (ap (λ b. b && not over) (sym there) ∙ sym (result_left nvm job result moved) ∙ less) }
+          let over = is_delete_over key job.task moved.next || gives_up (bucket_in nvm.pair key) moved.next in
+          record { job = job; has_job = j; moved = moved; resumes = r; ends = gone _ (ap (λ b. b && not over) (sym there) ∙ sym (result_left nvm job result moved r) ∙ less) }
 
       by_job : (o : Option Job) → cache.nvm ≡ Some nvm → job_at number nvm.jobs ≡ o → is_buried nvm key ≡ true → is_buried_on (finish number result cache).cache.nvm key ≡ false → EndedBy number result key nvm
       by_job None e j there h = absurd (unchanged e there _ ((λ i. finish_on (e i) number result cache) ∙ (λ i. after_finish (finish_job (j i) result nvm) cache)) refl h)
@@ -186,7 +188,7 @@ module _ (key : List ℕ) where
       result_ends taken f e =
           let made : Some (resumed e.job result nvm e.moved) ≡ Some taken = sym ((λ i. finish_job (e.has_job i) result nvm) ∙ ap (option_map (resumed e.job result nvm)) e.resumes) ∙ f in
           let same : resumed e.job result nvm e.moved ≡ taken = cc in
-          ap (λ (t : Taken). is_buried t.nvm key) (sym same) ∙ result_left nvm e.job result e.moved ∙ taken_away (is_buried nvm key) _ e.ends
+          ap (λ (t : Taken). is_buried t.nvm key) (sym same) ∙ result_left nvm e.job result e.moved e.resumes ∙ taken_away (is_buried nvm key) _ e.ends
 
     case : TombstoneEnds key cache
     case = record {

@@ -12,7 +12,7 @@ use Rattle.hc_memory.specs.Memory.{Memory, linked_at, change_at, unlinked, victi
 use Rattle.hc_engines.specs.Engine.{Outcome}
 use Rattle.hc_items.specs.Allocating.{refusal_of}
 use Rattle.hc_items.proofs.Items.{bytes_eq-refl}
-use Rattle.hc_machine.specs.Nvm.{Nvm, Wish, ToFind, ToAdd, Waiter, Fill, Task, Filling, Job, fill_by, without_job}
+use Rattle.hc_machine.specs.Nvm.{Nvm, Wish, ToFind, ToAdd, Waiter, Fill, Task, Filling, fill_by, without_job}
 use Rattle.hc_machine.specs.Leaving.{Changed, is_over}
 use Rattle.hc_machine.specs.Takes.{Taken, Filled, bucket_lost, raise_all, settled, found_in, fill_out, ends, goes_on, finish_job, resumed}
 use Rattle.hc_machine.specs.Cache.{Cache, Moved, Took, Told, tells, and_then, answers, with_memory}

@@ -9,6 +9,7 @@ pub mod Fills
 pub mod Firsts
 pub mod Framing
 pub mod Homes
+pub mod Kept
 pub mod Finds
 pub mod Inserts
 pub mod Refuses

@@ -53,7 +53,7 @@ pub record EndedBy (number : ℕ) (result : IoResult) (key : List ℕ) (nvm : Nv
   pub has_job : job_at number nvm.jobs ≡ Some job
   pub moved : pairs.Moved
   pub resumes : resume job.number result nvm.pair ≡ Some moved
-  pub ends : (is_delete_over key job.task moved.next || gives_up (bucket_in moved.pair key) moved.next) ≡ true
+  pub ends : (is_delete_over key job.task moved.next || gives_up (bucket_in nvm.pair key) moved.next) ≡ true
 
 -- ---- the steps
 
