@@ -3,6 +3,7 @@
 //! what came of that.
 #![tactic(auto)]
 
+mod answers;
 mod big_hash;
 mod bloom;
 mod jobs;
