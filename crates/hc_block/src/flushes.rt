@@ -130,7 +130,7 @@ impl<A: Allocator + Clone + Copy> BlockCache<A> {
     }
 
     /// Which region's page goes out next, and how.
-    fn flush_next(&self) -> Option<(u32, Mark)>
+    pub(crate) fn flush_next(&self) -> Option<(u32, Mark)>
         ensures value { choice_seen result ≡ flush_next_seen self.now.flash self.now.block }
         ensures can { (number : ℕ) → IsFree number self.now.block → IfSome result (λ turn. CanGoOut self.now.flash number turn.0 (mark_seen turn.1) self.now.block) }
     {
