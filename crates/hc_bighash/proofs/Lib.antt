@@ -6,3 +6,4 @@ pub mod Pushing
 pub mod Places
 pub mod Handing
 pub mod Rows
+pub mod Peeks

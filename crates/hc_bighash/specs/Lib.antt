@@ -3,3 +3,4 @@ pub mod Seen
 pub mod Next
 pub mod Steps
 pub mod Handed
+pub mod Found

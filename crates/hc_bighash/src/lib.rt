@@ -3,6 +3,7 @@
 //! what came of that.
 #![tactic(auto)]
 
+mod answers;
 mod big_hash;
 mod bloom;
 mod jobs;
@@ -11,6 +12,7 @@ mod pages;
 mod plans;
 mod results;
 mod resuming;
+mod shared_page;
 mod shown;
 mod steps;
 mod turns;
@@ -20,3 +22,4 @@ pub use big_hash::BigHash;
 pub use ops::{Answer, IoResult, Loss, Next, Op, Order, Outcome};
 pub use results::Handed;
 pub use resuming::Unresumed;
+pub use shared_page::SharedPage;

@@ -5,6 +5,7 @@ ghost use Rattle.hc_types.specs.FlashEntry.{entry_of};
 ghost use Rattle.hc_engines.specs.Engine.{outcome_of};
 ghost use Rattle.hc_bighash.specs.Seen.{op_of, answer_of};
 
+use crate::shared_page::SharedPage;
 use bytes::Bytes;
 use hc_types::{Cause, Entry, Key, Scope};
 use std::alloc::{AllocError, Allocator, Global};
@@ -31,7 +32,7 @@ pub enum Op<A: Allocator = Global> {
 pub enum Order<A: Allocator = Global> {
     Read(u32),
     /// The page is to have these bytes, as many as a page has.
-    Write(u32, Bytes<A>),
+    Write(u32, SharedPage<A>),
 }
 
 /// What came of a device operation.

@@ -12,6 +12,7 @@ ghost use Rattle.hc_bighash.specs.Steps.{plan_of, phase_of};
 use crate::jobs::Phase;
 use crate::ops::{Answer, Loss, Next, Op, Order, Outcome};
 use crate::plans::Plan;
+use crate::shared_page::SharedPage;
 use bytes::Bytes;
 use hc_bucket::encode_page;
 use hc_types::{Cause, Entry, FlashConfig, Scope, bucket_of, is_small};
@@ -113,8 +114,8 @@ fn write_order<A: Allocator + Copy>(
     ensures { IfOk result (λ next. next_seen next ≡ Io (Write bucket (page_bytes page_size (entries_of entries.now))) nothing_done) }
 {
     let page = encode_page(alloc, entries, page_size)?;
-    let bytes = Bytes::from_vec(page)?;
-    Ok(Next::Io(Order::Write(bucket, bytes), nothing(alloc)))
+    let page = SharedPage::new(Bytes::from_vec(page)?)?;
+    Ok(Next::Io(Order::Write(bucket, page), nothing(alloc)))
 }
 
 /// What holds where a bucket is given up.

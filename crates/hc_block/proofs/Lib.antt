@@ -13,3 +13,4 @@ pub mod Ordered
 pub mod Pairs
 pub mod Works
 pub mod Segments
+pub mod Peeks

@@ -8,3 +8,4 @@ pub mod Going
 pub mod Settling
 pub mod Reads
 pub mod Turns
+pub mod Found

@@ -178,7 +178,7 @@ impl<A: Allocator + Clone + Copy> BlockCache<A> {
     }
 
     /// The region that is reclaimed next, where fewer regions are clean than are to be.
-    fn reclaim_next(&self) -> Option<u32>
+    pub(crate) fn reclaim_next(&self) -> Option<u32>
         ensures value { result ≡ reclaim_next self.now.flash self.now.block }
         ensures ends { IfSome result (λ r. CanEnd self.now.flash (Reclaimed r) r self.now.block) }
     {

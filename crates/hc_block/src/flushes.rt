@@ -16,7 +16,7 @@ ghost use Rattle.hc_block.specs.Going.{choice_seen, CanGoOut};
 use crate::block_cache::BlockCache;
 use crate::jobs::{Jobs, Work};
 use crate::reading::page_number;
-use hc_bighash::Order;
+use hc_bighash::{Order, SharedPage};
 use hc_region::{
     Mark, Region, can_go_at, first_ready, mark_at, next_page_at, take_out, written_at,
 };
@@ -61,13 +61,14 @@ fn write_out<A: Allocator + Clone + Copy>(
     let page = page_number(flash, r, written_at(regions, r));
     let bytes = next_page_at(alloc, regions, r, flash)?;
     let copy = bytes.clone()?;
+    let shared = SharedPage::new(bytes)?;
     let work = Work::Writing {
         region: r,
         bytes: copy,
     };
     jobs.insert(number, work)?;
     mark_at(regions, r, mark);
-    Ok(Order::Write(page, bytes))
+    Ok(Order::Write(page, shared))
 }
 
 /// A full page of the region in use, where it can go.
@@ -130,7 +131,7 @@ impl<A: Allocator + Clone + Copy> BlockCache<A> {
     }
 
     /// Which region's page goes out next, and how.
-    fn flush_next(&self) -> Option<(u32, Mark)>
+    pub(crate) fn flush_next(&self) -> Option<(u32, Mark)>
         ensures value { choice_seen result ≡ flush_next_seen self.now.flash self.now.block }
         ensures can { (number : ℕ) → IsFree number self.now.block → IfSome result (λ turn. CanGoOut self.now.flash number turn.0 (mark_seen turn.1) self.now.block) }
     {

@@ -81,7 +81,7 @@ fn reading_from<A: Allocator + Clone + Copy>(
 
 impl<A: Allocator + Clone + Copy> BlockCache<A> {
     /// A read of this key begins, at this place.
-    fn begun(&self, key: &Key<A>, place: Place) -> Result<Reading<A>, AllocError>
+    pub(crate) fn begun(&self, key: &Key<A>, place: Place) -> Result<Reading<A>, AllocError>
         requires { place_at (kept_of self.now.flash.bits key.now) self.now.block.index ≡ Some place }
         ensures value { IfOk result (λ reading. reading ≡ reading_of self.now.flash key.now place self.now.block) }
         ensures can { IfOk result (λ reading. reading.next < reading.until → (number : ℕ) → IsFree number self.now.block → CanRead self.now.flash number reading self.now.block) }
@@ -103,7 +103,7 @@ impl<A: Allocator + Clone + Copy> BlockCache<A> {
     }
 
     /// What a read that needs no page came to.
-    fn came_now(&self, reading: Reading<A>) -> Result<Option<Answer<A>>, AllocError>
+    pub(crate) fn came_now(&self, reading: Reading<A>) -> Result<Option<Answer<A>>, AllocError>
         ensures { IfOk result (λ came. option_map answer_of came ≡ came_by self.now.flash reading.key reading.place reading.got reading.rest self.now.block.index) }
     {
         reading.came(self.alloc, &self.index, &self.flash)

@@ -21,7 +21,7 @@ use std::alloc::{AllocError, Allocator};
 
 impl<A: Allocator + Clone + Copy> BlockCache<A> {
     /// The device's page that a read reads next, where there is one.
-    fn read_next(&self, number: u64) -> Option<u32>
+    pub(crate) fn read_next(&self, number: u64) -> Option<u32>
         requires { IsReading number self.now.block.jobs }
         ensures value { result ≡ next_of self.now.flash (reading_at number self.now.block.jobs) }
         ensures can { IfSome result (λ page. CanReadOn self.now.flash number self.now.block) }
@@ -41,7 +41,11 @@ impl<A: Allocator + Clone + Copy> BlockCache<A> {
     }
 
     /// What a read came to with its last page.
-    fn last_came(&self, number: u64, page: &Bytes<A>) -> Result<Option<Answer<A>>, AllocError>
+    pub(crate) fn last_came(
+        &self,
+        number: u64,
+        page: &Bytes<A>,
+    ) -> Result<Option<Answer<A>>, AllocError>
         requires { IsReading number self.now.block.jobs }
         ensures { IfOk result (λ came. option_map answer_of came ≡ came_by self.now.flash (reading_at number self.now.block.jobs).key (reading_at number self.now.block.jobs).place ((reading_at number self.now.block.jobs).got ++ page.now) (reading_at number self.now.block.jobs).rest self.now.block.index) }
     {

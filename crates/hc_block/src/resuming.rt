@@ -16,7 +16,7 @@ use std::alloc::Allocator;
 
 impl<A: Allocator + Clone + Copy> BlockCache<A> {
     /// What this result means for the operation with this number.
-    fn turn(&self, number: u64, came: &IoResult<A>) -> Turn
+    pub(crate) fn turn(&self, number: u64, came: &IoResult<A>) -> Turn
         ensures { IsTurnOf self.now.flash number self.now.block (result_of came.now) result }
     {
         match self.jobs.get(number) {

@@ -17,7 +17,7 @@ use crate::jobs::{Jobs, Work};
 use crate::outcomes::settled;
 use crate::reading::page_number;
 use crate::steps::Step;
-use hc_bighash::Order;
+use hc_bighash::{Order, SharedPage};
 use hc_region::{Region, Stage, page_after_at, settle_at, stage_at, written_at};
 use hc_types::FlashConfig;
 use std::alloc::{AllocError, Allocator};
@@ -58,13 +58,14 @@ fn write_more<A: Allocator + Clone + Copy>(
     let page = page_number(flash, r, written_at(regions, r) + 1);
     let bytes = page_after_at(alloc, regions, r, flash)?;
     let copy = bytes.clone()?;
+    let shared = SharedPage::new(bytes)?;
     settle_at(alloc, regions, r, flash, Stage::More);
     let work = Work::Writing {
         region: r,
         bytes: copy,
     };
     jobs.replace(number, work);
-    Ok(Order::Write(page, bytes))
+    Ok(Order::Write(page, shared))
 }
 
 impl<A: Allocator + Clone + Copy> BlockCache<A> {

@@ -1,2 +1,3 @@
 -- What is proved of both engines as one.
 pub mod Steps
+pub mod Peeks

@@ -1,5 +1,5 @@
 -- Both engines as one: what is true of them together, and what stands in front of what.
-use Rattle.std.specs.Prelude.{◌≡◌, Bool, true, false, List, []}
+use Rattle.std.specs.Prelude.{◌≡◌, Bool, true, false, List}
 use Rattle.hc_types.specs.declared.config.FlashConfig.{FlashConfig}
 use Rattle.hc_engines.specs.Engine.{Op, Get, Loss, Next, Busy, Io, Done}
 use Rattle.hc_engines.specs.small.BigHash.{BigHash, is_ours}
@@ -7,6 +7,7 @@ use Rattle.hc_engines.specs.pair.Pair.{after_losses}
 use Rattle.hc_engines.specs.pair.Apart.{IsApart}
 use Rattle.hc_block.specs.Large.{Large}
 use Rattle.hc_block.specs.Moves as block
+pub use Rattle.hc_bighash.specs.Found.{losses_of}
 
 -- both go by one configuration, and no number is that of two operations
 pub record IsJoined (small : BigHash) (large : Large) : Type 0 where
@@ -23,11 +24,6 @@ is_miss (Get key) (Done outcome) = true
 is_miss op next = false
 
 -- ---- losses in front
-
-abbrev pub losses_of : Next → List Loss
-losses_of Busy = []
-losses_of (Io order outcome) = outcome.losses
-losses_of (Done outcome) = outcome.losses
 
 abbrev pub after : List Loss → Next → Next
 after before Busy = Busy

@@ -1,2 +1,3 @@
 -- How contracts see both engines as one.
 pub mod Joined
+pub mod Found

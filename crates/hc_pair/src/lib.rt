@@ -2,8 +2,11 @@
 //! started, answers which page is to be read or written, and is resumed with what came of that.
 #![tactic(auto)]
 
+mod finding;
 mod joining;
+mod losing;
 mod pair;
+mod questions;
 mod resuming;
 mod shown;
 mod starting;

@@ -84,7 +84,8 @@ pub fn serve<A: Allocator + Copy>(
 ) -> IoResult<A> {
     match order {
         Order::Read(_) => IoResult::Page(page_of(rt, page)),
-        Order::Write(_, bytes) => {
+        Order::Write(_, written) => {
+            let (bytes, _) = written.split();
             *page = Some(bytes);
             IoResult::Written
         }

@@ -42,7 +42,8 @@ impl<A: Allocator + Copy> Device<A> {
     pub fn serve(&mut self, rt: &impl Abort, order: Order<A>) -> IoResult<A> {
         match order {
             Order::Read(page) => IoResult::Page(self.page(rt, page)),
-            Order::Write(page, bytes) => {
+            Order::Write(page, written) => {
+                let (bytes, _) = written.split();
                 self.write(rt, page, bytes);
                 IoResult::Written
             }

@@ -111,8 +111,9 @@ pub fn written<A: Allocator>(rt: &impl Abort, next: Next<A>, page: u32) -> Bytes
         Next::Io(order, outcome) => {
             drop(outcome);
             match order {
-                Order::Write(number, bytes) => {
+                Order::Write(number, written) => {
                     assert!(rt; number == page);
+                    let (bytes, _) = written.split();
                     bytes
                 }
                 Order::Read(_) => panic!(rt; "a page is to be read"),
