@@ -1,0 +1,2 @@
+-- What holds of the cache whatever the device answers: that each step keeps it.
+pub mod Operations

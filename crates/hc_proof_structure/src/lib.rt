@@ -1,0 +1,2 @@
+//! What holds of the cache whatever the device answers, kept by each step.
+#![tactic(auto)]
