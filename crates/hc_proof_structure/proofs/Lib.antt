@@ -1,2 +1,6 @@
 -- Proofs. What holds of the cache whatever the device answers, kept by each step.
 pub mod Operations
+pub mod Parts
+pub mod Pieces
+pub mod Serving
+pub mod Rooms

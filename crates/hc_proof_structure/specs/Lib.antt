@@ -1,2 +1,3 @@
 -- What holds of the cache whatever the device answers: that each step keeps it.
 pub mod Operations
+pub mod Parts
