@@ -4,3 +4,4 @@ pub mod Parts
 pub mod Pieces
 pub mod Serving
 pub mod Rooms
+pub mod Calls

@@ -1,3 +1,4 @@
 -- What holds of the cache whatever the device answers: that each step keeps it.
 pub mod Operations
 pub mod Parts
+pub mod Steps
