@@ -5,3 +5,6 @@ pub mod Pieces
 pub mod Serving
 pub mod Rooms
 pub mod Calls
+pub mod Jobs
+pub mod Takes
+pub mod Workers

@@ -23,7 +23,7 @@ use Rattle.hc_invariant.specs.Good.{fills_of}
 use Rattle.hc_invariant.specs.Structure.{Structure, OnePlace, queue_of}
 use Rattle.hc_proof_frames.proofs.frames.OpenCharges.{fills_stay}
 use Rattle.hc_proof_calls.proofs.evicting.FlashMemory.{StayOpen, all_wishes, open_more}
-use Rattle.hc_proof_structure.specs.Parts.{Held, Beside, Midst, all_of}
+use Rattle.hc_proof_structure.specs.Parts.{Held, Beside, Midst, all_of, FewerItems, FewerPuts, FewerFills, FewerWait}
 
 -- ---- the whole and its parts
 
@@ -37,21 +37,6 @@ pub whole_of : (memory : Memory) (nvm : Option Nvm) → Midst memory (items_of m
 whole_of memory nvm m = record { one_place = m.0.one_place; one_number = m.0.one_number; fresh = m.0.fresh; wishes = m.0.wishes; one_add = m.0.one_add; one_stone = m.1.one_stone; jobs = m.1.jobs }
 
 -- ---- less of it
-
--- no more items, marks aside
-abbrev pub FewerItems : List Item → List Item → Type 0
-FewerItems old new = (f : Item → ℕ) → ((y : Item) → f (record y { clean = false }) ≡ f y) → tally f new ≤ tally f old
-
-abbrev pub FewerPuts : List FlashEntry → List FlashEntry → Type 0
-FewerPuts old new = (key : List ℕ) → count (is_put_of key) new ≤ count (is_put_of key) old
-
-abbrev pub FewerFills : List Fill → List Fill → Type 0
-FewerFills old new = (key : List ℕ) → count (is_fill_of key) new ≤ count (is_fill_of key) old
-
--- no call comes to wait
-pub record FewerWait (old new : List Fill) : Type 0 where
-  pub wishes : (memory : Memory) → AllWishes memory old → AllWishes memory new
-  pub adds : (n : ℕ) → count (adds n) (waiters_of new) ≤ count (adds n) (waiters_of old)
 
 pub same_wait : (fills : List Fill) → FewerWait fills fills
 same_wait fills = record { wishes = λ memory h. h; adds = λ n. omega arith }
@@ -98,6 +83,10 @@ turned n (c ∷ charges) = omega (arith, turned n charges, ap {B = ℕ} (λ b. c
 
 pub one_open : (memory : Memory) (items : List Item) (queue : List FlashEntry) (seen all : List Fill) → Held memory items queue seen all → (n : ℕ) → count (has_number n) memory.charges ≤ 1
 one_open memory items queue seen all h n = omega (arith, turned n memory.charges, h.one_number n)
+
+-- the next number is none's
+pub next_open : (memory : Memory) (items : List Item) (queue : List FlashEntry) (seen all : List Fill) → Held memory items queue seen all → count (has_number (memory.made + 1)) memory.charges ≡ 0
+next_open memory items queue seen all h = omega (arith, turned (memory.made + 1) memory.charges, h.fresh (memory.made + 1) (omega arith))
 
 pub held_freed : (memory : Memory) (items : List Item) (queue : List FlashEntry) (seen all : List Fill) (n : ℕ) → count (adds n) (waiters_of all) ≡ 0 → Held memory items queue seen all → Held (after_free memory n) items queue seen all
 held_freed memory items queue seen all n none h = record {

@@ -22,7 +22,7 @@ use Rattle.hc_items.proofs.Flat.{unlinked-flat, pushed-flat}
 use Rattle.hc_history.specs.Note.{Note, Lose, Unqueued, Buried}
 use Rattle.hc_machine.specs.Nvm.{Nvm, Fill, is_put_of, put_at, without_put, is_stone_of, is_fill_of, is_buried, is_due, is_written_now, adds}
 use Rattle.hc_machine.specs.Leaving.{Changed, changed, unqueue, bury, unindex, outdate}
-use Rattle.hc_machine.specs.Cache.{Cache, Told, on_flash_of, on_flash, unmarked_by}
+use Rattle.hc_machine.specs.Cache.{Cache, Told, on_flash_of, on_flash, unmarked_by, with_memory}
 use Rattle.hc_machine.specs.Waiting.{clear, uproot, plant, free}
 use Rattle.hc_invariant.specs.Tells.{waiters_of}
 use Rattle.hc_invariant.specs.Good.{fills_of}
@@ -32,8 +32,8 @@ use Rattle.hc_proof_frames.proofs.frames.Charges.{without-less}
 use Rattle.hc_proof_frames.proofs.frames.Lists.{any-counts}
 use Rattle.hc_proof_frames.proofs.frames.Unmarks.{tally_unmarked}
 use Rattle.hc_proof_frames.proofs.shapes.Asides.{unmarked_charges, unmarked_made}
-use Rattle.hc_proof_structure.specs.Parts.{Held, Beside, Midst, Stands}
-use Rattle.hc_proof_structure.proofs.Parts.{FewerItems, FewerPuts, FewerFills, SameCharges, same_items, same_puts, same_fills, same_wait, held_less, held_freed, held_linked}
+use Rattle.hc_proof_structure.specs.Parts.{Held, Beside, Midst, Stands, FewerItems, FewerPuts, FewerFills}
+use Rattle.hc_proof_structure.proofs.Parts.{SameCharges, same_items, same_puts, same_fills, same_wait, held_less, held_freed, held_linked}
 
 -- ---- lists
 
@@ -167,7 +167,7 @@ pub record Passes (before after : Cache) : Type 0 where
 passes_both : (a b c : Cache) → Passes a b → Passes b c → Passes a c
 passes_both a b c x y = record { stands = λ seen loose h. y.stands seen loose (x.stands seen loose h); fills = y.fills ∙ x.fills; puts = λ key. omega (arith, x.puts key, y.puts key); charges = y.charges ∙ x.charges }
 
-flash_passes : (f : Nvm → Changed) → ((nvm : Nvm) → Calm nvm (f nvm).nvm) → (cache : Cache) → Passes cache (on_flash f cache).cache
+pub flash_passes : (f : Nvm → Changed) → ((nvm : Nvm) → Calm nvm (f nvm).nvm) → (cache : Cache) → Passes cache (on_flash f cache).cache
 flash_passes f calm cache = by cache.nvm
   where
     by : (nvm : Option Nvm) → Passes (record cache { nvm = nvm }) (on_flash_of nvm f (record cache { nvm = nvm })).cache
@@ -234,6 +234,24 @@ linked_fewer memory clean handle f = by (slice_get bare handle.pool) refl
     by None at = let same : change_at handle.pool push bare ≡ bare = ap (λ (o : Option Pool). option_map_or (λ pool. slice_set bare handle.pool (push pool)) o bare) at in omega (arith, ap (λ ps. tally f (items_of ps)) same, last)
     by (Some pool) at = omega (arith, pushed-flat f handle.pool (item_by clean handle) pool bare at, tally-push f (items_of bare) (item_by clean handle), last)
 
+-- in a cache where its key neither waits nor has a fill that is seen
+pub link_stands : (handle : Handle) (clean : Bool) (cache : Cache) (seen : List Fill → List Fill) (loose : List Fill) → is_open (charge_by handle) cache.memory.charges ≡ true → count (adds handle.number) (waiters_of (loose ++ fills_of cache.nvm)) ≡ 0
+    → count (is_put_of handle.key) (queue_of cache.nvm) + count (is_fill_of handle.key) (seen (fills_of cache.nvm)) ≡ 0 → Stands cache seen loose → Stands (with_memory (after_link cache.memory clean handle) cache) seen loose
+link_stands handle clean cache seen loose is_there no_add nowhere h =
+    let items = items_of cache.memory.pools in
+    let rest = without handle.key items in
+    let queue = queue_of cache.nvm in
+    let fills = seen (fills_of cache.nvm) in
+    let all = loose ++ fills_of cache.nvm in
+    let memory = after_link cache.memory clean handle in
+    let gone : count (is_at handle.key) rest ≡ 0 = keys.none-counted handle.key rest (item_at-gone handle.key items (omega (arith, h.0.one_place handle.key))) in
+    let less = held_less cache.memory cache.memory items rest queue queue fills fills all all (record { charges = refl; made = refl }) (λ f same. without-less f handle.key items) (same_puts queue) (same_fills fills) (same_wait all) h.0 in
+    let linked = held_linked cache.memory rest queue fills all handle clean is_there no_add (omega (arith, gone, nowhere)) less in
+    (
+      held_less (after_free cache.memory handle.number) memory (rest ++ item_by clean handle ∷ []) (items_of memory.pools) queue queue fills fills all all (record { charges = refl; made = refl }) (λ f same. linked_fewer cache.memory clean handle f) (same_puts queue) (same_fills fills) (same_wait all) linked,
+      h.1,
+    )
+
 -- what is asked before the handle's item is linked in the place of another
 pub record MayPlant (handle : Handle) (cache : Cache) (seen : List Fill → List Fill) (loose : List Fill) : Type 0 where
   pub is_there : is_open (charge_by handle) cache.memory.charges ≡ true
@@ -244,21 +262,9 @@ pub plant_stands : (handle : Handle) (cache : Cache) (seen : List Fill → List 
 plant_stands handle cache seen loose may h =
     let p = clear_passes handle.key cache in
     let c = (clear handle.key cache).cache in
-    let s = p.stands seen loose h in
-    let items = items_of c.memory.pools in
-    let rest = without handle.key items in
-    let one : count (is_at handle.key) items ≤ 1 = omega (arith, s.0.one_place handle.key) in
-    let gone : count (is_at handle.key) rest ≡ 0 = keys.none-counted handle.key rest (item_at-gone handle.key items one) in
-    let less = held_less c.memory c.memory items rest (queue_of c.nvm) (queue_of c.nvm) (seen (fills_of c.nvm)) (seen (fills_of c.nvm)) (loose ++ fills_of c.nvm) (loose ++ fills_of c.nvm)
-        (record { charges = refl; made = refl }) (λ f same. without-less f handle.key items) (same_puts (queue_of c.nvm)) (same_fills (seen (fills_of c.nvm))) (same_wait (loose ++ fills_of c.nvm)) s.0 in
     let no_fill : count (is_fill_of handle.key) (seen (fills_of c.nvm)) ≡ 0 = subst (λ (fills : List Fill). count (is_fill_of handle.key) (seen fills) ≡ 0) (sym p.fills) may.nowhere in
     let no_add : count (adds handle.number) (waiters_of (loose ++ fills_of c.nvm)) ≡ 0 = subst (λ (fills : List Fill). count (adds handle.number) (waiters_of (loose ++ fills)) ≡ 0) (sym p.fills) may.none in
-    let linked = held_linked c.memory rest (queue_of c.nvm) (seen (fills_of c.nvm)) (loose ++ fills_of c.nvm) handle false (ap (is_open (charge_by handle)) p.charges ∙ may.is_there) no_add (omega (arith, gone, no_fill, clear_gone handle.key cache)) less in
-    (
-      held_less (after_free c.memory handle.number) (after_link c.memory false handle) (rest ++ item_by false handle ∷ []) (items_of (after_link c.memory false handle).pools) (queue_of c.nvm) (queue_of c.nvm) (seen (fills_of c.nvm)) (seen (fills_of c.nvm)) (loose ++ fills_of c.nvm) (loose ++ fills_of c.nvm)
-      (record { charges = refl; made = refl }) (λ f same. linked_fewer c.memory false handle f) (same_puts (queue_of c.nvm)) (same_fills (seen (fills_of c.nvm))) (same_wait (loose ++ fills_of c.nvm)) linked,
-      s.1,
-    )
+    link_stands handle false c seen loose (ap (is_open (charge_by handle)) p.charges ∙ may.is_there) no_add (omega (arith, no_fill, clear_gone handle.key cache)) (p.stands seen loose h)
 
 pub plant_fills : (handle : Handle) (cache : Cache) → fills_of (plant handle cache).cache.nvm ≡ fills_of cache.nvm
 plant_fills handle cache = (clear_passes handle.key cache).fills

@@ -22,8 +22,8 @@ use Rattle.hc_machine.specs.Cache.{Cache, Told, tells, with_memory}
 use Rattle.hc_machine.specs.Evicting.{entry_of_item, left_in, leaves_for, leaves, all_leave, make_room, with_charge, make_charge}
 use Rattle.hc_invariant.specs.Good.{fills_of}
 use Rattle.hc_invariant.specs.Structure.{queue_of}
-use Rattle.hc_proof_structure.specs.Parts.{Held, Beside, Midst, Stands}
-use Rattle.hc_proof_structure.proofs.Parts.{FewerItems, same_puts, same_fills, same_wait, held_less, held_charged, held_gone, held_waits}
+use Rattle.hc_proof_structure.specs.Parts.{Held, Beside, Midst, Stands, FewerItems}
+use Rattle.hc_proof_structure.proofs.Parts.{same_puts, same_fills, same_wait, held_less, held_charged, held_gone, held_waits}
 use Rattle.hc_proof_structure.proofs.Pieces.{beside_queue}
 
 -- ---- items leave

@@ -18,8 +18,8 @@ use Rattle.hc_proof_frames.proofs.frames.ByNumber.{same_number, found-passes, co
 use Rattle.hc_proof_frames.proofs.frames.Fills.{all_still, wishes_at, fewer_wish}
 use Rattle.hc_proof_frames.proofs.frames.OpenCharges.{fewer_wait}
 use Rattle.hc_proof_calls.specs.calls.Serving.{ghost}
-use Rattle.hc_proof_structure.specs.Parts.{Held, Beside, Stands, all_of}
-use Rattle.hc_proof_structure.proofs.Parts.{FewerFills, FewerWait, same_items, same_puts, same_fills, held_less}
+use Rattle.hc_proof_structure.specs.Parts.{Held, Beside, Stands, all_of, FewerFills, FewerWait}
+use Rattle.hc_proof_structure.proofs.Parts.{same_items, same_puts, same_fills, held_less}
 use Rattle.hc_proof_structure.proofs.Pieces.{none_left, plant_stands, plant_fills, free_stands}
 
 -- ---- the calls of a fill that has left
@@ -99,7 +99,7 @@ left_fewer test p (x ∷ fills) fill e q own = step (p x) refl (λ k. left_fewer
     step true t rest e = let same : x ≡ fill = cc in subst (λ (y : Fill). count test (y.waiters ++ waiters_of (filter (λ z. not (q z)) (x ∷ fills))) ≤ count test (waiters_of (x ∷ fills))) same (first same (q x) refl)
     step false t rest e = later (rest e) (q x)
 
-ask_fewer : (pair : Pair) (p : Fill → Bool) (fills : List Fill) → AllAsk pair fills → AllAsk pair (filter p fills)
+pub ask_fewer : (pair : Pair) (p : Fill → Bool) (fills : List Fill) → AllAsk pair fills → AllAsk pair (filter p fills)
 ask_fewer pair p [] h = tt
 ask_fewer pair p (fill ∷ fills) h = step (p fill) (ask_fewer pair p fills h.1)
   where

@@ -1,11 +1,11 @@
 -- The structure in two parts, for the midst of a step: what is said of memory, queue and fills, and what of flash alone.
-use Rattle.std.specs.Prelude.{◌≡◌, ℕ, ◌+◌, ◌<◌, ◌≤◌, List, ◌++◌, Option, Some, None}
-use Rattle.hc_types.specs.Tally.{count}
+use Rattle.std.specs.Prelude.{◌≡◌, ℕ, ◌+◌, ◌<◌, ◌≤◌, false, List, ◌++◌, Option, Some, None}
+use Rattle.hc_types.specs.Tally.{tally, count}
 use Rattle.hc_types.specs.FlashEntry.{FlashEntry}
 use Rattle.hc_memory.specs.Item.{Item}
 use Rattle.hc_memory.specs.Memory.{Memory}
 use Rattle.hc_items.specs.Items.{items_of, item_has, open_has}
-use Rattle.hc_machine.specs.Nvm.{Nvm, Fill, is_stone_of, adds}
+use Rattle.hc_machine.specs.Nvm.{Nvm, Fill, is_put_of, is_stone_of, is_fill_of, adds}
 use Rattle.hc_machine.specs.Cache.{Cache}
 use Rattle.hc_invariant.specs.Tells.{waiters_of}
 use Rattle.hc_invariant.specs.Jobs.{AllWishes}
@@ -35,3 +35,20 @@ Stands cache seen loose = Midst cache.memory (items_of cache.memory.pools) cache
 -- all fills are seen
 abbrev pub all_of : List Fill → List Fill
 all_of fills = fills
+
+-- ---- less of it
+
+-- no more items, marks aside
+abbrev pub FewerItems : List Item → List Item → Type 0
+FewerItems old new = (f : Item → ℕ) → ((y : Item) → f (record y { clean = false }) ≡ f y) → tally f new ≤ tally f old
+
+abbrev pub FewerPuts : List FlashEntry → List FlashEntry → Type 0
+FewerPuts old new = (key : List ℕ) → count (is_put_of key) new ≤ count (is_put_of key) old
+
+abbrev pub FewerFills : List Fill → List Fill → Type 0
+FewerFills old new = (key : List ℕ) → count (is_fill_of key) new ≤ count (is_fill_of key) old
+
+-- no call comes to wait
+pub record FewerWait (old new : List Fill) : Type 0 where
+  pub wishes : (memory : Memory) → AllWishes memory old → AllWishes memory new
+  pub adds : (n : ℕ) → count (adds n) (waiters_of new) ≤ count (adds n) (waiters_of old)
