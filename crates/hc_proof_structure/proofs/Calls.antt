@@ -1,39 +1,37 @@
 -- The steps of clients.
-use Rattle.std.proofs.Common.{◌≡◌, ℕ, ◌+◌, ◌<◌, ◌≤◌, Bool, true, false, not, ◌&&◌, List, [], ◌∷◌, ◌++◌, length, Option, Some, None, refl, ap, sym, ◌∙◌, arith, cond, subst}
+use Rattle.std.proofs.Common.{◌≡◌, ℕ, ◌+◌, ◌≤◌, Bool, true, false, not, List, [], ◌∷◌, ◌++◌, length, Option, Some, None, refl, sym, ◌∙◌, arith, cond, subst}
 use Rattle.std.specs.Prelude.{◌==◌, if◌then◌else◌, is_some}
 use Rattle.std.specs.Str.{bytes_eq}
 use Rattle.std.proofs.lemmas.Bool.{eqb-true}
-use Rattle.hc_types.specs.Tally.{tally, count}
-use Rattle.hc_types.specs.FlashEntry.{FlashEntry}
+use Rattle.hc_types.specs.Tally.{count}
 use Rattle.hc_types.specs.declared.refusal.Refusal.{Refusal}
 use Rattle.hc_types.specs.declared.refusal.Refusal.TheVariants.{ForeignHandle, Exists as AlreadyExists}
 use Rattle.hc_engines.specs.pair.Pair.{Pair}
 use Rattle.hc_memory.specs.Item.{Handle, charge_by}
 use Rattle.hc_memory.specs.Pool.{is_at}
 use Rattle.hc_memory.specs.Charges.{is_open}
-use Rattle.hc_memory.specs.Memory.{Memory, linked_at, after_find}
+use Rattle.hc_memory.specs.Memory.{after_find}
 use Rattle.hc_memory.proofs.Keyed.{same_bytes}
 use Rattle.hc_memory.proofs.Keys as keys
 use Rattle.hc_items.specs.Allocating.{refusal_of}
 use Rattle.hc_items.specs.Items.{items_of}
 use Rattle.hc_items.proofs.Flat.{linked-flat, used-flat}
 use Rattle.hc_history.specs.Note.{Insert, Add, Find, Remove, Reply, Stored}
-use Rattle.hc_machine.specs.Nvm.{Nvm, Wish, ToFind, ToAdd, Waiter, Fill, is_put_of, put_at, is_fill_of, without_fill, joined_by, is_brought_by, adds}
-use Rattle.hc_machine.specs.Cache.{Owed, Cache, Moved, and_then, Refused, Discarded, Replied, Waits, answers, stays, owed_at}
+use Rattle.hc_machine.specs.Nvm.{Nvm, Wish, ToFind, ToAdd, Waiter, Fill, is_put_of, is_fill_of, without_fill, joined_by, adds}
+use Rattle.hc_machine.specs.Cache.{Owed, Cache, and_then, Refused, Discarded, Replied, Waits, answers, stays, owed_at}
 use Rattle.hc_machine.specs.Evicting.{allocate_by}
 use Rattle.hc_machine.specs.Waiting.{live, uproot, plant, entry_of_handle, find_reply, free, end_fill}
-use Rattle.hc_machine.specs.Calls.{begin, wait_in, wait_for, is_known, is_kept_in, store, in_memory, must_wait, add, used, find_now, find_by, remove_reply, take_of, discard, insert_or_replace, insert}
-use Rattle.hc_machine.specs.Calls as calls
+use Rattle.hc_machine.specs.Calls.{begin, wait_in, wait_for, is_known, is_kept_in, store, in_memory, must_wait, add, used, find_now, take_of}
 use Rattle.hc_invariant.specs.Tells.{waiters_of}
 use Rattle.hc_invariant.specs.Jobs.{WishHolds}
 use Rattle.hc_invariant.specs.Good.{fills_of}
-use Rattle.hc_invariant.specs.Structure.{Structured, AllAsk, OnePlace, operations, queue_of}
+use Rattle.hc_invariant.specs.Structure.{Structured, AllAsk, OnePlace, queue_of}
 use Rattle.hc_proof_frames.proofs.frames.ByNumber.{none-counted, count-fewer}
 use Rattle.hc_proof_calls.proofs.calls.Adds.{unkept_none, and_both}
 use Rattle.hc_proof_calls.proofs.calls.CallBooks.{join-counts}
 use Rattle.hc_proof_calls.proofs.calls.NoWaiting.{waits_alone}
 use Rattle.hc_proof_calls.proofs.calls.Waits.{wishes_joined, one_other, one_joined, brought_joined, one_more_add}
-use Rattle.hc_proof_structure.specs.Parts.{Held, Beside, Midst, Stands, all_of}
+use Rattle.hc_proof_structure.specs.Parts.{Beside, Stands, all_of}
 use Rattle.hc_proof_structure.specs.Steps.{AllocateIsStructured, InsertIsStructured, AddIsStructured, DiscardIsStructured, FindIsStructured, RemoveIsStructured, ReplyIsStructured, TickIsStructured}
 use Rattle.hc_proof_structure.proofs.Parts.{parts_of, whole_of, same_puts, same_fills, same_wait, held_less}
 use Rattle.hc_proof_structure.proofs.Pieces.{none_left, uproot_passes, plant_stands, free_stands}
@@ -189,7 +187,7 @@ used_stands key cache s =
     let memory = after_find cache.memory cache.now key in
     whole_of memory cache.nvm (
       held_less cache.memory memory (items_of cache.memory.pools) (items_of memory.pools) (queue_of cache.nvm) (queue_of cache.nvm) (fills_of cache.nvm) (fills_of cache.nvm) (fills_of cache.nvm) (fills_of cache.nvm)
-      (record { charges = refl; made = refl }) (λ f same. omega (arith, used-flat f key cache.now cache.memory.pools)) (same_puts (queue_of cache.nvm)) (same_fills (fills_of cache.nvm)) (same_wait (fills_of cache.nvm)) p.0,
+          (record { charges = refl; made = refl }) (λ f same. omega (arith, used-flat f key cache.now cache.memory.pools)) (same_puts (queue_of cache.nvm)) (same_fills (fills_of cache.nvm)) (same_wait (fills_of cache.nvm)) p.0,
       p.1,
     )
 

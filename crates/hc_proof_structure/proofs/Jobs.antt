@@ -1,11 +1,9 @@
 -- Jobs and fills, as an operation begins, goes on and ends.
-use Rattle.std.proofs.Common.{◌≡◌, ℕ, ◌+◌, ◌<◌, ◌≤◌, ◌==◌, Bool, true, false, not, ◌&&◌, List, [], ◌∷◌, ◌++◌, filter, find, map, Option, Some, None, refl, ap, sym, ◌∙◌, arith, cond, subst}
+use Rattle.std.proofs.Common.{◌≡◌, ℕ, ◌+◌, ◌<◌, ◌≤◌, ◌==◌, Bool, true, false, not, ◌&&◌, List, [], ◌∷◌, filter, find, Option, Some, None, refl, ap, sym, ◌∙◌, arith, cond, subst}
 use Rattle.std.specs.Prelude.{if◌then◌else◌}
 use Rattle.std.specs.Str.{bytes_eq}
 use Rattle.std.proofs.lemmas.Bool.{eqb-true}
-use Rattle.hc_types.specs.Tally.{tally, count}
-use Rattle.hc_types.proofs.Tallies.{tally-push}
-use Rattle.hc_types.specs.FlashEntry.{FlashEntry}
+use Rattle.hc_types.specs.Tally.{count}
 use Rattle.hc_engines.specs.Engine.{Op, Get, Answer, Nothing, Over, Absent, Found}
 use Rattle.hc_engines.specs.small.BigHash as bighash
 use Rattle.hc_engines.specs.small.BigHash.{Phase, make_job}
@@ -16,19 +14,18 @@ use Rattle.hc_memory.specs.Memory.{Memory}
 use Rattle.hc_memory.proofs.Keyed.{same_bytes}
 use Rattle.hc_items.proofs.Items.{bytes_eq-refl}
 use Rattle.hc_history.specs.Note as note
-use Rattle.hc_machine.specs.Nvm.{Nvm, Tombstone, Task, Putting, Deleting, Filling, Flushing, Job, Waiter, Fill, is_stone_of, is_fill_of, is_brought_by, is_job, fill_by, without_fill, taken_fill, adds}
-use Rattle.hc_machine.specs.Takes.{Filled, Taken, takes, Finished, fill_out, finished, found_in}
+use Rattle.hc_machine.specs.Nvm.{Nvm, Tombstone, Task, Putting, Deleting, Filling, Flushing, Waiter, Fill, is_stone_of, is_fill_of, is_brought_by, is_job, fill_by, without_fill, taken_fill, adds}
+use Rattle.hc_machine.specs.Takes.{takes, Finished, fill_out, finished, found_in}
 use Rattle.hc_machine.specs.Leaving.{Changed, changed}
-use Rattle.hc_invariant.specs.Tells.{waiters_of}
 use Rattle.hc_invariant.specs.Jobs.{AllWish, AllWishes}
 use Rattle.hc_invariant.specs.Structure.{Asks, AsksIf, AllAsk, JobsStand, brings, is_get_of, is_read_of, is_small_job, is_large_job, operations}
-use Rattle.hc_proof_frames.proofs.frames.ByNumber.{none-counted, found-passes, count-fewer}
+use Rattle.hc_proof_frames.proofs.frames.ByNumber.{none-counted, count-fewer}
 use Rattle.hc_proof_frames.proofs.frames.Fills.{fewer_wish}
 use Rattle.hc_proof_frames.proofs.frames.Lists as lists
 use Rattle.hc_proof_calls.specs.calls.Serving.{ghost}
 use Rattle.hc_proof_structure.specs.Operations.{AnswerIsOf, IsWorkOf, Does}
-use Rattle.hc_proof_structure.specs.Parts.{Beside, FewerFills, FewerWait}
-use Rattle.hc_proof_structure.specs.Takes.{Under, AskedIf, AllAsked, EntryIsOf, Ended, Leaves, Raised}
+use Rattle.hc_proof_structure.specs.Parts.{FewerFills}
+use Rattle.hc_proof_structure.specs.Takes.{Under, AskedIf, AllAsked, EntryIsOf, Leaves}
 use Rattle.hc_proof_structure.proofs.Parts.{same_puts, same_fills, same_wait}
 use Rattle.hc_proof_structure.proofs.Pieces.{none_left}
 use Rattle.hc_proof_structure.proofs.Serving.{left_fewer, ask_fewer}
@@ -227,15 +224,18 @@ module _ (nvm : Nvm) (stones : List Tombstone) (number : ℕ) (answer : Answer) 
       let less = beside_fewer_under (λ f. not (is_fill_of key f)) in
       record {
         puts = same_puts nvm.queue;
-        fills = (key, record {
-          fills = left_seen key fill.waiters nvm.fills fill (brings number) e mine;
-          wait = record {
-            wishes = λ memory w. (wish_found memory (brings number) nvm.fills fill e w, fewer_wish memory (λ f. not (is_fill_of key f)) nvm.fills w);
-            adds = λ n. left_fewer (adds n) (brings number) nvm.fills fill e (is_fill_of key) mine;
-          };
-          gone = none_left (is_fill_of key) nvm.fills;
-          own = entry_is key answer own;
-        });
+        fills = (
+          key,
+          record {
+            fills = left_seen key fill.waiters nvm.fills fill (brings number) e mine;
+            wait = record {
+              wishes = λ memory w. (wish_found memory (brings number) nvm.fills fill e w, fewer_wish memory (λ f. not (is_fill_of key f)) nvm.fills w);
+              adds = λ n. left_fewer (adds n) (brings number) nvm.fills fill e (is_fill_of key) mine;
+            };
+            gone = none_left (is_fill_of key) nvm.fills;
+            own = entry_is key answer own;
+          },
+        );
         beside = record {
           one_stone = one_stone;
           jobs =

@@ -1,11 +1,10 @@
 -- What a call of both engines does to their lists of operations.
 use Rattle.std.proofs.Common.{◌≡◌, ℕ, ◌+◌, ◌≤◌, ◌==◌, Bool, true, false, not, ◌&&◌, List, [], ◌∷◌, ◌++◌, length, Option, Some, None, refl, ap, sym, ◌∙◌, arith, cond, subst}
-use Rattle.std.specs.Prelude.{if◌then◌else◌, is_some, nat_lt, option_map}
+use Rattle.std.specs.Prelude.{if◌then◌else◌, is_some, nat_lt}
 use Rattle.std.specs.Str.{bytes_eq}
 use Rattle.std.proofs.lemmas.Option.{cond_some}
 use Rattle.hc_types.specs.Tally.{tally, count}
 use Rattle.hc_types.proofs.Tallies.{tally-push}
-use Rattle.hc_types.specs.Loss.{Cause, Fault}
 use Rattle.hc_types.specs.Places.{kept_of, is_small_by}
 use Rattle.hc_types.specs.declared.config.FlashConfig.{FlashConfig}
 use Rattle.hc_types.specs.FlashEntry.{FlashEntry}
@@ -29,7 +28,6 @@ use Rattle.hc_engines.proofs.small.Under.{under-key}
 use Rattle.hc_engines.proofs.small.Single.{number_at}
 use Rattle.hc_engines.proofs.pair.Numbers.{mapped_some}
 use Rattle.hc_memory.proofs.Keyed.{same_bytes}
-use Rattle.hc_items.proofs.Items.{bytes_eq-refl}
 use Rattle.hc_invariant.specs.Structure.{Asks, is_get_of, is_read_of, is_small_job, is_large_job, operations}
 use Rattle.hc_proof_structure.specs.Operations.{IsWorkOf, AnswerIsOf, NextIsOf, OnlySmall, OnlyLarge, Rests, Does}
 

@@ -1,29 +1,25 @@
 -- The two parts of the structure, and how they change: less of it, a charge freed, a charge opened, an item linked, an item left.
-use Rattle.std.proofs.Common.{◌≡◌, ℕ, ◌+◌, ◌<◌, ◌≤◌, ◌==◌, Bool, true, false, not, ◌&&◌, List, [], ◌∷◌, ◌++◌, Option, Some, None, refl, ap, sym, ◌∙◌, arith, cond, subst}
-use Rattle.std.specs.Prelude.{if◌then◌else◌}
-use Rattle.std.specs.Str.{bytes_eq}
+use Rattle.std.proofs.Common.{◌≡◌, ℕ, ◌+◌, ◌<◌, ◌≤◌, ◌==◌, Bool, true, false, List, [], ◌∷◌, ◌++◌, Option, refl, ap, sym, ◌∙◌, arith, cond, subst}
 use Rattle.std.proofs.lemmas.Bool.{eqb-true, eq-eqb}
 use Rattle.hc_types.specs.Tally.{tally, count}
-use Rattle.hc_types.proofs.Tallies.{tally-push, tally-append}
+use Rattle.hc_types.proofs.Tallies.{tally-push}
 use Rattle.hc_types.specs.FlashEntry.{FlashEntry}
 use Rattle.hc_memory.specs.Item.{Item, Open, Handle, charge_by, item_by}
 use Rattle.hc_memory.specs.Pool.{is_at}
-use Rattle.hc_memory.specs.Charges.{has_number, charge_at, closed, is_open}
+use Rattle.hc_memory.specs.Charges.{has_number, closed, is_open}
 use Rattle.hc_memory.specs.Memory.{Memory, after_free}
 use Rattle.hc_memory.proofs.Books.{tally-closed, is_open-found}
 use Rattle.hc_memory.proofs.Making.{closed-less}
 use Rattle.hc_memory.proofs.Keyed.{same_bytes}
 use Rattle.hc_items.specs.Items.{items_of, item_has, open_has}
 use Rattle.hc_items.proofs.Items.{bytes_eq-sym}
-use Rattle.hc_machine.specs.Nvm.{Nvm, Waiter, Fill, is_put_of, is_fill_of, adds}
+use Rattle.hc_machine.specs.Nvm.{Nvm, Fill, is_put_of, is_fill_of, adds}
 use Rattle.hc_machine.specs.Evicting.{with_charge, entry_of_item}
 use Rattle.hc_invariant.specs.Tells.{waiters_of}
-use Rattle.hc_invariant.specs.Jobs.{AllWishes}
-use Rattle.hc_invariant.specs.Good.{fills_of}
-use Rattle.hc_invariant.specs.Structure.{Structure, OnePlace, queue_of}
+use Rattle.hc_invariant.specs.Structure.{Structure}
 use Rattle.hc_proof_frames.proofs.frames.OpenCharges.{fills_stay}
 use Rattle.hc_proof_calls.proofs.evicting.FlashMemory.{StayOpen, all_wishes, open_more}
-use Rattle.hc_proof_structure.specs.Parts.{Held, Beside, Midst, all_of, FewerItems, FewerPuts, FewerFills, FewerWait}
+use Rattle.hc_proof_structure.specs.Parts.{Held, Midst, all_of, FewerItems, FewerPuts, FewerFills, FewerWait}
 
 -- ---- the whole and its parts
 

@@ -1,5 +1,5 @@
 -- Pieces of calls: a key leaves each place where it stood, its item goes, another is linked, and an open charge goes.
-use Rattle.std.proofs.Common.{◌≡◌, ℕ, ◌+◌, ◌≤◌, Bool, true, false, not, ◌&&◌, ◌||◌, List, [], ◌∷◌, ◌++◌, filter, find, Option, Some, None, refl, ap, sym, ◌∙◌, arith, cond, subst, slice_get, slice_set}
+use Rattle.std.proofs.Common.{◌≡◌, ℕ, ◌+◌, ◌≤◌, Bool, true, false, not, ◌&&◌, ◌||◌, List, [], ◌∷◌, ◌++◌, filter, Option, Some, None, refl, ap, sym, ◌∙◌, arith, cond, subst, slice_get, slice_set}
 use Rattle.std.specs.Prelude.{if◌then◌else◌, is_some}
 use Rattle.std.specs.Option.{option_map_or}
 use Rattle.std.specs.Str.{bytes_eq}
@@ -11,7 +11,7 @@ use Rattle.hc_types.specs.FlashEntry.{FlashEntry}
 use Rattle.hc_engines.specs.small.BigHash as bighash
 use Rattle.hc_engines.specs.pair.Pair.{Pair, hash_in, is_indexed, take_index}
 use Rattle.hc_memory.specs.Item.{Item, Handle, charge_by, item_by}
-use Rattle.hc_memory.specs.Pool.{Pool, is_at, item_at, without}
+use Rattle.hc_memory.specs.Pool.{Pool, is_at, without}
 use Rattle.hc_memory.specs.Charges.{is_open}
 use Rattle.hc_memory.specs.Memory.{Memory, after_free, after_link, after_unlink, after_unmark, unlinked, change_at}
 use Rattle.hc_memory.proofs.Keyed.{same_bytes}
@@ -22,18 +22,18 @@ use Rattle.hc_items.proofs.Flat.{unlinked-flat, pushed-flat}
 use Rattle.hc_history.specs.Note.{Note, Lose, Unqueued, Buried}
 use Rattle.hc_machine.specs.Nvm.{Nvm, Fill, is_put_of, put_at, without_put, is_stone_of, is_fill_of, is_buried, is_due, is_written_now, adds}
 use Rattle.hc_machine.specs.Leaving.{Changed, changed, unqueue, bury, unindex, outdate}
-use Rattle.hc_machine.specs.Cache.{Cache, Told, on_flash_of, on_flash, unmarked_by, with_memory}
+use Rattle.hc_machine.specs.Cache.{Cache, on_flash_of, on_flash, unmarked_by, with_memory}
 use Rattle.hc_machine.specs.Waiting.{clear, uproot, plant, free}
 use Rattle.hc_invariant.specs.Tells.{waiters_of}
 use Rattle.hc_invariant.specs.Good.{fills_of}
-use Rattle.hc_invariant.specs.Structure.{Asks, AsksIf, AllAsk, JobsStand, queue_of}
+use Rattle.hc_invariant.specs.Structure.{Asks, AsksIf, AllAsk, queue_of}
 use Rattle.hc_proof_frames.proofs.frames.ByNumber.{none-counted, count-fewer}
 use Rattle.hc_proof_frames.proofs.frames.Charges.{without-less}
 use Rattle.hc_proof_frames.proofs.frames.Lists.{any-counts}
 use Rattle.hc_proof_frames.proofs.frames.Unmarks.{tally_unmarked}
 use Rattle.hc_proof_frames.proofs.shapes.Asides.{unmarked_charges, unmarked_made}
-use Rattle.hc_proof_structure.specs.Parts.{Held, Beside, Midst, Stands, FewerItems, FewerPuts, FewerFills}
-use Rattle.hc_proof_structure.proofs.Parts.{SameCharges, same_items, same_puts, same_fills, same_wait, held_less, held_freed, held_linked}
+use Rattle.hc_proof_structure.specs.Parts.{Held, Beside, Stands, FewerPuts}
+use Rattle.hc_proof_structure.proofs.Parts.{same_puts, same_fills, same_wait, held_less, held_freed, held_linked}
 
 -- ---- lists
 
@@ -113,8 +113,11 @@ bury_calm key nvm = by (is_due nvm key) refl
     beside due b =
         let none : count (is_stone_of key) nvm.tombstones ≡ 0 = any-counts (is_stone_of key) nvm.tombstones (due_not (bighash.could_hold nvm.pair.small key || is_written_now nvm key) (is_buried nvm key) due) in
         record {
-          one_stone = λ k. omega (arith, tally-push (λ stone. cond (is_stone_of k stone) 1 0) nvm.tombstones (record { key = key; taken = false }),
-          one_stone_more (bytes_eq key k) (count (is_stone_of k) nvm.tombstones) (λ same. subst (λ (x : List ℕ). count (is_stone_of x) nvm.tombstones ≡ 0) (same_bytes key k same) none) (b.one_stone k));
+          one_stone = λ k. omega (
+            arith,
+            tally-push (λ stone. cond (is_stone_of k stone) 1 0) nvm.tombstones (record { key = key; taken = false }),
+            one_stone_more (bytes_eq key k) (count (is_stone_of k) nvm.tombstones) (λ same. subst (λ (x : List ℕ). count (is_stone_of x) nvm.tombstones ≡ 0) (same_bytes key k same) none) (b.one_stone k),
+          );
           jobs = record { one_job = b.jobs.one_job; one_each = b.jobs.one_each; fresh = b.jobs.fresh; asks = b.jobs.asks };
         }
 
@@ -177,7 +180,7 @@ flash_passes f calm cache = by cache.nvm
         record {
           stands = λ seen loose h. (
             subst (λ (fills : List Fill). Held (unmarked_by (f nvm).part cache.memory) (items_of (unmarked_by (f nvm).part cache.memory).pools) (f nvm).nvm.queue (seen fills) (loose ++ fills)) (sym c.fills)
-            (held_marks (f nvm).part cache.memory nvm.queue (f nvm).nvm.queue (seen nvm.fills) (loose ++ nvm.fills) c.puts h.0),
+                (held_marks (f nvm).part cache.memory nvm.queue (f nvm).nvm.queue (seen nvm.fills) (loose ++ nvm.fills) c.puts h.0),
             c.beside h.1,
           );
           fills = c.fills;
@@ -208,7 +211,7 @@ uproot_passes key cache = passes_both cache (clear key cache).cache (uproot key 
     unlinks c = record {
       stands = λ seen loose h. (
         held_less c.memory (after_unlink c.memory key) (items_of c.memory.pools) (items_of (unlinked key c.memory.pools)) (queue_of c.nvm) (queue_of c.nvm) (seen (fills_of c.nvm)) (seen (fills_of c.nvm)) (loose ++ fills_of c.nvm) (loose ++ fills_of c.nvm)
-        (record { charges = refl; made = refl }) (λ f same. omega (arith, ap (tally f) (unlinked-flat key c.memory.pools), without-less f key (items_of c.memory.pools))) (same_puts (queue_of c.nvm)) (same_fills (seen (fills_of c.nvm))) (same_wait (loose ++ fills_of c.nvm)) h.0,
+            (record { charges = refl; made = refl }) (λ f same. omega (arith, ap (tally f) (unlinked-flat key c.memory.pools), without-less f key (items_of c.memory.pools))) (same_puts (queue_of c.nvm)) (same_fills (seen (fills_of c.nvm))) (same_wait (loose ++ fills_of c.nvm)) h.0,
         h.1,
       );
       fills = refl;
@@ -246,8 +249,7 @@ link_stands handle clean cache seen loose is_there no_add nowhere h =
     let memory = after_link cache.memory clean handle in
     let gone : count (is_at handle.key) rest ≡ 0 = keys.none-counted handle.key rest (item_at-gone handle.key items (omega (arith, h.0.one_place handle.key))) in
     let less = held_less cache.memory cache.memory items rest queue queue fills fills all all (record { charges = refl; made = refl }) (λ f same. without-less f handle.key items) (same_puts queue) (same_fills fills) (same_wait all) h.0 in
-    let linked = held_linked cache.memory rest queue fills all handle clean is_there no_add (omega (arith, gone, nowhere)) less in
-    (
+    let linked = held_linked cache.memory rest queue fills all handle clean is_there no_add (omega (arith, gone, nowhere)) less in (
       held_less (after_free cache.memory handle.number) memory (rest ++ item_by clean handle ∷ []) (items_of memory.pools) queue queue fills fills all all (record { charges = refl; made = refl }) (λ f same. linked_fewer cache.memory clean handle f) (same_puts queue) (same_fills fills) (same_wait all) linked,
       h.1,
     )

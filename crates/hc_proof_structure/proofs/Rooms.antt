@@ -1,29 +1,29 @@
 -- Room is made, and a charge is opened.
-use Rattle.std.proofs.Common.{◌≡◌, ℕ, ◌+◌, ◌≤◌, Bool, true, false, List, [], ◌∷◌, ◌++◌, length, Option, Some, None, refl, ap, sym, ◌∙◌, arith, cond, subst, slice_get, slice_set}
+use Rattle.std.proofs.Common.{◌≡◌, ℕ, ◌+◌, ◌≤◌, Bool, true, false, List, [], ◌∷◌, ◌++◌, append_assoc, Option, Some, None, refl, ap, sym, ◌∙◌, arith, cond, subst, slice_get, slice_set}
 use Rattle.std.specs.Prelude.{if◌then◌else◌}
 use Rattle.std.specs.Option.{option_map_or}
 use Rattle.hc_types.specs.Charge.{charge_of}
-use Rattle.hc_types.specs.Tally.{tally, count}
-use Rattle.hc_types.proofs.Tallies.{tally-append, tally-push}
+use Rattle.hc_types.specs.Tally.{tally}
+use Rattle.hc_types.proofs.Tallies.{tally-append, find-none}
 use Rattle.hc_types.specs.Loss.{Cause}
-use Rattle.hc_types.specs.FlashEntry.{FlashEntry}
 use Rattle.hc_types.specs.declared.config.PoolSize.{PoolSize}
 use Rattle.hc_memory.specs.declared.usage.Usage.{Usage}
 use Rattle.hc_memory.specs.Item.{Item}
-use Rattle.hc_memory.specs.Pool.{Pool, is_full, kept, dropped}
+use Rattle.hc_memory.specs.Pool.{Pool, is_at, is_full, kept, dropped}
 use Rattle.hc_memory.specs.Charges.{usage_of}
 use Rattle.hc_memory.specs.Memory.{Memory, change_at, victims_of, after_room}
-use Rattle.hc_memory.proofs.Making.{known}
 use Rattle.hc_items.specs.Items.{items_of}
 use Rattle.hc_items.proofs.Flat.{changed-flat}
-use Rattle.hc_machine.specs.Nvm.{Nvm, Fill}
+use Rattle.hc_items.proofs.Items.{bytes_eq-refl}
+use Rattle.hc_machine.specs.Nvm.{Nvm, Fill, is_put_of}
 use Rattle.hc_machine.specs.Leaving.{cause_for, waits_unless}
-use Rattle.hc_machine.specs.Cache.{Cache, Told, tells, with_memory}
+use Rattle.hc_machine.specs.Cache.{Cache, tells, with_memory}
 use Rattle.hc_machine.specs.Evicting.{entry_of_item, left_in, leaves_for, leaves, all_leave, make_room, with_charge, make_charge}
 use Rattle.hc_invariant.specs.Good.{fills_of}
 use Rattle.hc_invariant.specs.Structure.{queue_of}
-use Rattle.hc_proof_structure.specs.Parts.{Held, Beside, Midst, Stands, FewerItems}
-use Rattle.hc_proof_structure.proofs.Parts.{same_puts, same_fills, same_wait, held_less, held_charged, held_gone, held_waits}
+use Rattle.hc_proof_structure.specs.Parts.{Midst, Stands, all_of, FewerItems}
+use Rattle.hc_proof_structure.specs.Steps.{EvictedNeverWaits}
+use Rattle.hc_proof_structure.proofs.Parts.{parts_of, same_puts, same_fills, same_wait, held_less, held_charged, held_gone, held_waits}
 use Rattle.hc_proof_structure.proofs.Pieces.{beside_queue}
 
 -- ---- items leave
@@ -94,15 +94,22 @@ pub record Roomed (before after : Cache) (pool want : ℕ) (seen : List Fill →
   pub memory : after.memory ≡ after_room before.memory pool want
   pub fills : fills_of after.nvm ≡ fills_of before.nvm
 
+-- nothing is told yet of those that go
+whole_left : (pool want : ℕ) (cache : Cache) (seen : List Fill → List Fill) (loose : List Fill) → Stands cache seen loose
+    → Midst (after_room cache.memory pool want) (victims_of cache.memory pool want ++ items_of (after_room cache.memory pool want).pools) cache.nvm seen loose
+whole_left pool want cache seen loose h =
+    let roomy = after_room cache.memory pool want in (
+      held_less cache.memory roomy (items_of cache.memory.pools) (victims_of cache.memory pool want ++ items_of roomy.pools) (queue_of cache.nvm) (queue_of cache.nvm) (seen (fills_of cache.nvm)) (seen (fills_of cache.nvm)) (loose ++ fills_of cache.nvm) (loose ++ fills_of cache.nvm)
+          (record { charges = refl; made = refl }) (room_fewer cache.memory pool want) (same_puts (queue_of cache.nvm)) (same_fills (seen (fills_of cache.nvm))) (same_wait (loose ++ fills_of cache.nvm)) h.0,
+      h.1,
+    )
+
 pub room_stands : (pool want : ℕ) (cache : Cache) (seen : List Fill → List Fill) (loose : List Fill) → Stands cache seen loose → Roomed cache (make_room pool want cache).cache pool want seen loose
 room_stands pool want cache seen loose h =
-    let roomy = after_room cache.memory pool want in
-    let bare = with_memory roomy cache in
-    let items = items_of roomy.pools in
+    let bare = with_memory (after_room cache.memory pool want) cache in
+    let items = items_of (after_room cache.memory pool want).pools in
     let victims = victims_of cache.memory pool want in
-    let whole = held_less cache.memory roomy (items_of cache.memory.pools) (victims ++ items) (queue_of cache.nvm) (queue_of cache.nvm) (seen (fills_of cache.nvm)) (seen (fills_of cache.nvm)) (loose ++ fills_of cache.nvm) (loose ++ fills_of cache.nvm)
-        (record { charges = refl; made = refl }) (room_fewer cache.memory pool want) (same_puts (queue_of cache.nvm)) (same_fills (seen (fills_of cache.nvm))) (same_wait (loose ++ fills_of cache.nvm)) h.0 in
-    let left = all_left pool want seen loose victims items bare (whole, h.1) in
+    let left = all_left pool want seen loose victims items bare (whole_left pool want cache seen loose h) in
     let after = (make_room pool want cache).cache in
     record { stands = subst (λ (m : Memory). Midst after.memory (items_of m.pools) after.nvm seen loose) (sym left.memory) left.midst; memory = left.memory; fills = left.fills }
 
@@ -123,3 +130,15 @@ charge_stands pool key size cache seen loose h =
       memory = ap (λ (m : Memory). with_charge m pool key size) r.memory;
       fills = r.fills;
     }
+
+-- ---- what it is for
+
+pub evicted_waits : EvictedNeverWaits
+evicted_waits cache pool want gone left item s e =
+    let bare = with_memory (after_room cache.memory pool want) cache in
+    let items = items_of (after_room cache.memory pool want).pools in
+    let whole = whole_left pool want cache all_of [] (parts_of cache.memory cache.nvm s) in
+    let listed : victims_of cache.memory pool want ++ items ≡ gone ++ item ∷ (left ++ items) = ap (λ (xs : List Item). xs ++ items) e ∙ append_assoc gone (item ∷ left) items in
+    let some = all_left pool want all_of [] gone (item ∷ (left ++ items)) bare (subst (λ (xs : List Item). Midst bare.memory xs bare.nvm all_of []) listed whole) in
+    let here : ◌≡◌ {A = ℕ} (cond (is_at item.key item) 1 0) 1 = ap {B = ℕ} (λ b. cond b 1 0) (bytes_eq-refl item.key) in
+    find-none (is_put_of item.key) (queue_of (all_leave pool want gone bare).cache.nvm) (omega (arith, some.midst.0.one_place item.key, here))

@@ -1,10 +1,9 @@
 -- Calls that wait are served, and a key's fill ends.
-use Rattle.std.proofs.Common.{◌≡◌, ℕ, ◌+◌, ◌<◌, ◌≤◌, Bool, true, false, not, List, [], ◌∷◌, ◌++◌, filter, find, Option, Some, None, refl, ap, sym, ◌∙◌, arith, cond, subst}
-use Rattle.hc_types.specs.Tally.{tally, count}
+use Rattle.std.proofs.Common.{◌≡◌, ℕ, ◌≤◌, Bool, true, false, not, List, [], ◌∷◌, ◌++◌, filter, find, Option, Some, None, refl, ap, sym, ◌∙◌, arith, cond, subst}
+use Rattle.hc_types.specs.Tally.{count}
 use Rattle.hc_types.proofs.Tallies.{tally-append}
 use Rattle.hc_types.specs.FlashEntry.{FlashEntry}
 use Rattle.hc_engines.specs.pair.Pair.{Pair}
-use Rattle.hc_memory.specs.Memory.{Memory}
 use Rattle.hc_memory.proofs.Keyed.{same_bytes}
 use Rattle.hc_items.specs.Items.{items_of}
 use Rattle.hc_machine.specs.Nvm.{Nvm, Wish, ToFind, ToAdd, Waiter, Fill, is_fill_of, fill_at, without_fill, adds}
@@ -13,12 +12,13 @@ use Rattle.hc_machine.specs.Waiting.{live, serve, there_after, serve_all, serve_
 use Rattle.hc_invariant.specs.Tells.{waiters_of}
 use Rattle.hc_invariant.specs.Jobs.{AllWish}
 use Rattle.hc_invariant.specs.Good.{fills_of}
-use Rattle.hc_invariant.specs.Structure.{AllAsk, brings, operations, queue_of}
+use Rattle.hc_invariant.specs.Structure.{AllAsk, brings, queue_of}
 use Rattle.hc_proof_frames.proofs.frames.ByNumber.{same_number, found-passes, count-fewer}
 use Rattle.hc_proof_frames.proofs.frames.Fills.{all_still, wishes_at, fewer_wish}
 use Rattle.hc_proof_frames.proofs.frames.OpenCharges.{fewer_wait}
 use Rattle.hc_proof_calls.specs.calls.Serving.{ghost}
 use Rattle.hc_proof_structure.specs.Parts.{Held, Beside, Stands, all_of, FewerFills, FewerWait}
+use Rattle.hc_proof_structure.specs.Steps.{WaitingAddsAreOpen}
 use Rattle.hc_proof_structure.proofs.Parts.{same_items, same_puts, same_fills, held_less}
 use Rattle.hc_proof_structure.proofs.Pieces.{none_left, plant_stands, plant_fills, free_stands}
 
@@ -28,7 +28,7 @@ use Rattle.hc_proof_structure.proofs.Pieces.{none_left, plant_stands, plant_fill
 pub stands_less : (cache : Cache) (seen seen' : List Fill → List Fill) (loose loose' : List Fill) → FewerFills (seen (fills_of cache.nvm)) (seen' (fills_of cache.nvm)) → FewerWait (loose ++ fills_of cache.nvm) (loose' ++ fills_of cache.nvm) → Stands cache seen loose → Stands cache seen' loose'
 stands_less cache seen seen' loose loose' fills wait h = (
   held_less cache.memory cache.memory (items_of cache.memory.pools) (items_of cache.memory.pools) (queue_of cache.nvm) (queue_of cache.nvm) (seen (fills_of cache.nvm)) (seen' (fills_of cache.nvm)) (loose ++ fills_of cache.nvm) (loose' ++ fills_of cache.nvm)
-  (record { charges = refl; made = refl }) (same_items (items_of cache.memory.pools)) (same_puts (queue_of cache.nvm)) fills wait h.0,
+      (record { charges = refl; made = refl }) (same_items (items_of cache.memory.pools)) (same_puts (queue_of cache.nvm)) fills wait h.0,
   h.1,
 )
 
@@ -140,6 +140,11 @@ end_fill_stands key there cache h = by cache.nvm h
               adds = λ n. left_fewer (adds n) (is_fill_of key) nvm.fills fill e (is_fill_of key) mine;
             } in
             let held = held_less cache.memory cache.memory (items_of cache.memory.pools) (items_of cache.memory.pools) nvm.queue nvm.queue (without_fill key nvm.fills) (without_fill key nvm.fills) nvm.fills (ghost key fill.waiters ∷ without_fill key nvm.fills)
-                (record { charges = refl; made = refl }) (same_items (items_of cache.memory.pools)) (same_puts nvm.queue) (same_fills (without_fill key nvm.fills)) wait h.0 in
+            (record { charges = refl; made = refl }) (same_items (items_of cache.memory.pools)) (same_puts nvm.queue) (same_fills (without_fill key nvm.fills)) wait h.0 in
             subst (λ (k : List ℕ). Stands (serve_all fill.waiters there (with_nvm (record nvm { fills = without_fill k nvm.fills }) own)).cache all_of []) (sym (same_bytes fill.key key mine))
             (serve_stands key fill.waiters there (with_nvm left own) (none_left (is_fill_of key) nvm.fills) (held, beside_fewer nvm (λ f. not (is_fill_of key f)) h.1))
+
+-- ---- what it is for
+
+pub waiting_open : WaitingAddsAreOpen
+waiting_open cache key fill s e = wishes_at cache.memory key (fills_of cache.nvm) fill e s.wishes

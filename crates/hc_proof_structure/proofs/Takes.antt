@@ -1,12 +1,12 @@
 -- The work of workers on flash: takes, results, and a reclaim.
-use Rattle.std.proofs.Common.{◌≡◌, ℕ, ◌+◌, ◌<◌, ◌≤◌, ◌==◌, Bool, true, false, not, ◌&&◌, List, [], ◌∷◌, ◌++◌, length, filter, find, map, Option, Some, None, refl, ap, sym, ◌∙◌, arith, cond, subst}
-use Rattle.std.specs.Prelude.{if◌then◌else◌, nat_lt, is_some, option_map}
+use Rattle.std.proofs.Common.{◌≡◌, ℕ, ◌+◌, ◌<◌, ◌≤◌, ◌==◌, Bool, true, false, not, ◌&&◌, List, [], ◌∷◌, ◌++◌, length, filter, Option, Some, None, refl, ap, sym, ◌∙◌, arith, cond, subst}
+use Rattle.std.specs.Prelude.{if◌then◌else◌, nat_lt, is_some}
 use Rattle.std.proofs.lemmas.Bool.{eqb-true}
-use Rattle.hc_types.specs.Tally.{tally, count}
+use Rattle.hc_types.specs.Tally.{count}
 use Rattle.hc_types.proofs.Tallies.{tally-push, tally-mono}
 use Rattle.hc_types.specs.Places.{is_small_by}
 use Rattle.hc_types.specs.FlashEntry.{FlashEntry}
-use Rattle.hc_engines.specs.Engine.{Op, Put, Get, Delete, Flush, Order, IoResult, Answer, Loss, Outcome, Next, Busy, Io, Done}
+use Rattle.hc_engines.specs.Engine.{Op, Put, Get, Delete, Flush, IoResult, Outcome, Next, Busy, Io, Done}
 use Rattle.hc_engines.specs.small.BigHash as bighash
 use Rattle.hc_engines.specs.large.Block as block
 use Rattle.hc_engines.specs.large.Steps as steps
@@ -18,16 +18,16 @@ use Rattle.hc_memory.specs.Memory.{Memory}
 use Rattle.hc_history.specs.Note as note
 use Rattle.hc_machine.specs.Nvm.{Nvm, Tombstone, Task, Putting, Deleting, Filling, Flushing, Job, Fill, is_put_of, without_put, next_put, is_stone_of, taken_stone, next_delete, is_fill_of, is_job, job_at, without_job, ordered, fill_by, taken_fill, next_fill, adds}
 use Rattle.hc_machine.specs.Leaving.{Changed, changed}
-use Rattle.hc_machine.specs.Takes.{Filled, Taken, Idle, Work, takes, idle, told_before, raise, bucket_lost, raise_all, holds, ends_with, settled, finished, ends, launched, launch, take_sized, take_put, take_delete, take_flush, writer_take, take_fill, filler_take, Reclaiming, reclaimed_by, reclaim, goes_on, resumed, finish_job, finish}
+use Rattle.hc_machine.specs.Takes.{Filled, Taken, Work, takes, idle, told_before, raise, bucket_lost, raise_all, holds, ends_with, settled, finished, ends, launched, launch, take_sized, take_put, take_delete, take_flush, writer_take, take_fill, filler_take, reclaimed_by, reclaim, goes_on, resumed, finish_job, finish}
 use Rattle.hc_invariant.specs.Tells.{waiters_of}
 use Rattle.hc_invariant.specs.Jobs.{AllWishes}
 use Rattle.hc_invariant.specs.Structure.{Asks, AllAsk, JobsStand, brings, operations, is_get_of, is_read_of, is_small_job, is_large_job}
 use Rattle.hc_proof_frames.proofs.frames.ByNumber.{same_number, found-passes, count-fewer, count-map}
 use Rattle.hc_proof_frames.proofs.frames.Lists.{found-counts}
-use Rattle.hc_proof_frames.proofs.frames.JobLists.{job_number, gone_fewer, ordered_many}
-use Rattle.hc_proof_structure.specs.Operations.{AnswerIsOf, NextIsOf, Does, Rests}
-use Rattle.hc_proof_structure.specs.Parts.{Beside, FewerPuts, FewerFills, FewerWait}
-use Rattle.hc_proof_structure.specs.Takes.{Under, AllAsked, Ended, FilledSo, Leaves, Raised}
+use Rattle.hc_proof_frames.proofs.frames.JobLists.{gone_fewer, ordered_many}
+use Rattle.hc_proof_structure.specs.Operations.{AnswerIsOf, NextIsOf, Rests}
+use Rattle.hc_proof_structure.specs.Parts.{Beside, FewerPuts}
+use Rattle.hc_proof_structure.specs.Takes.{Under, AllAsked, FilledSo, Leaves, Raised}
 use Rattle.hc_proof_structure.proofs.Operations as engines
 use Rattle.hc_proof_structure.proofs.Operations.{Resumes}
 use Rattle.hc_proof_structure.proofs.Parts.{same_puts, same_fills, same_wait}
@@ -345,12 +345,15 @@ fill_leaves (Some fill) nvm e one b =
       λ k. omega (arith, h.0 k, taken_seen fill.key (nvm.made + 1) nvm.fills k),
       record { wishes = λ memory w. h.1.wishes memory (taken_wishes memory fill.key (nvm.made + 1) nvm.fills w); adds = λ n. omega (arith, h.1.adds n, ap (λ ws. count (adds n) ws) (taken_waiters fill.key (nvm.made + 1) nvm.fills)) },
     )
-    filled_from new (Some filled) h = (h.0, record {
-      fills = λ k. omega (arith, h.1.fills k, taken_seen fill.key (nvm.made + 1) nvm.fills k);
-      wait = record { wishes = λ memory w. h.1.wait.wishes memory (taken_wishes memory fill.key (nvm.made + 1) nvm.fills w); adds = λ n. omega (arith, h.1.wait.adds n, ap (λ ws. count (adds n) ws) (taken_waiters fill.key (nvm.made + 1) nvm.fills)) };
-      gone = h.1.gone;
-      own = h.1.own;
-    })
+    filled_from new (Some filled) h = (
+      h.0,
+      record {
+        fills = λ k. omega (arith, h.1.fills k, taken_seen fill.key (nvm.made + 1) nvm.fills k);
+        wait = record { wishes = λ memory w. h.1.wait.wishes memory (taken_wishes memory fill.key (nvm.made + 1) nvm.fills w); adds = λ n. omega (arith, h.1.wait.adds n, ap (λ ws. count (adds n) ws) (taken_waiters fill.key (nvm.made + 1) nvm.fills)) };
+        gone = h.1.gone;
+        own = h.1.own;
+      },
+    )
 
 pub filler_leaves : (nvm : Nvm) → ((key : List ℕ) → count (is_fill_of key) nvm.fills ≤ 1) → Beside (Some nvm) → Leaves nvm (filler_take nvm)
 filler_leaves nvm one b = fill_leaves (next_fill nvm) nvm refl one b
@@ -376,7 +379,7 @@ goes_leaves nvm job op (Done outcome) lt is asked b =
       asks = b.jobs.asks;
     } in
     let l = ends_leaves off job.number job.task outcome b.one_stone u (λ more. absurd (omega (arith, more, lt))) (brings_of job.task)
-        (λ fill found. subst (λ (o : Op). AnswerIsOf o outcome.answer) (asked_found op job.number nvm.fills fill found asked) is) in
+    (λ fill found. subst (λ (o : Op). AnswerIsOf o outcome.answer) (asked_found op job.number nvm.fills fill found asked) is) in
     record { puts = l.puts; fills = l.fills; beside = l.beside }
   where
     brings_of : (task : Task) → BringsNone task job.number (record nvm { jobs = without_job job.number nvm.jobs })

@@ -1,25 +1,21 @@
 -- The steps of workers.
-use Rattle.std.proofs.Common.{◌≡◌, ℕ, ◌+◌, ◌<◌, ◌≤◌, ◌==◌, Bool, true, false, not, List, [], ◌∷◌, ◌++◌, length, map, Option, Some, None, refl, ap, sym, ◌∙◌, arith, cond, subst}
+use Rattle.std.proofs.Common.{◌≡◌, ℕ, ◌+◌, Bool, true, false, List, [], ◌∷◌, length, map, Option, Some, None, refl, ap, sym, ◌∙◌, arith, cond, subst}
 use Rattle.std.specs.Prelude.{if◌then◌else◌}
 use Rattle.std.specs.Str.{bytes_eq}
-use Rattle.hc_types.specs.Config.{Config}
-use Rattle.hc_types.specs.Charge.{charge_of}
 use Rattle.hc_types.specs.Tally.{tally, count}
 use Rattle.hc_types.proofs.Tallies.{tally-append}
 use Rattle.hc_types.specs.FlashEntry.{FlashEntry}
 use Rattle.hc_types.specs.declared.config.PoolSize.{PoolSize}
 use Rattle.hc_types.specs.declared.config.FlashConfig.{FlashConfig}
-use Rattle.hc_engines.specs.Engine.{IoResult}
-use Rattle.hc_memory.specs.Item.{Item, Handle, charge_by}
+use Rattle.hc_memory.specs.Item.{Item, charge_by}
 use Rattle.hc_memory.specs.Pool.{is_at}
 use Rattle.hc_memory.specs.Charges.{has_number, is_open}
 use Rattle.hc_memory.specs.Memory.{Memory, empty_pool}
 use Rattle.hc_items.specs.Items.{items_of, item_has}
 use Rattle.hc_items.proofs.Items.{bytes_eq-refl}
 use Rattle.hc_machine.specs.Nvm.{Nvm, Wish, ToFind, ToAdd, Waiter, Fill, is_put_of, is_fill_of, adds}
-use Rattle.hc_machine.specs.Cache.{Cache, Told, tells, and_then, takes_in, on_flash_of, new_cache, unmarked_by}
+use Rattle.hc_machine.specs.Cache.{Cache, tells, and_then, on_flash_of, new_cache, unmarked_by}
 use Rattle.hc_machine.specs.Evicting.{make_charge, handle_for}
-use Rattle.hc_machine.specs.Waiting.{serve_all}
 use Rattle.hc_machine.specs.Takes as flash
 use Rattle.hc_machine.specs.Takes.{Filled, Taken}
 use Rattle.hc_machine.specs.Workers.{can_link, link_clean, bring, fill, after_take, take_on, reclaim_on, after_finish, finish_on}
@@ -80,7 +76,7 @@ linked_brought key ws entry cache own h =
     let free = next_open cache.memory (items_of cache.memory.pools) (queue_of cache.nvm) (with_ghost key ws (fills_of cache.nvm)) (ghost key ws ∷ fills_of cache.nvm) h.0 in
     let is_there : is_open (charge_by handle) c.memory.charges ≡ true = ap (λ (m : Memory). is_open (charge_by handle) m.charges) charged.memory ∙ last_open cache.memory.charges (charge_by handle) free in
     let no_add : count (adds handle.number) (waiters_of (ghost key ws ∷ fills_of c.nvm)) ≡ 0 =
-        subst (λ (fills : List Fill). count (adds handle.number) (waiters_of (ghost key ws ∷ fills)) ≡ 0) (sym charged.fills) (unkept_fills cache.memory handle.number (ghost key ws ∷ fills_of cache.nvm) free h.0.wishes) in
+    subst (λ (fills : List Fill). count (adds handle.number) (waiters_of (ghost key ws ∷ fills)) ≡ 0) (sym charged.fills) (unkept_fills cache.memory handle.number (ghost key ws ∷ fills_of cache.nvm) free h.0.wishes) in
     let at_key : count (is_put_of key) (queue_of c.nvm) + count (is_fill_of key) (fills_of c.nvm) ≡ 0 = omega (arith, charged.stands.0.one_place key, one_ghost key) in
     let nowhere : count (is_put_of handle.key) (queue_of c.nvm) + count (is_fill_of handle.key) (fills_of c.nvm) ≡ 0 = subst (λ (k : List ℕ). count (is_put_of k) (queue_of c.nvm) + count (is_fill_of k) (fills_of c.nvm) ≡ 0) (sym own) at_key in
     record { stands = link_stands handle true c all_of (ghost key ws ∷ []) is_there no_add nowhere (none_brought key ws c charged.stands).stands; fills = charged.fills }

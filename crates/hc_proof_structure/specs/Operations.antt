@@ -1,7 +1,7 @@
 -- What a call of both engines does to their lists of operations, whatever comes of it.
 use Rattle.std.specs.Prelude.{◌≡◌, ℕ, ◌≤◌, List}
 use Rattle.hc_types.specs.Tally.{tally}
-use Rattle.hc_engines.specs.Engine.{Op, Get, Answer, Found, Outcome, Next, Busy, Io, Done}
+use Rattle.hc_engines.specs.Engine.{Op, Get, Answer, Found, Next, Busy, Io, Done}
 use Rattle.hc_engines.specs.small.BigHash as bighash
 use Rattle.hc_engines.specs.small.BigHash.{Phase, make_job}
 use Rattle.hc_engines.specs.large.Block as block

@@ -3,11 +3,8 @@ use Rattle.std.specs.Prelude.{◌≡◌, ℕ, ◌+◌, ◌<◌, ◌≤◌, ◌==
 use Rattle.hc_types.specs.Tally.{count}
 use Rattle.hc_types.specs.FlashEntry.{FlashEntry}
 use Rattle.hc_engines.specs.Engine.{Op, Get}
-use Rattle.hc_memory.specs.Memory.{Memory}
-use Rattle.hc_machine.specs.Nvm.{Nvm, Tombstone, Fill, Task, Putting, Deleting, Filling, Flushing, is_job, is_put_of, is_stone_of, is_fill_of, adds}
+use Rattle.hc_machine.specs.Nvm.{Nvm, Tombstone, Fill, is_job, is_stone_of, is_fill_of}
 use Rattle.hc_machine.specs.Takes.{Filled, Taken}
-use Rattle.hc_invariant.specs.Tells.{waiters_of}
-use Rattle.hc_invariant.specs.Jobs.{AllWishes}
 use Rattle.hc_invariant.specs.Structure.{AllAsk, brings, operations}
 use Rattle.hc_proof_calls.specs.calls.Serving.{ghost}
 use Rattle.hc_proof_structure.specs.Parts.{Beside, FewerPuts, FewerFills, FewerWait}
