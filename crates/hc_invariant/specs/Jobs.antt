@@ -73,6 +73,10 @@ abbrev pub AllWish : Memory → List ℕ → List Waiter → Type 0
 AllWish memory key [] = Unit {0}
 AllWish memory key (waiter ∷ waiters) = WishHolds memory key waiter.wish × AllWish memory key waiters
 
+abbrev pub AllWishes : Memory → List Fill → Type 0
+AllWishes memory [] = Unit {0}
+AllWishes memory (fill ∷ fills) = AllWish memory fill.key fill.waiters × AllWishes memory fills
+
 -- The operation that brings the key: a get of it in the small engine; or in the large one, and then the key is neither
 -- being written nor in the small engine; it is where the read began, or not in the large one either.
 abbrev pub Brings : Pages → Nvm → List ℕ → Option bighash.Job → Option block.Work → Type 0

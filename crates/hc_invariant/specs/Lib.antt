@@ -1,9 +1,10 @@
--- The invariant of the whole cache and the laws of its steps, with a trial that computes both.
+-- The invariant of the whole cache, the laws of its steps, and a trial that computes both; and what holds whatever the device answers.
 pub mod Standing
 pub mod Tells
 pub mod Jobs
 pub mod Fresh
 pub mod Good
+pub mod Structure
 pub mod Laws
 pub mod Alike
 pub mod TrialOfFlash

@@ -31,7 +31,7 @@ wish_last : (memory : Memory) (key : List ℕ) (waiters : List Waiter) (w : Wait
 wish_last memory key [] w h k = (k, tt)
 wish_last memory key (x ∷ ws) w h k = (h.0, wish_last memory key ws w h.1 k)
 
-wishes_joined : (memory : Memory) (key : List ℕ) (w : Waiter) (fills : List Fill) → AllWishes memory fills → WishHolds memory key w.wish → AllWishes memory (joined_by key w fills)
+pub wishes_joined : (memory : Memory) (key : List ℕ) (w : Waiter) (fills : List Fill) → AllWishes memory fills → WishHolds memory key w.wish → AllWishes memory (joined_by key w fills)
 wishes_joined memory key w [] h k = ((k, tt), tt)
 wishes_joined memory key w (fill ∷ fills) h k = step (is_fill_of key fill) refl (wishes_joined memory key w fills h.1 k)
   where
@@ -63,7 +63,7 @@ each_joined pages memory nvm key w (fill ∷ fills) h k m = step (is_fill_of key
     step false t rest = (h.0, rest)
 
 -- no other key gets a fill
-one_other : (k key : List ℕ) (w : Waiter) (fills : List Fill) → bytes_eq key k ≡ false → count (is_fill_of k) (joined_by key w fills) ≡ count (is_fill_of k) fills
+pub one_other : (k key : List ℕ) (w : Waiter) (fills : List Fill) → bytes_eq key k ≡ false → count (is_fill_of k) (joined_by key w fills) ≡ count (is_fill_of k) fills
 one_other k key w [] o = omega (arith, none_if (bytes_eq key k) o)
 one_other k key w (fill ∷ fills) o = step (is_fill_of key fill) (one_other k key w fills o)
   where
@@ -85,7 +85,7 @@ one_own key w (fill ∷ fills) o = step (is_fill_of key fill) refl (one_own key 
     step true t rest o = omega (arith, ap {B = ℕ} (λ b. cond b 1 0) t)
     step false t rest o = omega (arith, none_if (is_fill_of key fill) t, rest (omega arith))
 
-one_joined : (k key : List ℕ) (w : Waiter) (fills : List Fill) → count (is_fill_of k) fills ≤ 1 → count (is_fill_of k) (joined_by key w fills) ≤ 1
+pub one_joined : (k key : List ℕ) (w : Waiter) (fills : List Fill) → count (is_fill_of k) fills ≤ 1 → count (is_fill_of k) (joined_by key w fills) ≤ 1
 one_joined k key w fills o = step (bytes_eq key k) refl
   where
     step : (b : Bool) → bytes_eq key k ≡ b → count (is_fill_of k) (joined_by key w fills) ≤ 1
@@ -93,7 +93,7 @@ one_joined k key w fills o = step (bytes_eq key k) refl
     step false t = omega (arith, one_other k key w fills t)
 
 -- a new fill has no job
-brought_joined : (n : ℕ) (key : List ℕ) (w : Waiter) (fills : List Fill) → count (λ (fill : Fill). is_brought_by n fill.job) (joined_by key w fills) ≡ count (λ (fill : Fill). is_brought_by n fill.job) fills
+pub brought_joined : (n : ℕ) (key : List ℕ) (w : Waiter) (fills : List Fill) → count (λ (fill : Fill). is_brought_by n fill.job) (joined_by key w fills) ≡ count (λ (fill : Fill). is_brought_by n fill.job) fills
 brought_joined n key w [] = omega arith
 brought_joined n key w (fill ∷ fills) = step (is_fill_of key fill) (brought_joined n key w fills)
   where
@@ -112,7 +112,7 @@ sized_joined pools key w (fill ∷ fills) h k = step (is_fill_of key fill) (size
 
 -- ---- the state
 
-one_more_add : (b : Bool) (m n : ℕ) → m ≡ n + cond b 1 0 → (b ≡ true → n ≡ 0) → n ≤ 1 → m ≤ 1
+pub one_more_add : (b : Bool) (m n : ℕ) → m ≡ n + cond b 1 0 → (b ≡ true → n ≡ 0) → n ≤ 1 → m ≤ 1
 one_more_add true m n e z h = omega (arith, e, z refl)
 one_more_add false m n e z h = omega (arith, e)
 

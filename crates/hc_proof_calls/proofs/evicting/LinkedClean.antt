@@ -67,7 +67,7 @@ find_last test (y ∷ xs) x h e = step (test y) h (λ k. find_last test xs x k e
 pub last_open : (charges : List Open) (c : Open) → count (has_number c.number) charges ≡ 0 → is_open c (charges ++ c ∷ []) ≡ true
 last_open charges c none = found-is_open c (charges ++ c ∷ []) (find_last (has_number c.number) charges c (find-none (has_number c.number) charges none) (eqb-same c.number))
 
-not_it : (charges : List Open) (o : Open) (n : ℕ) → count (has_number n) charges ≡ 0 → is_open o charges ≡ true → (o.number == n) ≡ false
+pub not_it : (charges : List Open) (o : Open) (n : ℕ) → count (has_number n) charges ≡ 0 → is_open o charges ≡ true → (o.number == n) ≡ false
 not_it charges o n none h = step (o.number == n) refl
   where
     step : (b : Bool) → (o.number == n) ≡ b → b ≡ false

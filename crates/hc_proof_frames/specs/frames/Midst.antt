@@ -9,16 +9,13 @@ use Rattle.hc_history.specs.Note.{Note}
 use Rattle.hc_history.specs.Pages.{bytes_at}
 use Rattle.hc_machine.specs.Nvm.{Nvm, Fill, is_fill_of, is_brought_by, adds}
 use Rattle.hc_invariant.specs.Tells.{WaitsTell, waiters_of}
-use Rattle.hc_invariant.specs.Jobs.{JobsRun, AllWish, AllFill}
+use Rattle.hc_invariant.specs.Jobs.{JobsRun, AllFill}
+pub use Rattle.hc_invariant.specs.Jobs.{AllWishes}
 use Rattle.hc_invariant.specs.Good.{EnginesFit, AllSized, InPools, NoFlash}
 
 -- the fills of the keys that aren't on their way
 abbrev pub still : (List ℕ → Bool) → List Fill → List Fill
 still moves fills = filter (λ (fill : Fill). not (moves fill.key)) fills
-
-abbrev pub AllWishes : Memory → List Fill → Type 0
-AllWishes memory [] = Unit {0}
-AllWishes memory (fill ∷ fills) = AllWish memory fill.key fill.waiters × AllWishes memory fills
 
 -- the fills: what those wait for whose key is on its way is asked of their calls alone
 pub record FillsInMidst (pages : Pages) (memory : Memory) (nvm : Nvm) (moves : List ℕ → Bool) : Type 0 where

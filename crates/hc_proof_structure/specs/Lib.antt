@@ -1,0 +1,5 @@
+-- What holds of the cache whatever the device answers: that each step keeps it.
+pub mod Operations
+pub mod Parts
+pub mod Takes
+pub mod Steps
