@@ -22,14 +22,7 @@ use Rattle.hc_block.specs.Large.{Large}
 use Rattle.hc_block.specs.Moves.{resume_work, resume_by}
 use Rattle.hc_pair.specs.Found.{found_by, found_after, is_io}
 use Rattle.hc_pair.specs.Joined.{IsJoined}
-use Rattle.hc_pair.proofs.Steps.{get_loses_one}
-
-some-is : {A : Type 0} (x y : A) → Some x ≡ Some y → x ≡ y
-some-is x y h = cc
-
-op-some : (o : Option Job) (op : Op) → option_map (λ (j : Job). j.op) o ≡ Some op → (job : Job) × (o ≡ Some job) × (job.op ≡ op)
-op-some None op h = absurd cc
-op-some (Some job) op h = (job, refl, some-is _ _ h)
+use Rattle.hc_pair.proofs.Steps.{some_is, op-some, op-none, get_loses_one}
 
 -- ---- what isn't a get finds nothing in the small engine
 
@@ -72,7 +65,7 @@ other-finds s number job came m there made other = by (bighash.went_on s.flash.p
   where
     by : (o : Option Plan) → planned-next s.flash.page job.bucket job.op o ≡ None → bighash.resumed s job o ≡ Some m → found_next m.next ≡ None
     by None h e = absurd cc
-    by (Some plan) h e = sym (ap (λ (x : bighash.Moved). found_next x.next) (some-is (moved s job.number job.bucket job.op plan) m e)) ∙ h
+    by (Some plan) h e = sym (ap (λ (x : bighash.Moved). found_next x.next) (some_is (moved s job.number job.bucket job.op plan) m e)) ∙ h
 
 -- ---- a get of the small engine
 
@@ -150,21 +143,17 @@ large-loses n m h = by m.order
 pub large_loses : (small : BigHash) (large : Large) (number n : ℕ) → IsJoined small large → op_in number small.jobs ≡ None
     → ((came : IoResult) (m : block.Moved) → resume_by large.flash number came large.block ≡ Some m → length m.outcome.losses ≤ n)
     → (came : IoResult) (m : Moved) → resume number came (record { small = small; large = large.block }) ≡ Some m → length (losses_of m.next) ≤ n
-large_loses small large number n joined none most came m made = by (work_of number large.block.jobs) refl (sym (ap (resume_in number came pair) (gone (job_at number small.jobs) none)) ∙ made)
+large_loses small large number n joined none most came m made = by (work_of number large.block.jobs) refl (sym (ap (resume_in number came pair) (op-none (job_at number small.jobs) none)) ∙ made)
   where
     pair : Pair
     pair = record { small = small; large = large.block }
-
-    gone : (o : Option Job) → option_map (λ (j : Job). j.op) o ≡ None → o ≡ None
-    gone None h = refl
-    gone (Some job) h = absurd cc
 
     within : (x : block.Moved) → resume_by small.flash number came large.block ≡ Some x → length x.outcome.losses ≤ n
     within = subst (λ (f : FlashConfig). (x : block.Moved) → resume_by f number came large.block ≡ Some x → length x.outcome.losses ≤ n) joined.flash (most came)
 
     waiting : (work : Work) (t : Bool) → ((x : block.Moved) → (if t then Some (steps.resume small.flash number work came large.block) else None) ≡ Some x → length x.outcome.losses ≤ n)
         → (if t then Some (by_large pair [] (steps.resume small.flash number work came large.block)) else None) ≡ Some m → length (losses_of m.next) ≤ n
-    waiting work true h e = subst (λ (x : Moved). length (losses_of x.next) ≤ n) (some-is _ m e) (large-loses n (steps.resume small.flash number work came large.block) (h _ refl))
+    waiting work true h e = subst (λ (x : Moved). length (losses_of x.next) ≤ n) (some_is _ m e) (large-loses n (steps.resume small.flash number work came large.block) (h _ refl))
     waiting work false h e = absurd cc
 
     by : (o : Option Work) → work_of number large.block.jobs ≡ o → resume_large number came pair o ≡ Some m → length (losses_of m.next) ≤ n
@@ -218,7 +207,7 @@ small_loses pair number n op under most came m made = by (bighash.resume pair.sm
 
     by : (o : Option bighash.Moved) → bighash.resume pair.small number came ≡ o → option_map (λ x. after_small number job.op (by_small pair x)) o ≡ Some m → length (losses_of m.next) ≤ most-of n op
     by None e h = absurd cc
-    by (Some x) e h = subst (λ (y : Moved). length (losses_of y.next) ≤ most-of n op) (some-is _ m h) (subst (λ (p : Op). length (losses_of (after_small number job.op (by_small pair x)).next) ≤ most-of n p) has (after-loses n number job.op (by_small pair x) (most came x e)))
+    by (Some x) e h = subst (λ (y : Moved). length (losses_of y.next) ≤ most-of n op) (some_is _ m h) (subst (λ (p : Op). length (losses_of (after_small number job.op (by_small pair x)).next) ≤ most-of n p) has (after-loses n number job.op (by_small pair x) (most came x e)))
 
 -- ---- a flush that has no page to write
 

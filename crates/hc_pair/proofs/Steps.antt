@@ -32,7 +32,7 @@ use Rattle.hc_pair.specs.Joined.{IsJoined, is_miss, losses_of, after}
 abbrev both : BigHash → Large → Pair
 both small large = record { small = small; large = large.block }
 
-some_is : {A : Type 0} (x y : A) → Some x ≡ Some y → x ≡ y
+pub some_is : {A : Type 0} (x y : A) → Some x ≡ Some y → x ≡ y
 some_is x y h = cc
 
 pub on_err : {T E P : Type 0} (result : Result T E) → P → OnErr result P
@@ -44,11 +44,11 @@ on_err (Err e) p = p
 pub free_in_large : (pair : Pair) (number : ℕ) → under_way pair number ≡ None → IsFree number pair.large
 free_in_large pair number under = free_of number pair.large.jobs (none_in_both pair (job_at number pair.small.jobs) (work_of number pair.large.jobs) under).1
 
-op-some : (o : Option Job) (op : Op) → option_map (λ (j : Job). j.op) o ≡ Some op → (job : Job) × (o ≡ Some job) × (job.op ≡ op)
+pub op-some : (o : Option Job) (op : Op) → option_map (λ (j : Job). j.op) o ≡ Some op → (job : Job) × (o ≡ Some job) × (job.op ≡ op)
 op-some None op h = absurd cc
 op-some (Some job) op h = (job, refl, some_is _ _ h)
 
-op-none : (o : Option Job) → option_map (λ (j : Job). j.op) o ≡ None → o ≡ None
+pub op-none : (o : Option Job) → option_map (λ (j : Job). j.op) o ≡ None → o ≡ None
 op-none None h = refl
 op-none (Some job) h = absurd cc
 

@@ -2,7 +2,7 @@
 use crate::driving::{Driver, hand_in, is_read, over, put_large, put_small, written};
 use crate::making::{entry, key};
 use bytes::Bytes;
-use hc_bighash::{Answer, IoResult};
+use hc_bighash::{Answer, IoResult, Outcome};
 use hc_types::{Entry, kept};
 use std::alloc::{Allocator, Global};
 use std::process::Abort;
@@ -18,15 +18,24 @@ fn has<A: Allocator>(found: &Option<Entry<A>>, len: usize) -> bool {
     }
 }
 
+/// So many bytes are answered.
+fn answers<A: Allocator>(outcome: &Outcome<A>, len: usize) -> bool {
+    match &outcome.answer {
+        Answer::Found(entry) => entry.value.len() == len,
+        _ => false,
+    }
+}
+
 /// What the get that was started last finds if this comes.
 fn finds<A: Allocator + Copy>(
     rt: &impl Abort,
     driver: &Driver<A>,
     came: &IoResult<A>,
 ) -> Option<Entry<A>> {
+    let number = driver.last();
     driver
         .pair
-        .finds(driver.last(), came)
+        .finds(number, came)
         .expect(rt, "there is memory")
 }
 
@@ -53,7 +62,7 @@ fn tell_a_small_get(rt: &impl Abort, alloc: Global, driver: &mut Driver) {
     let came = IoResult::Page(page);
     assert!(rt; has(&finds(rt, driver, &came), 5));
     let outcome = over(rt, hand_in(rt, driver, came));
-    assert!(rt; matches!(outcome.answer, Answer::Found(entry) if entry.value.len() == 5));
+    assert!(rt; answers(&outcome, 5));
 }
 
 #[test]
@@ -86,7 +95,8 @@ fn flush_first(rt: &impl Abort, alloc: Global, driver: &mut Driver) -> Bytes<Glo
     drop(put_large(rt, alloc, driver, b"b"));
     assert!(rt; driver.pair.has_flush());
     let page = written(rt, driver.flush(rt), 1);
-    assert!(rt; driver.pair.most_losses(driver.last()) == 1);
+    let number = driver.last();
+    assert!(rt; driver.pair.most_losses(number) == 1);
     drop(hand_in(rt, driver, IoResult::Written));
     page
 }
@@ -100,9 +110,10 @@ fn tell_a_large_get(rt: &impl Abort, alloc: Global, driver: &mut Driver) {
     assert!(rt; finds(rt, driver, &IoResult::Failed).is_none());
     let came = IoResult::Page(page);
     assert!(rt; has(&finds(rt, driver, &came), 300));
-    assert!(rt; driver.pair.most_losses(driver.last()) == 1);
+    let number = driver.last();
+    assert!(rt; driver.pair.most_losses(number) == 1);
     let outcome = over(rt, hand_in(rt, driver, came));
-    assert!(rt; matches!(outcome.answer, Answer::Found(entry) if entry.value.len() == 300));
+    assert!(rt; answers(&outcome, 300));
 }
 
 #[test]
@@ -120,7 +131,8 @@ fn tell_losses(rt: &impl Abort, alloc: Global, driver: &mut Driver) {
     assert!(rt; driver.pair.most_reclaimed() == 1);
     drop(put_small(rt, alloc, driver, b"a"));
     drop(driver.get(rt, alloc, b"a"));
-    assert!(rt; driver.pair.most_losses(driver.last()) == 2);
+    let number = driver.last();
+    assert!(rt; driver.pair.most_losses(number) == 2);
     assert!(rt; driver.pair.most_losses(99) == 0);
 }
 
@@ -161,7 +173,8 @@ fn ask_twice<'a>(rt: &impl Abort, alloc: Heap<'a>, driver: &mut Driver<Heap<'a>>
     assert!(rt; has(&finds_at_once(rt, alloc, driver, b"b"), 300));
     drop(driver.get(rt, alloc, b"a"));
     alloc.refuse(1);
-    assert!(rt; driver.pair.finds(driver.last(), &came).is_err());
+    let number = driver.last();
+    assert!(rt; driver.pair.finds(number, &came).is_err());
     assert!(rt; has(&finds(rt, driver, &came), 5));
 }
 
