@@ -1,9 +1,9 @@
 -- The first of the ready pieces that is in no busy lane is the first of all that can go.
-use Rattle.std.proofs.Common.{◌≡◌, ℕ, ◌+◌, ◌==◌, ◌≤◌, Bool, true, false, not, ◌&&◌, ◌||◌, List, [], ◌∷◌, Option, Some, None, find, refl, sym, ap, subst, arith, ◌∙◌}
-use Rattle.std.specs.Prelude.{if◌then◌else◌, option_map}
+use Rattle.std.proofs.Common.{◌≡◌, ℕ, ◌+◌, ◌==◌, ◌≤◌, Bool, true, false, ◌||◌, List, [], ◌∷◌, Option, Some, None, find, refl, sym, ap, subst, arith, ◌∙◌}
+use Rattle.std.specs.Prelude.{option_map}
 use Rattle.std.proofs.lemmas.Bool.{eqb-true}
 use Rattle.hc_queue.specs.declared.queue.Piece.{Piece}
-use Rattle.hc_queue.specs.Queue.{can_go, is_open, also, closing, firsts, lane_at, is_free, Rises}
+use Rattle.hc_queue.specs.Queue.{can_go, is_open, also, firsts, lane_at, is_free, Rises}
 
 abbrev number : {V : Type 0} → Option (ℕ × Piece V) → Option ℕ
 number o = option_map (λ (e : ℕ × Piece _). e.0) o

@@ -1,6 +1,6 @@
 -- What holds of the pieces that stand in order at every time, through its steps.
-use Rattle.std.proofs.Common.{◌≡◌, ℕ, ◌+◌, ◌-◌, ◌==◌, ◌<◌, ◌≤◌, nat_lt, Bool, true, false, not, ◌&&◌, List, [], ◌∷◌, ◌++◌, length, Option, Some, None, refl, sym, ap, subst, arith, ◌∙◌, cond, Ordering, Less, Equal, Greater}
-use Rattle.std.specs.Prelude.{if◌then◌else◌, is_some, IsSome}
+use Rattle.std.proofs.Common.{◌≡◌, ℕ, ◌+◌, ◌-◌, ◌==◌, ◌<◌, ◌≤◌, Bool, true, false, not, ◌&&◌, List, [], ◌∷◌, ◌++◌, length, Option, Some, None, refl, sym, ap, subst, arith, ◌∙◌, Ordering, Less, Equal, Greater}
+use Rattle.std.specs.Prelude.{if◌then◌else◌, is_some}
 use Rattle.std.specs.Ordering.{nat_cmp, match_ordering}
 use Rattle.std.specs.BTreeMap.{is_at}
 use Rattle.std.specs.BTreeSet.{insert_key}
@@ -10,7 +10,7 @@ use Rattle.std.specs.Map.{lookup, set_value}
 use Rattle.std.specs.Set.{remove_key}
 use Rattle.std.proofs.lemmas.Bool.{eqb-true}
 use Rattle.hc_queue.specs.declared.queue.Piece.{Piece}
-use Rattle.hc_queue.specs.Queue.{is_open, also, firsts, in_lane, waiting, first_of, with, Rises, IsRising, without_number, turn_of, lane_at, piece_at, taken_at, AllBelow, Kept, beside, joined, left, left_by, unready_by, noted_by, comes_first, only_if, open_lane, IsNew, Waits, is_among, AreDistinct, pair_cmp}
+use Rattle.hc_queue.specs.Queue.{firsts, in_lane, waiting, first_of, with, Rises, without_number, turn_of, lane_at, piece_at, taken_at, AllBelow, Kept, beside, joined, left, left_by, unready_by, noted_by, comes_first, only_if, open_lane, IsNew, Waits, is_among, AreDistinct, pair_cmp}
 use Rattle.hc_queue.proofs.Firsts.{is-at}
 use Rattle.hc_queue.proofs.Besides.{beside-insert, beside-remove, insert-end, beside-pair}
 use Rattle.hc_queue.proofs.Gone.{At, at-turn, at-waits, rises-gone, waiting-gone, lane-gone, lane-taken, gone-idle, waiting-idle, rises-taken, firsts-taken, waiting-taken}

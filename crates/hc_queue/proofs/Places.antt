@@ -1,6 +1,6 @@
 -- Pieces that stand in order, and behind them those by their places.
-use Rattle.std.proofs.Common.{◌≡◌, ℕ, ◌+◌, ◌-◌, ◌==◌, ◌<◌, ◌≤◌, Bool, true, false, not, List, [], ◌∷◌, ◌++◌, length, zero, suc, Option, Some, None, find, filter, map, refl, sym, ap, subst, arith, ◌∙◌}
-use Rattle.std.specs.Prelude.{if◌then◌else◌, option_map, is_some, slice_set, slice_get}
+use Rattle.std.proofs.Common.{◌≡◌, ℕ, ◌+◌, ◌-◌, ◌==◌, ◌<◌, ◌≤◌, Bool, true, false, not, List, [], ◌∷◌, ◌++◌, length, zero, suc, Option, Some, None, refl, sym, ap, arith, ◌∙◌}
+use Rattle.std.specs.Prelude.{if◌then◌else◌, is_some, slice_set}
 use Rattle.hc_queue.specs.declared.queue.Piece.{Piece}
 use Rattle.hc_queue.specs.Queue.{Rises, without_number, taken_at, piece_at, numbered, piece_in, marked_place}
 use Rattle.hc_queue.proofs.Gone.{rises-less, rises-lower, none-gone}

@@ -1,5 +1,4 @@
-use Rattle.std.proofs.Common.{◌≡◌, ◌+◌, ◌≤◌, ◌<◌, [], arith}
-use Rattle.std.specs.VecDeque.{deque_len}
+use Rattle.std.proofs.Common.{arith}
 use Rattle.hc_queue.proofs.Settling.{settles-none, settles-more}
 use Rattle.hc_queue.proofs.inbox.settle.Goals as goal
 

@@ -1,6 +1,5 @@
-use Rattle.std.proofs.Common.{◌≡◌, ◌+◌, ◌≤◌, ◌∷◌, [], ◌++◌, Some, None, List, Option, ap, sym, subst, ◌∙◌, arith}
-use Rattle.std.specs.Option.{option_to_list}
-use Rattle.std.specs.VecDeque.{deque_len, deque_capacity}
+use Rattle.std.proofs.Common.{◌≡◌, ◌+◌, ◌∷◌, ap, sym, subst, ◌∙◌, arith}
+use Rattle.std.specs.VecDeque.{deque_len}
 use Rattle.hc_queue.specs.Queue.{Rises}
 use Rattle.hc_queue.proofs.Pushed.{rises-push}
 use Rattle.hc_queue.proofs.Places.{rises-more, first-empty, first-enters}

@@ -1,4 +1,4 @@
-use Rattle.std.proofs.Common.{◌≡◌, ◌+◌, length, true, false, arith, sym, ap, subst, ◌∙◌, ℕ, Bool, Option, Some, List}
+use Rattle.std.proofs.Common.{◌≡◌, ◌+◌, length, true, arith, sym, ap, subst, ◌∙◌, ℕ, Bool, Option, Some}
 use Rattle.std.specs.Prelude.{if◌then◌else◌}
 use Rattle.hc_queue.specs.Queue.{Waits}
 use Rattle.hc_queue.proofs.Keeping.{end-length}

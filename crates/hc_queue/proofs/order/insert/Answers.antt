@@ -1,4 +1,4 @@
-use Rattle.std.proofs.Common.{◌≡◌, ap, sym, subst, ◌∙◌, Option, ℕ}
+use Rattle.std.proofs.Common.{ap, sym, subst, ◌∙◌, Option, ℕ}
 use Rattle.hc_queue.specs.Queue.{left, with, without, IsNew}
 use Rattle.hc_queue.proofs.Besides.{undo-lane, undo-ready}
 use Rattle.hc_queue.proofs.Pushed.{entry-end}

@@ -1,4 +1,4 @@
-use Rattle.std.proofs.Common.{◌≡◌, ◌≤◌, ◌<◌, ◌++◌, ap, subst, sym, ◌∙◌, arith}
+use Rattle.std.proofs.Common.{◌++◌, ap, subst, sym, ◌∙◌, arith}
 use Rattle.hc_queue.specs.Queue.{Rises, numbered}
 use Rattle.hc_queue.proofs.Gone.{rises-gone}
 use Rattle.hc_queue.proofs.Places.{gone-front, gone-back, piece-front, piece-back}

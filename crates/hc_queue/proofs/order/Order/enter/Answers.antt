@@ -1,5 +1,4 @@
-use Rattle.std.proofs.Common.{◌≡◌, ◌+◌, ◌-◌, ◌≤◌, ◌<◌, length, not, ◌&&◌, ap, sym, subst, arith, ◌∙◌, List, [], ℕ}
-use Rattle.hc_queue.specs.Queue.{Kept, comes_first, only_if, with, open_lane, joined, Rises}
+use Rattle.hc_queue.specs.Queue.{open_lane}
 use Rattle.hc_queue.proofs.Keeping.{new-in-lane, new-waiting, ready-below, kept-entered, joined-spare}
 use Rattle.hc_queue.proofs.order.Order.enter.Goals as goal
 use Rattle.hc_queue.proofs.order.Order.enter.Goals.{in-Ok, in-Err}

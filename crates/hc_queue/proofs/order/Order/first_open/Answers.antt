@@ -1,4 +1,4 @@
-use Rattle.std.proofs.Common.{◌≡◌, ap, false, true, Bool, refl, ◌∙◌, List, [], ℕ}
+use Rattle.std.proofs.Common.{ap, refl, ◌∙◌, List, [], ℕ}
 use Rattle.std.specs.Prelude.{find}
 use Rattle.hc_queue.specs.Queue.{firsts, is_among, is_free}
 use Rattle.hc_queue.proofs.Free.{free-first}

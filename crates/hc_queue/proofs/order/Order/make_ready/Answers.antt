@@ -1,6 +1,6 @@
-use Rattle.std.proofs.Common.{◌≡◌, ◌∷◌, ◌++◌, [], ap, sym, subst, ◌∙◌, List, ℕ}
+use Rattle.std.proofs.Common.{◌≡◌, ◌∷◌, ◌++◌, [], ap, ◌∙◌}
 use Rattle.std.specs.Option.{option_to_list}
-use Rattle.hc_queue.specs.Queue.{Kept, with, first_of, beside}
+use Rattle.hc_queue.specs.Queue.{with, first_of, beside}
 use Rattle.hc_queue.proofs.Keeping.{kept-caught}
 use Rattle.hc_queue.proofs.order.Order.make_ready.Goals as goal
 

@@ -1,5 +1,4 @@
-use Rattle.std.proofs.Common.{◌≡◌, ap, sym, subst, ◌∙◌, List, ℕ}
-use Rattle.hc_queue.specs.Queue.{Kept}
+use Rattle.std.proofs.Common.{sym}
 use Rattle.hc_queue.proofs.Keeping.{turn-waits, kept-marked, room-ended}
 use Rattle.hc_queue.proofs.order.Order.mark.Goals as goal
 

@@ -1,5 +1,5 @@
-use Rattle.std.proofs.Common.{◌≡◌, ap, sym, subst, ◌∙◌, List, ℕ}
-use Rattle.hc_queue.specs.Queue.{Kept, left, lane_at, without_number}
+use Rattle.std.proofs.Common.{◌≡◌, ap, sym, ◌∙◌}
+use Rattle.hc_queue.specs.Queue.{left, lane_at, without_number}
 use Rattle.hc_queue.proofs.Gone.{remove-entry}
 use Rattle.hc_queue.proofs.Keeping.{lookup-is, turn-waits, kept-gone, room-ended}
 use Rattle.hc_queue.proofs.order.Order.remove.Goals as goal

@@ -1,4 +1,4 @@
-use Rattle.std.proofs.Common.{◌≡◌, ◌+◌, ◌++◌, Bool, ℕ, find, ap, sym, ◌∙◌}
+use Rattle.std.proofs.Common.{◌+◌, ◌++◌, find, ap, ◌∙◌}
 use Rattle.std.specs.Prelude.{option_map}
 use Rattle.std.specs.VecDeque.{deque_len}
 use Rattle.hc_queue.specs.Queue.{can_go, numbered, piece_by}

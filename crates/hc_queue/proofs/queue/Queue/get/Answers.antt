@@ -1,4 +1,4 @@
-use Rattle.std.proofs.Common.{◌≤◌, ◌<◌, ◌∙◌, arith}
+use Rattle.std.proofs.Common.{◌∙◌, arith}
 use Rattle.hc_queue.proofs.Places.{piece-front, piece-back}
 use Rattle.hc_queue.proofs.queue.Queue.get.Goals as goal
 

@@ -1,6 +1,5 @@
-use Rattle.std.proofs.Common.{◌≡◌, ◌+◌, ◌≤◌, ◌<◌, ◌++◌, length, ap, subst, sym, ◌∙◌, arith}
-use Rattle.std.specs.VecDeque.{deque_len, deque_capacity}
-use Rattle.hc_queue.specs.Queue.{Rises, numbered, taken_at}
+use Rattle.std.proofs.Common.{◌++◌, length, ap, subst, sym, ◌∙◌, arith}
+use Rattle.hc_queue.specs.Queue.{Rises, numbered}
 use Rattle.hc_queue.proofs.Gone.{rises-taken}
 use Rattle.hc_queue.proofs.Places.{taken-front, taken-back, length-taken}
 use Rattle.hc_queue.proofs.queue.Queue.mark.Goals as goal

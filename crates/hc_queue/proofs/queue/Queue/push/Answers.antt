@@ -1,4 +1,4 @@
-use Rattle.std.proofs.Common.{◌≡◌, ◌+◌, ◌++◌, ◌∷◌, [], ◌<◌, ◌^◌, ◌≤◌, false, length, Some, List, Option, ap, sym, ◌∙◌, arith, ℕ}
+use Rattle.std.proofs.Common.{◌+◌, ◌++◌, ◌≤◌, false, length, ◌∙◌, arith}
 use Rattle.std.specs.VecDeque.{deque_len}
 use Rattle.hc_queue.specs.declared.queue.Piece.{Piece}
 use Rattle.hc_queue.specs.Queue.{numbered}

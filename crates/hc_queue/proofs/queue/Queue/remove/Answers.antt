@@ -1,6 +1,5 @@
-use Rattle.std.proofs.Common.{◌≡◌, ◌+◌, ◌-◌, ◌≤◌, ◌++◌, length, true, false, ap, sym, ◌∙◌, arith}
-use Rattle.std.specs.Prelude.{is_some, if◌then◌else◌}
-use Rattle.std.specs.VecDeque.{deque_len, deque_capacity}
+use Rattle.std.proofs.Common.{◌+◌, ◌++◌, true, false, sym, ◌∙◌, arith}
+use Rattle.std.specs.VecDeque.{deque_len}
 use Rattle.hc_queue.specs.Queue.{numbered}
 use Rattle.hc_queue.proofs.Places.{rises-whole, counted-less}
 use Rattle.hc_queue.proofs.queue.Queue.remove.Goals as goal
