@@ -1,0 +1,2 @@
+-- What is proved of the replies that are owed.
+pub mod Owing

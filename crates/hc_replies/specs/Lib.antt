@@ -1,0 +1,2 @@
+-- The replies that are owed, as contracts see them.
+pub mod Replies
