@@ -9,6 +9,7 @@ ghost use Rattle.hc_memory.specs.Seen.{item_of, filled, glance_of};
 ghost use Rattle.hc_memory.specs.Memory.{empty_pool, pool_usage, home_of, linked_at, value_at, is_hopeless, victims_of, handle_for, unlinked, after_room, after_charge, after_unlink, after_find};
 
 use crate::answers::{Charged, Uncharged};
+use crate::clean::CleanIndex;
 use crate::fill::Fill;
 use crate::handles::{Blank, ReadHandle};
 use crate::item::{Held, Item, expired};
@@ -31,18 +32,21 @@ pub struct Pools<A: Allocator = Global> {
     pub(crate) pools: Vec<Pool<A>, A>,
     pub(crate) charges: OpenCharges<A>,
     pub(crate) made: u64,
+    // the keys of the clean items, and more of them perhaps
+    pub(crate) clean: CleanIndex<A>,
 }
 
 impl<A: Allocator> Model for Pools<A> {
     ghost use Rattle.std.specs.Prelude.{◌≡◌, length};
     ghost use Rattle.hc_memory.specs.Memory.{Memory};
     ghost use Rattle.hc_memory.specs.Sound.{Sound, FlashFits};
+    ghost use Rattle.hc_memory.specs.Clean.{Listed};
 
     ghost Value = { Memory };
 
     ghost view = { λ p. record { flash = p.flash; pools = p.pools.items; charges = p.charges.charges; made = p.made } };
 
-    ghost invariant = { λ p. Sound p.pools.items p.charges.charges p.made × (p.charges.pools ≡ length p.pools.items) × FlashFits p.flash };
+    ghost invariant = { λ p. Sound p.pools.items p.charges.charges p.made × (p.charges.pools ≡ length p.pools.items) × FlashFits p.flash × Listed p.flash p.clean p.pools.items };
 }
 
 impl<A: Allocator> Pools<A> {
@@ -147,6 +151,7 @@ impl<A: Allocator + Copy> Pools<A> {
             pools: empty_pools(alloc, sizes)?,
             charges: OpenCharges::new(alloc, sizes.len())?,
             made: 0,
+            clean: CleanIndex::new(alloc),
         })
     }
 }

@@ -8,6 +8,7 @@ use Rattle.hc_memory.specs.Memory.{Memory}
 use Rattle.hc_memory.specs.Seen.{filled}
 use Rattle.hc_memory.proofs.Rooms.{want-fits}
 use Rattle.hc_memory.proofs.Making.{there-of, there-at, known, roomy, charged-sound, take-dropped, dropped-few, size-bound}
+use Rattle.hc_memory.proofs.Listing.{listed-dropped}
 use Rattle.hc_memory.proofs.pools.Pools.charge.Goals as goal
 
 pub begin-requires-clause-free : goal.begin-requires-clause-free
@@ -60,6 +61,7 @@ invariant_of-self-2 g c =
       rw (r.set, c.in-Ok-begin.ensures.ok, p.number) s,
       ap (λ book. book.pools) c.in-Ok-begin.ensures.ok ∙ i.1 ∙ sym (length-set c.self.inside.pools.items c.from.result c.evict.new.self),
       i.2,
+      listed-dropped c.self.inside.flash c.self.inside.clean c.self.inside.pools.items c.from.result c.args.count c.index_mut.result.now c.evict.new.self i.3 (rw c.from.ensures at) c.evict.ensures.items,
     )
 
 pub returns-clause-victims : goal.returns-clause-victims

@@ -4,6 +4,7 @@ use Rattle.hc_memory.specs.Pool.{dropped}
 use Rattle.hc_memory.specs.Charges.{usage_of}
 use Rattle.hc_memory.specs.Memory.{Memory}
 use Rattle.hc_memory.proofs.Making.{there-at, known, roomy, evicted-sound, take-dropped, dropped-few}
+use Rattle.hc_memory.proofs.Listing.{listed-dropped}
 use Rattle.hc_memory.proofs.pools.Pools.make_room.Goals as goal
 
 pub evict-requires-clause-some : goal.evict-requires-clause-some
@@ -25,6 +26,7 @@ invariant_of-self g c =
       evicted-sound c.self.inside.pools.items c.self.inside.charges.charges c.self.inside.made c.args.pool c.from.result c.args.count c.index_mut.result.now c.index_mut.result.now c.evict.new.self i.0 c.from.ensures at c.index_mut.ensures.value c.evict.ensures.items,
       i.1 ∙ sym (length-set c.self.inside.pools.items c.from.result c.evict.new.self),
       i.2,
+      listed-dropped c.self.inside.flash c.self.inside.clean c.self.inside.pools.items c.from.result c.args.count c.index_mut.result.now c.evict.new.self i.3 (rw c.from.ensures at) c.evict.ensures.items,
     )
 
 pub returns-clause-victims : goal.returns-clause-victims

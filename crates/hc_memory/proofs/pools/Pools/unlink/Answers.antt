@@ -2,6 +2,7 @@ use Rattle.std.proofs.Common.{◌∙◌, ap, length, sym}
 use Rattle.hc_memory.specs.Pool.{Pool, without}
 use Rattle.hc_memory.proofs.Linking.{sound-home, shrinks-without}
 use Rattle.hc_memory.proofs.Handing.{length-home}
+use Rattle.hc_memory.proofs.Listing.{listed-unlinked}
 use Rattle.hc_memory.proofs.pools.Pools.unlink.Goals as goal
 
 pub invariant_of-self : goal.invariant_of-self
@@ -11,6 +12,7 @@ invariant_of-self g c =
       rw c.unlink_from.ensures.pools (sound-home c.args.key.now out c.self.inside.pools.items c.self.inside.charges.charges c.self.inside.made (shrinks-without c.args.key.now) i.0),
       i.1 ∙ sym (ap length c.unlink_from.ensures.pools ∙ length-home c.args.key.now out c.self.inside.pools.items),
       i.2,
+      rw c.unlink_from.ensures.pools (listed-unlinked c.self.inside.flash c.self.inside.clean c.args.key.now c.self.inside.pools.items i.3),
     )
 
 pub returns-clause-value : goal.returns-clause-value

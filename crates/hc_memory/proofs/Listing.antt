@@ -1,0 +1,108 @@
+-- What is listed stays listed, whatever the pools do.
+use Rattle.std.proofs.Common.{◌≡◌, ℕ, ◌+◌, ◌≤◌, ◌==◌, ◌++◌, ◌&&◌, ◌||◌, not, Bool, true, false, List, [], ◌∷◌, Option, Some, None, refl, ap, sym, ◌∙◌, arith, map, length, drop, slice_get, slice_set, eq-eqb}
+use mathlib.Core.Bool.{cond}
+use Rattle.std.specs.Option.{option_map_or}
+use Rattle.std.specs.Str.{bytes_eq}
+use Rattle.std.proofs.lemmas.Slice.Eq.{bytes_eq-Decides}
+use Rattle.std.proofs.lemmas.List.Folds.{list_any-append}
+use Rattle.hc_types.specs.Tally.{tally, count}
+use Rattle.hc_types.specs.Places.{kept_of, bucket_at, is_small_by}
+use Rattle.hc_types.proofs.Tallies.{tally-mono, tally-push, tally-set, tally-drop}
+use Rattle.hc_types.specs.declared.config.PoolSize.{PoolSize}
+use Rattle.hc_types.specs.declared.config.FlashConfig.{FlashConfig}
+use Rattle.hc_memory.specs.Item.{Item}
+use Rattle.hc_memory.specs.Pool.{Pool, item_at, without, used}
+use Rattle.hc_memory.specs.Memory.{empty_pool, home_of, change_at, unlinked}
+use Rattle.hc_memory.specs.Clean.{Listing, keys_at, has_key, with_key, is_listed, is_missed, Listed}
+use Rattle.hc_memory.proofs.Homes.{home, away}
+use Rattle.hc_memory.proofs.Keyed.{tally-without, without-none, tally-used}
+
+-- ---- one key more
+
+has-with : (key : List ℕ) (keys : List (List ℕ)) → has_key key (with_key key keys) ≡ true
+has-with key keys = go (has_key key keys) refl
+  where
+    or-true : (b : Bool) → (b || (true || false)) ≡ true
+    or-true true = refl
+    or-true false = refl
+
+    go : (b : Bool) → has_key key keys ≡ b → has_key key (cond b keys (keys ++ key ∷ [])) ≡ true
+    go true e = e
+    go false e = list_any-append (bytes_eq key) keys (key ∷ []) ∙ ap (λ b. has_key key keys || (b || false)) ((bytes_eq-Decides key key).1 refl) ∙ or-true (has_key key keys)
+
+-- what a place has once the key came in
+with-there : (place at : ℕ) (key : List ℕ) (old new : List (ℕ × List (List ℕ))) → at ≡ place → ((p : ℕ) → keys_at p new ≡ cond (p == place) (with_key key (keys_at p old)) (keys_at p old)) → has_key key (keys_at at new) ≡ true
+with-there place at key old new same is = ap (has_key key) (is at ∙ ap (λ b. cond b (with_key key (keys_at at old)) (keys_at at old)) (eq-eqb at place same)) ∙ has-with key (keys_at at old)
+
+pub listed-small : (flash : FlashConfig) (listing : Listing) (key : List ℕ) (len place : ℕ) (old : List (ℕ × List (List ℕ))) → is_small_by flash key len ≡ true → place ≡ bucket_at flash key
+    → ((p : ℕ) → keys_at p listing.small ≡ cond (p == place) (with_key key (keys_at p old)) (keys_at p old)) → is_listed (Some flash) listing key len ≡ true
+listed-small flash listing key len place old small at is = rw small (with-there place (bucket_at flash key) key old listing.small (sym at) is)
+
+pub listed-large : (flash : FlashConfig) (listing : Listing) (key : List ℕ) (len place : ℕ) (old : List (ℕ × List (List ℕ))) → is_small_by flash key len ≡ false → place ≡ kept_of flash.bits key
+    → ((p : ℕ) → keys_at p listing.large ≡ cond (p == place) (with_key key (keys_at p old)) (keys_at p old)) → is_listed (Some flash) listing key len ≡ true
+listed-large flash listing key len place old large at is = rw large (with-there place (kept_of flash.bits key) key old listing.large (sym at) is)
+
+-- ---- the pools
+
+abbrev all : (Item → ℕ) → List Pool → ℕ
+all f pools = tally (λ (pool : Pool). tally f pool.items) pools
+
+abbrev one : Option FlashConfig → Listing → Item → ℕ
+one flash listing item = cond (is_missed flash listing item) 1 0
+
+set-less : (f : Item → ℕ) (pools : List Pool) (i : ℕ) (old new : Pool) → slice_get pools i ≡ Some old → tally f new.items ≤ tally f old.items → all f (slice_set pools i new) ≤ all f pools
+set-less f pools i old new at less = omega (arith, less, tally-set (λ (pool : Pool). tally f pool.items) pools i old new at)
+
+-- a pool that has no more than before
+pub listed-set : (flash : Option FlashConfig) (listing : Listing) (pools : List Pool) (i : ℕ) (old new : Pool) → Listed flash listing pools → slice_get pools i ≡ Some old → ((f : Item → ℕ) → tally f new.items ≤ tally f old.items) → Listed flash listing (slice_set pools i new)
+listed-set flash listing pools i old new l at less = omega (arith, l, set-less (one flash listing) pools i old new at (less (one flash listing)))
+
+less-without : (f : Item → ℕ) (key : List ℕ) (items : List Item) (o : Option Item) → item_at key items ≡ o → tally f (without key items) ≤ tally f items
+less-without f key items None e = rw (without-none key items e) (omega arith)
+less-without f key items (Some x) e = omega (arith, tally-without f key items x e)
+
+home_less : (f : Item → ℕ) (key : List ℕ) (pools : List Pool) (o : Option ℕ) → home_of key pools ≡ o → all f (unlinked key pools) ≤ all f pools
+home_less f key pools None e = rw ((away key pools e).change (λ pool. record pool { items = without key pool.items })) (omega arith)
+home_less f key pools (Some i) e =
+    let h = home key pools i e in
+    rw (h.change (λ pool. record pool { items = without key pool.items })) (set-less f pools i h.pool (record h.pool { items = without key h.pool.items }) h.found (less-without f key h.pool.items (item_at key h.pool.items) refl))
+
+pub listed-unlinked : (flash : Option FlashConfig) (listing : Listing) (key : List ℕ) (pools : List Pool) → Listed flash listing pools → Listed flash listing (unlinked key pools)
+listed-unlinked flash listing key pools l = omega (arith, l, home_less (one flash listing) key pools (home_of key pools) refl)
+
+change_more : (f : Item → ℕ) (i : ℕ) (item : Item) (pools : List Pool) (o : Option Pool) → slice_get pools i ≡ o → all f (option_map_or (λ pool. slice_set pools i (record pool { items = pool.items ++ item ∷ [] })) o pools) ≤ all f pools + f item
+change_more f i item pools None e = omega arith
+change_more f i item pools (Some pool) e = omega (arith, tally-push f pool.items item, tally-set (λ (p : Pool). tally f p.items) pools i pool (record pool { items = pool.items ++ item ∷ [] }) e)
+
+-- an item that isn't missed is linked
+pub listed-linked : (flash : Option FlashConfig) (listing : Listing) (own : ℕ) (key : List ℕ) (item : Item) (pools : List Pool) → Listed flash listing pools → is_missed flash listing item ≡ false → Listed flash listing (change_at own (λ pool. record pool { items = pool.items ++ item ∷ [] }) (unlinked key pools))
+listed-linked flash listing own key item pools l e =
+    let none : one flash listing item ≡ 0 = rw e refl in
+    omega (arith, listed-unlinked flash listing key pools l, none, change_more (one flash listing) own item (unlinked key pools) (slice_get (unlinked key pools) own) refl)
+
+-- an item is used
+pub listed-used : (flash : Option FlashConfig) (listing : Listing) (key : List ℕ) (pools : List Pool) (i : ℕ) (old new : Pool) → Listed flash listing pools → slice_get pools i ≡ Some old → new ≡ record { size = old.size; items = used key (item_at key old.items) old.items } → Listed flash listing (slice_set pools i new)
+listed-used flash listing key pools i old new l at is = listed-set flash listing pools i old new l at (λ f. omega (arith, ap (λ (p : Pool). tally f p.items) is, tally-used f key old.items))
+
+-- the items that were used longest ago go
+pub listed-dropped : (flash : Option FlashConfig) (listing : Listing) (pools : List Pool) (i count : ℕ) (old new : Pool) → Listed flash listing pools → slice_get pools i ≡ Some old → new ≡ record { size = old.size; items = drop count old.items } → Listed flash listing (slice_set pools i new)
+listed-dropped flash listing pools i count old new l at is = listed-set flash listing pools i old new l at (λ f. omega (arith, ap (λ (p : Pool). tally f p.items) is, tally-drop f count old.items))
+
+-- no item is there
+pub listed-new : (flash : Option FlashConfig) (listing : Listing) (sizes : List PoolSize) → Listed flash listing (map empty_pool sizes)
+listed-new flash listing [] = refl
+listed-new flash listing (size ∷ sizes) = omega (arith, listed-new flash listing sizes)
+
+-- ---- the index
+
+fewer_step : (clean a b : Bool) → (a ≡ true → b ≡ true) → cond (clean && not b) 1 0 ≤ cond (clean && not a) 1 0
+fewer_step false a b h = omega arith
+fewer_step true true b h = let t = h refl in rw t (omega arith)
+fewer_step true false true h = omega arith
+fewer_step true false false h = omega arith
+
+-- what was listed still is
+pub listed-more : (flash : Option FlashConfig) (old new : Listing) (pools : List Pool) → Listed flash old pools → ((key : List ℕ) (len : ℕ) → is_listed flash old key len ≡ true → is_listed flash new key len ≡ true) → Listed flash new pools
+listed-more flash old new pools l stay =
+    let each : (item : Item) → one flash new item ≤ one flash old item = λ item. fewer_step item.clean (is_listed flash old item.key (length item.value)) (is_listed flash new item.key (length item.value)) (stay item.key (length item.value)) in
+    omega (arith, l, tally-mono (λ (p : Pool). tally (one flash new) p.items) (λ (p : Pool). tally (one flash old) p.items) (λ p. tally-mono (one flash new) (one flash old) each p.items) pools)
