@@ -2,13 +2,17 @@
 use Rattle.std.proofs.Common.{◌≡◌, ℕ, ◌+◌, ◌==◌, ◌≤◌, Bool, true, false, not, List, [], ◌∷◌, ◌++◌, Option, Some, None, refl, sym, ap, subst, arith, ◌∙◌}
 use Rattle.std.specs.Prelude.{if◌then◌else◌}
 use Rattle.std.specs.Cmp.Lexicographic.{nat_list_eq_equiv}
+use Rattle.std.proofs.lemmas.Bool.{eqb-true}
 use Rattle.hc_queue.specs.declared.queue.Piece.{Piece}
-use Rattle.hc_queue.specs.Queue.{Rises, without_number, taken_at}
+use Rattle.hc_queue.specs.Queue.{Rises, piece_at, without_number, taken_at}
 use Rattle.hc_queue.proofs.Gone.{none-gone}
 use Rattle.hc_queue.specs.declared.keyed.Named.{Named}
 use Rattle.std.specs.Map.{lookup}
 use Rattle.indexmap.specs.IndexMap.{IndexMap, get, spare, IsUnchanged}
 use Rattle.hc_queue.specs.Keys.{same_key, number_of, without_key, AreApart, IsIndexed}
+
+some-same : {X : Type 0} (x y : X) → ◌≡◌ {A = Option X} (Some x) (Some y) → x ≡ y
+some-same x y h = cc
 
 pub same-number : {V A : Type 0} (q k : List ℕ) (es : List (ℕ × Piece (Named V A))) → same_key q k ≡ true → number_of q es ≡ number_of k es
 same-number q k [] s = refl
@@ -74,6 +78,41 @@ by-key k n low high (e ∷ es) r a h = go (same_key k e.1.value.key) refl h (by-
         let p : e.0 + 1 ≤ n = low h in
         let x : (e.0 == n) ≡ false = (grind (arith, p)) in
         rw x (ap (λ (xs : List (ℕ × Piece (Named _ _))). e ∷ xs) (more h))
+
+-- a piece's key leads to its number
+pub number-at : {V A : Type 0} (n low high : ℕ) (p : Piece (Named V A)) (es : List (ℕ × Piece (Named V A))) → Rises low high es → AreApart es → piece_at n es ≡ Some p → number_of p.value.key es ≡ Some n
+number-at n low high p [] r a h = absurd (cc)
+number-at {V} {A} n low high p (e ∷ es) r a h = go (e.0 == n) refl h (number-at n (e.0 + 1) high p es r.1 a.1)
+  where
+    go : (t : Bool) → (e.0 == n) ≡ t → piece_at n (e ∷ es) ≡ Some p → (piece_at n es ≡ Some p → number_of p.value.key es ≡ Some n) → number_of p.value.key (e ∷ es) ≡ Some n
+    go true t h more =
+        let same : e.1 ≡ p = some-same e.1 p (rw t at h) in
+        let m : e.0 ≡ n = eqb-true e.0 n t in
+        subst (λ (q : Piece (Named V A)). number_of q.value.key (e ∷ es) ≡ Some n) same (rw (nat_list_eq_equiv.refl e.1.value.key) (ap Some m))
+    go false t h more = go2 (same_key p.value.key e.1.value.key) refl (more (rw t at h))
+      where
+        go2 : (u : Bool) → same_key p.value.key e.1.value.key ≡ u → number_of p.value.key es ≡ Some n → number_of p.value.key (e ∷ es) ≡ Some n
+        go2 false u found = rw u found
+        go2 true u found =
+            let none : number_of p.value.key es ≡ None = same-number p.value.key e.1.value.key es u ∙ a.0 in
+            absurd (cc)
+
+-- the piece with the number is the one with its key
+pub at-key : {V A : Type 0} (n high : ℕ) (p : Piece (Named V A)) (o : Option (Piece (Named V A))) (es : List (ℕ × Piece (Named V A))) → Rises 0 high es → AreApart es → o ≡ piece_at n es → o ≡ Some p → without_number n es ≡ without_key p.value.key es
+at-key n high p o es r a is some = by-key p.value.key n 0 high es r a (number-at n 0 high p es r a (sym is ∙ some))
+
+-- where no piece has the number, none goes
+pub none-at : {V A : Type 0} (n : ℕ) (o : Option (Piece (Named V A))) (es : List (ℕ × Piece (Named V A))) → o ≡ piece_at n es → o ≡ None → without_number n es ≡ es
+none-at n o [] is none = refl
+none-at {V} {A} n o (e ∷ es) is none = go (e.0 == n) refl (sym is ∙ none) (none-at n None es)
+  where
+    go : (t : Bool) → (e.0 == n) ≡ t → piece_at n (e ∷ es) ≡ None → (◌≡◌ {A = Option (Piece (Named V A))} None (piece_at n es) → ◌≡◌ {A = Option (Piece (Named V A))} None None → without_number n es ≡ es) → without_number n (e ∷ es) ≡ e ∷ es
+    go true t h more = absurd (cc (rw t at h))
+    go false t h more = rw t (ap (λ (xs : List (ℕ × Piece (Named V A))). e ∷ xs) (more (sym (rw t at h)) refl))
+
+-- a queue of the same pieces
+pub indexed-as : {V A S : Type 0} (m : IndexMap (List ℕ) ℕ S) (room room2 : ℕ) (es es2 : List (ℕ × Piece (Named V A))) → es2 ≡ es → room2 ≡ room → IsIndexed es room m → IsIndexed es2 room2 m
+indexed-as m room room2 es es2 is same i = record { found = λ q. i.found q ∙ ap (number_of q) (sym is); apart = subst AreApart (sym is) i.apart; room = (let was = i.room in omega (arith, was, same)) }
 
 pub number-without : {V A : Type 0} (q k : List ℕ) (es : List (ℕ × Piece (Named V A))) → number_of q (without_key k es) ≡ (if same_key k q then None else number_of q es)
 number-without q k [] = go (same_key k q)

@@ -9,3 +9,5 @@ pub mod Keeping
 pub mod Places
 pub mod Settling
 pub mod ByKey
+pub mod Valued
+pub mod FirstOf

@@ -89,10 +89,6 @@ piece_at number es = option_map (λ (e : ℕ × Piece _). e.1) (find (λ (e : �
 abbrev pub taken_at : {V : Type 0} → ℕ → List (ℕ × Piece V) → List (ℕ × Piece V)
 taken_at number es = map (λ (e : ℕ × Piece _). if e.0 == number then (e.0, record e.1 { taken = true }) else e) es
 
--- the piece with the number has this value from here on
-abbrev pub valued_at : {V : Type 0} → ℕ → V → List (ℕ × Piece V) → List (ℕ × Piece V)
-valued_at number v es = map (λ (e : ℕ × Piece _). if e.0 == number then (e.0, record e.1 { value = v }) else e) es
-
 -- the plain list
 abbrev pub pieces_of : {V : Type 0} → List (ℕ × Piece V) → List (Piece V)
 pieces_of es = map (λ (e : ℕ × Piece _). e.1) es
@@ -217,6 +213,11 @@ flat (Some o) = o
 -- the piece at a place, where there is one
 abbrev pub piece_in : {V : Type 0} → ℕ → List (Option (Piece V)) → Option (Piece V)
 piece_in place xs = flat (slice_get xs place)
+
+-- there is a piece, and it is of the lane
+abbrev pub is_of : {V : Type 0} → ℕ → Option (Piece V) → Bool
+is_of lane None = false
+is_of lane (Some p) = is_in lane p.lane
 
 abbrev pub marked : {V : Type 0} → Option (Piece V) → Option (Piece V)
 marked None = None

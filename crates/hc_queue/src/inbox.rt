@@ -1,9 +1,11 @@
 // The pieces that were pushed, and stand in no order yet: each by its place. One that went leaves its place empty.
-ghost use Rattle.std.specs.Prelude.{◌≡◌, ◌+◌, ◌<◌, ◌≤◌, ◌^◌, ◌++◌, [], length, ℕ, OnOk, Some, None, slice_set};
+ghost use Rattle.std.specs.Prelude.{◌≡◌, ◌+◌, ◌<◌, ◌≤◌, ◌^◌, ◌++◌, [], length, ℕ, OnOk, Some, None, slice_set, option_map};
 ghost use Rattle.std.specs.Option.{option_copied};
 ghost use Rattle.std.specs.VecDeque.{deque_len, deque_capacity};
-ghost use Rattle.hc_queue.specs.Queue.{Rises, piece_in, marked, marked_place, Settles};
+ghost use Rattle.hc_queue.specs.Queue.{Rises, piece_in, marked, marked_place, Settles, numbered, first_in_lane, is_of};
+ghost use Rattle.hc_queue.specs.Keys.{value_of, named_slot, named_place};
 
+use crate::keyed::Named;
 use crate::order::Order;
 use crate::queue::Piece;
 use std::alloc::{AllocError, Allocator};
@@ -52,6 +54,66 @@ fn mark_slot<V>(slot: &mut Option<Piece<V>>)
 {
     if let Some(piece) = slot {
         piece.taken = true;
+    }
+}
+
+/// The value of the piece at a place is another from here on, under the same key. The one before comes back; where there is no
+/// piece, the value is dropped.
+pub(crate) fn replace_in<V: Drop, A: Allocator>(
+    inbox: &mut Inbox<Named<V, A>, A>,
+    place: usize,
+    value: V,
+) -> Option<V>
+    ensures value { result ≡ option_map value_of (piece_in place inbox.old.items) }
+    ensures items { inbox.new.items ≡ named_place place value inbox.old.items }
+    ensures len { deque_len inbox.new ≡ deque_len inbox.old }
+    ensures capacity { deque_capacity inbox.new ≡ deque_capacity inbox.old }
+{
+    match inbox.get_mut(place) {
+        Some(slot) => replace_slot(slot, value),
+        None => {
+            drop(value);
+            None
+        }
+    }
+}
+
+/// The value of the piece, if there is one, is another.
+fn replace_slot<V: Drop, A: Allocator>(slot: &mut Option<Piece<Named<V, A>>>, value: V) -> Option<V>
+    ensures value { result ≡ option_map value_of slot.old }
+    ensures slot { slot.new ≡ named_slot value slot.old }
+{
+    match slot {
+        Some(piece) => Some(std::mem::replace(&mut piece.value.value, value)),
+        None => {
+            drop(value);
+            None
+        }
+    }
+}
+
+/// The number of the lane's first piece, taken or not, where the first place has this one.
+pub(crate) fn first_in<V, A: Allocator>(inbox: &Inbox<V, A>, from: u64, lane: u32) -> Option<u64>
+    requires { from + deque_len inbox.now < 2 ^ 64 }
+    ensures { result ≡ first_in_lane lane (numbered from inbox.now.items) }
+{
+    let mut number = from;
+    for slot in inbox.iter() {
+        if is_of_lane(slot, lane) {
+            return Some(number);
+        }
+        number += 1;
+    }
+    None
+}
+
+/// Whether there is a piece, and it is of the lane.
+fn is_of_lane<V>(slot: &Option<Piece<V>>, lane: u32) -> bool
+    ensures { result ≡ is_of lane slot.now }
+{
+    match slot {
+        Some(piece) => piece.lane == Some(lane),
+        None => false,
     }
 }
 

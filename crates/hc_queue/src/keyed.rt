@@ -2,8 +2,8 @@
 ghost use Rattle.std.specs.Prelude.{◌≡◌, ◌+◌, ◌<◌, ◌≤◌, ◌==◌, ◌++◌, length, List, if◌then◌else◌, [], ◌∷◌, ℕ, Bool, false, find, option_map, is_some, IfOk, OnOk, OnErr, max, Some, None};
 ghost use Rattle.std.specs.Option.{option_copied};
 ghost use Rattle.indexmap.specs.IndexMap.{get, spare};
-ghost use Rattle.hc_queue.specs.Queue.{Answers, can_go, piece_at, taken_at, piece_by, pieces_of, in_lane, first_in_lane, above};
-ghost use Rattle.hc_queue.specs.Keys.{number_of, without_key, same_key};
+ghost use Rattle.hc_queue.specs.Queue.{Answers, can_go, piece_at, without_number, taken_at, piece_by, pieces_of, in_lane, first_in_lane, above, IsRising};
+ghost use Rattle.hc_queue.specs.Keys.{number_of, without_key, same_key, value_of, named_at, AreApart};
 
 use crate::queue::{Piece, Queue};
 use hc_types::Key;
@@ -99,6 +99,23 @@ impl<V, A: Allocator> KeyedQueue<V, A> {
         self.numbers.get(key).is_some()
     }
 
+    /// What holds of the pieces at every time.
+    pub fn is_sound(&self)
+        ensures rising { IsRising self.now.entries }
+        ensures apart { AreApart self.now.entries }
+    {
+        let _numbers = &self.numbers;
+        self.queue.is_sound();
+    }
+
+    /// The number of the lane's first piece, taken or not. Nothing is refused; see [`Queue::first_of`] for what it looks at.
+    #[must_use]
+    pub fn first_of(&self, lane: u32) -> Option<u64>
+        ensures { result ≡ first_in_lane lane self.now.entries }
+    {
+        self.queue.first_of(lane)
+    }
+
     /// The value waits behind all others under a key that no piece has; its number is answered. It needs room, and the key
     /// twice: nothing is copied here, so that nothing is refused.
     pub fn push(&mut self, copy: Key<A>, key: Key<A>, lane: Option<u32>, value: V) -> u64
@@ -134,6 +151,32 @@ impl<V, A: Allocator> KeyedQueue<V, A> {
         forget(&mut self.numbers, key);
         self.queue.remove(number)
     }
+
+    /// Takes the piece with this number out, where there is one. Nothing is refused.
+    pub fn remove_at(&mut self, number: u64) -> Option<Piece<Named<V, A>>>
+        ensures piece { result ≡ piece_at number self.old.entries }
+        ensures entries { self.new.entries ≡ without_number number self.old.entries }
+        ensures room { self.new.room ≡ self.old.room }
+    {
+        let _len = self.queue.len();
+        let Some(piece) = self.queue.remove(number) else {
+            return None;
+        };
+        forget(&mut self.numbers, &piece.value.key);
+        Some(piece)
+    }
+}
+
+impl<V: Drop, A: Allocator> KeyedQueue<V, A> {
+    /// The value of the piece with this number is another from here on, under the same key. The one before comes back; where
+    /// there is no such piece, the value is dropped. Nothing is refused.
+    pub fn replace(&mut self, number: u64, value: V) -> Option<V>
+        ensures value { result ≡ option_map value_of (piece_at number self.old.entries) }
+        ensures entries { self.new.entries ≡ named_at number value self.old.entries }
+        ensures room { self.new.room ≡ self.old.room }
+    {
+        self.queue.replace(number, value)
+    }
 }
 
 impl<V: Drop, A: Allocator + Copy> KeyedQueue<V, A> {
@@ -159,14 +202,6 @@ impl<V: Drop, A: Allocator + Copy> KeyedQueue<V, A> {
         ensures piece { (busy : ℕ → Bool) → Answers (F.post is_busy) busy → IfOk result (λ number. piece_by number self.old.entries ≡ find (can_go busy) (pieces_of self.old.entries)) }
     {
         self.queue.first(is_busy)
-    }
-
-    /// The number of the lane's first piece, taken or not. Refused only where memory lacks; the pieces stay as they were.
-    pub fn first_of(&mut self, lane: u32) -> Result<Option<u64>, AllocError>
-        ensures same { self.new ≡ self.old }
-        ensures number { IfOk result (λ number. number ≡ first_in_lane lane self.old.entries) }
-    {
-        self.queue.first_of(lane)
     }
 
     /// The number of the lane's first piece behind this number, taken or not. Refused only where memory lacks; the pieces stay

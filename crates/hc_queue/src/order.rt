@@ -2,8 +2,10 @@
 ghost use Rattle.std.specs.Prelude.{◌≡◌, ◌+◌, ◌-◌, ◌<◌, ◌≤◌, ◌++◌, ◌&&◌, not, [], ◌∷◌, ℕ, Bool, length, find, option_map, OnOk, OnErr, IfErr, Some, None, vec_len, vec_capacity};
 ghost use Rattle.std.specs.Option.{option_copied};
 ghost use Rattle.std.specs.List.Sorted.{IsStrictlySortedBy};
-ghost use Rattle.hc_queue.specs.Queue.{can_go, piece_at, without_number, taken_at, valued_at, in_lane, first_in_lane, above, pieces_of, piece_by, IsRising, turn_of, lane_at, Rises, IsNew, AllBelow, joined, with, only_if, pair_cmp, open_lane, is_free, is_among, firsts, Answers, is_open, comes_first};
+ghost use Rattle.hc_queue.specs.Queue.{can_go, piece_at, without_number, taken_at, in_lane, first_in_lane, above, pieces_of, piece_by, IsRising, turn_of, lane_at, Rises, IsNew, AllBelow, joined, with, only_if, pair_cmp, open_lane, is_free, is_among, firsts, Answers, is_open, comes_first};
+ghost use Rattle.hc_queue.specs.Keys.{value_of, named_at};
 
+use crate::keyed::Named;
 use crate::lanes::{
     Pairs, add, drop_out, end_turn, first_in, given, is_first, join_both, leave, next_in,
 };
@@ -170,6 +172,18 @@ impl<V, A: Allocator> Order<V, A> {
     }
 }
 
+impl<V: Drop, A: Allocator> Order<Named<V, A>, A> {
+    /// The value of the piece with this number is another from here on, under the same key. The one before comes back; where
+    /// there is no such piece, the value is dropped.
+    pub(crate) fn replace(&mut self, number: u64, value: V) -> Option<V>
+        ensures value { result ≡ option_map value_of (piece_at number self.old.entries) }
+        ensures entries { self.new.entries ≡ named_at number value self.old.entries }
+        ensures spare { self.new.spare ≡ self.old.spare }
+    {
+        replace_in(&mut self.pieces, number, value)
+    }
+}
+
 impl<V: Drop, A: Allocator + Copy> Order<V, A> {
     /// A piece comes behind all others. Refused only where memory lacks; then nothing changes, and the piece comes back.
     pub(crate) fn enter(
@@ -228,6 +242,24 @@ fn mark_in<V, A: Allocator>(pieces: &mut Pieces<V, A>, number: u64)
 {
     if let Some(piece) = pieces.get_mut(&number) {
         piece.taken = true;
+    }
+}
+
+/// The value of the piece with this number is another.
+fn replace_in<V: Drop, A: Allocator>(
+    pieces: &mut Pieces<Named<V, A>, A>,
+    number: u64,
+    value: V,
+) -> Option<V>
+    ensures value { result ≡ option_map value_of (piece_at number pieces.old.entries) }
+    ensures entries { (high : ℕ) → Rises 0 high pieces.old.entries → pieces.new.entries ≡ named_at number value pieces.old.entries }
+{
+    match pieces.get_mut(&number) {
+        Some(piece) => Some(std::mem::replace(&mut piece.value.value, value)),
+        None => {
+            drop(value);
+            None
+        }
     }
 }
 

@@ -3,8 +3,10 @@ ghost use Rattle.std.specs.Prelude.{◌≡◌, ◌+◌, ◌<◌, ◌≤◌, ◌^
 ghost use Rattle.std.specs.Option.{option_copied};
 ghost use Rattle.std.specs.VecDeque.{deque_len, deque_capacity};
 ghost use Rattle.hc_queue.specs.Queue.{Answers, can_go, piece_at, without_number, taken_at, in_lane, first_in_lane, above, pieces_of, piece_by, IsRising, Rises, numbered};
+ghost use Rattle.hc_queue.specs.Keys.{value_of, named_at};
 
-use crate::inbox::{Inbox, get_in, mark_in, settle, take_in};
+use crate::inbox::{Inbox, first_in, get_in, mark_in, replace_in, settle, take_in};
+use crate::keyed::Named;
 use crate::order::Order;
 use std::alloc::{AllocError, Allocator, Global};
 use std::collections::VecDeque;
@@ -19,11 +21,12 @@ pub struct Piece<V> {
 }
 
 /// Pieces of work in order. A piece in no lane may always go, one in a lane while that isn't busy, and of each lane the first
-/// goes first; which lanes are busy is the caller's to say. No call looks at more than a piece of each busy lane, however many
+/// goes first; which lanes are busy is the caller's to say. `first` looks at no more than a piece of each busy lane, however many
 /// pieces or lanes there are.
 ///
 /// Room is made first, by `reserve`: then a piece is pushed, taken out or marked without an allocation, so that these can't be
-/// refused. What they change is put in order by the next call that may be.
+/// refused. What they change is put in order by the next call that may be. `first_of` can't be refused either: where no piece
+/// of its lane stands in order, it looks at those that were pushed since, so that these are few where each plan makes room.
 ///
 /// Contracts see the pieces with their numbers, which rise, and how many more can be pushed.
 #[derive(Drop)]
@@ -106,6 +109,26 @@ impl<V, A: Allocator> Queue<V, A> {
         }
     }
 
+    /// What holds of the pieces at every time.
+    pub fn is_sound(&self)
+        ensures { IsRising self.now.entries }
+    {
+        let _len = self.len();
+    }
+
+    /// The number of the lane's first piece, taken or not. Nothing is refused: the lane's first piece that stands in order is
+    /// found at once, and where there is none, those that were pushed since the last `reserve` that made room, `first` or
+    /// `next_of` are looked at one by one.
+    #[must_use]
+    pub fn first_of(&self, lane: u32) -> Option<u64>
+        ensures { result ≡ first_in_lane lane self.now.entries }
+    {
+        match self.order.first_of(lane) {
+            Some(number) => Some(number),
+            None => first_in(&self.inbox, self.from, lane),
+        }
+    }
+
     /// The value waits in the lane, or in none, behind all others; its number is answered. It needs room.
     pub fn push(&mut self, lane: Option<u32>, value: V) -> u64
         requires { 1 ≤ self.old.room }
@@ -147,6 +170,22 @@ impl<V, A: Allocator> Queue<V, A> {
     }
 }
 
+impl<V: Drop, A: Allocator> Queue<Named<V, A>, A> {
+    /// The value of the piece with this number is another from here on, under the same key. The one before comes back; where
+    /// there is no such piece, the value is dropped. Nothing is refused.
+    pub(crate) fn replace(&mut self, number: u64, value: V) -> Option<V>
+        ensures value { result ≡ option_map value_of (piece_at number self.old.entries) }
+        ensures entries { self.new.entries ≡ named_at number value self.old.entries }
+        ensures room { self.new.room ≡ self.old.room }
+    {
+        if number < self.from {
+            self.order.replace(number, value)
+        } else {
+            replace_in(&mut self.inbox, (number - self.from) as usize, value)
+        }
+    }
+}
+
 impl<V: Drop, A: Allocator + Copy> Queue<V, A> {
     /// Room for so many more pieces. Refused only where memory lacks, or where the numbers run out; the pieces stay as they
     /// were.
@@ -180,15 +219,6 @@ impl<V: Drop, A: Allocator + Copy> Queue<V, A> {
     {
         settle(&mut self.order, &mut self.inbox, &mut self.from)?;
         Ok(self.order.first_open(&is_busy))
-    }
-
-    /// The number of the lane's first piece, taken or not. Refused only where memory lacks; the pieces stay as they were.
-    pub fn first_of(&mut self, lane: u32) -> Result<Option<u64>, AllocError>
-        ensures same { self.new ≡ self.old }
-        ensures number { IfOk result (λ number. number ≡ first_in_lane lane self.old.entries) }
-    {
-        settle(&mut self.order, &mut self.inbox, &mut self.from)?;
-        Ok(self.order.first_of(lane))
     }
 
     /// The number of the lane's first piece behind this number, taken or not. Refused only where memory lacks; the pieces stay

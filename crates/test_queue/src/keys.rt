@@ -68,3 +68,29 @@ fn a_key_that_went_comes_behind_the_others(rt: HostRuntime) {
     queue.mark(1);
     assert!(rt; first(&rt, &mut queue) == Some(2));
 }
+
+#[test]
+fn a_value_is_replaced_where_its_piece_stands(rt: HostRuntime) {
+    let alloc = rt.alloc();
+    let mut queue = KeyedQueue::new(alloc);
+    push(&rt, alloc, &mut queue, b"apple", 1);
+    push(&rt, alloc, &mut queue, b"pear", 2);
+    assert!(rt; queue.replace(0, 3) == Some(1));
+    assert!(rt; queue.replace(1, 4) == Some(2));
+    assert!(rt; queue.replace(2, 5) == None);
+    assert!(rt; first(&rt, &mut queue) == Some(0));
+    assert!(rt; remove(&rt, alloc, &mut queue, b"apple") == Some(3));
+    assert!(rt; remove(&rt, alloc, &mut queue, b"pear") == Some(4));
+}
+
+#[test]
+fn a_piece_is_taken_out_by_its_number(rt: HostRuntime) {
+    let alloc = rt.alloc();
+    let mut queue = KeyedQueue::new(alloc);
+    push(&rt, alloc, &mut queue, b"apple", 1);
+    assert!(rt; queue.remove_at(1).is_none());
+    assert!(rt; queue.remove_at(0).is_some());
+    assert!(rt; !queue.contains(&key(&rt, alloc, b"apple")));
+    push(&rt, alloc, &mut queue, b"apple", 2);
+    assert!(rt; queue.first_of(1) == Some(1));
+}
