@@ -95,7 +95,7 @@ listed-new flash listing (size ∷ sizes) = omega (arith, listed-new flash listi
 
 -- ---- the index
 
-fewer_step : (clean a b : Bool) → (a ≡ true → b ≡ true) → cond (clean && not b) 1 0 ≤ cond (clean && not a) 1 0
+pub fewer_step : (clean a b : Bool) → (a ≡ true → b ≡ true) → cond (clean && not b) 1 0 ≤ cond (clean && not a) 1 0
 fewer_step false a b h = omega arith
 fewer_step true true b h = let t = h refl in rw t (omega arith)
 fewer_step true false true h = omega arith
@@ -106,3 +106,49 @@ pub listed-more : (flash : Option FlashConfig) (old new : Listing) (pools : List
 listed-more flash old new pools l stay =
     let each : (item : Item) → one flash new item ≤ one flash old item = λ item. fewer_step item.clean (is_listed flash old item.key (length item.value)) (is_listed flash new item.key (length item.value)) (stay item.key (length item.value)) in
     omega (arith, l, tally-mono (λ (p : Pool). tally (one flash new) p.items) (λ (p : Pool). tally (one flash old) p.items) (λ p. tally-mono (one flash new) (one flash old) each p.items) pools)
+
+-- ---- keys that go
+
+no_more : (b : Bool) → (b && false) ≡ false
+no_more true = refl
+no_more false = refl
+
+-- a key is forgotten
+pub listed-but : (flash : FlashConfig) (old new : Listing) (key other : List ℕ) (n bucket hash : ℕ) → bytes_eq key other ≡ false
+    → ((p : ℕ) (k : List ℕ) → ((p == bucket) && bytes_eq key k) ≡ false → has_key k (keys_at p old.small) ≡ true → has_key k (keys_at p new.small) ≡ true)
+    → ((p : ℕ) (k : List ℕ) → ((p == hash) && bytes_eq key k) ≡ false → has_key k (keys_at p old.large) ≡ true → has_key k (keys_at p new.large) ≡ true)
+    → is_listed (Some flash) old other n ≡ true → is_listed (Some flash) new other n ≡ true
+listed-but flash old new key other n bucket hash e small large h = go (is_small_by flash other n) h
+  where
+    go : (b : Bool) → cond b (has_key other (keys_at (bucket_at flash other) old.small)) (has_key other (keys_at (kept_of flash.bits other) old.large)) ≡ true
+        → cond b (has_key other (keys_at (bucket_at flash other) new.small)) (has_key other (keys_at (kept_of flash.bits other) new.large)) ≡ true
+    go true h = small (bucket_at flash other) other (rw e (no_more (bucket_at flash other == bucket))) h
+    go false h = large (kept_of flash.bits other) other (rw e (no_more (kept_of flash.bits other == hash))) h
+
+-- a bucket is forgotten
+pub listed-bucket : (flash : FlashConfig) (old new : Listing) (bucket : ℕ) (key : List ℕ) (len : ℕ) → ((p : ℕ) → keys_at p new.small ≡ cond (p == bucket) [] (keys_at p old.small)) → new.large ≡ old.large
+    → (is_small_by flash key len && (bucket_at flash key == bucket)) ≡ false → is_listed (Some flash) old key len ≡ true → is_listed (Some flash) new key len ≡ true
+listed-bucket flash old new bucket key len small large e h = go (is_small_by flash key len) e h
+  where
+    go : (b : Bool) → (b && (bucket_at flash key == bucket)) ≡ false → cond b (has_key key (keys_at (bucket_at flash key) old.small)) (has_key key (keys_at (kept_of flash.bits key) old.large)) ≡ true
+        → cond b (has_key key (keys_at (bucket_at flash key) new.small)) (has_key key (keys_at (kept_of flash.bits key) new.large)) ≡ true
+    go true e h = ap (has_key key) (small (bucket_at flash key) ∙ ap (λ b. cond b [] (keys_at (bucket_at flash key) old.small)) e) ∙ h
+    go false e h = ap (λ gs. has_key key (keys_at (kept_of flash.bits key) gs)) large ∙ h
+
+-- large keys are forgotten
+pub listed-hash : (flash : FlashConfig) (old new : Listing) (hash : ℕ) (key : List ℕ) (len : ℕ) (goes : Bool) → (((kept_of flash.bits key == hash) && goes) ≡ false → has_key key (keys_at (kept_of flash.bits key) old.large) ≡ true → has_key key (keys_at (kept_of flash.bits key) new.large) ≡ true) → new.small ≡ old.small
+    → (not (is_small_by flash key len) && ((kept_of flash.bits key == hash) && goes)) ≡ false → is_listed (Some flash) old key len ≡ true → is_listed (Some flash) new key len ≡ true
+listed-hash flash old new hash key len goes large small e h = go (is_small_by flash key len) e h
+  where
+    go : (b : Bool) → (not b && ((kept_of flash.bits key == hash) && goes)) ≡ false → cond b (has_key key (keys_at (bucket_at flash key) old.small)) (has_key key (keys_at (kept_of flash.bits key) old.large)) ≡ true
+        → cond b (has_key key (keys_at (bucket_at flash key) new.small)) (has_key key (keys_at (kept_of flash.bits key) new.large)) ≡ true
+    go true e h = ap (λ gs. has_key key (keys_at (bucket_at flash key) gs)) small ∙ h
+    go false e h = large e h
+
+-- where the whole place goes
+pub all-go : (place p : ℕ) (key : List ℕ) (old : List (ℕ × List (List ℕ))) (new : List (List ℕ)) → new ≡ cond (p == place) [] (keys_at p old) → ((p == place) && true) ≡ false → has_key key (keys_at p old) ≡ true → has_key key new ≡ true
+all-go place p key old new is e h = ap (has_key key) is ∙ go (p == place) e
+  where
+    go : (b : Bool) → (b && true) ≡ false → has_key key (cond b [] (keys_at p old)) ≡ true
+    go true e = absurd cc
+    go false e = h
