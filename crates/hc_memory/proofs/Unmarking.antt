@@ -9,7 +9,7 @@ use Rattle.std.proofs.lemmas.Option.{slice_get-map}
 use mathlib.Core.Bool.{cond}
 use Rattle.hc_types.specs.Loss.{Scope, Key, covers}
 use Rattle.hc_types.specs.Tally.{tally, count}
-use Rattle.hc_types.proofs.Tallies.{tally-mono}
+use Rattle.hc_types.proofs.Tallies.{tally-mono, tally-get}
 use Rattle.hc_types.specs.declared.config.FlashConfig.{FlashConfig}
 use Rattle.hc_memory.specs.Item.{Item, Open, cost}
 use Rattle.hc_memory.specs.Pool.{Pool, is_at, unmarked_where, is_covered, is_covered_at, item_at}
@@ -19,7 +19,7 @@ use Rattle.hc_memory.specs.Unmarks.{keys_unmarked}
 use Rattle.hc_memory.specs.Clean.{Listing, has_key, is_listed, is_missed, Listed}
 use Rattle.hc_memory.specs.Sound.{IsWithin, Sound, FlashFits, items_at}
 use Rattle.hc_memory.proofs.Keyed.{same_bytes, count-none, tally-unmarked, unmarked-none}
-use Rattle.hc_memory.proofs.Listing.{fewer_step}
+use Rattle.hc_memory.proofs.Listing.{fewer_step, zero_one}
 use Rattle.hc_memory.proofs.Looking.{read-there}
 use Rattle.hc_memory.proofs.Sounds.{Shrinks, within-less}
 
@@ -266,3 +266,11 @@ bits-fit (Some flash) fits = fits.0
 pub buckets-fit : (flash : Option FlashConfig) → FlashFits flash → IfSome flash (λ f. 1 ≤ f.buckets)
 buckets-fit None fits = fits
 buckets-fit (Some flash) fits = fits.1
+
+-- ---- items that went
+
+-- an item has another key than one that none of the items has
+pub other-key : (other : List ℕ) (items : List Item) (i : ℕ) (x : Item) → i < length items → x ≡ get_or items i x → count (is_at other) items ≡ 0 → bytes_eq x.key other ≡ false
+other-key other items i x lt read none =
+    let term = tally-get (λ (y : Item). cond (is_at other y) 1 0) items i x (read-there items i x lt read) in
+    eq-turn other x.key (zero_one (is_at other x) (omega (arith, term, none)))

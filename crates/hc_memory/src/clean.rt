@@ -2,9 +2,12 @@
 ghost use Rattle.std.specs.Prelude.{◌≡◌, ◌<◌, ◌≤◌, ◌^◌, ℕ, List, true, false, [], IfSome, OnOk};
 ghost use Rattle.std.specs.Str.{bytes_eq};
 ghost use Rattle.hc_types.specs.Loss.{scope_of, covers};
+ghost use Rattle.hc_types.specs.Tally.{count};
+ghost use Rattle.hc_memory.specs.Pool.{is_at};
 ghost use Rattle.hc_memory.specs.Clean.{has_key, is_listed, is_place};
 
 use crate::groups::KeyGroups;
+use crate::item::Item;
 use hc_types::{FlashConfig, Key, Scope, bucket_of, is_small, kept};
 use std::alloc::{AllocError, Allocator, Global};
 use std::marker::Model;
@@ -111,6 +114,23 @@ impl<A: Allocator + Clone> CleanIndex<A> {
             self.small.add(alloc, bucket_of(key, flash), key)
         } else {
             self.large.add(alloc, kept(key, flash.bits), key)
+        }
+    }
+}
+
+/// The keys of the clean ones among these items, which went, aren't listed any more.
+pub(crate) fn forget_items<A: Allocator>(
+    index: &mut CleanIndex<A>,
+    flash: &Option<FlashConfig>,
+    items: &[Item<A>],
+)
+    requires bits { IfSome flash.now (λ f. f.bits ≤ 64) }
+    requires buckets { IfSome flash.now (λ f. 1 ≤ f.buckets) }
+    ensures { (other : List ℕ) (n : ℕ) → count (is_at other) items.now ≡ 0 → is_listed flash.now index.old other n ≡ true → is_listed flash.now index.new other n ≡ true }
+{
+    for item in items {
+        if item.clean {
+            index.forget(flash, &item.key);
         }
     }
 }

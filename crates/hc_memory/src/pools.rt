@@ -9,7 +9,7 @@ ghost use Rattle.hc_memory.specs.Seen.{item_of, filled, glance_of};
 ghost use Rattle.hc_memory.specs.Memory.{empty_pool, pool_usage, home_of, linked_at, value_at, is_hopeless, victims_of, oldest_keys, handle_for, unlinked, after_room, after_charge, after_unlink, after_find};
 
 use crate::answers::{Charged, Uncharged};
-use crate::clean::CleanIndex;
+use crate::clean::{CleanIndex, forget_items};
 use crate::fill::Fill;
 use crate::handles::{Blank, ReadHandle};
 use crate::item::{Held, Item, expired};
@@ -118,7 +118,9 @@ impl<A: Allocator> Pools<A> {
         ensures value { result ≡ option_map (λ item. item.number) (linked_at key.now self.old.pools) }
         ensures pools { self.new ≡ after_unlink self.old key.now }
     {
-        unlink_from(&mut self.pools, key)
+        let number = unlink_from(&mut self.pools, key);
+        self.clean.forget(&self.flash, key);
+        number
     }
 
     /// Finds the value under this key, where its item isn't expired at `now` (seconds). That item is now the one that
@@ -284,6 +286,7 @@ impl<A: Allocator + Clone> Pools<A> {
     {
         let mut victims = room_for(self.pools.allocator(), count)?;
         self.pools[usize::from(pool)].evict(count, &mut victims);
+        forget_items(&mut self.clean, &self.flash, victims.as_slice());
         Ok(victims)
     }
 }
@@ -337,6 +340,7 @@ impl<A: Allocator + Clone> Pools<A> {
         }
 
         self.pools[usize::from(pool)].evict(count, &mut victims);
+        forget_items(&mut self.clean, &self.flash, victims.as_slice());
         self.made = number;
         Ok(Charged {
             blank: Blank::new(number, pool, key, bytes, expiry),
