@@ -118,7 +118,8 @@ impl<A: Allocator + Clone> CleanIndex<A> {
     }
 }
 
-/// The keys of the clean ones among these items, which went, aren't listed any more.
+/// The keys of these items, which went, aren't listed any more. One that isn't clean may still be listed, if its item took the
+/// place of a clean one.
 pub(crate) fn forget_items<A: Allocator>(
     index: &mut CleanIndex<A>,
     flash: &Option<FlashConfig>,
@@ -129,8 +130,6 @@ pub(crate) fn forget_items<A: Allocator>(
     ensures { (other : List ℕ) (n : ℕ) → count (is_at other) items.now ≡ 0 → is_listed flash.now index.old other n ≡ true → is_listed flash.now index.new other n ≡ true }
 {
     for item in items {
-        if item.clean {
-            index.forget(flash, &item.key);
-        }
+        index.forget(flash, &item.key);
     }
 }
