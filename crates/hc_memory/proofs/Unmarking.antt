@@ -9,7 +9,7 @@ use Rattle.std.proofs.lemmas.Option.{slice_get-map}
 use mathlib.Core.Bool.{cond}
 use Rattle.hc_types.specs.Loss.{Scope, Key, covers}
 use Rattle.hc_types.specs.Tally.{tally, count}
-use Rattle.hc_types.proofs.Tallies.{tally-mono}
+use Rattle.hc_types.proofs.Tallies.{tally-mono, tally-get}
 use Rattle.hc_types.specs.declared.config.FlashConfig.{FlashConfig}
 use Rattle.hc_memory.specs.Item.{Item, Open, cost}
 use Rattle.hc_memory.specs.Pool.{Pool, is_at, unmarked_where, is_covered, is_covered_at, item_at}
@@ -19,6 +19,7 @@ use Rattle.hc_memory.specs.Unmarks.{keys_unmarked}
 use Rattle.hc_memory.specs.Clean.{Listing, has_key, is_listed, is_missed, Listed}
 use Rattle.hc_memory.specs.Sound.{IsWithin, Sound, FlashFits, items_at}
 use Rattle.hc_memory.proofs.Keyed.{same_bytes, count-none, tally-unmarked, unmarked-none}
+use Rattle.hc_memory.proofs.Listing.{fewer_step, zero_one}
 use Rattle.hc_memory.proofs.Looking.{read-there}
 use Rattle.hc_memory.proofs.Sounds.{Shrinks, within-less}
 
@@ -39,7 +40,7 @@ turn_step : (a b : List ℕ) (c d : Bool) → bytes_eq a b ≡ c → bytes_eq b 
 turn_step a b c true e f h = let same : a ≡ b = sym (same_bytes b a f) in absurd (let g : bytes_eq a b ≡ true = (bytes_eq-Decides a b).1 same in cc)
 turn_step a b c false e f h = refl
 
-eq-turn : (a b : List ℕ) → bytes_eq a b ≡ false → bytes_eq b a ≡ false
+pub eq-turn : (a b : List ℕ) → bytes_eq a b ≡ false → bytes_eq b a ≡ false
 eq-turn a b h = turn_step a b (bytes_eq a b) (bytes_eq b a) refl refl h
 
 -- the item, without its mark if it is under one of these keys and the scope covers it
@@ -169,21 +170,22 @@ listed-covered flash listing scope keys pools new l all is =
 pub named-covered : (flash : Option FlashConfig) (named key : List ℕ) (len : ℕ) → covers flash (Key named) key len ≡ true → has_key key (named ∷ []) ≡ true
 named-covered flash named key len h = let same : named ≡ key = same_bytes named key h in ap (λ b. b || false) ((bytes_eq-Decides key named).1 (sym same))
 
-bare_less : (flash : Option FlashConfig) (listing : Listing) (x : Item) (b : Bool) → cond (is_missed flash listing (cond b (bare x) x)) 1 0 ≤ cond (is_missed flash listing x) 1 0
-bare_less flash listing x true = omega arith
-bare_less flash listing x false = omega arith
+-- what is listed after is all that is clean then
+pub listed-after : (flash : Option FlashConfig) (old new : Listing) (scope : Scope) (pools : List Pool) → Listed flash old pools
+    → ((key : List ℕ) (len : ℕ) → covers flash scope key len ≡ false → is_listed flash old key len ≡ true → is_listed flash new key len ≡ true) → Listed flash new (all_unmarked flash scope pools)
+listed-after flash old new scope pools l stay = omega (arith, l, all_less pools)
+  where
+    one_less : (x : Item) (c : Bool) → is_covered flash scope x ≡ c → cond (is_missed flash new (cond c (bare x) x)) 1 0 ≤ cond (is_missed flash old x) 1 0
+    one_less x true e = omega arith
+    one_less x false e = fewer_step x.clean (is_listed flash old x.key (length x.value)) (is_listed flash new x.key (length x.value)) (stay x.key (length x.value) e)
 
-items_less : (flash : Option FlashConfig) (listing : Listing) (test : Item → Bool) (items : List Item) → count (is_missed flash listing) (unmarked_where test items) ≤ count (is_missed flash listing) items
-items_less flash listing test [] = omega arith
-items_less flash listing test (x ∷ items) = omega (arith, bare_less flash listing x (test x), items_less flash listing test items)
+    some_less : (items : List Item) → count (is_missed flash new) (unmarked_where (is_covered flash scope) items) ≤ count (is_missed flash old) items
+    some_less [] = omega arith
+    some_less (x ∷ items) = omega (arith, one_less x (is_covered flash scope x) refl, some_less items)
 
-pools_less : (flash : Option FlashConfig) (listing : Listing) (scope : Scope) (pools : List Pool) → tally (λ (pool : Pool). count (is_missed flash listing) pool.items) (all_unmarked flash scope pools) ≤ tally (λ (pool : Pool). count (is_missed flash listing) pool.items) pools
-pools_less flash listing scope [] = omega arith
-pools_less flash listing scope (p ∷ pools) = omega (arith, items_less flash listing (is_covered flash scope) p.items, pools_less flash listing scope pools)
-
--- what has no mark need not be listed
-pub listed-unmarked : (flash : Option FlashConfig) (listing : Listing) (scope : Scope) (pools : List Pool) → Listed flash listing pools → Listed flash listing (all_unmarked flash scope pools)
-listed-unmarked flash listing scope pools l = omega (arith, l, pools_less flash listing scope pools)
+    all_less : (pools : List Pool) → tally (λ (pool : Pool). count (is_missed flash new) pool.items) (all_unmarked flash scope pools) ≤ tally (λ (pool : Pool). count (is_missed flash old) pool.items) pools
+    all_less [] = omega arith
+    all_less (p ∷ pools) = omega (arith, some_less p.items, all_less pools)
 
 -- ---- a walk over the pools
 
@@ -264,3 +266,11 @@ bits-fit (Some flash) fits = fits.0
 pub buckets-fit : (flash : Option FlashConfig) → FlashFits flash → IfSome flash (λ f. 1 ≤ f.buckets)
 buckets-fit None fits = fits
 buckets-fit (Some flash) fits = fits.1
+
+-- ---- items that went
+
+-- an item has another key than one that none of the items has
+pub other-key : (other : List ℕ) (items : List Item) (i : ℕ) (x : Item) → i < length items → x ≡ get_or items i x → count (is_at other) items ≡ 0 → bytes_eq x.key other ≡ false
+other-key other items i x lt read none =
+    let term = tally-get (λ (y : Item). cond (is_at other y) 1 0) items i x (read-there items i x lt read) in
+    eq-turn other x.key (zero_one (is_at other x) (omega (arith, term, none)))

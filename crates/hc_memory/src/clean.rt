@@ -1,9 +1,13 @@
 // The keys of the clean items, by where their copies stand on flash.
-ghost use Rattle.std.specs.Prelude.{◌≡◌, ◌<◌, ◌≤◌, ◌^◌, ℕ, List, true, [], IfSome, OnOk};
+ghost use Rattle.std.specs.Prelude.{◌≡◌, ◌<◌, ◌≤◌, ◌^◌, ℕ, List, true, false, [], IfSome, OnOk};
+ghost use Rattle.std.specs.Str.{bytes_eq};
 ghost use Rattle.hc_types.specs.Loss.{scope_of, covers};
+ghost use Rattle.hc_types.specs.Tally.{count};
+ghost use Rattle.hc_memory.specs.Pool.{is_at};
 ghost use Rattle.hc_memory.specs.Clean.{has_key, is_listed, is_place};
 
 use crate::groups::KeyGroups;
+use crate::item::Item;
 use hc_types::{FlashConfig, Key, Scope, bucket_of, is_small, kept};
 use std::alloc::{AllocError, Allocator, Global};
 use std::marker::Model;
@@ -52,6 +56,42 @@ impl<A: Allocator> CleanIndex<A> {
     }
 }
 
+impl<A: Allocator> CleanIndex<A> {
+    /// The key isn't listed any more.
+    pub(crate) fn forget(&mut self, flash: &Option<FlashConfig>, key: &Key<A>)
+        requires bits { IfSome flash.now (λ f. f.bits ≤ 64) }
+        requires buckets { IfSome flash.now (λ f. 1 ≤ f.buckets) }
+        ensures { (other : List ℕ) (n : ℕ) → bytes_eq key.now other ≡ false → is_listed flash.now self.old other n ≡ true → is_listed flash.now self.new other n ≡ true }
+    {
+        let Some(flash) = flash else {
+            return;
+        };
+        self.small.remove(bucket_of(key, flash), key);
+        self.large.remove(kept(key, flash.bits), key);
+    }
+
+    /// What the scope covers isn't listed any more.
+    pub(crate) fn forget_covered(&mut self, flash: &Option<FlashConfig>, scope: &Scope<A>)
+        requires bits { IfSome flash.now (λ f. f.bits ≤ 64) }
+        requires buckets { IfSome flash.now (λ f. 1 ≤ f.buckets) }
+        ensures { (key : List ℕ) (len : ℕ) → covers flash.now (scope_of scope.now) key len ≡ false → is_listed flash.now self.old key len ≡ true → is_listed flash.now self.new key len ≡ true }
+    {
+        match (scope, flash) {
+            (Scope::Key(key), _) => self.forget(flash, key),
+            (Scope::Bucket(bucket), Some(_)) => self.small.remove_all(u64::from(*bucket)),
+            (Scope::Hash { kept, but: None }, Some(_)) => self.large.remove_all(*kept),
+            (
+                Scope::Hash {
+                    kept,
+                    but: Some(but),
+                },
+                Some(_),
+            ) => self.large.remove_others(*kept, but),
+            (_, None) => {}
+        }
+    }
+}
+
 impl<A: Allocator + Clone> CleanIndex<A> {
     /// An item of this key, with a value of so many bytes, is listed from here on. Refused only where memory lacks.
     pub(crate) fn list(
@@ -75,5 +115,21 @@ impl<A: Allocator + Clone> CleanIndex<A> {
         } else {
             self.large.add(alloc, kept(key, flash.bits), key)
         }
+    }
+}
+
+/// The keys of these items, which went, aren't listed any more. One that isn't clean may still be listed, if its item took the
+/// place of a clean one.
+pub(crate) fn forget_items<A: Allocator>(
+    index: &mut CleanIndex<A>,
+    flash: &Option<FlashConfig>,
+    items: &[Item<A>],
+)
+    requires bits { IfSome flash.now (λ f. f.bits ≤ 64) }
+    requires buckets { IfSome flash.now (λ f. 1 ≤ f.buckets) }
+    ensures { (other : List ℕ) (n : ℕ) → count (is_at other) items.now ≡ 0 → is_listed flash.now index.old other n ≡ true → is_listed flash.now index.new other n ≡ true }
+{
+    for item in items {
+        index.forget(flash, &item.key);
     }
 }

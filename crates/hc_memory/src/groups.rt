@@ -1,5 +1,6 @@
 // Keys by their places.
-ghost use Rattle.std.specs.Prelude.{◌≡◌, ℕ, ◌==◌, ◌++◌, ◌∷◌, [], OnOk, OnErr, if◌then◌else◌};
+ghost use Rattle.std.specs.Prelude.{◌≡◌, ℕ, ◌==◌, ◌<◌, ◌&&◌, not, true, false, ◌++◌, ◌∷◌, [], List, length, slice_get, Some, None, IfSome, OnOk, OnErr, if◌then◌else◌};
+ghost use Rattle.std.specs.Str.{bytes_eq};
 ghost use Rattle.hc_memory.specs.Clean.{keys_at, has_key, with_key};
 
 use hc_types::Key;
@@ -46,6 +47,41 @@ impl<A: Allocator> KeyGroups<A> {
     }
 }
 
+impl<A: Allocator> KeyGroups<A> {
+    /// The key isn't one of the place's any more.
+    pub(crate) fn remove(&mut self, place: u64, key: &Key<A>)
+        ensures { (p : ℕ) (k : List ℕ) → (p == place && bytes_eq key.now k) ≡ false → has_key k (keys_at p self.old) ≡ true → has_key k (keys_at p self.new) ≡ true }
+    {
+        let Some(keys) = self.groups.get_mut(&place) else {
+            return;
+        };
+        take_out(keys, key);
+        if keys.len() == 0 {
+            self.remove_all(place);
+        }
+    }
+
+    /// The place has no key any more.
+    pub(crate) fn remove_all(&mut self, place: u64)
+        ensures { (p : ℕ) → keys_at p self.new ≡ (if p == place then [] else keys_at p self.old) }
+    {
+        let _ = self.groups.remove(&place);
+    }
+
+    /// The place has no key any more but this one, if it has it.
+    pub(crate) fn remove_others(&mut self, place: u64, key: &Key<A>)
+        ensures { (p : ℕ) (k : List ℕ) → (p == place && not (bytes_eq key.now k)) ≡ false → has_key k (keys_at p self.old) ≡ true → has_key k (keys_at p self.new) ≡ true }
+    {
+        let Some(keys) = self.groups.get_mut(&place) else {
+            return;
+        };
+        match place_in(keys.as_slice(), key) {
+            Some(at) => keep_one(keys, at),
+            None => self.remove_all(place),
+        }
+    }
+}
+
 impl<A: Allocator + Clone> KeyGroups<A> {
     /// The key is one of the place's from here on. Refused only where memory lacks; then nothing changes.
     pub(crate) fn add(&mut self, alloc: &A, place: u64, key: &Key<A>) -> Result<(), AllocError>
@@ -86,6 +122,38 @@ fn has<A: Allocator>(keys: &[Key<A>], key: &Key<A>) -> bool
         }
     }
     false
+}
+
+/// Where the key stands among these.
+fn place_in<A: Allocator>(keys: &[Key<A>], key: &Key<A>) -> Option<usize>
+    ensures some { IfSome result (λ at. slice_get keys.now at ≡ Some key.now) }
+    ensures none { result ≡ None → has_key key.now keys.now ≡ false }
+{
+    for (i, k) in keys.iter().enumerate() {
+        if key == k {
+            return Some(i);
+        }
+    }
+    None
+}
+
+/// Takes the key out of the list, if it is there.
+fn take_out<A: Allocator>(keys: &mut Vec<Key<A>, A>, key: &Key<A>)
+    ensures { (k : List ℕ) → bytes_eq key.now k ≡ false → has_key k keys.old.items ≡ true → has_key k keys.new.items ≡ true }
+{
+    if let Some(at) = place_in(keys.as_slice(), key) {
+        let _ = keys.swap_remove(at);
+    }
+}
+
+/// Leaves the key at this place alone.
+fn keep_one<A: Allocator>(keys: &mut Vec<Key<A>, A>, at: usize)
+    requires { at < length keys.old.items }
+    ensures { (key : List ℕ) → slice_get keys.old.items at ≡ Some key → keys.new.items ≡ key ∷ [] }
+{
+    let kept = keys.swap_remove(at);
+    keys.clear();
+    keys.push_reserved(kept);
 }
 
 /// Puts the key behind those of the list. Refused only where memory lacks; then nothing changes.

@@ -1,5 +1,5 @@
 // One pool: the items that can be found, in the order of their use.
-ghost use Rattle.std.specs.Prelude.{◌≡◌, ℕ, ◌+◌, ◌-◌, ◌<◌, ◌≤◌, ◌^◌, ◌++◌, ◌∷◌, [], false, not, ◌&&◌, ◌||◌, ◌==◌, nat_lt, List, length, take, drop, slice_get, vec_len, vec_capacity, IfOk, IfErr, IfSome, OnOk, OnErr, IsOk, IsSome, is_some, option_map};
+ghost use Rattle.std.specs.Prelude.{◌≡◌, ℕ, ◌+◌, ◌-◌, ◌<◌, ◌≤◌, ◌^◌, ◌++◌, ◌∷◌, [], false, not, ◌&&◌, ◌||◌, ◌==◌, nat_lt, List, length, map, take, drop, slice_get, vec_len, vec_capacity, IfOk, IfErr, IfSome, OnOk, OnErr, IsOk, IsSome, is_some, option_map};
 ghost use Rattle.std.specs.Option.{option_map_or};
 ghost use Rattle.lru.specs.LruCache.{lru_cache, last_entry};
 ghost use Rattle.hc_types.specs.Loss.{scope_of};
@@ -33,7 +33,8 @@ impl Glance {
 
 /// One pool. Contracts see its size, and its items, the one that was used longest ago first. No key has two.
 ///
-/// Each call takes expected constant time, but for `victims` and `evict`, which cost what goes.
+/// Each call takes expected constant time, but for `victims` and `evict`, which cost what goes, and
+/// `oldest_keys`, which costs what it answers.
 #[derive(Drop)]
 pub struct Pool<A: Allocator = Global> {
     cache: LruCache<Key<A>, Held<A>, DefaultHasher, A>,
@@ -221,6 +222,23 @@ impl<A: Allocator> Pool<A> {
 }
 
 impl<A: Allocator + Clone> Pool<A> {
+    /// Copies of the keys of the items that were used longest ago, so many of them, in that order. Refused only where memory
+    /// lacks.
+    pub fn oldest_keys(&self, alloc: &A, count: usize) -> Result<Vec<Key<A>, A>, AllocError>
+        ensures { IfOk result (λ keys. keys.items ≡ map (λ item. item.key) (take count self.now.items)) }
+    {
+        let mut keys = Vec::with_capacity(alloc.clone()?, count)?;
+        let mut left = count;
+        for (key, _held) in self.cache.iter().rev() {
+            if left == 0 {
+                return Ok(keys);
+            }
+            keys.push_reserved(key.clone()?);
+            left -= 1;
+        }
+        Ok(keys)
+    }
+
     /// Links an item under its key, as the one that was used last, and answers the number of the item that it
     /// replaces. On an error, for want of memory, nothing changed, and the item comes back. Where it replaces one there
     /// is none.

@@ -2,9 +2,11 @@
 ghost use Rattle.std.specs.Prelude.{◌≡◌, ◌≤◌, map, IfSome, ◌∷◌, []};
 ghost use Rattle.hc_types.specs.Loss.{scope_of};
 ghost use Rattle.hc_memory.specs.Pool.{Pool as Order};
-ghost use Rattle.hc_memory.specs.Memory.{after_unmark};
+ghost use Rattle.hc_memory.specs.Memory.{all_unmarked, after_unmark};
+ghost use Rattle.hc_memory.specs.Clean.{Listed};
 ghost use Rattle.hc_memory.specs.Unmarks.{keys_unmarked};
 
+use crate::clean::CleanIndex;
 use crate::pool::Pool;
 use crate::pools::Pools;
 use hc_types::{FlashConfig, Key, Scope};
@@ -16,12 +18,27 @@ impl<A: Allocator> Pools<A> {
     pub fn unmark(&mut self, scope: &Scope<A>)
         ensures { self.new ≡ after_unmark self.old (scope_of scope.now) }
     {
-        match scope {
-            Scope::Key(key) => unmark_key(&mut self.pools, &self.flash, scope, key),
-            Scope::Bucket(_) | Scope::Hash { .. } => {
-                let keys = self.clean.listed(&self.flash, scope);
-                unmark_keys(&mut self.pools, &self.flash, scope, keys);
-            }
+        unmark_pools(&mut self.pools, &self.clean, &self.flash, scope);
+        self.clean.forget_covered(&self.flash, scope);
+    }
+}
+
+/// Takes the clean mark from every item that the scope covers.
+fn unmark_pools<A: Allocator>(
+    pools: &mut Vec<Pool<A>, A>,
+    index: &CleanIndex<A>,
+    flash: &Option<FlashConfig>,
+    scope: &Scope<A>,
+)
+    requires bits { IfSome flash.now (λ f. f.bits ≤ 64) }
+    requires buckets { IfSome flash.now (λ f. 1 ≤ f.buckets) }
+    requires listed { Listed flash.now index.now pools.old.items }
+    ensures { pools.new.items ≡ all_unmarked flash.now (scope_of scope.now) pools.old.items }
+{
+    match scope {
+        Scope::Key(key) => unmark_key(pools, flash, scope, key),
+        Scope::Bucket(_) | Scope::Hash { .. } => {
+            unmark_keys(pools, flash, scope, index.listed(flash, scope));
         }
     }
 }
