@@ -41,6 +41,18 @@ impl<A: Allocator> Model for Rest<A> {
     ghost view = { λ rest. record { lost = rest.lost; clean = rest.clean } };
 }
 
+impl<A: Allocator> Rest<A> {
+    /// Nothing is left to do.
+    pub fn nothing() -> Rest<A>
+        ensures { result ≡ record { lost = None; clean = None } }
+    {
+        Rest {
+            lost: None,
+            clean: None,
+        }
+    }
+}
+
 /// What a get comes to that is over, and what is left to do then.
 #[derive(Drop)]
 #[must_use]
@@ -187,10 +199,7 @@ impl<A: Allocator + Clone + Copy> BlockCache<A> {
             Some(place) => self.place_ending(key, place),
             None => Ok(Some(Ending {
                 outcome: read(Answer::Absent, Vec::new(self.alloc), None),
-                rest: Rest {
-                    lost: None,
-                    clean: None,
-                },
+                rest: Rest::nothing(),
             })),
         }
     }
