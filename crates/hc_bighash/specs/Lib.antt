@@ -4,3 +4,4 @@ pub mod Next
 pub mod Steps
 pub mod Handed
 pub mod Found
+pub mod Endings

@@ -61,7 +61,7 @@ impl<A: Allocator> Phase<A> {
 
 impl<A: Allocator> Job<A> {
     /// Whether it is that of a get.
-    fn is_get(&self) -> bool
+    pub(crate) fn is_get(&self) -> bool
         ensures { result ≡ is_get_seen self.now.op }
     {
         is_get(&self.op)

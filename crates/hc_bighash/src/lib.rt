@@ -6,6 +6,7 @@
 mod answers;
 mod big_hash;
 mod bloom;
+mod endings;
 mod jobs;
 mod ops;
 mod pages;
@@ -19,6 +20,7 @@ mod turns;
 mod words;
 
 pub use big_hash::BigHash;
+pub use endings::Ending;
 pub use ops::{Answer, IoResult, Loss, Next, Op, Order, Outcome};
 pub use results::Handed;
 pub use resuming::Unresumed;

@@ -144,7 +144,7 @@ impl<A: Allocator + Copy> BigHash<A> {
         Next::Done(Outcome::new(Answer::Over, losses))
     }
 
-    /// The get with this number, which found nothing, is over, and its bucket is fresh where that is given up.
+    /// The get with this number is over, and its bucket is fresh where that is given up.
     pub fn leave(&mut self, number: u64, gives_up: bool)
         requires { IsGet self.old number }
         ensures { option_map (λ moved. moved.state) (carried self.old number (absent_plan gives_up)) ≡ Some self.new }

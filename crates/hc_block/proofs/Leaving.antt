@@ -3,7 +3,7 @@ use Rattle.std.proofs.Common.{◌≡◌, ℕ, ◌+◌, ◌-◌, ◌<◌, ◌≤�
 use Rattle.std.proofs.lemmas.List.{length-set}
 use Rattle.std.proofs.lemmas.Bool.{ltb-true}
 use Rattle.std.proofs.Math.Nat.{min-le_left}
-use Rattle.std.specs.Prelude.{if◌then◌else◌, nat_lt, IfSome}
+use Rattle.std.specs.Prelude.{◌++◌, if◌then◌else◌, is_some, nat_lt, IfSome}
 use Rattle.hc_types.specs.declared.config.FlashConfig.{FlashConfig}
 use Rattle.hc_types.specs.Places.{kept_of}
 use Rattle.hc_types.specs.FlashEntry.{FlashEntry}
@@ -13,13 +13,15 @@ use Rattle.hc_engines.specs.large.Index.{Place, Indexed, place_at, is_place}
 use Rattle.hc_engines.specs.large.Block.{Block, Job, Reading, Moved, Getting, finished, without_job, job_added, end_job, with_region}
 use Rattle.hc_engines.specs.Engine.{Read, Answer, Absent, Loss, Outcome, nothing}
 use Rattle.hc_engines.specs.large.Numbers.{minus}
-use Rattle.hc_engines.specs.large.Steps.{end_page, reading_of, read_bytes, answered, answer_of, absent, unreadable, failed_read, read_next, pinned, let_go}
+use Rattle.hc_engines.specs.large.Steps.{end_page, reading_of, read_bytes, answered, answer_of, absent, unreadable, failed_read, got_page, read_next, pinned, let_go}
 use Rattle.hc_engines.specs.large.Sound.{reads, readers, Sound}
 use Rattle.hc_block.specs.Large.{Kept}
 use Rattle.hc_block.specs.Ends.{flushed_left}
+use Rattle.hc_block.specs.Endings.{Rest, Ending, index_without, without_lost, lost_at, read_left, IsReadEnding}
 use Rattle.hc_block.specs.Works.{reading_at, IsReading}
 use Rattle.hc_engines.specs.large.Unread.{read_on}
 use Rattle.hc_block.specs.Reads.{came_in, came_by, came_failed, came_to, index_left, answer_at, losses_at, next_of, CanReadOn, CanRead}
+use Rattle.hc_region.specs.CleanNumbers.{clean_from, now_clean}
 use Rattle.hc_region.specs.Pins.{is_last, released, released_by}
 use Rattle.hc_engines.proofs.large.Lists.{in_range}
 use Rattle.hc_engines.proofs.large.Within.{set_within, no_fuller}
@@ -117,12 +119,6 @@ pub on_is : (flash : FlashConfig) (number : ℕ) (s : Block) (bytes : List ℕ) 
     → (read_next flash number (read_on (reading_at number s.jobs) bytes) (end_job number s)).state ≡ record s { jobs = jobs }
 on_is flash number s bytes jobs js = rw js refl
 
-pub left_is : (r number : ℕ) (hash : ℕ) (came : Option Answer) (s : Block) (cleared : Option ℕ) (index : List Indexed) (regions : List Region) (flushed : List ℕ) (jobs : List Job) (losses : List Loss) (answer : Answer) (outcome : Outcome)
-    → index ≡ index_left came hash s.index → regions ≡ set s.regions r (released (region_at r s.regions)) → cleared ≡ released_by (region_at r s.regions) r → flushed ≡ flushed_left cleared r s.flushed → jobs ≡ without_job number s.jobs
-    → losses ≡ losses_at came hash → answer ≡ answer_at came → outcome ≡ record nothing { answer = answer; losses = losses; cleared = cleared }
-    → let_go r (came_to hash (end_job number s) came) ≡ finished (record s { regions = regions; flushed = flushed; index = index; jobs = jobs }) outcome
-left_is r number hash came s cleared index regions flushed jobs losses answer outcome is rs cl fl js ls a o = let_go_is r hash number s came ∙ (rw (o, ls, a, js, fl, cl, rs, is) refl)
-
 pub read_there : (flash : FlashConfig) (number : ℕ) (s : Block) → Kept flash s → IsReading number s.jobs → (reading_at number s.jobs).place.region < length s.regions
 read_there flash number s k h = in_range s.regions (reading_at number s.jobs).place.region (pinned_by flash number (reading_at number s.jobs) s k.sound h).unclean
 
@@ -151,6 +147,82 @@ leave_kept flash number hash came s k h = subst (λ (m : Moved). Kept flash m.st
     released_filled : (b : Bool) → filled_to flash (if b then clean_region else record region { pins = region.pins - 1 }) ≤ region_len flash
     released_filled true = omega arith
     released_filled false = k.filled r
+
+-- ---- the end of a read, in two
+
+index-lost : (came : Option Answer) (hash : ℕ) (index : List Indexed) → index_left came hash index ≡ index_without (lost_at came hash) index
+index-lost None hash index = refl
+index-lost (Some answer) hash index = refl
+
+-- what the question makes is how the read is over
+pub read_ends : (flash : FlashConfig) (number r hash : ℕ) (s : Block) (came : Option Answer) (rest : Rest) (outcome : Outcome) (answer : Answer) (losses : List Loss) (cleared : Option ℕ) → IsReading number s.jobs
+    → r ≡ (reading_at number s.jobs).place.region → hash ≡ kept_of flash.bits (reading_at number s.jobs).key → rest.lost ≡ lost_at came hash → now_clean rest.clean (clean_from 0 s.regions) ≡ clean_from 0 (set s.regions r (released (region_at r s.regions)))
+    → answer ≡ answer_at came → losses ≡ losses_at came hash → cleared ≡ released_by (region_at r s.regions) r → outcome ≡ record nothing { answer = answer; losses = losses; cleared = cleared }
+    → IsReadEnding flash number s came (record { outcome = outcome; rest = rest })
+read_ends flash number r hash s came rest outcome answer losses cleared reads re he lost clean a l cl out = record {
+  can = record { reads = reads; clean = subst (λ (q : ℕ). now_clean rest.clean (clean_from 0 s.regions) ≡ clean_from 0 (set s.regions q (released (region_at q s.regions)))) re clean };
+  moved = (λ i. let_go (sym re i) (came_to (sym he i) (end_job number s) came)) ∙ let_go_is r hash number s came
+      ∙ (λ i. finished (record (end_job number s) { regions = set s.regions (re i) (released (region_at (re i) s.regions)); flushed = flushed_left (released_by (region_at (re i) s.regions) (re i)) (re i) s.flushed; index = index i }) (made i));
+}
+  where
+    index : index_left came hash s.index ≡ index_without rest.lost s.index
+    index = index-lost came hash s.index ∙ ap (λ (o : Option ℕ). index_without o s.index) (sym lost)
+
+    made : record nothing { answer = answer_at came; losses = losses_at came hash; cleared = released_by (region_at r s.regions) r } ≡ outcome
+    made = sym (out ∙ (λ i. record nothing { answer = a i; losses = l i; cleared = cl i }))
+
+-- the last page of a read
+pub page_ends : (flash : FlashConfig) (number : ℕ) (s : Block) (page : List ℕ) (came : Option Answer) (ending : Ending) → is_some (next_of flash (reading_at number s.jobs)) ≡ false
+    → came ≡ came_by flash (reading_at number s.jobs).key (reading_at number s.jobs).place ((reading_at number s.jobs).got ++ page) (reading_at number s.jobs).rest s.index → IsReadEnding flash number s came ending
+    → got_page flash number (reading_at number s.jobs) page (end_job number s) ≡ finished (read_left number ending.rest s) ending.outcome
+page_ends flash number s page came ending last is ends = by (nat_lt (reading.next + 1) reading.until) last
+  where
+    reading : Reading
+    reading = reading_at number s.jobs
+
+    more : Reading
+    more = record reading { got = reading.got ++ page; next = reading.next + 1 }
+
+    by : (t : Bool) → is_some (if t then Some (page_no flash reading.place.region (reading.next + 1)) else None) ≡ false
+        → (if t then read_next flash number more (end_job number s) else let_go reading.place.region (answered flash more (end_job number s))) ≡ finished (read_left number ending.rest s) ending.outcome
+    by true h = absurd cc
+    by false h = ap (let_go reading.place.region) (answered_is flash more (end_job number s) ∙ ap (came_to (kept_of flash.bits reading.key) (end_job number s)) (sym is)) ∙ ends.moved
+
+-- a page that wasn't read
+pub failed_ends : (flash : FlashConfig) (number : ℕ) (s : Block) (came : Option Answer) (ending : Ending) → came ≡ came_failed flash (reading_at number s.jobs).key (reading_at number s.jobs).place s.index → IsReadEnding flash number s came ending
+    → let_go (reading_at number s.jobs).place.region (failed_read flash (reading_at number s.jobs) (end_job number s)) ≡ finished (read_left number ending.rest s) ending.outcome
+failed_ends flash number s came ending is ends =
+    ap (let_go (reading_at number s.jobs).place.region) (failed_is flash (reading_at number s.jobs) (end_job number s) ∙ ap (came_to (kept_of flash.bits (reading_at number s.jobs).key) (end_job number s)) (sym is)) ∙ ends.moved
+
+pub lost_kept : (flash : FlashConfig) (lost : Option ℕ) (s : Block) → Kept flash s → Kept flash (without_lost lost s)
+lost_kept flash None s k = k
+lost_kept flash (Some hash) s k = take_kept flash hash None s k
+
+read-left-kept : (flash : FlashConfig) (number : ℕ) (rest : Rest) (s : Block) → Kept flash s → IsReading number s.jobs → Kept flash (read_left number rest s)
+read-left-kept flash number rest s k h = by rest.lost
+  where
+    r : ℕ
+    r = (reading_at number s.jobs).place.region
+
+    by : (lost : Option ℕ) → Kept flash (record (end_job number s) { regions = set s.regions r (released (region_at r s.regions)); flushed = flushed_left (released_by (region_at r s.regions) r) r s.flushed; index = index_without lost s.index })
+    by None = subst (λ (m : Moved). Kept flash m.state) (let_go_is r 0 number s (Some Absent)) (leave_kept flash number 0 (Some Absent) s k h)
+    by (Some hash) = subst (λ (m : Moved). Kept flash m.state) (let_go_is r hash number s None) (leave_kept flash number hash None s k h)
+
+-- what the fields hold once a read is over is what the engine keeps
+pub end_kept : (flash : FlashConfig) (number r : ℕ) (rest : Rest) (s : Block) (cleared : Option ℕ) (index : List Indexed) (regions : List Region) (flushed : List ℕ) (jobs : List Job) → Kept flash s → IsReading number s.jobs
+    → r ≡ (reading_at number s.jobs).place.region → index ≡ index_without rest.lost s.index → regions ≡ set s.regions r (released (region_at r s.regions)) → cleared ≡ released_by (region_at r s.regions) r → flushed ≡ flushed_left cleared r s.flushed
+    → jobs ≡ without_job number s.jobs → Kept flash (record s { regions = regions; flushed = flushed; index = index; jobs = jobs })
+end_kept flash number r rest s cleared index regions flushed jobs k h re ix rs cl fl js = subst (λ (t : Block). Kept flash t) ((λ i. record (end_job number s) {
+  regions = set s.regions (sym re i) (released (region_at (sym re i) s.regions));
+  flushed = flushed_left (released_by (region_at (sym re i) s.regions) (sym re i)) (sym re i) s.flushed;
+  index = index_without rest.lost s.index;
+}) ∙ now) (read-left-kept flash number rest s k h)
+  where
+    went : flushed_left (released_by (region_at r s.regions) r) r s.flushed ≡ flushed
+    went = sym (fl ∙ ap (λ (o : Option ℕ). flushed_left o r s.flushed) cl)
+
+    now : record (end_job number s) { regions = set s.regions r (released (region_at r s.regions)); flushed = flushed_left (released_by (region_at r s.regions) r) r s.flushed; index = index_without rest.lost s.index } ≡ record s { regions = regions; flushed = flushed; index = index; jobs = jobs }
+    now = λ i. record s { regions = sym rs i; flushed = went i; index = sym ix i; jobs = sym js i }
 
 -- ---- a read begins
 
@@ -187,10 +259,6 @@ can_read flash number hash key place s k e below free = record {
 
     within : (reading_of flash key place s).until ≤ (region_at place.region s.regions).written
     within = min-le_left (region_at place.region s.regions).written (end_page flash place)
-
-pub now_is : (hash : ℕ) (s : Block) (came : Option Answer) (index : List Indexed) (losses : List Loss) (answer : Answer) (outcome : Outcome) → index ≡ index_left came hash s.index → losses ≡ losses_at came hash → answer ≡ answer_at came
-    → outcome ≡ record nothing { answer = answer; losses = losses } → came_to hash s came ≡ finished (record s { index = index }) outcome
-now_is hash s came index losses answer outcome is ls a o = came_is hash s came ∙ (rw (o, ls, a, is) refl)
 
 -- what the fields hold where a read began is the machine's state
 pub began_is : (flash : FlashConfig) (number : ℕ) (reading : Reading) (s : Block) (regions : List Region) (jobs : List Job) (page : ℕ) → regions ≡ set s.regions reading.place.region (record (region_at reading.place.region s.regions) { pins = (region_at reading.place.region s.regions).pins + 1 })

@@ -2,7 +2,7 @@
 pub mod Keeping
 pub mod Undoing
 pub mod Waiting
-pub mod Ending
+pub mod RegionEnds
 pub mod Going
 pub mod Making
 pub mod Settling

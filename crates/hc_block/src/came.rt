@@ -7,7 +7,7 @@ ghost use Rattle.hc_engines.specs.large.Index.{place_at, is_place};
 ghost use Rattle.hc_engines.specs.large.Entries.{entry_in as entry_in_seen};
 ghost use Rattle.hc_engines.specs.large.Steps.{own_entry as own_entry_seen};
 ghost use Rattle.hc_bighash.specs.Seen.{answer_of};
-ghost use Rattle.hc_block.specs.Reads.{came_in as came_in_seen, came_by, came_failed as came_failed_seen, index_left, answer_at, losses_at};
+ghost use Rattle.hc_block.specs.Reads.{came_in as came_in_seen, came_by, came_failed as came_failed_seen, answer_at, losses_at};
 
 use crate::index::Index;
 use crate::reading::Reading;
@@ -215,19 +215,6 @@ pub(crate) fn losses_of<A: Allocator + Clone + Copy>(
         losses.push(Loss::new(scope, Cause::Fault))?;
     }
     Ok(losses)
-}
-
-/// The hash leads nowhere, where a read came to no entry.
-pub(crate) fn leave_index<A: Allocator + Clone + Copy>(
-    index: &mut Index<A>,
-    hash: u64,
-    came: &Option<Answer<A>>,
-)
-    ensures { index.new ≡ index_left (option_map answer_of came.now) hash index.old }
-{
-    if came.is_none() {
-        index.remove(hash);
-    }
 }
 
 /// The answer of a read.

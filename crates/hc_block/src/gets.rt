@@ -13,7 +13,7 @@ ghost use Rattle.hc_block.specs.Works.{IsFreeIn};
 ghost use Rattle.hc_block.specs.Reads.{came_by, came_to, CanRead};
 
 use crate::block_cache::BlockCache;
-use crate::came::{answer_of_read, leave_index, losses_of};
+use crate::endings::Ending;
 use crate::jobs::{Jobs, Work};
 use crate::outcomes::read;
 use crate::reading::Reading;
@@ -115,9 +115,9 @@ impl<A: Allocator + Clone + Copy> BlockCache<A> {
         ensures flash { self.new.flash ≡ self.old.flash }
         ensures err { OnErr result (self.new ≡ self.old) }
     {
-        let losses = losses_of(self.alloc, hash, &came)?;
-        leave_index(&mut self.index, hash, &came);
-        Ok(read(answer_of_read(came), losses, None))
+        let Ending { outcome, rest } = self.ending_now(hash, came)?;
+        self.end_at_once(rest);
+        Ok(outcome)
     }
 
     /// Reads the entry of this key at this place.

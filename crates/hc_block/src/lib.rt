@@ -6,6 +6,7 @@
 mod admitting;
 mod block_cache;
 mod came;
+mod endings;
 mod ends;
 mod finding;
 mod flushes;
@@ -26,3 +27,4 @@ mod turns;
 mod writes;
 
 pub use block_cache::BlockCache;
+pub use endings::{Ending, Rest};

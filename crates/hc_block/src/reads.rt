@@ -10,13 +10,10 @@ ghost use Rattle.hc_block.specs.Works.{reading_at, IsReading};
 ghost use Rattle.hc_block.specs.Reads.{came_by, came_failed as came_failed_seen, came_to, next_of, CanReadOn};
 
 use crate::block_cache::BlockCache;
-use crate::came::{answer_of_read, leave_index, losses_of};
-use crate::ends::leave_flushed;
-use crate::outcomes::read;
+use crate::endings::Ending;
 use crate::steps::Step;
 use bytes::Bytes;
 use hc_bighash::{Answer, Order, Outcome};
-use hc_region::{add_released, release_at};
 use std::alloc::{AllocError, Allocator};
 
 impl<A: Allocator + Clone + Copy> BlockCache<A> {
@@ -55,7 +52,7 @@ impl<A: Allocator + Clone + Copy> BlockCache<A> {
     }
 
     /// What a read came to where a page wasn't read.
-    fn failed_came(&self, number: u64) -> Option<Answer<A>>
+    pub(crate) fn failed_came(&self, number: u64) -> Option<Answer<A>>
         requires { IsReading number self.now.block.jobs }
         ensures { option_map answer_of result ≡ came_failed_seen self.now.flash (reading_at number self.now.block.jobs).key (reading_at number self.now.block.jobs).place self.now.block.index }
     {
@@ -71,16 +68,9 @@ impl<A: Allocator + Clone + Copy> BlockCache<A> {
         ensures flash { self.new.flash ≡ self.old.flash }
         ensures err { OnErr result (self.new ≡ self.old) }
     {
-        let reading = self.jobs.reading(number);
-        let r = reading.region();
-        let hash = reading.hash(&self.flash);
-        let losses = losses_of(self.alloc, hash, &came)?;
-        add_released(&self.regions, &mut self.clean, r)?;
-        leave_index(&mut self.index, hash, &came);
-        let cleared = release_at(self.alloc, &mut self.regions, r);
-        leave_flushed(&mut self.flushed, r, cleared);
-        self.jobs.remove(number);
-        Ok(read(answer_of_read(came), losses, cleared))
+        let Ending { outcome, rest } = self.read_ending(number, came)?;
+        self.end(number, rest);
+        Ok(outcome)
     }
 
     /// A page of a read was read. Refused only where memory lacks.

@@ -1,3 +1,4 @@
 -- What is proved of both engines as one.
 pub mod Steps
 pub mod Peeks
+pub mod Closing

@@ -1,3 +1,4 @@
 -- How contracts see both engines as one.
 pub mod Joined
 pub mod Found
+pub mod Endings

@@ -8,7 +8,7 @@ use hc_bighash::{Loss, Next, Outcome};
 use std::alloc::Allocator;
 
 /// These losses, and then the outcome's. There is room for them.
-fn in_front<A: Allocator>(before: Vec<Loss<A>, A>, outcome: Outcome<A>) -> Outcome<A>
+pub(crate) fn in_front<A: Allocator>(before: Vec<Loss<A>, A>, outcome: Outcome<A>) -> Outcome<A>
     requires { vec_len before + length outcome.losses ≤ vec_capacity before }
     ensures { result ≡ after_losses before.items outcome }
 {

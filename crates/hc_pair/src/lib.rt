@@ -2,6 +2,7 @@
 //! started, answers which page is to be read or written, and is resumed with what came of that.
 #![tactic(auto)]
 
+mod endings;
 mod finding;
 mod joining;
 mod losing;
@@ -11,4 +12,5 @@ mod resuming;
 mod shown;
 mod starting;
 
+pub use endings::Ending;
 pub use pair::Pair;

@@ -20,3 +20,8 @@ rest_of (x ∷ xs) = xs
 -- rising numbers, with this one
 abbrev pub with_number : ℕ → List ℕ → List ℕ
 with_number r clean = insert_key nat_cmp clean r
+
+-- these numbers, where they changed
+abbrev pub now_clean : Option (List ℕ) → List ℕ → List ℕ
+now_clean None clean = clean
+now_clean (Some more) clean = more

@@ -1,10 +1,10 @@
 // The clean regions, by their numbers: an ordered set, so that the lowest is taken, one comes in, and all are counted, with no
 // scan.
-ghost use Rattle.std.specs.Prelude.{◌≡◌, ◌<◌, ◌≤◌, ◌^◌, false, [], length, replicate, set, Some, OnOk, OnErr, IfOk};
+ghost use Rattle.std.specs.Prelude.{◌≡◌, ◌<◌, ◌≤◌, ◌^◌, false, [], length, replicate, set, Some, is_some, OnOk, OnErr, IfOk};
 ghost use Rattle.hc_engines.specs.large.Region.{clean_region, is_clean, region_at, lowest_clean as lowest};
 ghost use Rattle.hc_engines.specs.large.Steps.{clean_count as count_of_clean, emptied};
-ghost use Rattle.hc_region.specs.CleanNumbers.{clean_from, first_of, rest_of, with_number};
-ghost use Rattle.hc_region.specs.Pins.{released};
+ghost use Rattle.hc_region.specs.CleanNumbers.{clean_from, first_of, now_clean, rest_of, with_number};
+ghost use Rattle.hc_region.specs.Pins.{is_last, released};
 
 use crate::numbered::{is_free_at, is_last_read_at, store_at};
 use crate::region::Region;
@@ -54,6 +54,15 @@ impl<A: Allocator> CleanRegions<A> {
         }
     }
 
+    /// These are the clean regions from here on, where others are clean than before.
+    pub fn change(&mut self, more: Option<CleanRegions<A>>)
+        ensures { self.new ≡ now_clean more self.old }
+    {
+        if let Some(more) = more {
+            *self = more;
+        }
+    }
+
     /// The lowest number goes.
     fn take_lowest(&mut self)
         ensures { self.new ≡ rest_of self.old }
@@ -72,6 +81,14 @@ impl<A: Allocator + Clone> CleanRegions<A> {
             Ok(_) => Ok(()),
             Err(_) => Err(AllocError),
         }
+    }
+
+    /// The same numbers once more. Refused only where memory lacks.
+    fn copy(&self) -> Result<CleanRegions<A>, AllocError>
+        ensures { IfOk result (λ copy. copy ≡ self.now) }
+    {
+        let numbers = self.numbers.clone()?;
+        Ok(CleanRegions { numbers })
     }
 }
 
@@ -140,22 +157,25 @@ pub fn add_emptied<A: Allocator + Clone + Copy>(
     Ok(())
 }
 
-/// The number of a region comes in that a read is about to let go, where it drains and no other read holds it: then it is
-/// clean. Refused only where memory lacks.
-pub fn add_released<A: Allocator + Clone + Copy>(
+/// The numbers of the clean regions once a read let a region go, where that drains and no other read holds it: then it is
+/// clean too. Nothing where no region becomes clean. All memory is taken here, so that the read's end can't be refused: the
+/// numbers are copied, which happens once for a region that drains. Refused only where memory lacks.
+pub fn with_released<A: Allocator + Clone + Copy>(
     regions: &[Region<A>],
-    clean: &mut CleanRegions<A>,
+    clean: &CleanRegions<A>,
     r: u32,
-) -> Result<(), AllocError>
+) -> Result<Option<CleanRegions<A>>, AllocError>
     requires there { r < length regions.now }
-    requires clean { clean.old ≡ clean_from 0 regions.now }
-    ensures ok { OnOk result (clean.new ≡ clean_from 0 (set regions.now r (released (region_at r regions.now)))) }
-    ensures err { OnErr result (clean.new ≡ clean.old) }
+    requires clean { clean.now ≡ clean_from 0 regions.now }
+    ensures clean { IfOk result (λ more. now_clean more (clean_from 0 regions.now) ≡ clean_from 0 (set regions.now r (released (region_at r regions.now)))) }
+    ensures last { IfOk result (λ more. is_some more ≡ is_last (region_at r regions.now)) }
 {
-    if is_last_read_at(regions, r) {
-        clean.insert(r)?;
+    if !is_last_read_at(regions, r) {
+        return Ok(None);
     }
-    Ok(())
+    let mut more = clean.copy()?;
+    more.insert(r)?;
+    Ok(Some(more))
 }
 
 /// The numbers of so many clean regions. Refused only where memory lacks.

@@ -15,7 +15,7 @@ mod status;
 mod waiting;
 
 pub use clean::{
-    CleanRegions, add_emptied, add_released, all_clean, clean_count, lowest_clean, open_lowest,
+    CleanRegions, add_emptied, all_clean, clean_count, lowest_clean, open_lowest, with_released,
 };
 pub use decoding::entry_in;
 pub use entries::entry_bytes;

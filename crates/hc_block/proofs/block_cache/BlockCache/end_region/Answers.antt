@@ -5,7 +5,7 @@ use Rattle.hc_engines.specs.large.Steps.{emptied, end_region}
 use Rattle.hc_region.specs.CleanNumbers.{clean_from}
 use Rattle.hc_block.specs.Large.{Large, Kept}
 use Rattle.hc_block.specs.Ends.{CanEnd, cause_seen, jobs_left, left_by}
-use Rattle.hc_block.proofs.Ending.{ended_is}
+use Rattle.hc_block.proofs.RegionEnds.{ended_is}
 use Rattle.hc_block.proofs.block_cache.BlockCache.end_region.Goals as goal
 
 pub add_emptied-requires-clause-in_use : goal.add_emptied-requires-clause-in_use

@@ -6,7 +6,7 @@ use Rattle.hc_engines.specs.large.Steps.{clean_count, oldest}
 use Rattle.hc_block.specs.Large.{Large}
 use Rattle.hc_block.specs.Ends.{CanEnd}
 use Rattle.hc_engines.specs.large.Choices.{reclaim_next}
-use Rattle.hc_block.proofs.Ending.{all_there, all_can_end}
+use Rattle.hc_block.proofs.RegionEnds.{all_there, all_can_end}
 use Rattle.hc_block.proofs.block_cache.BlockCache.reclaim_next.Goals as goal
 
 pub oldest_if-requires-clause-there : goal.oldest_if-requires-clause-there

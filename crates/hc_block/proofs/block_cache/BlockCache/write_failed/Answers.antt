@@ -5,7 +5,7 @@ use Rattle.hc_engines.specs.large.Block.{Block}
 use Rattle.hc_block.specs.Large.{Large}
 use Rattle.hc_block.specs.Ends.{CanEnd, left_by}
 use Rattle.hc_block.specs.Settling.{IsWriting}
-use Rattle.hc_block.proofs.Ending.{can_fail}
+use Rattle.hc_block.proofs.RegionEnds.{can_fail}
 use Rattle.hc_block.proofs.block_cache.BlockCache.write_failed.Goals as goal
 
 pub end_region-requires : goal.end_region-requires
