@@ -21,7 +21,7 @@ abbrev pub AreKeyed : List Fill → Type 0
 AreKeyed [] = ⊤
 AreKeyed (fill ∷ fills) = (fill_at fill.key fills ≡ None) × AreKeyed fills
 
-keyed_as : {A : Type 0} (pieces : List (Piece (Named (Bringing A) A))) → AreApart pieces → AreKeyed (fills_in pieces)
+pub keyed_as : {A : Type 0} (pieces : List (Piece (Named (Bringing A) A))) → AreApart pieces → AreKeyed (fills_in pieces)
 keyed_as [] apart = tt
 keyed_as (piece ∷ pieces) apart = (sym (fill_there piece.value.key pieces) ∙ ap (option_map fill_in) apart.0, keyed_as pieces apart.1)
 
@@ -107,7 +107,7 @@ none_taken key number (fill ∷ fills) e = by_key (is_fill_of key fill) refl (no
     by_key true t more = absurd (cc (rw t at e))
     by_key false t more = rw t (ap (λ rest. fill ∷ rest) (more (rw t at e)))
 
-alone : (key : List ℕ) (fill : Fill) (fills : List Fill) → is_fill_of key fill ≡ true → AreKeyed (fill ∷ fills) → fill_at key fills ≡ None
+pub alone : (key : List ℕ) (fill : Fill) (fills : List Fill) → is_fill_of key fill ≡ true → AreKeyed (fill ∷ fills) → fill_at key fills ≡ None
 alone key fill fills t keyed = subst (λ k. fill_at k fills ≡ None) (is_key key fill t) keyed.0
 
 -- the fill of the key has no job yet

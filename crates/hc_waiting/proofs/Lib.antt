@@ -5,3 +5,4 @@ pub mod Pieces
 pub mod Stones
 pub mod Filling
 pub mod Led
+pub mod Apart

@@ -250,6 +250,14 @@ impl<A: Allocator + Copy> Fills<A> {
         is_kept_by(self.line.get(key), number)
     }
 
+    /// What is true of the fills: the one that a job brings is the only one of its key. A law to call where a proof asks for it;
+    /// it does nothing.
+    pub fn is_sound(&self)
+        ensures { (number : ℕ) (fill : Fill) → fill_by number self.now.fills ≡ Some fill → fill_at fill.key self.now.fills ≡ Some fill }
+    {
+        self.line.is_sound();
+    }
+
     /// The calls that wait for this key, in order.
     #[must_use]
     pub fn waiters(&self, key: &Key<A>) -> Option<&Vec<Waiter<A>, A>>
