@@ -6,7 +6,7 @@ use Rattle.hc_types.specs.FlashEntry.{FlashEntry}
 use Rattle.hc_types.specs.Places.{bucket_at}
 use Rattle.hc_engines.proofs.pair.Numbers.{none_in_both}
 use Rattle.hc_engines.proofs.small.UnderWay.{none_is_there}
-use Rattle.hc_engines.specs.Engine.{Op, Put, Get, Delete, Flush, Reclaim, Order, IoResult, Answer, Nothing, Over, Absent, Found, Loss, Outcome, Next, Busy, Io, Done, outcome_of, UnderWay}
+use Rattle.hc_engines.specs.Engine.{Op, Put, Get, Delete, Flush, Reclaim, Order, IoResult, Answer, Nothing, Over, Absent, Found, Outcome, Next, Busy, Io, Done, outcome_of, UnderWay}
 use Rattle.hc_engines.specs.small.BigHash as bighash
 use Rattle.hc_engines.specs.small.BigHash.{BigHash, Job, ToRead, ToEnd, begun, could_hold, is_busy, moved, carried, job_at, tells, without_job, word_at}
 use Rattle.hc_engines.specs.large.Block as block
@@ -14,7 +14,7 @@ use Rattle.hc_engines.specs.large.Block.{Block, Work, Writing, Getting, finished
 use Rattle.hc_engines.specs.large.Sound.{Sound}
 use Rattle.hc_engines.specs.large.Steps as steps
 use Rattle.hc_engines.specs.pair.Pair.{Pair, Moved, after_losses, next_of, waits_for, by_small, by_large, went_on, after_small, start, resume, resume_in, resume_large}
-use Rattle.hc_engines.specs.pair.Held.{under_way, first_of, work_under_way}
+use Rattle.hc_engines.specs.pair.Held.{first_of, work_under_way}
 use Rattle.hc_engines.specs.small.Held.{job_under_way}
 use Rattle.hc_bighash.specs.Endings.{has_looked, is_over}
 use Rattle.hc_bighash.specs.Found.{answer_next, get_answer}
@@ -26,7 +26,7 @@ use Rattle.hc_block.specs.Large.{Large}
 use Rattle.hc_block.specs.Moves.{stepped, resume_work, resume_by}
 use Rattle.hc_block.specs.Works.{reading_at}
 use Rattle.hc_pair.specs.Joined.{IsJoined, after}
-use Rattle.hc_pair.specs.Endings.{Ending, behind_losses, of_large, state_or, small_left, small_end, large_end, left_in, left_by, op_under, IsGet, ends, is_done, CanEndIn, CanLeave, IsStep, Ends, IsEnding, IsEndingAtOnce}
+use Rattle.hc_pair.specs.Endings.{Ending, behind_losses, of_large, state_or, small_left, small_end, left_in, left_by, op_under, ends, is_done, CanEndIn, CanLeave, IsStep, Ends, IsEnding, IsEndingAtOnce}
 use Rattle.hc_pair.proofs.Steps.{some_is, op-some, op-none, resumed_large, resumed_joined, gone_on}
 
 abbrev both : BigHash → Large → Pair

@@ -7,7 +7,7 @@ ghost use Rattle.hc_engines.specs.pair.Pair.{start as start_step, resume as resu
 ghost use Rattle.hc_engines.specs.pair.Held.{under_way};
 ghost use Rattle.hc_bighash.specs.Handed.{IsGet, absent_plan, lost_with, op_in};
 ghost use Rattle.hc_bighash.specs.Seen.{op_of, result_of};
-ghost use Rattle.hc_block.specs.Endings.{CanEndRead};
+ghost use Rattle.hc_block.specs.Endings.{CanEndRead, without_lost};
 ghost use Rattle.hc_pair.specs.Endings.{CanLeave, Ends, EndsAtOnce, IsEnding, IsEndingAtOnce, IsStep, behind_losses, of_large, small_end, large_end, left_by};
 
 use crate::joining::in_front;
@@ -232,6 +232,7 @@ impl<A: Allocator + Clone + Copy> Pair<A> {
     pub fn end_at_once(&mut self, key: &Key<A>, ending: Ending<A>) -> Outcome<A>
         requires { EndsAtOnce key.now self.old ending }
         ensures value { result ≡ ending.outcome }
+        ensures state { self.new ≡ record self.old { large = without_lost ending.rest.lost self.old.large } }
         ensures step { (number : ℕ) → under_way self.old number ≡ None → start_step number (Get key.now) self.old ≡ record { pair = self.new; next = Done result } }
     {
         let _key = key;
