@@ -4,6 +4,7 @@
 #![tactic(auto)]
 
 mod answers;
+mod awaiting;
 mod big_hash;
 mod bloom;
 mod endings;

@@ -4,6 +4,7 @@
 #![tactic(auto)]
 
 mod admitting;
+mod awaiting;
 mod block_cache;
 mod came;
 mod endings;

@@ -1,12 +1,14 @@
 // What a caller asks of both engines before it calls them.
-ghost use Rattle.std.specs.Prelude.{◌≡◌, ℕ, length, false};
+ghost use Rattle.std.specs.Prelude.{◌≡◌, ℕ, length, is_some, false};
 ghost use Rattle.hc_types.specs.Places.{is_small_by};
 ghost use Rattle.hc_engines.specs.Engine.{Flush, Done, nothing};
 ghost use Rattle.hc_engines.specs.small.BigHash.{is_busy as is_busy_seen};
-ghost use Rattle.hc_engines.specs.pair.Pair.{bucket_in, hash_in, is_indexed as is_indexed_seen, start as start_step};
+ghost use Rattle.hc_engines.specs.pair.Pair.{bucket_in, hash_in, is_indexed as is_indexed_seen, start as start_step, resume as resume_step};
+ghost use Rattle.hc_bighash.specs.Seen.{result_of};
 ghost use Rattle.hc_pair.specs.Found.{is_io};
 
 use crate::pair::Pair;
+use hc_bighash::IoResult;
 use hc_types::{Entry, FlashConfig, Key, is_small};
 use std::alloc::Allocator;
 
@@ -66,5 +68,17 @@ impl<A: Allocator + Clone + Copy> Pair<A> {
         ensures idle { result ≡ false → (number : ℕ) → start_step number Flush self.now ≡ record { pair = self.now; next = Done nothing } }
     {
         self.large.has_flush()
+    }
+
+    /// Whether the operation with this number waits for such a result. Where it does, `resume` and `hand_in` are refused only
+    /// where memory lacks.
+    #[must_use]
+    pub fn awaits(&self, number: u64, came: &IoResult<A>) -> bool
+        ensures { result ≡ is_some (resume_step number (result_of came.now) self.now) }
+    {
+        match self.small.op(number) {
+            None => self.large.awaits(number, came),
+            Some(_) => self.small.awaits(number, came),
+        }
     }
 }
