@@ -19,7 +19,7 @@ fn has<A: Allocator>(found: &Option<Entry<A>>, len: usize) -> bool {
 }
 
 /// So many bytes are answered.
-fn answers<A: Allocator>(outcome: &Outcome<A>, len: usize) -> bool {
+pub fn answers<A: Allocator>(outcome: &Outcome<A>, len: usize) -> bool {
     match &outcome.answer {
         Answer::Found(entry) => entry.value.len() == len,
         _ => false,
@@ -89,7 +89,7 @@ fn a_get_tells_what_it_finds_at_once(rt: HostRuntime) {
 }
 
 /// The region of `a` is written, and its page is answered.
-fn flush_first(rt: &impl Abort, alloc: Global, driver: &mut Driver) -> Bytes<Global> {
+pub fn flush_first(rt: &impl Abort, alloc: Global, driver: &mut Driver) -> Bytes<Global> {
     drop(put_large(rt, alloc, driver, b"a"));
     assert!(rt; !driver.pair.has_flush());
     drop(put_large(rt, alloc, driver, b"b"));

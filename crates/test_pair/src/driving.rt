@@ -7,7 +7,7 @@ use crate::making::{entry, flash, key};
 use bytes::Bytes;
 use hc_bighash::{IoResult, Loss, Next, Op, Order, Outcome, Unresumed};
 use hc_pair::Pair;
-use hc_types::{Cause, Entry, Refusal, Scope};
+use hc_types::{Cause, Entry, Key, Refusal, Scope};
 use std::alloc::{AllocError, Allocator, Global};
 use std::marker::Model;
 use std::process::Abort;
@@ -93,6 +93,26 @@ impl<A: Allocator + Copy> Driver<A> {
         match self.pair.resume(number, came) {
             Ok(next) => Ok(next),
             Err(refused) => Err(refused),
+        }
+    }
+
+    /// Ends the get that was started last, where it is over with this result.
+    pub fn end(&mut self, came: &IoResult<A>) -> Result<Option<Outcome<A>>, AllocError> {
+        let number = self.last();
+        self.pair.is_sound();
+        match self.pair.ending(number, came) {
+            Ok(Some(ending)) => Ok(Some(self.pair.end(number, ending))),
+            Ok(None) => Ok(None),
+            Err(error) => Err(error),
+        }
+    }
+
+    /// Ends a get of this key, where it is over as it starts.
+    pub fn end_at_once(&mut self, key: &Key<A>) -> Result<Option<Outcome<A>>, AllocError> {
+        match self.pair.ending_at_once(key) {
+            Ok(Some(ending)) => Ok(Some(self.pair.end_at_once(key, ending))),
+            Ok(None) => Ok(None),
+            Err(error) => Err(error),
         }
     }
 }
