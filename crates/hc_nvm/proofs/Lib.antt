@@ -13,4 +13,5 @@ pub mod Keeping
 pub mod Choices
 pub mod Fetched
 pub mod Reclaimed
+pub mod Finished
 pub mod Free

@@ -8,3 +8,4 @@ pub mod After
 pub mod Taking
 pub mod Starting
 pub mod Filled
+pub mod Finishing

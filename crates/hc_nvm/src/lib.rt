@@ -5,6 +5,7 @@ mod choosing;
 mod counting;
 mod filler;
 mod finding;
+mod finishing;
 mod jobs;
 mod leaving;
 mod nvm;
@@ -20,6 +21,7 @@ mod telling;
 mod waiting;
 
 pub use filler::{Filled, Taken};
+pub use finishing::Unfinished;
 pub use nvm::Nvm;
 pub use orders::Order;
 pub use outdating::Outdating;
