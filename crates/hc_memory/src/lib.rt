@@ -3,9 +3,7 @@
 #![tactic(auto)]
 
 mod answers;
-mod clean;
 mod fill;
-mod groups;
 mod handles;
 mod item;
 mod links;
