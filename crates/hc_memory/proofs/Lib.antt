@@ -4,7 +4,6 @@ pub mod Places
 pub mod Keyed
 pub mod Orders
 pub mod Rooms
-pub mod Marks
 pub mod Homes
 pub mod Looking
 pub mod Keys
@@ -15,3 +14,5 @@ pub mod Handing
 pub mod Unmarking
 pub mod Few
 pub mod Finding
+pub mod Grouped
+pub mod Listing

@@ -19,7 +19,7 @@ use Rattle.hc_memory.proofs.Books.{tally-sum, found_position, position_entries, 
 -- ---- lists
 
 -- the element that takes a place doesn't hang on what stands for none
-same_removed : {X : Type 0} (xs : List X) (i : ℕ) (d e : X) → 0 < length xs → swap_remove xs i d ≡ swap_remove xs i e
+pub same_removed : {X : Type 0} (xs : List X) (i : ℕ) (d e : X) → 0 < length xs → swap_remove xs i d ≡ swap_remove xs i e
 same_removed xs i d e some =
     let last : length xs - 1 < length xs = omega (arith, some) in
     ap (λ x. take (length xs - 1) (slice_set xs i x)) (sym (get_or_from_slice_get xs (length xs - 1) (get_or xs (length xs - 1) d) e (slice_get-get_or xs (length xs - 1) d last)))

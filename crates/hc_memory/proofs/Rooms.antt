@@ -1,5 +1,5 @@
 -- Who goes where room is made.
-use Rattle.std.proofs.Common.{◌≡◌, ℕ, ◌+◌, ◌<◌, ◌≤◌, ◌==◌, nat_lt, ◌||◌, length, ◌++◌, Bool, true, false, List, [], ◌∷◌, Some, None, take, drop, slice_get, ap, ◌∙◌, arith}
+use Rattle.std.proofs.Common.{◌≡◌, ℕ, zero, suc, ◌+◌, ◌<◌, ◌≤◌, ◌==◌, nat_lt, ◌||◌, length, ◌++◌, Bool, true, false, List, [], ◌∷◌, Some, None, take, drop, map, slice_get, refl, ap, sym, ◌∙◌, arith, append-nil, append_assoc}
 use mathlib.Core.Bool.{cond}
 use Rattle.std.proofs.Math.Seq.{take-add}
 use Rattle.std.proofs.lemmas.Grind.{common_steps}
@@ -45,3 +45,26 @@ take-next n items x first = take-add n 1 items ∙ ap (λ xs. take n items ++ xs
 pub first-there : (xs : List Item) → 0 < length xs → None ≡ slice_get xs 0 → ⊥
 first-there [] some none = omega (arith, some)
 first-there (x ∷ xs) some none = cc
+
+-- ---- the keys of the items that were used longest ago
+
+-- one key more
+pub keys-next : (left less : ℕ) (keys new all : List (List ℕ)) (key : List ℕ) (x : Item) (items more : List Item) → left ≡ suc less → items ≡ x ∷ more → key ≡ x.key → new ≡ keys ++ key ∷ [] → keys ++ map (λ (item : Item). item.key) (take left items) ≡ all → new ++ map (λ (item : Item). item.key) (take less more) ≡ all
+keys-next left less keys new all key x items more one is named grown so =
+    let rest = map (λ (item : Item). item.key) (take less more) in
+    ap (λ ks. ks ++ rest) grown
+    ∙ append_assoc keys (key ∷ []) rest
+    ∙ ap (λ k. keys ++ k ∷ rest) named
+    ∙ sym (λ i. keys ++ map (λ (item : Item). item.key) (take (one i) (is i)))
+    ∙ so
+
+take-nil : (n : ℕ) → ◌≡◌ {A = List Item} (take n []) []
+take-nil zero = refl
+take-nil (suc n) = refl
+
+-- where no item is left
+pub keys-out : (left : ℕ) (keys : List (List ℕ)) (items : List Item) (all : List (List ℕ)) → items ≡ [] → keys ++ map (λ (item : Item). item.key) (take left items) ≡ all → keys ≡ all
+keys-out left keys items all none so =
+    sym (append-nil keys)
+    ∙ sym (ap (λ xs. keys ++ map (λ (item : Item). item.key) xs) (ap (take left) none ∙ take-nil left))
+    ∙ so

@@ -1,25 +1,26 @@
 -- Marks that are taken from all pools.
-use Rattle.std.proofs.Common.{◌≡◌, ℕ, suc, ◌+◌, ◌<◌, ◌≤◌, ◌^◌, ◌==◌, ◌++◌, not, ◌&&◌, Bool, true, false, List, [], ◌∷◌, Option, Some, None, IfSome, All, map, refl, ap, sym, ◌∙◌, arith, subst, append_assoc, length, drop, slice_get, slice_set, get_or}
-use Rattle.std.specs.Prelude.{filter, option_map}
+use Rattle.std.proofs.Common.{◌≡◌, ℕ, zero, suc, ◌+◌, ◌<◌, ◌≤◌, ◌==◌, not, ◌&&◌, ◌||◌, Bool, true, false, List, [], ◌∷◌, Option, Some, None, IfSome, map, refl, ap, sym, ◌∙◌, arith, subst, length, slice_get, slice_set, get_or}
+use Rattle.std.specs.Prelude.{option_map}
 use Rattle.std.specs.Option.{option_map_or}
 use Rattle.std.specs.Str.{bytes_eq}
 use Rattle.std.proofs.lemmas.Slice.Eq.{bytes_eq-Decides}
-use Rattle.std.proofs.lemmas.List.{length-map, map_push}
-use Rattle.std.proofs.lemmas.Option.{slice_get-map, slice_get-get_or}
+use Rattle.std.proofs.lemmas.List.{length-map}
+use Rattle.std.proofs.lemmas.Option.{slice_get-map}
 use mathlib.Core.Bool.{cond}
-use Rattle.hc_types.specs.Loss.{Scope, covers}
-use Rattle.hc_types.specs.Tally.{count}
-use Rattle.hc_types.proofs.Tallies.{tally-get}
+use Rattle.hc_types.specs.Loss.{Scope, Key, covers}
+use Rattle.hc_types.specs.Tally.{tally, count}
+use Rattle.hc_types.proofs.Tallies.{tally-mono, tally-get}
 use Rattle.hc_types.specs.declared.config.FlashConfig.{FlashConfig}
 use Rattle.hc_memory.specs.Item.{Item, Open, cost}
-use Rattle.hc_memory.specs.Pool.{Pool, is_at, bytes_of, unmarked_where, is_marked, marked_keys}
+use Rattle.hc_memory.specs.Pool.{Pool, is_at, unmarked_where, is_covered, is_covered_at, item_at}
 use Rattle.hc_memory.specs.Charges.{usage_of}
-use Rattle.hc_memory.specs.Memory.{change_at, all_unmarked}
-use Rattle.hc_memory.specs.Unmarks.{unmarked_at, lists_unmarked}
+use Rattle.hc_memory.specs.Memory.{all_unmarked}
+use Rattle.hc_memory.specs.Unmarks.{keys_unmarked}
+use Rattle.hc_memory.specs.Clean.{Listing, has_key, is_listed, is_missed, Listed}
 use Rattle.hc_memory.specs.Sound.{IsWithin, Sound, FlashFits, items_at}
-use Rattle.hc_memory.proofs.Keyed.{same_bytes, count-none, unmarked-none, tally-unmarked}
-use Rattle.hc_memory.proofs.Looking.{drop_here, read-there}
-use Rattle.hc_memory.proofs.Making.{size-bound}
+use Rattle.hc_memory.proofs.Keyed.{same_bytes, count-none, tally-unmarked, unmarked-none}
+use Rattle.hc_memory.proofs.Listing.{fewer_step, zero_one}
+use Rattle.hc_memory.proofs.Looking.{read-there}
 use Rattle.hc_memory.proofs.Sounds.{Shrinks, within-less}
 
 -- ---- one item
@@ -27,101 +28,190 @@ use Rattle.hc_memory.proofs.Sounds.{Shrinks, within-less}
 abbrev bare : Item → Item
 bare item = record item { clean = false }
 
--- the item, without its mark if it is under one of these keys
-abbrev taken : List (List ℕ) → Item → Item
-taken [] item = item
-taken (key ∷ keys) item = taken keys (cond (is_at key item) (bare item) item)
-
--- the items lose their marks one by one
-taken-cons : (keys : List (List ℕ)) (x : Item) (items : List Item) → unmarked_at keys (x ∷ items) ≡ taken keys x ∷ unmarked_at keys items
-taken-cons [] x items = refl
-taken-cons (key ∷ keys) x items = taken-cons keys (cond (is_at key x) (bare x) x) (unmarked_where (is_at key) items)
-
 bare_same : (x : Item) (b : Bool) → x.clean ≡ false → cond b (bare x) x ≡ x
 bare_same x true e = λ i. record { number = x.number; pool = x.pool; key = x.key; value = x.value; expiry = x.expiry; clean = sym e i }
 bare_same x false e = refl
 
--- what has no mark loses none
-taken-bare : (keys : List (List ℕ)) (x : Item) → x.clean ≡ false → taken keys x ≡ x
-taken-bare [] x e = refl
-taken-bare (key ∷ keys) x e = ap (taken keys) (bare_same x (is_at key x) e) ∙ taken-bare keys x e
-
-eq-same : (a : List ℕ) → bytes_eq a a ≡ true
-eq-same a = (bytes_eq-Decides a a).1 refl
+both_same : (x : Item) (b : Bool) → cond b x x ≡ x
+both_same x true = refl
+both_same x false = refl
 
 turn_step : (a b : List ℕ) (c d : Bool) → bytes_eq a b ≡ c → bytes_eq b a ≡ d → c ≡ false → d ≡ false
 turn_step a b c true e f h = let same : a ≡ b = sym (same_bytes b a f) in absurd (let g : bytes_eq a b ≡ true = (bytes_eq-Decides a b).1 same in cc)
 turn_step a b c false e f h = refl
 
-eq-turn : (a b : List ℕ) → bytes_eq a b ≡ false → bytes_eq b a ≡ false
+pub eq-turn : (a b : List ℕ) → bytes_eq a b ≡ false → bytes_eq b a ≡ false
 eq-turn a b h = turn_step a b (bytes_eq a b) (bytes_eq b a) refl refl h
+
+-- the item, without its mark if it is under one of these keys and the scope covers it
+abbrev takes : Option FlashConfig → Scope → List (List ℕ) → Item → Item
+takes flash scope [] x = x
+takes flash scope (key ∷ keys) x = takes flash scope keys (cond (is_covered_at flash scope key x) (bare x) x)
+
+takes-cons : (flash : Option FlashConfig) (scope : Scope) (keys : List (List ℕ)) (x : Item) (items : List Item) → keys_unmarked flash scope keys (x ∷ items) ≡ takes flash scope keys x ∷ keys_unmarked flash scope keys items
+takes-cons flash scope [] x items = refl
+takes-cons flash scope (key ∷ keys) x items = takes-cons flash scope keys (cond (is_covered_at flash scope key x) (bare x) x) (unmarked_where (is_covered_at flash scope key) items)
+
+takes-nil : (flash : Option FlashConfig) (scope : Scope) (keys : List (List ℕ)) → keys_unmarked flash scope keys [] ≡ []
+takes-nil flash scope [] = refl
+takes-nil flash scope (key ∷ keys) = takes-nil flash scope keys
+
+-- a clean item that the scope covers is under none of the keys
+abbrev is_left : Option FlashConfig → Scope → List (List ℕ) → Item → Bool
+is_left flash scope keys x = x.clean && (is_covered flash scope x && not (has_key x.key keys))
+
+nil_step : (x : Item) (a c : Bool) → x.clean ≡ a → (a && (c && true)) ≡ false → x ≡ cond c (bare x) x
+nil_step x a false e h = refl
+nil_step x true true e h = absurd cc
+nil_step x false true e h = sym (bare_same x true e)
+
+no_and : (a b : Bool) → (a && (false && b)) ≡ false
+no_and true b = refl
+no_and false b = refl
+
+takes-is : (flash : Option FlashConfig) (scope : Scope) (keys : List (List ℕ)) (x : Item) → is_left flash scope keys x ≡ false → takes flash scope keys x ≡ cond (is_covered flash scope x) (bare x) x
+takes-is flash scope [] x h = nil_step x x.clean (is_covered flash scope x) refl h
+takes-is flash scope (key ∷ keys) x h = go (λ y e. takes-is flash scope keys y e) (is_at key x) refl (is_covered flash scope x) refl
+  where
+    go : ((y : Item) → is_left flash scope keys y ≡ false → takes flash scope keys y ≡ cond (is_covered flash scope y) (bare y) y) → (b : Bool) → is_at key x ≡ b → (c : Bool) → is_covered flash scope x ≡ c
+        → takes flash scope keys (cond (is_covered_at flash scope key x) (bare x) x) ≡ cond (is_covered flash scope x) (bare x) x
+    go again true e true f = rw (e, f) (again (bare x) refl ∙ both_same (bare x) (is_covered flash scope x))
+    go again true e false f = rw (e, f) (again x (rw f (no_and x.clean (not (has_key x.key keys)))) ∙ rw f refl)
+    go again false e c f =
+        let other = eq-turn key x.key e in
+        let left : is_left flash scope keys x ≡ false = rw other at h in
+        rw e (again x left)
 
 -- ---- one pool
 
-other_step : (key : List ℕ) (y : Item) (n : ℕ) (b : Bool) → is_at key y ≡ b → cond b 1 0 + n ≡ 0 → (is_at key y ≡ false) × (n ≡ 0)
-other_step key y n true e h = absurd (omega arith)
-other_step key y n false e h = (e, omega (arith, h))
+zero_step : (n : ℕ) (b : Bool) → cond b 1 0 + n ≡ 0 → (b ≡ false) × (n ≡ 0)
+zero_step n true h = absurd (omega arith)
+zero_step n false h = (refl, omega (arith, h))
 
-apart_step : (flash : Option FlashConfig) (scope : Scope) (x y : Item) (items : List Item) (b : Bool) → bytes_eq x.key y.key ≡ false → taken (marked_keys flash scope items) x ≡ x → taken (map (λ (i : Item). i.key) (cond b (y ∷ filter (is_marked flash scope) items) (filter (is_marked flash scope) items))) x ≡ x
-apart_step flash scope x y items true other rest = ap (λ b. taken (marked_keys flash scope items) (cond b (bare x) x)) (eq-turn x.key y.key other) ∙ rest
-apart_step flash scope x y items false other rest = rest
+keys-covered : (flash : Option FlashConfig) (scope : Scope) (keys : List (List ℕ)) (items : List Item) → count (is_left flash scope keys) items ≡ 0 → keys_unmarked flash scope keys items ≡ unmarked_where (is_covered flash scope) items
+keys-covered flash scope keys [] none = takes-nil flash scope keys
+keys-covered flash scope keys (x ∷ items) none =
+    let two = zero_step (count (is_left flash scope keys) items) (is_left flash scope keys x) none in
+    takes-cons flash scope keys x items ∙ (λ i. takes-is flash scope keys x two.0 i ∷ keys-covered flash scope keys items two.1 i)
 
--- an item whose key no item has keeps its mark
-apart : (flash : Option FlashConfig) (scope : Scope) (x : Item) (items : List Item) → count (is_at x.key) items ≡ 0 → taken (marked_keys flash scope items) x ≡ x
-apart flash scope x [] none = refl
-apart flash scope x (y ∷ items) none =
-    let two = other_step x.key y (count (is_at x.key) items) (is_at x.key y) refl none in
-    apart_step flash scope x y items (is_marked flash scope y) two.0 (apart flash scope x items two.1)
+none_step : (flash : Option FlashConfig) (scope : Scope) (key : List ℕ) (y : Item) (items : List Item) (b : Bool) → (item_at key items ≡ None → unmarked_where (is_covered_at flash scope key) items ≡ items) → cond b (Some y) (item_at key items) ≡ None → cond (b && is_covered flash scope y) (bare y) y ∷ unmarked_where (is_covered_at flash scope key) items ≡ y ∷ items
+none_step flash scope key y items true h none = absurd cc
+none_step flash scope key y items false h none = ap (λ ys. y ∷ ys) (h none)
 
--- the first item
-first_step : (flash : Option FlashConfig) (scope : Scope) (x : Item) (items : List Item) (a b : Bool) → x.clean ≡ a → covers flash scope x.key (length x.value) ≡ b → count (is_at x.key) items ≡ 0
-    → unmarked_at (map (λ (i : Item). i.key) (cond (a && b) (x ∷ filter (is_marked flash scope) items) (filter (is_marked flash scope) items))) (x ∷ items) ≡ cond b (bare x) x ∷ unmarked_at (marked_keys flash scope items) items
-first_step flash scope x items true true e f none =
-    let keys = marked_keys flash scope items in
-    ap (λ b. unmarked_at keys (cond b (bare x) x ∷ unmarked_where (is_at x.key) items)) (eq-same x.key)
-    ∙ ap (λ xs. unmarked_at keys (bare x ∷ xs)) (unmarked-none x.key items (count-none x.key items none))
-    ∙ taken-cons keys (bare x) items
-    ∙ ap (λ y. y ∷ unmarked_at keys items) (taken-bare keys (bare x) refl)
-first_step flash scope x items true false e f none =
-    let keys = marked_keys flash scope items in
-    taken-cons keys x items ∙ ap (λ y. y ∷ unmarked_at keys items) (apart flash scope x items none)
-first_step flash scope x items false b e f none =
-    let keys = marked_keys flash scope items in
-    taken-cons keys x items ∙ ap (λ y. y ∷ unmarked_at keys items) (taken-bare keys x e ∙ sym (bare_same x b e))
+-- where the key has no item, no mark is taken
+pub uncovered-none : (flash : Option FlashConfig) (scope : Scope) (key : List ℕ) (items : List Item) → item_at key items ≡ None → unmarked_where (is_covered_at flash scope key) items ≡ items
+uncovered-none flash scope key [] none = refl
+uncovered-none flash scope key (y ∷ items) none = none_step flash scope key y items (is_at key y) (uncovered-none flash scope key items) none
 
-alone_step : (key : List ℕ) (x : Item) (n : ℕ) (b : Bool) → b ≡ true → cond b 1 0 + n ≤ 1 → n ≡ 0
-alone_step key x n true e h = omega (arith, h)
-alone_step key x n false e h = absurd cc
+-- where it has one, and no second, that one loses its mark if the scope covers it
+pub covered-one : (flash : Option FlashConfig) (scope : Scope) (key : List ℕ) (items : List Item) (x : Item) (c : Bool) → count (is_at key) items ≤ 1 → item_at key items ≡ Some x → is_covered flash scope x ≡ c
+    → unmarked_where (is_covered_at flash scope key) items ≡ cond c (unmarked_where (is_at key) items) items
+covered-one flash scope key [] x c single at is = absurd cc
+covered-one flash scope key (y ∷ items) x c single at is = go (λ less found. covered-one flash scope key items x c less found is) (is_at key y) refl c is
+  where
+    here : (d : Bool) → cond d (bare y) y ∷ items ≡ cond d (bare y ∷ items) (y ∷ items)
+    here true = refl
+    here false = refl
 
-fewer_step : (n : ℕ) (b : Bool) → cond b 1 0 + n ≤ 1 → n ≤ 1
-fewer_step n b h = omega (arith, h)
+    behind : (d : Bool) → y ∷ cond d (unmarked_where (is_at key) items) items ≡ cond d (y ∷ unmarked_where (is_at key) items) (y ∷ items)
+    behind true = refl
+    behind false = refl
 
--- the marks of the keys that were gathered are those of the items that the scope covers, where no key has two items
-pub gathered : (flash : Option FlashConfig) (scope : Scope) (items : List Item) → ((key : List ℕ) → count (is_at key) items ≤ 1) → unmarked_at (marked_keys flash scope items) items ≡ unmarked_where (λ item. covers flash scope item.key (length item.value)) items
-gathered flash scope [] single = refl
-gathered flash scope (x ∷ items) single =
-    first_step flash scope x items x.clean (covers flash scope x.key (length x.value)) refl refl (alone_step x.key x (count (is_at x.key) items) (is_at x.key x) (eq-same x.key) (single x.key))
-    ∙ ap (λ xs. cond (covers flash scope x.key (length x.value)) (bare x) x ∷ xs) (gathered flash scope items (λ key. fewer_step (count (is_at key) items) (is_at key x) (single key)))
+    go : (count (is_at key) items ≤ 1 → item_at key items ≡ Some x → unmarked_where (is_covered_at flash scope key) items ≡ cond c (unmarked_where (is_at key) items) items) → (b : Bool) → is_at key y ≡ b → (d : Bool) → is_covered flash scope x ≡ d
+        → unmarked_where (is_covered_at flash scope key) (y ∷ items) ≡ cond c (unmarked_where (is_at key) (y ∷ items)) (y ∷ items)
+    go again true e d f =
+        let found : Some y ≡ Some x = rw e at at in
+        let same : y ≡ x = cc in
+        let counted : 1 + count (is_at key) items ≤ 1 = rw e at single in
+        let none = count-none key items (omega (arith, counted)) in
+        let mine : is_covered flash scope y ≡ c = ap (is_covered flash scope) same ∙ is in
+        rw (e, mine, uncovered-none flash scope key items none, unmarked-none key items none) (here c)
+    go again false e d f =
+        let found : item_at key items ≡ Some x = rw e at at in
+        let counted : 0 + count (is_at key) items ≤ 1 = rw e at single in
+        rw e (ap (λ ys. y ∷ ys) (again (omega (arith, counted)) found) ∙ behind c)
+
+-- the key's item, if there is one, loses its mark if the scope covers it
+pub covered-item : (flash : Option FlashConfig) (scope : Scope) (key : List ℕ) (items : List Item) (c : Bool) (o : Option Item) → count (is_at key) items ≤ 1 → item_at key items ≡ o → c ≡ option_map_or (is_covered flash scope) o false
+    → unmarked_where (is_covered_at flash scope key) items ≡ cond c (unmarked_where (is_at key) items) items
+covered-item flash scope key items c None single at is = rw is (uncovered-none flash scope key items at)
+covered-item flash scope key items c (Some x) single at is = covered-one flash scope key items x c single at (sym is)
 
 -- ---- all pools
 
-set_step : (number : ℕ) (g : Pool → Pool) (p : Pool) (pools : List Pool) (o : Option Pool) → option_map_or (λ pool. slice_set (p ∷ pools) (suc number) (g pool)) o (p ∷ pools) ≡ p ∷ option_map_or (λ pool. slice_set pools number (g pool)) o pools
-set_step number g p pools None = refl
-set_step number g p pools (Some q) = refl
+abbrev pub without_marks : Option FlashConfig → Scope → List (List ℕ) → Pool → Pool
+without_marks flash scope keys pool = record pool { items = keys_unmarked flash scope keys pool.items }
 
--- the first pool stays where others lose their marks
-later : (number : ℕ) (lists : List (List (List ℕ))) (p : Pool) (pools : List Pool) → lists_unmarked (suc number) lists (p ∷ pools) ≡ p ∷ lists_unmarked number lists pools
-later number [] p pools = refl
-later number (keys ∷ lists) p pools =
-    let f : Pool → Pool = λ pool. record pool { items = unmarked_at keys pool.items } in
-    ap (lists_unmarked (suc (suc number)) lists) (set_step number f p pools (slice_get pools number)) ∙ later (suc number) lists p (change_at number f pools)
+all-covered : (flash : Option FlashConfig) (scope : Scope) (keys : List (List ℕ)) (pools : List Pool) → tally (λ (pool : Pool). count (is_left flash scope keys) pool.items) pools ≡ 0 → map (without_marks flash scope keys) pools ≡ all_unmarked flash scope pools
+all-covered flash scope keys [] none = refl
+all-covered flash scope keys (p ∷ pools) none =
+    (λ i. record { size = p.size; items = keys-covered flash scope keys p.items (omega (arith, none)) i } ∷ all-covered flash scope keys pools (omega (arith, none)) i)
 
-pub all-gathered : (flash : Option FlashConfig) (scope : Scope) (pools : List Pool) → ((key : List ℕ) → items_at key pools ≤ 1) → lists_unmarked 0 (map (λ (pool : Pool). marked_keys flash scope pool.items) pools) pools ≡ all_unmarked flash scope pools
-all-gathered flash scope [] single = refl
-all-gathered flash scope (p ∷ pools) single =
-    let lists = map (λ (pool : Pool). marked_keys flash scope pool.items) pools in
-    later 0 lists (record p { items = unmarked_at (marked_keys flash scope p.items) p.items }) pools
-    ∙ (λ i. record { size = p.size; items = gathered flash scope p.items (λ key. omega (arith, single key)) i } ∷ all-gathered flash scope pools (λ key. omega (arith, single key)) i)
+left_step : (a c l h : Bool) → (c ≡ true → l ≡ true → h ≡ true) → cond (a && (c && not h)) 1 0 ≤ cond (a && not l) 1 0
+left_step false c l h f = omega arith
+left_step true false l h f = omega arith
+left_step true true false h f = not_more h
+  where
+    not_more : (h : Bool) → cond (not h) 1 0 ≤ 1
+    not_more true = omega arith
+    not_more false = omega arith
+left_step true true true h f = let t = f refl refl in rw t (omega arith)
+
+-- the keys are all that are listed where the scope's items stand
+pub listed-covered : (flash : Option FlashConfig) (listing : Listing) (scope : Scope) (keys : List (List ℕ)) (pools new : List Pool) → Listed flash listing pools
+    → ((key : List ℕ) (len : ℕ) → covers flash scope key len ≡ true → is_listed flash listing key len ≡ true → has_key key keys ≡ true) → new ≡ map (without_marks flash scope keys) pools → new ≡ all_unmarked flash scope pools
+listed-covered flash listing scope keys pools new l all is =
+    let f : Item → ℕ = λ x. cond (is_left flash scope keys x) 1 0 in
+    let g : Item → ℕ = λ x. cond (is_missed flash listing x) 1 0 in
+    let each : (x : Item) → f x ≤ g x = λ x. left_step x.clean (is_covered flash scope x) (is_listed flash listing x.key (length x.value)) (has_key x.key keys) (all x.key (length x.value)) in
+    is ∙ all-covered flash scope keys pools (omega (arith, l, tally-mono (λ (p : Pool). tally f p.items) (λ (p : Pool). tally g p.items) (λ p. tally-mono f g each p.items) pools))
+
+-- a scope of one key covers no other
+pub named-covered : (flash : Option FlashConfig) (named key : List ℕ) (len : ℕ) → covers flash (Key named) key len ≡ true → has_key key (named ∷ []) ≡ true
+named-covered flash named key len h = let same : named ≡ key = same_bytes named key h in ap (λ b. b || false) ((bytes_eq-Decides key named).1 (sym same))
+
+-- what is listed after is all that is clean then
+pub listed-after : (flash : Option FlashConfig) (old new : Listing) (scope : Scope) (pools : List Pool) → Listed flash old pools
+    → ((key : List ℕ) (len : ℕ) → covers flash scope key len ≡ false → is_listed flash old key len ≡ true → is_listed flash new key len ≡ true) → Listed flash new (all_unmarked flash scope pools)
+listed-after flash old new scope pools l stay = omega (arith, l, all_less pools)
+  where
+    one_less : (x : Item) (c : Bool) → is_covered flash scope x ≡ c → cond (is_missed flash new (cond c (bare x) x)) 1 0 ≤ cond (is_missed flash old x) 1 0
+    one_less x true e = omega arith
+    one_less x false e = fewer_step x.clean (is_listed flash old x.key (length x.value)) (is_listed flash new x.key (length x.value)) (stay x.key (length x.value) e)
+
+    some_less : (items : List Item) → count (is_missed flash new) (unmarked_where (is_covered flash scope) items) ≤ count (is_missed flash old) items
+    some_less [] = omega arith
+    some_less (x ∷ items) = omega (arith, one_less x (is_covered flash scope x) refl, some_less items)
+
+    all_less : (pools : List Pool) → tally (λ (pool : Pool). count (is_missed flash new) pool.items) (all_unmarked flash scope pools) ≤ tally (λ (pool : Pool). count (is_missed flash old) pool.items) pools
+    all_less [] = omega arith
+    all_less (p ∷ pools) = omega (arith, some_less p.items, all_less pools)
+
+-- ---- a walk over the pools
+
+-- the pools from this one on change
+abbrev pub changed_from : ℕ → (Pool → Pool) → List Pool → List Pool
+changed_from zero f pools = map f pools
+changed_from (suc i) f [] = []
+changed_from (suc i) f (pool ∷ pools) = pool ∷ changed_from i f pools
+
+from_step : (i : ℕ) (f : Pool → Pool) (there : Pool) (pools : List Pool) → slice_get pools i ≡ Some there → changed_from (suc i) f (slice_set pools i (f there)) ≡ changed_from i f pools
+from_step i f there [] at = absurd cc
+from_step zero f there (p ∷ pools) at = let same : p ≡ there = cc in ap (λ q. f q ∷ map f pools) (sym same)
+from_step (suc i) f there (p ∷ pools) at = ap (λ ps. p ∷ ps) (from_step i f there pools at)
+
+-- the next pool has changed
+pub changed-next : (i : ℕ) (f : Pool → Pool) (pools : List Pool) (there new : Pool) → i < length pools → there ≡ get_or pools i there → new ≡ f there → changed_from (i + 1) f (slice_set pools i new) ≡ changed_from i f pools
+changed-next i f pools there new lt read is =
+    let e : i + 1 ≡ suc i = omega arith in
+    ap (λ n. changed_from n f (slice_set pools i new)) e ∙ ap (λ p. changed_from (suc i) f (slice_set pools i p)) is ∙ from_step i f there pools (read-there pools i there lt read)
+
+-- behind the last pool none is left
+pub changed-end : (i : ℕ) (f : Pool → Pool) (pools : List Pool) → length pools ≤ i → changed_from i f pools ≡ pools
+changed-end zero f [] out = refl
+changed-end zero f (p ∷ pools) out = absurd (omega (arith, out))
+changed-end (suc i) f [] out = refl
+changed-end (suc i) f (p ∷ pools) out = ap (λ ps. p ∷ ps) (changed-end i f pools (omega (arith, out)))
 
 -- ---- what stays
 
@@ -159,66 +249,6 @@ sound-all f pools charges made s less = record {
   placed = rw (length-map pools f) s.placed;
 }
 
--- ---- lengths
-
--- values are shorter than what their items are charged
-pub short : (items : List Item) → bytes_of items < 2 ^ 63 → All (λ i. length i.value < 2 ^ 63) items
-short items less k d within = let found = tally-get cost items k (get_or items k d) (slice_get-get_or items k d within) in omega (arith, less, found)
-
--- what a pool's items are charged is below this
-pub bounded : (pools : List Pool) (charges : List Open) (made : ℕ) → Sound pools charges made → All (λ (pool : Pool). bytes_of pool.items < 2 ^ 63) pools
-bounded pools charges made s k d within =
-    let w = s.within k (get_or pools k d) (slice_get-get_or pools k d within) in
-    let bytes = w.bytes in
-    let most = size-bound (get_or pools k d).size w.size in
-    omega (arith, bytes, most)
-
--- ---- the walks over the pools
-
--- one more list of keys
-pub next-keys : {X : Type 0} (see : X → List (List ℕ)) (mark : Pool → List (List ℕ)) (i : ℕ) (pools : List Pool) (pool : Pool) (lists new : List X) (keys : X) → i < length pools → pool ≡ get_or pools i pool → see keys ≡ mark pool → new ≡ lists ++ keys ∷ []
-    → map see lists ++ map mark (drop i pools) ≡ map mark pools → map see new ++ map mark (drop (i + 1) pools) ≡ map mark pools
-next-keys see mark i pools pool lists new keys lt read is grown so =
-    let rest = map mark (drop (i + 1) pools) in
-    ap (λ xs. map see xs ++ rest) grown
-    ∙ ap (λ xs. xs ++ rest) (map_push see lists keys)
-    ∙ append_assoc (map see lists) (see keys ∷ []) rest
-    ∙ ap (λ ks. map see lists ++ ks ∷ rest) is
-    ∙ ap (λ ps. map see lists ++ map mark ps) (sym (drop_here pools i pool lt read))
-    ∙ so
-
-change_step : (pools : List Pool) (i : ℕ) (f : Pool → Pool) (there : Pool) (o : Option Pool) → o ≡ Some there → slice_set pools i (f there) ≡ option_map_or (λ pool. slice_set pools i (f pool)) o pools
-change_step pools i f there None e = absurd cc
-change_step pools i f there (Some pool) e = let same : pool ≡ there = cc in ap (λ p. slice_set pools i (f p)) (sym same)
-
--- the pool of the next list loses its marks
-pub next-list : {X : Type 0} (see : X → List (List ℕ)) (i : ℕ) (lists : List X) (keys : X) (pools : List Pool) (there new : Pool) → i < length lists → keys ≡ get_or lists i keys → i < length pools → there ≡ get_or pools i there → new ≡ record { size = there.size; items = unmarked_at (see keys) there.items }
-    → lists_unmarked (i + 1) (map see (drop (i + 1) lists)) (slice_set pools i new) ≡ lists_unmarked i (map see (drop i lists)) pools
-next-list see i lists keys pools there new lt read within found is =
-    let f : Pool → Pool = λ pool. record pool { items = unmarked_at (see keys) pool.items } in
-    let rest = map see (drop (i + 1) lists) in
-    ap (λ p. lists_unmarked (i + 1) rest (slice_set pools i p)) is
-    ∙ ap (lists_unmarked (i + 1) rest) (change_step pools i f there (slice_get pools i) (read-there pools i there within found))
-    ∙ one_more i rest (change_at i f pools)
-    ∙ ap (λ ls. lists_unmarked i (map see ls) pools) (sym (drop_here lists i keys lt read))
-  where
-    one_more : (i : ℕ) (lists : List (List (List ℕ))) (pools : List Pool) → lists_unmarked (i + 1) lists pools ≡ lists_unmarked (suc i) lists pools
-    one_more i lists pools = let e : i + 1 ≡ suc i = omega arith in ap (λ n. lists_unmarked n lists pools) e
-
--- as many lists as pools
-pub as-many : {X : Type 0} (see : X → List (List ℕ)) (mark : Pool → List (List ℕ)) (pools seen : List Pool) (lists got : List X) → seen ≡ pools → map see lists ≡ map mark seen → got ≡ lists → length got ≤ length pools
-as-many see mark pools seen lists got same is read = omega (arith, ap length same, ap length is, ap length read, length-map lists see, length-map seen mark)
-
--- the marks of what was gathered are those that the scope covers
-pub all-taken : {X : Type 0} (see : X → List (List ℕ)) (flash : Option FlashConfig) (scope : Scope) (pools seen new : List Pool) (lists got : List X) (charges : List Open) (made : ℕ) → Sound pools charges made → seen ≡ pools
-    → map see lists ≡ map (λ (pool : Pool). marked_keys flash scope pool.items) seen → got ≡ lists → new ≡ lists_unmarked 0 (map see got) pools → new ≡ all_unmarked flash scope pools
-all-taken see flash scope pools seen new lists got charges made s same is read after =
-    after
-    ∙ ap (λ ls. lists_unmarked 0 (map see ls) pools) read
-    ∙ ap (λ ls. lists_unmarked 0 ls pools) is
-    ∙ ap (λ ps. lists_unmarked 0 (map (λ (pool : Pool). marked_keys flash scope pool.items) ps) pools) same
-    ∙ all-gathered flash scope pools s.single
-
 -- the pools are as sound as before
 pub sound-unmarked : (flash : Option FlashConfig) (scope : Scope) (pools new : List Pool) (charges : List Open) (made : ℕ) → Sound pools charges made → new ≡ all_unmarked flash scope pools → Sound new charges made
 sound-unmarked flash scope pools new charges made s is =
@@ -236,3 +266,11 @@ bits-fit (Some flash) fits = fits.0
 pub buckets-fit : (flash : Option FlashConfig) → FlashFits flash → IfSome flash (λ f. 1 ≤ f.buckets)
 buckets-fit None fits = fits
 buckets-fit (Some flash) fits = fits.1
+
+-- ---- items that went
+
+-- an item has another key than one that none of the items has
+pub other-key : (other : List ℕ) (items : List Item) (i : ℕ) (x : Item) → i < length items → x ≡ get_or items i x → count (is_at other) items ≡ 0 → bytes_eq x.key other ≡ false
+other-key other items i x lt read none =
+    let term = tally-get (λ (y : Item). cond (is_at other y) 1 0) items i x (read-there items i x lt read) in
+    eq-turn other x.key (zero_one (is_at other x) (omega (arith, term, none)))

@@ -1,5 +1,5 @@
 -- All pools, with what is open in them, and what each call does to them.
-use Rattle.std.specs.Prelude.{ℕ, ◌+◌, ◌==◌, Bool, true, List, [], ◌∷◌, ◌++◌, length, replicate, Option, Some, None, is_some, slice_get, slice_set, if◌then◌else◌, option_map, map, suc}
+use Rattle.std.specs.Prelude.{ℕ, ◌+◌, ◌==◌, Bool, true, List, [], ◌∷◌, ◌++◌, length, replicate, Option, Some, None, is_some, slice_get, slice_set, if◌then◌else◌, option_map, map, take, suc}
 use Rattle.std.specs.Option.{option_map_or}
 use Rattle.hc_types.specs.Charge.{charge_of}
 use Rattle.hc_types.specs.Loss as loss
@@ -65,6 +65,10 @@ is_hopeless memory number want = option_map_or (λ pool. is_full pool.size (usag
 -- the items that go where room is made, the one that was used longest ago first
 abbrev pub victims_of : Memory → ℕ → ℕ → List Item
 victims_of memory number want = option_map_or (λ pool. dropped pool.size (usage_of number memory.charges) want pool.items) (slice_get memory.pools number) []
+
+-- the keys of so many items of a pool that were used longest ago, that one first
+abbrev pub oldest_keys : Memory → ℕ → ℕ → List (List ℕ)
+oldest_keys memory number count = option_map_or (λ pool. map (λ (item : Item). item.key) (take count pool.items)) (slice_get memory.pools number) []
 
 abbrev pub after_room : Memory → ℕ → ℕ → Memory
 after_room memory number want = record memory {

@@ -1,5 +1,5 @@
 -- One pool: its items in the order of their use, and who goes where room is made.
-use Rattle.std.specs.Prelude.{ℕ, ◌+◌, ◌==◌, nat_lt, Bool, false, not, ◌&&◌, ◌||◌, List, [], ◌∷◌, ◌++◌, map, filter, length, Option, Some, None, if◌then◌else◌}
+use Rattle.std.specs.Prelude.{ℕ, ◌+◌, ◌==◌, nat_lt, Bool, false, not, ◌&&◌, ◌||◌, List, [], ◌∷◌, ◌++◌, map, length, Option, Some, None, if◌then◌else◌}
 use Rattle.std.specs.Str.{bytes_eq}
 use Rattle.hc_types.specs.Tally.{tally}
 use Rattle.hc_types.specs.Loss.{Scope, covers}
@@ -72,10 +72,9 @@ unmarked_where test items = map (λ (item : Item). if test item then record item
 
 -- ---- marks
 
--- the item is clean, and the scope covers it
-abbrev pub is_marked : Option FlashConfig → Scope → Item → Bool
-is_marked flash scope item = item.clean && covers flash scope item.key (length item.value)
+abbrev pub is_covered : Option FlashConfig → Scope → Item → Bool
+is_covered flash scope item = covers flash scope item.key (length item.value)
 
--- the keys of the clean items that the scope covers
-abbrev pub marked_keys : Option FlashConfig → Scope → List Item → List (List ℕ)
-marked_keys flash scope items = map (λ (item : Item). item.key) (filter (is_marked flash scope) items)
+-- the item is the key's, and the scope covers it
+abbrev pub is_covered_at : Option FlashConfig → Scope → List ℕ → Item → Bool
+is_covered_at flash scope key item = is_at key item && is_covered flash scope item

@@ -1,15 +1,11 @@
--- How the pools lose marks, one key after another.
-use Rattle.std.specs.Prelude.{ℕ, suc, List, [], ◌∷◌}
+-- How a pool loses marks, one key after another.
+use Rattle.std.specs.Prelude.{ℕ, List, [], ◌∷◌, Option}
+use Rattle.hc_types.specs.Loss.{Scope}
+use Rattle.hc_types.specs.declared.config.FlashConfig.{FlashConfig}
 use Rattle.hc_memory.specs.Item.{Item}
-use Rattle.hc_memory.specs.Pool.{Pool, is_at, unmarked_where}
-use Rattle.hc_memory.specs.Memory.{change_at}
+use Rattle.hc_memory.specs.Pool.{unmarked_where, is_covered_at}
 
--- the items, those under these keys without their clean mark
-abbrev pub unmarked_at : List (List ℕ) → List Item → List Item
-unmarked_at [] items = items
-unmarked_at (key ∷ keys) items = unmarked_at keys (unmarked_where (is_at key) items)
-
--- the pools, from the one with this number on, each without the marks of its own list of keys
-abbrev pub lists_unmarked : ℕ → List (List (List ℕ)) → List Pool → List Pool
-lists_unmarked number [] pools = pools
-lists_unmarked number (keys ∷ lists) pools = lists_unmarked (suc number) lists (change_at number (λ pool. record pool { items = unmarked_at keys pool.items }) pools)
+-- the items, those under these keys that the scope covers without their clean mark
+abbrev pub keys_unmarked : Option FlashConfig → Scope → List (List ℕ) → List Item → List Item
+keys_unmarked flash scope [] items = items
+keys_unmarked flash scope (key ∷ keys) items = keys_unmarked flash scope keys (unmarked_where (is_covered_at flash scope key) items)

@@ -3,7 +3,9 @@
 #![tactic(auto)]
 
 mod answers;
+mod clean;
 mod fill;
+mod groups;
 mod handles;
 mod item;
 mod links;

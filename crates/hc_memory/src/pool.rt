@@ -1,11 +1,10 @@
 // One pool: the items that can be found, in the order of their use.
-ghost use Rattle.std.specs.Prelude.{◌≡◌, ℕ, ◌+◌, ◌-◌, ◌<◌, ◌≤◌, ◌^◌, ◌++◌, ◌∷◌, [], false, not, ◌&&◌, ◌||◌, ◌==◌, nat_lt, List, length, take, drop, slice_get, vec_len, vec_capacity, IfOk, IfErr, IfSome, OnOk, OnErr, IsOk, IsSome, is_some, option_map, All};
+ghost use Rattle.std.specs.Prelude.{◌≡◌, ℕ, ◌+◌, ◌-◌, ◌<◌, ◌≤◌, ◌^◌, ◌++◌, ◌∷◌, [], false, not, ◌&&◌, ◌||◌, ◌==◌, nat_lt, List, length, map, take, drop, slice_get, vec_len, vec_capacity, IfOk, IfErr, IfSome, OnOk, OnErr, IsOk, IsSome, is_some, option_map};
 ghost use Rattle.std.specs.Option.{option_map_or};
 ghost use Rattle.lru.specs.LruCache.{lru_cache, last_entry};
 ghost use Rattle.hc_types.specs.Loss.{scope_of};
-ghost use Rattle.hc_types.specs.Tally.{count};
 ghost use Rattle.hc_memory.specs.Item.{cost as item_cost};
-ghost use Rattle.hc_memory.specs.Pool.{bytes_of, linked_usage, is_at, item_at, without, used, unmarked_where, marked_keys, is_full, kept, dropped};
+ghost use Rattle.hc_memory.specs.Pool.{bytes_of, linked_usage, is_at, item_at, without, used, unmarked_where, is_covered, is_covered_at, is_full, kept, dropped};
 ghost use Rattle.hc_memory.specs.Seen.{item_of};
 
 use crate::item::{Held, Item, expired};
@@ -34,8 +33,8 @@ impl Glance {
 
 /// One pool. Contracts see its size, and its items, the one that was used longest ago first. No key has two.
 ///
-/// Each call takes expected constant time, but for `victims` and `evict`, which cost what goes, and `marked`, which
-/// walks over all items.
+/// Each call takes expected constant time, but for `victims` and `evict`, which cost what goes, and
+/// `oldest_keys`, which costs what it answers.
 #[derive(Drop)]
 pub struct Pool<A: Allocator = Global> {
     cache: LruCache<Key<A>, Held<A>, DefaultHasher, A>,
@@ -160,12 +159,36 @@ impl<A: Allocator> Pool<A> {
     }
 
     /// The item under the key, if there is one, loses its clean mark. It isn't used.
-    pub fn unmark(&mut self, key: &Key<A>)
+    fn unmark(&mut self, key: &Key<A>)
         ensures { self.new ≡ record { size = self.old.size; items = unmarked_where (is_at key.now) self.old.items } }
     {
         let _len = self.cache.len();
         if let Some(held) = self.cache.peek_mut(key) {
             held.clean = false;
+        }
+    }
+
+    /// Whether there is an item under the key that the scope covers.
+    fn covers(&self, flash: &Option<FlashConfig>, scope: &Scope<A>, key: &Key<A>) -> bool
+        requires bits { IfSome flash.now (λ f. f.bits ≤ 64) }
+        requires buckets { IfSome flash.now (λ f. 1 ≤ f.buckets) }
+        ensures { result ≡ option_map_or (is_covered flash.now (scope_of scope.now)) (item_at key.now self.now.items) false }
+    {
+        match self.held(key) {
+            Some(held) => scope.covers(flash, key, held.value.len() as u64),
+            None => false,
+        }
+    }
+
+    /// The item under the key, if there is one and the scope covers it, loses its clean mark. It isn't used.
+    pub fn unmark_covered(&mut self, flash: &Option<FlashConfig>, scope: &Scope<A>, key: &Key<A>)
+        requires bits { IfSome flash.now (λ f. f.bits ≤ 64) }
+        requires buckets { IfSome flash.now (λ f. 1 ≤ f.buckets) }
+        ensures { self.new ≡ record { size = self.old.size; items = unmarked_where (is_covered_at flash.now (scope_of scope.now) key.now) self.old.items } }
+    {
+        let _len = self.cache.len();
+        if self.covers(flash, scope, key) {
+            self.unmark(key);
         }
     }
 
@@ -199,21 +222,19 @@ impl<A: Allocator> Pool<A> {
 }
 
 impl<A: Allocator + Clone> Pool<A> {
-    /// Copies of the keys of the clean items that the scope covers. Refused only where memory lacks.
-    pub fn marked(
-        &self,
-        alloc: &A,
-        flash: &Option<FlashConfig>,
-        scope: &Scope<A>,
-    ) -> Result<Vec<Key<A>, A>, AllocError>
-        requires lengths { All (λ i. length i.value < 2 ^ 63) self.now.items }
-        requires bits { IfSome flash.now (λ f. f.bits ≤ 64) }
-        requires buckets { IfSome flash.now (λ f. 1 ≤ f.buckets) }
-        ensures { IfOk result (λ keys. keys.items ≡ marked_keys flash.now (scope_of scope.now) self.now.items) }
+    /// Copies of the keys of the items that were used longest ago, so many of them, in that order. Refused only where memory
+    /// lacks.
+    pub fn oldest_keys(&self, alloc: &A, count: usize) -> Result<Vec<Key<A>, A>, AllocError>
+        ensures { IfOk result (λ keys. keys.items ≡ map (λ item. item.key) (take count self.now.items)) }
     {
-        let mut keys = Vec::new(alloc.clone()?);
-        for (key, held) in self.cache.iter().rev() {
-            add_marked(flash, scope, key, held, &mut keys)?;
+        let mut keys = Vec::with_capacity(alloc.clone()?, count)?;
+        let mut left = count;
+        for (key, _held) in self.cache.iter().rev() {
+            if left == 0 {
+                return Ok(keys);
+            }
+            keys.push_reserved(key.clone()?);
+            left -= 1;
         }
         Ok(keys)
     }
@@ -266,26 +287,6 @@ fn taken<A: Allocator>(key_len: u64, held: Option<Held<A>>) -> (Option<u64>, u64
         Some(held) => (Some(held.number), 32 + key_len + held.value.len() as u64),
         None => (None, 0),
     }
-}
-
-/// Puts a copy of the key after those of the list, if its item is clean and the scope covers it.
-fn add_marked<A: Allocator>(
-    flash: &Option<FlashConfig>,
-    scope: &Scope<A>,
-    key: &Key<A>,
-    held: &Held<A>,
-    keys: &mut Vec<Key<A>, A>,
-) -> Result<(), AllocError>
-    requires len { length held.now.value < 2 ^ 63 }
-    requires bits { IfSome flash.now (λ f. f.bits ≤ 64) }
-    requires buckets { IfSome flash.now (λ f. 1 ≤ f.buckets) }
-    ensures ok { OnOk result (keys.new.items ≡ keys.old.items ++ marked_keys flash.now (scope_of scope.now) (item_of (key.now, held.now) ∷ [])) }
-    ensures err { OnErr result (keys.new.items ≡ keys.old.items) }
-{
-    if held.clean && scope.covers(flash, key, held.value.len() as u64) {
-        keys.push(key.clone()?)?;
-    }
-    Ok(())
 }
 
 /// What an item is charged, in bytes.

@@ -6,9 +6,10 @@ ghost use Rattle.hc_memory.specs.Planned.{IsPlanned};
 ghost use Rattle.hc_memory.specs.Pool.{is_full, kept, dropped};
 ghost use Rattle.hc_memory.specs.Sound.{Sound, IsWithin};
 ghost use Rattle.hc_memory.specs.Seen.{item_of, filled, glance_of};
-ghost use Rattle.hc_memory.specs.Memory.{empty_pool, pool_usage, home_of, linked_at, value_at, is_hopeless, victims_of, handle_for, unlinked, after_room, after_charge, after_unlink, after_find};
+ghost use Rattle.hc_memory.specs.Memory.{empty_pool, pool_usage, home_of, linked_at, value_at, is_hopeless, victims_of, oldest_keys, handle_for, unlinked, after_room, after_charge, after_unlink, after_find};
 
 use crate::answers::{Charged, Uncharged};
+use crate::clean::{CleanIndex, forget_items};
 use crate::fill::Fill;
 use crate::handles::{Blank, ReadHandle};
 use crate::item::{Held, Item, expired};
@@ -31,18 +32,21 @@ pub struct Pools<A: Allocator = Global> {
     pub(crate) pools: Vec<Pool<A>, A>,
     pub(crate) charges: OpenCharges<A>,
     pub(crate) made: u64,
+    // the keys of the clean items, and more of them perhaps
+    pub(crate) clean: CleanIndex<A>,
 }
 
 impl<A: Allocator> Model for Pools<A> {
     ghost use Rattle.std.specs.Prelude.{◌≡◌, length};
     ghost use Rattle.hc_memory.specs.Memory.{Memory};
     ghost use Rattle.hc_memory.specs.Sound.{Sound, FlashFits};
+    ghost use Rattle.hc_memory.specs.Clean.{Listed};
 
     ghost Value = { Memory };
 
     ghost view = { λ p. record { flash = p.flash; pools = p.pools.items; charges = p.charges.charges; made = p.made } };
 
-    ghost invariant = { λ p. Sound p.pools.items p.charges.charges p.made × (p.charges.pools ≡ length p.pools.items) × FlashFits p.flash };
+    ghost invariant = { λ p. Sound p.pools.items p.charges.charges p.made × (p.charges.pools ≡ length p.pools.items) × FlashFits p.flash × Listed p.flash p.clean p.pools.items };
 }
 
 impl<A: Allocator> Pools<A> {
@@ -114,7 +118,9 @@ impl<A: Allocator> Pools<A> {
         ensures value { result ≡ option_map (λ item. item.number) (linked_at key.now self.old.pools) }
         ensures pools { self.new ≡ after_unlink self.old key.now }
     {
-        unlink_from(&mut self.pools, key)
+        let number = unlink_from(&mut self.pools, key);
+        self.clean.forget(&self.flash, key);
+        number
     }
 
     /// Finds the value under this key, where its item isn't expired at `now` (seconds). That item is now the one that
@@ -147,6 +153,7 @@ impl<A: Allocator + Copy> Pools<A> {
             pools: empty_pools(alloc, sizes)?,
             charges: OpenCharges::new(alloc, sizes.len())?,
             made: 0,
+            clean: CleanIndex::new(alloc),
         })
     }
 }
@@ -254,6 +261,15 @@ impl<A: Allocator> Pools<A> {
 }
 
 impl<A: Allocator + Clone> Pools<A> {
+    /// Copies of the keys of the pool's items that were used longest ago, so many of them, in that order: those that go are
+    /// the first. Refused only where memory lacks. It costs what it answers.
+    pub fn oldest_keys(&self, pool: u8, count: usize) -> Result<Vec<Key<A>, A>, AllocError>
+        requires { pool < length self.now.pools }
+        ensures { IfOk result (λ keys. keys.items ≡ oldest_keys self.now pool count) }
+    {
+        self.pools[usize::from(pool)].oldest_keys(self.pools.allocator(), count)
+    }
+
     /// Makes room in the pool for `want` bytes and one more charge: the `count` items that were used longest ago go,
     /// as `victims` says how many, and are answered in that order. Refused only where memory lacks. It costs what goes.
     pub fn make_room(
@@ -270,6 +286,7 @@ impl<A: Allocator + Clone> Pools<A> {
     {
         let mut victims = room_for(self.pools.allocator(), count)?;
         self.pools[usize::from(pool)].evict(count, &mut victims);
+        forget_items(&mut self.clean, &self.flash, victims.as_slice());
         Ok(victims)
     }
 }
@@ -323,6 +340,7 @@ impl<A: Allocator + Clone> Pools<A> {
         }
 
         self.pools[usize::from(pool)].evict(count, &mut victims);
+        forget_items(&mut self.clean, &self.flash, victims.as_slice());
         self.made = number;
         Ok(Charged {
             blank: Blank::new(number, pool, key, bytes, expiry),

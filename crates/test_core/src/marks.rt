@@ -31,15 +31,10 @@ fn assert_gone(rt: &impl Abort, pools: &mut Pools, want: u64, text: &[u8], clean
     assert!(rt; item.clean == clean);
 }
 
-// Takes the marks of what the scope covers.
-fn unmark(rt: &impl Abort, pools: &mut Pools, scope: Scope) {
-    pools.unmark(&scope).expect(rt, "there is memory");
-}
-
 #[test]
 fn a_bucket_takes_the_marks_of_small_items(rt: HostRuntime) {
     let mut pools = marked(&rt, rt.alloc());
-    unmark(&rt, &mut pools, Scope::Bucket(0));
+    pools.unmark(&Scope::Bucket(0));
     assert_gone(&rt, &mut pools, 767, b"a", false);
     assert_gone(&rt, &mut pools, 768, b"b", true);
 }

@@ -1,25 +1,24 @@
-use Rattle.std.proofs.Common.{◌≡◌, ◌+◌, [], drop, refl, sym, ◌∙◌, ap, arith}
-use Rattle.std.proofs.lemmas.List.{drop_all}
-use Rattle.hc_memory.specs.Unmarks.{unmarked_at}
-use Rattle.hc_memory.proofs.Looking.{drop_here}
+use Rattle.std.proofs.Common.{◌<◌, refl, sym, ◌∙◌, arith, length, length-set}
+use Rattle.hc_types.specs.Loss.{scope_of}
+use Rattle.hc_memory.proofs.Unmarking.{without_marks, changed-next, changed-end}
 use Rattle.hc_memory.proofs.unmark.unmark_keys.Goals as goal
 
-pub loop-key-init : goal.loop-key-init
-loop-key-init g c = record { size = refl; items = refl }
+pub loop-i-init : goal.loop-i-init
+loop-i-init g c = record { count = refl; rest = refl }
 
-pub loop-key-preserved : goal.loop-key-preserved
-loop-key-preserved g c =
-    let inv = c.loop-key.invariant in
-    let here = drop_here c.args.keys.now c.loop-key.key-index c.key-item.result c.loop-key-test.true c.key-item.is in
+pub index_mut-requires : goal.index_mut-requires
+index_mut-requires g c = omega (arith, c.loop-i-test.true, c.loop-i.invariant.count)
+
+pub loop-i-preserved : goal.loop-i-preserved
+loop-i-preserved g c =
+    let inv = c.loop-i.invariant in
+    let within : c.loop-i.i < length c.loop-i.pools.items = omega (arith, c.loop-i-test.true, inv.count) in
     record {
-      size = ap (λ p. p.size) c.unmark.ensures ∙ inv.size;
-      items = ap (λ p. unmarked_at (drop (c.loop-key.key-index + 1) c.args.keys.now) p.items) c.unmark.ensures ∙ sym (ap (λ ks. unmarked_at ks c.loop-key.pool.items) here) ∙ inv.items;
+      count = length-set c.loop-i.pools.items c.loop-i.i c.unmark_in.new.pool ∙ inv.count;
+      rest = changed-next c.loop-i.i (without_marks c.args.flash.now (scope_of c.args.scope.now) c.args.keys.now) c.loop-i.pools.items c.index_mut.result.now c.unmark_in.new.pool within c.index_mut.ensures.value c.unmark_in.ensures ∙ inv.rest;
     }
 
 pub returns : goal.returns
 returns g c =
-    let inv = c.loop-key.invariant in
-    let out = c.loop-key-test.false in
-    let none : drop c.loop-key.key-index c.args.keys.now ≡ [] = drop_all c.loop-key.key-index c.args.keys.now (omega (arith, out)) in
-    let items = sym (ap (λ ks. unmarked_at ks c.loop-key.pool.items) none) ∙ inv.items in
-    λ i. record { size = inv.size i; items = items i }
+    let inv = c.loop-i.invariant in
+    sym (changed-end c.loop-i.i (without_marks c.args.flash.now (scope_of c.args.scope.now) c.args.keys.now) c.loop-i.pools.items (omega (arith, c.loop-i-test.false, inv.count))) ∙ inv.rest

@@ -1,10 +1,11 @@
-use Rattle.std.proofs.Common.{◌≡◌, drop}
-use Rattle.hc_memory.specs.Unmarks.{unmarked_at}
+use Rattle.std.proofs.Common.{◌≡◌, length, map}
+use Rattle.hc_types.specs.Loss.{scope_of}
+use Rattle.hc_memory.proofs.Unmarking.{changed_from, without_marks}
 use Rattle.hc_memory.proofs.unmark.unmark_keys.Given as goal
 
--- with the keys that are left, the items lose all marks
-abbrev pub invariant-loop-key : goal.invariant-loop-key
-invariant-loop-key g l = record {
-  size : l.pool.size ≡ l.initial.pool.size;
-  items : unmarked_at (drop l.key-index l.keys) l.pool.items ≡ unmarked_at l.keys l.initial.pool.items;
+-- with the pools that are left, all lose their marks
+abbrev pub invariant-loop-i : goal.invariant-loop-i
+invariant-loop-i g l = record {
+  count : length l.pools.items ≡ length l.initial.pools.items;
+  rest : changed_from l.i (without_marks l.flash (scope_of l.scope) l.keys) l.pools.items ≡ map (without_marks l.flash (scope_of l.scope) l.keys) l.initial.pools.items;
 }

@@ -1,4 +1,5 @@
-use Rattle.std.proofs.Common.{refl, sym, ap, ◌∙◌}
+use Rattle.std.proofs.Common.{refl, sym, ap, inr, ◌∙◌}
+use Rattle.std.proofs.lemmas.Result.{err_from_is_err_and}
 use Rattle.hc_types.specs.Config.{Config}
 use Rattle.hc_items.specs.Allocating.{empty_memory}
 use Rattle.hc_core.proofs.Keeps.{new-holds}
@@ -11,3 +12,8 @@ invariant_of-result g c =
 
 pub returns-clause-fits : goal.returns-clause-fits
 returns-clause-fits g c = c.in_ok-check.ensures.ok.0 refl
+
+pub returns-in_err-config-clause-err : goal.returns-in_err-config-clause-err
+returns-in_err-config-clause-err g c =
+    let p = err_from_is_err_and c.from_residual-in_err-config.result c.from_residual-in_err-config.ensures.1 in
+    rw (p.1, p.2) (inr (c.in_ok-check.ensures.ok.0 refl, refl))

@@ -8,6 +8,8 @@ use Rattle.hc_memory.specs.Memory.{Memory}
 use Rattle.hc_memory.specs.Seen.{filled}
 use Rattle.hc_memory.proofs.Rooms.{want-fits}
 use Rattle.hc_memory.proofs.Making.{there-of, there-at, known, roomy, charged-sound, take-dropped, dropped-few, size-bound}
+use Rattle.hc_memory.proofs.Listing.{listed-dropped, listed-evicted, evicted-single}
+use Rattle.hc_memory.proofs.Unmarking.{bits-fit, buckets-fit}
 use Rattle.hc_memory.proofs.pools.Pools.charge.Goals as goal
 
 pub begin-requires-clause-free : goal.begin-requires-clause-free
@@ -60,6 +62,8 @@ invariant_of-self-2 g c =
       rw (r.set, c.in-Ok-begin.ensures.ok, p.number) s,
       ap (λ book. book.pools) c.in-Ok-begin.ensures.ok ∙ i.1 ∙ sym (length-set c.self.inside.pools.items c.from.result c.evict.new.self),
       i.2,
+      listed-evicted c.self.inside.flash c.self.inside.clean c.forget_items.new.index _ c.as_slice.result.now (listed-dropped c.self.inside.flash c.self.inside.clean c.self.inside.pools.items c.from.result c.args.count c.index_mut.result.now c.evict.new.self i.3 (rw c.from.ensures at) c.evict.ensures.items)
+          (λ key. evicted-single c.self.inside.pools.items c.from.result c.args.count c.index_mut.result.now c.evict.new.self c.as_slice.result.now key (i.0.single key) (rw c.from.ensures at) c.evict.ensures.items (c.as_slice.ensures.value ∙ c.evict.ensures.victims ∙ ap (λ (vs : List Item). vs ++ take c.args.count c.index_mut.result.now.items) c.in-Ok.ensures.empty)) c.forget_items.ensures,
     )
 
 pub returns-clause-victims : goal.returns-clause-victims
@@ -110,3 +114,9 @@ returns-clause-blank g c =
 
 pub begin-requires-clause-size : goal.begin-requires-clause-size
 begin-requires-clause-size g c = omega (arith, c.len.ensures, c.requires.size)
+
+pub forget_items-requires-clause-bits : goal.forget_items-requires-clause-bits
+forget_items-requires-clause-bits g c = bits-fit c.self.inside.flash c.self.invariant.2
+
+pub forget_items-requires-clause-buckets : goal.forget_items-requires-clause-buckets
+forget_items-requires-clause-buckets g c = buckets-fit c.self.inside.flash c.self.invariant.2

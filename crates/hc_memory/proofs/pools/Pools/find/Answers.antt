@@ -2,6 +2,8 @@ use Rattle.std.proofs.Common.{Some, refl, sym, ◌∙◌, ap, arith, length, len
 use Rattle.hc_memory.specs.Memory.{home_of, value_at}
 use Rattle.hc_memory.proofs.Making.{home-within}
 use Rattle.hc_memory.proofs.Finding.{hit-value, miss-value, hit-place, found, missed}
+use Rattle.hc_memory.proofs.Looking.{read-there}
+use Rattle.hc_memory.proofs.Listing.{listed-used}
 use Rattle.hc_memory.proofs.pools.Pools.find.Goals as goal
 
 pub index_mut-requires : goal.index_mut-requires
@@ -17,7 +19,7 @@ invariant_of-self g c =
     let value = hit-value c.in-Ok-Some.field-0 c.in-Ok-Some.at c.in-Ok-Some.value _ c.in-Ok-Some.field-0-is c.in-Ok-Some.ensures.value in
     let f = found c.args.key.now c.args.now c.self.inside.pools.items c.self.inside.charges.charges c.self.inside.made c.in-Ok-Some.at c.index_mut.result.now c.promote.new.self c.in-Ok-Some.value i.0
     (sym (ap (home_of c.args.key.now) c.as_slice.ensures.value) ∙ place) (value ∙ ap (value_at c.args.now c.args.key.now) c.as_slice.ensures.value) c.index_mut.ensures.value c.promote.ensures in
-    (f.sound, i.1 ∙ sym (length-set c.self.inside.pools.items c.in-Ok-Some.at c.promote.new.self), i.2)
+    (f.sound, i.1 ∙ sym (length-set c.self.inside.pools.items c.in-Ok-Some.at c.promote.new.self), i.2, listed-used c.self.inside.flash c.self.inside.clean c.args.key.now c.self.inside.pools.items c.in-Ok-Some.at c.index_mut.result.now c.promote.new.self i.3 (read-there c.self.inside.pools.items c.in-Ok-Some.at c.index_mut.result.now (home-within c.args.key.now c.self.inside.pools.items c.in-Ok-Some.at (sym (ap (home_of c.args.key.now) c.as_slice.ensures.value) ∙ place)) c.index_mut.ensures.value) c.promote.ensures)
 
 pub returns-in-Ok-Some-clause-value : goal.returns-in-Ok-Some-clause-value
 returns-in-Ok-Some-clause-value g c =

@@ -4,6 +4,8 @@ use Rattle.hc_memory.specs.Pool.{dropped}
 use Rattle.hc_memory.specs.Charges.{usage_of}
 use Rattle.hc_memory.specs.Memory.{Memory}
 use Rattle.hc_memory.proofs.Making.{there-at, known, roomy, evicted-sound, take-dropped, dropped-few}
+use Rattle.hc_memory.proofs.Listing.{listed-dropped, listed-evicted, evicted-single}
+use Rattle.hc_memory.proofs.Unmarking.{bits-fit, buckets-fit}
 use Rattle.hc_memory.proofs.pools.Pools.make_room.Goals as goal
 
 pub evict-requires-clause-some : goal.evict-requires-clause-some
@@ -25,6 +27,8 @@ invariant_of-self g c =
       evicted-sound c.self.inside.pools.items c.self.inside.charges.charges c.self.inside.made c.args.pool c.from.result c.args.count c.index_mut.result.now c.index_mut.result.now c.evict.new.self i.0 c.from.ensures at c.index_mut.ensures.value c.evict.ensures.items,
       i.1 ∙ sym (length-set c.self.inside.pools.items c.from.result c.evict.new.self),
       i.2,
+      listed-evicted c.self.inside.flash c.self.inside.clean c.forget_items.new.index _ c.as_slice.result.now (listed-dropped c.self.inside.flash c.self.inside.clean c.self.inside.pools.items c.from.result c.args.count c.index_mut.result.now c.evict.new.self i.3 (rw c.from.ensures at) c.evict.ensures.items)
+          (λ key. evicted-single c.self.inside.pools.items c.from.result c.args.count c.index_mut.result.now c.evict.new.self c.as_slice.result.now key (i.0.single key) (rw c.from.ensures at) c.evict.ensures.items (c.as_slice.ensures.value ∙ c.evict.ensures.victims ∙ ap (λ (vs : List Item). vs ++ take c.args.count c.index_mut.result.now.items) c.in_ok-victims.ensures.empty)) c.forget_items.ensures,
     )
 
 pub returns-clause-victims : goal.returns-clause-victims
@@ -51,3 +55,9 @@ returns-clause-pools g c =
 
 pub evict-requires-clause-room : goal.evict-requires-clause-room
 evict-requires-clause-room g c = omega (arith, c.in_ok-victims.ensures.len, c.in_ok-victims.ensures.room)
+
+pub forget_items-requires-clause-bits : goal.forget_items-requires-clause-bits
+forget_items-requires-clause-bits g c = bits-fit c.self.inside.flash c.self.invariant.2
+
+pub forget_items-requires-clause-buckets : goal.forget_items-requires-clause-buckets
+forget_items-requires-clause-buckets g c = buckets-fit c.self.inside.flash c.self.invariant.2

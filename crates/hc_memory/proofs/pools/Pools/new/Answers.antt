@@ -2,6 +2,7 @@ use Rattle.std.proofs.Common.{length, map, sym, ◌∙◌, ap}
 use Rattle.std.proofs.lemmas.List.{length-map}
 use Rattle.hc_memory.specs.Memory.{empty_pool}
 use Rattle.hc_memory.proofs.Making.{sound-new}
+use Rattle.hc_memory.proofs.Listing.{listed-new}
 use Rattle.hc_memory.proofs.pools.Pools.new.Goals as goal
 
 pub invariant_of-result : goal.invariant_of-result
@@ -10,7 +11,7 @@ invariant_of-result g c =
     let s = sound-new (record { pools = c.config.inside.pools.items; flash = c.config.inside.flash }) h in
     let made = c.in_ok-empty_pools.ensures ∙ ap (map empty_pool) c.as_slice-sizes.ensures.value in
     let many = ap (λ book. book.pools) c.in_ok-new.ensures ∙ sym (ap length c.in_ok-empty_pools.ensures ∙ length-map c.as_slice-sizes.result.now empty_pool) in
-    (rw (made, c.in_ok-new.ensures) s.0, many, s.1)
+    (rw (made, c.in_ok-new.ensures) s.0, many, s.1, rw made (listed-new c.config.inside.flash _ c.config.inside.pools.items))
 
 pub returns : goal.returns
 returns g c =

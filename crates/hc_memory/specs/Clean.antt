@@ -1,0 +1,57 @@
+-- The keys of the clean items, listed by where their copies stand on flash.
+use Rattle.std.specs.Prelude.{◌≡◌, ℕ, ◌==◌, ◌&&◌, not, Bool, true, false, List, [], ◌∷◌, ◌++◌, Option, Some, None, map, length, if◌then◌else◌}
+use Rattle.std.specs.List.{list_any}
+use Rattle.std.specs.Str.{bytes_eq}
+use Rattle.std.specs.declared.vec.Vec.{Vec}
+use Rattle.hc_types.specs.Tally.{tally, count}
+use Rattle.hc_types.specs.Loss.{Scope, Key, Bucket, Hash}
+use Rattle.hc_types.specs.Places.{kept_of, bucket_at, is_small_by}
+use Rattle.hc_types.specs.declared.config.FlashConfig.{FlashConfig}
+use Rattle.hc_memory.specs.Item.{Item}
+use Rattle.hc_memory.specs.Pool.{Pool}
+
+-- ---- keys by places
+
+-- the keys of each place
+abbrev pub groups_of : {A : Type 0} → List (ℕ × Vec (List ℕ) A) → List (ℕ × List (List ℕ))
+groups_of entries = map (λ (e : ℕ × Vec (List ℕ) _). (e.0, e.1.items)) entries
+
+-- the keys of a place
+abbrev pub keys_at : ℕ → List (ℕ × List (List ℕ)) → List (List ℕ)
+keys_at place [] = []
+keys_at place (group ∷ groups) = if place == group.0 then group.1 else keys_at place groups
+
+-- the key is one of these
+abbrev pub has_key : List ℕ → List (List ℕ) → Bool
+has_key key keys = list_any (bytes_eq key) keys
+
+-- the keys, and this one among them
+abbrev pub with_key : List ℕ → List (List ℕ) → List (List ℕ)
+with_key key keys = if has_key key keys then keys else keys ++ key ∷ []
+
+-- ---- the index
+
+-- the scope is a place, and not one key
+abbrev pub is_place : Scope → Bool
+is_place (Key key) = false
+is_place (Bucket bucket) = true
+is_place (Hash kept but) = true
+
+-- Keys by their bucket, those of small items, and by their kept hash, those of large ones.
+pub record Listing : Type 0 where
+  pub small : List (ℕ × List (List ℕ))
+  pub large : List (ℕ × List (List ℕ))
+
+-- An item of this key and a value of this length is listed where a copy of it would stand. Without flash there is no such
+-- place.
+abbrev pub is_listed : Option FlashConfig → Listing → List ℕ → ℕ → Bool
+is_listed None listing key len = true
+is_listed (Some flash) listing key len = if is_small_by flash key len then has_key key (keys_at (bucket_at flash key) listing.small) else has_key key (keys_at (kept_of flash.bits key) listing.large)
+
+-- the item is clean and isn't listed
+abbrev pub is_missed : Option FlashConfig → Listing → Item → Bool
+is_missed flash listing item = item.clean && not (is_listed flash listing item.key (length item.value))
+
+-- each clean item is listed; more may be
+abbrev pub Listed : Option FlashConfig → Listing → List Pool → Type 0
+Listed flash listing pools = tally (λ (pool : Pool). count (is_missed flash listing) pool.items) pools ≡ 0

@@ -1,0 +1,17 @@
+-- Lemmas.
+pub mod Raises
+pub mod Settles
+pub mod Finds
+pub mod Counted
+pub mod Goes
+pub mod Joins
+pub mod Outdates
+pub mod Fresh
+pub mod Numbers
+pub mod Launching
+pub mod Keeping
+pub mod Choices
+pub mod Fetched
+pub mod Reclaimed
+pub mod Finished
+pub mod Free

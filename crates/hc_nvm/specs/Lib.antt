@@ -1,0 +1,11 @@
+-- What waits for flash, as code holds it.
+pub mod Seen
+pub mod Stock
+pub mod Asked
+pub mod Leaving
+pub mod Outdating
+pub mod After
+pub mod Taking
+pub mod Starting
+pub mod Filled
+pub mod Finishing

@@ -1,0 +1,28 @@
+//! What waits for flash and what comes from it: the puts that wait, the tombstones, the fills, and the jobs.
+#![tactic(auto)]
+
+mod choosing;
+mod counting;
+mod filler;
+mod finding;
+mod finishing;
+mod jobs;
+mod leaving;
+mod nvm;
+mod orders;
+mod outdating;
+mod questions;
+mod raising;
+mod reclaiming;
+mod settling;
+mod starting;
+mod takes;
+mod telling;
+mod waiting;
+
+pub use filler::{Filled, Taken};
+pub use finishing::Unfinished;
+pub use nvm::Nvm;
+pub use orders::Order;
+pub use outdating::Outdating;
+pub use settling::Take;

@@ -1,0 +1,59 @@
+// What waits for flash and comes from it.
+ghost use Rattle.std.specs.Prelude.{◌≡◌, None, IfOk};
+ghost use Rattle.hc_types.specs.Limits.{flash_wrong};
+ghost use Rattle.hc_machine.specs.Nvm.{new_nvm};
+
+use crate::jobs::Job;
+use hc_pair::Pair;
+use hc_types::FlashConfig;
+use hc_waiting::{Fills, Puts, Tombstones};
+use std::alloc::{AllocError, Allocator, Global};
+use std::marker::Model;
+
+/// What waits for flash and what comes from it (CacheLib's `NvmCache`): both engines, the puts that wait, the tombstones,
+/// the fills, and the jobs. It calls no device: a worker takes a job, does its order on a device, and hands the result in.
+///
+/// Contracts see the state of its machine, and for how many more puts, tombstones and fills there is room.
+#[derive(Drop)]
+pub struct Nvm<A: Allocator = Global> {
+    pub(crate) pair: Pair<A>,
+    pub(crate) queue: Puts<A>,
+    pub(crate) tombstones: Tombstones<A>,
+    pub(crate) fills: Fills<A>,
+    pub(crate) jobs: Vec<Job<A>, A>,
+    pub(crate) made: u64,
+}
+
+impl<A: Allocator> Model for Nvm<A> {
+    ghost use Rattle.std.specs.Prelude.{◌≡◌};
+    ghost use Rattle.hc_nvm.specs.Stock.{Stock, Kept};
+
+    ghost Value = { Stock };
+
+    ghost view = { λ n. record { nvm = record { pair = n.pair; queue = n.queue.puts; tombstones = n.tombstones.stones; fills = n.fills.fills; jobs = n.jobs.items; made = n.made }; puts = n.queue.room; stones = n.tombstones.room; fills = n.fills.room } };
+
+    ghost invariant = { λ n. (n.queue.flash ≡ n.pair.small.flash) × (n.tombstones.flash ≡ n.pair.small.flash) × (n.fills.flash ≡ n.pair.small.flash) × Kept (record { pair = n.pair; queue = n.queue.puts; tombstones = n.tombstones.stones; fills = n.fills.fills; jobs = n.jobs.items; made = n.made }) };
+}
+
+impl<A: Allocator + Clone + Copy> Nvm<A> {
+    /// Both engines are new, and nothing waits, by a configuration whose numbers are within their limits. Refused only
+    /// where memory lacks.
+    pub fn new(alloc: A, flash: FlashConfig) -> Result<Nvm<A>, AllocError>
+        requires { flash_wrong flash ≡ None }
+        ensures { IfOk result (λ n. n.nvm ≡ new_nvm flash) }
+    {
+        let pair = Pair::new(alloc, flash)?;
+        let queue = Puts::new(alloc, flash);
+        let tombstones = Tombstones::new(alloc, flash);
+        let fills = Fills::new(alloc, flash);
+        let jobs = Vec::new(alloc);
+        Ok(Nvm {
+            pair,
+            queue,
+            tombstones,
+            fills,
+            jobs,
+            made: 0,
+        })
+    }
+}

@@ -1,0 +1,64 @@
+// An operation is started: the half of a worker's call that may be refused.
+ghost use Rattle.std.specs.Prelude.{◌≡◌, ◌≤◌, ◌<◌, ◌+◌, ◌^◌, length, false, OnOk, OnErr, IfOk, vec_len, vec_capacity};
+ghost use Rattle.hc_engines.specs.pair.Below.{IsBelow};
+ghost use Rattle.hc_engines.specs.pair.Pair.{start as start_step};
+ghost use Rattle.hc_bighash.specs.Found.{losses_of};
+ghost use Rattle.hc_bighash.specs.Next.{next_seen};
+ghost use Rattle.hc_bighash.specs.Seen.{op_of};
+ghost use Rattle.hc_pair.specs.Found.{is_reclaim};
+ghost use Rattle.hc_pair.specs.Joined.{CanStart};
+ghost use Rattle.hc_nvm.specs.Starting.{made_after};
+
+use crate::jobs::Job;
+use hc_bighash::{Next, Op};
+use hc_history::{Note, Notes};
+use hc_pair::Pair;
+use std::alloc::{AllocError, Allocator};
+
+/// So many notes in all. Refused, as if memory lacked, where 64 bits can't count them.
+pub(crate) fn in_all(losses: usize, stones: usize, others: usize) -> Result<usize, AllocError>
+    ensures { IfOk result (λ n. n ≡ losses + (stones + others)) }
+{
+    let Some(told) = stones.checked_add(others) else {
+        return Err(AllocError);
+    };
+    match losses.checked_add(told) {
+        Some(n) => Ok(n),
+        None => Err(AllocError),
+    }
+}
+
+/// Room is made for one more job and for so many notes beside those of losses, and then an operation is started under the
+/// next number. Refused only where memory lacks or the numbers have run out; nothing changed then.
+pub(crate) fn start_in<A: Allocator + Clone + Copy, N: Notes<Note<A>>>(
+    pair: &mut Pair<A>,
+    jobs: &mut Vec<Job<A>, A>,
+    made: u64,
+    op: &Op<A>,
+    notes: &mut N,
+    others: usize,
+) -> Result<Next<A>, AllocError>
+    requires below { IsBelow (made + 1) pair.old }
+    requires can { CanStart pair.old.small.flash (op_of op.now) }
+    requires tells { is_reclaim (op_of op.now) ≡ false }
+    ensures number { OnOk result (made + 1 < 2 ^ 64) }
+    ensures ok { IfOk result (λ next. start_step (made + 1) (op_of op.now) pair.old ≡ record { pair = pair.new; next = next_seen next }) }
+    ensures below { IfOk result (λ next. IsBelow (made_after made (next_seen next) + 1) pair.new) }
+    ensures flash { OnOk result (pair.new.small.flash ≡ pair.old.small.flash) }
+    ensures err { OnErr result (pair.new ≡ pair.old) }
+    ensures jobs { jobs.new.items ≡ jobs.old.items }
+    ensures job { OnOk result (vec_len jobs.new < vec_capacity jobs.new) }
+    ensures told { N.told notes.new ≡ N.told notes.old }
+    ensures room { IfOk result (λ next. length (losses_of (next_seen next)) + others ≤ N.room notes.new) }
+    ensures kept { N.room notes.old ≤ N.room notes.new }
+{
+    if made == u64::MAX {
+        return Err(AllocError);
+    }
+    jobs.reserve(1)?;
+    let all = in_all(pair.most_losses_at_start(), others, 0)?;
+    notes.reserve(all)?;
+    pair.is_sound();
+    let next = pair.start(made + 1, op)?;
+    Ok(next)
+}
