@@ -5,6 +5,7 @@ ghost use Rattle.hc_memory.specs.Seen.{item_of};
 ghost use Rattle.hc_memory.specs.Writes.{written, EachByte};
 
 use crate::item::Held;
+use crate::value::ItemValue;
 use bytes::Bytes;
 use hc_types::{Key, Refusal};
 use std::alloc::{AllocError, Allocator, Global};
@@ -23,11 +24,14 @@ pub struct Blank<A: Allocator = Global> {
 }
 
 impl<A: Allocator> Model for Blank<A> {
+    ghost use Rattle.std.specs.Prelude.{◌≤◌, length};
     ghost use Rattle.hc_memory.specs.Item.{Handle};
 
     ghost Value = { Handle };
 
     ghost view = { λ b. record { number = b.number; pool = b.pool; key = b.key; expiry = b.expiry; value = b.bytes.items } };
+
+    ghost invariant = { λ b. length b.bytes.items ≤ 1048576 };
 }
 
 /// An item that was written: the second half of CacheLib's write handle. Contracts see it as a `Handle`.
@@ -35,7 +39,7 @@ impl<A: Allocator> Model for Blank<A> {
 /// It isn't `Drop`, so a handle that is forgotten doesn't compile: it must be inserted, discarded or abandoned.
 #[must_use]
 pub struct Sealed<A: Allocator = Global> {
-    value: Bytes<A>,
+    value: ItemValue<A>,
     number: u64,
     pool: u8,
     key: Key<A>,
@@ -75,6 +79,7 @@ impl<A: Allocator> Blank<A> {
         bytes: Vec<u8, A>,
         expiry: u64,
     ) -> Blank<A>
+        requires { length bytes.items ≤ 1048576 }
         ensures { result ≡ record { number = number; pool = pool; key = key; expiry = expiry; value = bytes.items } }
     {
         Blank {
@@ -168,8 +173,8 @@ impl<A: Allocator + Clone> Blank<A> {
             expiry,
         } = self;
         match Bytes::from_vec(bytes) {
-            Ok(value) => Ok(Sealed {
-                value,
+            Ok(shared) => Ok(Sealed {
+                value: ItemValue::new(shared),
                 number,
                 pool,
                 key,
@@ -199,7 +204,7 @@ impl<A: Allocator> Sealed<A> {
     pub fn to_bytes(&self) -> Result<Bytes<A>, AllocError>
         ensures { IfOk result (λ bytes. bytes ≡ self.now.value) }
     {
-        self.value.clone()
+        self.value.to_bytes()
     }
 
     /// The number of its charge.

@@ -1,7 +1,8 @@
 // The items of a pool.
-ghost use Rattle.std.specs.Prelude.{◌≡◌, ◌==◌, ◌&&◌, not, nat_lt};
+ghost use Rattle.std.specs.Prelude.{◌≡◌, ◌≤◌, ◌==◌, ◌&&◌, not, nat_lt, length};
 ghost use Rattle.hc_memory.specs.Pool.{is_expired};
 
+use crate::value::ItemValue;
 use bytes::Bytes;
 use hc_types::Key;
 use std::alloc::{Allocator, Global};
@@ -20,11 +21,14 @@ pub struct Item<A: Allocator = Global> {
 }
 
 impl<A: Allocator> Model for Item<A> {
+    ghost use Rattle.std.specs.Prelude.{◌≤◌, length};
     ghost use Rattle.hc_memory.specs.Item.{Item as Meaning};
 
     ghost Value = { Meaning };
 
     ghost view = { λ i. record { number = i.number; pool = i.pool; key = i.key; value = i.value; expiry = i.expiry; clean = i.clean } };
+
+    ghost invariant = { λ i. length i.value ≤ 1048576 };
 }
 
 impl<A: Allocator> Item<A> {
@@ -35,6 +39,13 @@ impl<A: Allocator> Item<A> {
     {
         expired(now, self.expiry)
     }
+
+    /// An item's value has at most `VALUE_MAX` bytes: a law to call where a proof asks for it. It does nothing.
+    pub fn is_short(&self)
+        ensures { length self.now.value ≤ 1048576 }
+    {
+        let _ = &self.value;
+    }
 }
 
 /// What is held under a key: an item without the key.
@@ -42,7 +53,7 @@ impl<A: Allocator> Item<A> {
 pub struct Held<A: Allocator = Global> {
     pub number: u64,
     pub pool: u8,
-    pub value: Bytes<A>,
+    pub value: ItemValue<A>,
     pub expiry: u64,
     pub clean: bool,
 }

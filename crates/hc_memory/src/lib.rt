@@ -16,6 +16,7 @@ mod pools;
 mod shown;
 mod unmark;
 mod usage;
+mod value;
 
 pub use answers::{Charged, Uncharged};
 pub use fill::Fill;

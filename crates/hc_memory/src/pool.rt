@@ -134,7 +134,7 @@ impl<A: Allocator> Pool<A> {
             number: held.number,
             pool: held.pool,
             key,
-            value: held.value,
+            value: held.value.into_bytes(),
             expiry: held.expiry,
             clean: held.clean,
         })

@@ -188,7 +188,7 @@ fn fresh_in<A: Allocator>(
     if expired(now, held.expiry) {
         return Ok(None);
     }
-    Ok(Some((at, held.value.clone()?)))
+    Ok(Some((at, held.value.to_bytes()?)))
 }
 
 /// Takes the item under this key out of the pool that has it, and answers its number.

@@ -15,6 +15,6 @@ pub returns : goal.returns
 returns g c =
     let fresh = value-fresh c.args.now (item_of (c.args.key.now, c.in-Some.held.now)) (sym c.expired.ensures ∙ c.if-expired.false) in
     record {
-      value = ap Some c.in_ok-clone.ensures.cases ∙ sym fresh ∙ ap (value_then c.args.now) c.in-Some.ensures.item;
+      value = ap Some c.in_ok-to_bytes.ensures ∙ sym fresh ∙ ap (value_then c.args.now) c.in-Some.ensures.item;
       place = sym c.in-Some.ensures.place;
     }

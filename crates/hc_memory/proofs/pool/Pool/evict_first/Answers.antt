@@ -20,7 +20,7 @@ invariant_of-self-2 g c =
 pub returns-clause-value : goal.returns-clause-value
 returns-clause-value g c =
     let first = last-first c.self.inside.cache.entries (c.in_ok-key.key, c.in_ok-key.held) (sym c.pop_oldest.ensures.value ∙ c.in_ok-key.was) in
-    rw (← c.self.view_is) (ap (λ items. slice_get items 0) (sym first))
+    rw (← c.self.view_is) (rw c.into_bytes.ensures.value (ap (λ items. slice_get items 0) (sym first)))
 
 pub returns-clause-items : goal.returns-clause-items
 returns-clause-items g c =

@@ -1,0 +1,70 @@
+// The value of an item, of which it is known how long it may be.
+ghost use Rattle.std.specs.Prelude.{◌≡◌, ◌≤◌, length, IfOk};
+
+use bytes::Bytes;
+use std::alloc::{AllocError, Allocator, Global};
+use std::marker::Model;
+
+/// The value of an item: at most `VALUE_MAX` bytes, which those who read it share. Contracts see it as its bytes.
+#[derive(Drop)]
+pub struct ItemValue<A: Allocator = Global> {
+    bytes: Bytes<A>,
+}
+
+impl<A: Allocator> Model for ItemValue<A> {
+    ghost use Rattle.std.specs.Prelude.{◌≤◌, List, ℕ, length};
+
+    ghost Value = { List ℕ };
+
+    ghost view = { λ v. v.bytes };
+
+    ghost invariant = { λ v. length v.bytes ≤ 1048576 };
+}
+
+impl<A: Allocator> ItemValue<A> {
+    /// The value of these bytes.
+    pub fn new(bytes: Bytes<A>) -> ItemValue<A>
+        requires { length bytes ≤ 1048576 }
+        ensures { result ≡ bytes }
+    {
+        ItemValue { bytes }
+    }
+
+    /// How many bytes it has.
+    #[allow(clippy::len_without_is_empty)]
+    pub fn len(&self) -> usize
+        ensures value { result ≡ length self.now }
+        ensures short { result ≤ 1048576 }
+    {
+        self.bytes.len()
+    }
+
+    /// Another owner of the bytes, of which none is copied.
+    pub fn to_bytes(&self) -> Result<Bytes<A>, AllocError>
+        ensures { IfOk result (λ bytes. bytes ≡ self.now) }
+    {
+        self.bytes.clone()
+    }
+
+    /// The bytes, of which none is copied.
+    pub fn into_bytes(self) -> Bytes<A>
+        ensures value { result ≡ self }
+        ensures short { length self ≤ 1048576 }
+    {
+        let ItemValue { bytes } = self;
+        bytes
+    }
+}
+
+// Shares the bytes.
+impl<A: Allocator> Clone for ItemValue<A> {
+    ghost use Rattle.std.specs.Prelude.{◌≡◌};
+
+    ghost is_clone = { λ value copy. copy ≡ value };
+
+    fn clone(&self) -> Result<ItemValue<A>, AllocError> {
+        Ok(ItemValue {
+            bytes: self.bytes.clone()?,
+        })
+    }
+}
