@@ -16,3 +16,4 @@ pub mod Few
 pub mod Finding
 pub mod Grouped
 pub mod Listing
+pub mod Ending
