@@ -17,3 +17,5 @@ pub mod Finding
 pub mod Grouped
 pub mod Listing
 pub mod Ending
+pub mod Commuting
+pub mod Early
