@@ -23,7 +23,7 @@ module _ (key : List ℕ) where
   none-has pool none = ap is_some (count-none key pool.items none)
 
   -- where no item has the key, none goes
-  unlinked-none : (pools : List Pool) → items_at key pools ≡ 0 → unlinked key pools ≡ pools
+  pub unlinked-none : (pools : List Pool) → items_at key pools ≡ 0 → unlinked key pools ≡ pools
   unlinked-none [] none = refl
   unlinked-none (pool ∷ pools) none =
       ap (λ b. cond b (record pool { items = without key pool.items } ∷ pools) (pool ∷ unlinked key pools)) (none-has pool (omega (arith, none)))

@@ -19,3 +19,4 @@ pub mod Listing
 pub mod Ending
 pub mod Commuting
 pub mod Early
+pub mod Bringing

@@ -3,6 +3,7 @@
 #![tactic(auto)]
 
 mod answers;
+mod bring;
 mod clean;
 mod fill;
 mod groups;
@@ -17,7 +18,7 @@ mod shown;
 mod unmark;
 mod usage;
 
-pub use answers::{Charged, Uncharged};
+pub use answers::{Brought, Charged, Uncharged};
 pub use fill::Fill;
 pub use handles::{Blank, ReadHandle, Sealed, each_byte};
 pub use item::Item;
