@@ -16,3 +16,7 @@ pub mod Few
 pub mod Finding
 pub mod Grouped
 pub mod Listing
+pub mod Ending
+pub mod Commuting
+pub mod Early
+pub mod Bringing

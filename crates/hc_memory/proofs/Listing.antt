@@ -214,7 +214,7 @@ listed-evicted flash old new pools gone l single stay = zero-all (λ (p : Pool).
         let unmissed = zero_one (is_missed flash old x) (omega (arith, was, all, l)) in
         one_zero (is_missed flash new x) (missed_step x.clean (is_listed flash old x.key (length x.value)) (is_listed flash new x.key (length x.value)) unmissed (stay x.key (length x.value) none))
 
-taken_count : (f : Item → ℕ) (n : ℕ) (items : List Item) → tally f (take n items) + tally f (drop n items) ≡ tally f items
+pub taken_count : (f : Item → ℕ) (n : ℕ) (items : List Item) → tally f (take n items) + tally f (drop n items) ≡ tally f items
 taken_count f zero items = omega arith
 taken_count f (suc n) [] = refl
 taken_count f (suc n) (x ∷ items) = omega (arith, taken_count f n items)

@@ -1,5 +1,5 @@
 -- The charges that are open.
-use Rattle.std.specs.Prelude.{◌≡◌, ℕ, ◌==◌, ◌<◌, nat_lt, Bool, false, not, ◌&&◌, ◌||◌, List, length, Option, Some, None, find, position, slice_get, if◌then◌else◌}
+use Rattle.std.specs.Prelude.{◌≡◌, ℕ, ◌==◌, ◌<◌, nat_lt, Bool, false, not, ◌&&◌, ◌||◌, List, [], ◌∷◌, length, Option, Some, None, find, position, slice_get, if◌then◌else◌}
 use Rattle.std.specs.Str.{bytes_eq}
 use Rattle.indexmap.specs.IndexMap.{swap_remove_by}
 use Rattle.hc_types.specs.Tally.{tally, count}
@@ -17,6 +17,11 @@ charge_at number charges = find (has_number number) charges
 -- the charges without the one with a number, whose place the last of them takes
 abbrev pub closed : ℕ → List Open → List Open
 closed number charges = swap_remove_by (has_number number) charges
+
+-- the charges without those with these numbers, of which the first goes first
+abbrev pub all_closed : List ℕ → List Open → List Open
+all_closed [] charges = charges
+all_closed (number ∷ numbers) charges = all_closed numbers (closed number charges)
 
 -- what a pool's open charges come to
 abbrev pub usage_of : ℕ → List Open → Usage

@@ -1,5 +1,5 @@
 -- All pools, with what is open in them, and what each call does to them.
-use Rattle.std.specs.Prelude.{ℕ, ◌+◌, ◌==◌, Bool, true, List, [], ◌∷◌, ◌++◌, length, replicate, Option, Some, None, is_some, slice_get, slice_set, if◌then◌else◌, option_map, map, take, suc}
+use Rattle.std.specs.Prelude.{ℕ, ◌+◌, ◌==◌, Bool, true, false, List, [], ◌∷◌, ◌++◌, length, replicate, Option, Some, None, is_some, slice_get, slice_set, if◌then◌else◌, option_map, map, take, suc}
 use Rattle.std.specs.Option.{option_map_or}
 use Rattle.hc_types.specs.Charge.{charge_of}
 use Rattle.hc_types.specs.Loss as loss
@@ -9,7 +9,7 @@ use Rattle.hc_types.specs.declared.config.PoolSize.{PoolSize}
 use Rattle.hc_memory.specs.declared.usage.PoolUsage.{PoolUsage}
 use Rattle.hc_memory.specs.Item.{Item, Open, Handle, item_by}
 use Rattle.hc_memory.specs.Pool.{Pool, linked_usage, item_at, without, used, is_full, kept, dropped, unexpired, unmarked_where}
-use Rattle.hc_memory.specs.Charges.{usage_of, closed}
+use Rattle.hc_memory.specs.Charges.{usage_of, closed, all_closed}
 
 -- The pools, the one with the number 0 first; the charges that are open; how many charges were made; and the flash
 -- behind the pools, where there is any.
@@ -102,11 +102,26 @@ after_unlink memory key = record memory { pools = unlinked key memory.pools }
 abbrev pub after_free : Memory → ℕ → Memory
 after_free memory number = record memory { charges = closed number memory.charges }
 
+-- the charges with these numbers end, the first one first
+abbrev pub after_frees : List ℕ → Memory → Memory
+after_frees numbers memory = record memory { charges = all_closed numbers memory.charges }
+
 -- the handle's item is the one that was used last in its pool, and the only one under its key
 abbrev pub after_link : Memory → Bool → Handle → Memory
 after_link memory clean handle = record (after_free memory handle.number) {
   pools = change_at handle.pool (λ pool. record pool { items = pool.items ++ item_by clean handle ∷ [] }) (unlinked handle.key memory.pools);
 }
+
+-- the handles' items are linked, one after the other, and none is clean
+abbrev pub planted : List Handle → Memory → Memory
+planted [] memory = memory
+planted (handle ∷ handles) memory = planted handles (after_link memory false handle)
+
+-- the charges of all handles but the last end, and then the last one's item is linked, and isn't clean
+abbrev pub early : List Handle → Memory → Memory
+early [] memory = memory
+early (handle ∷ []) memory = after_link memory false handle
+early (handle ∷ next ∷ handles) memory = early (next ∷ handles) (after_free memory handle.number)
 
 -- ---- finds and marks
 

@@ -14,6 +14,15 @@ pub struct Charged<A: Allocator = Global> {
     pub victims: Vec<Item<A>, A>,
 }
 
+/// An item that came from flash: the number of its charge, and the items that went to make room for it, the one that was
+/// used longest ago first.
+#[derive(Drop)]
+#[must_use]
+pub struct Brought<A: Allocator = Global> {
+    pub number: u64,
+    pub victims: Vec<Item<A>, A>,
+}
+
 /// A charge that was refused, with the key that was handed in.
 #[derive(Drop)]
 pub struct Uncharged<A: Allocator = Global> {

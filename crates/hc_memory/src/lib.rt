@@ -3,6 +3,7 @@
 #![tactic(auto)]
 
 mod answers;
+mod bring;
 mod clean;
 mod fill;
 mod groups;
@@ -18,7 +19,7 @@ mod unmark;
 mod usage;
 mod value;
 
-pub use answers::{Charged, Uncharged};
+pub use answers::{Brought, Charged, Uncharged};
 pub use fill::Fill;
 pub use handles::{Blank, ReadHandle, Sealed, each_byte};
 pub use item::Item;

@@ -6,7 +6,7 @@ ghost use Rattle.hc_memory.specs.Seen.{item_of};
 ghost use Rattle.hc_memory.specs.Charges.{is_open, open_at};
 ghost use Rattle.hc_memory.specs.Clean.{is_listed, is_missed};
 ghost use Rattle.hc_memory.specs.Sound.{items_at};
-ghost use Rattle.hc_memory.specs.Memory.{home_of, beside, linked_at, change_at, unlinked, after_link, after_free};
+ghost use Rattle.hc_memory.specs.Memory.{home_of, beside, linked_at, change_at, unlinked, after_link, after_free, after_frees};
 
 use crate::clean::CleanIndex;
 use crate::handles::{Blank, Sealed};
@@ -121,6 +121,38 @@ impl<A: Allocator + Clone> Pools<A> {
         match link_over(&mut self.pools, own, key, held) {
             Ok(old) => {
                 self.charges.end_at(place);
+                Ok(old)
+            }
+            Err(failed) => {
+                let (key, held) = failed.value;
+                Err(Sealed::from_parts(key, held))
+            }
+        }
+    }
+}
+
+impl<A: Allocator + Clone> Pools<A> {
+    /// Ends the open charges with the numbers of `earlier`, in that order, and then links the item of the handle, of
+    /// which no copy stands on flash, as `link` does. A number whose charge isn't open ends nothing. Refused only where
+    /// memory lacks, and then nothing changed, and the handle comes back.
+    pub fn link_after(
+        &mut self,
+        earlier: &[u64],
+        sealed: Sealed<A>,
+    ) -> Result<Option<u64>, Sealed<A>>
+        requires { is_open (charge_by sealed) self.old.charges ≡ true }
+        ensures old { IfOk result (λ old. old ≡ option_map (λ (item : Meaning). item.number) (linked_at sealed.key self.old.pools)) }
+        ensures pools { OnOk result (self.new ≡ after_link (after_frees earlier.now self.old) false sealed) }
+        ensures err { OnErr result (self.new ≡ self.old) }
+        ensures sealed_returned { IfErr result (λ back. back ≡ sealed) }
+    {
+        let own = usize::from(sealed.pool());
+        let number = sealed.number();
+        let (key, held) = sealed.into_parts(false);
+        match link_over(&mut self.pools, own, key, held) {
+            Ok(old) => {
+                self.charges.end_each(earlier);
+                self.charges.end(number);
                 Ok(old)
             }
             Err(failed) => {

@@ -1,9 +1,9 @@
 // The charges that are open, and what each pool is charged for them.
-ghost use Rattle.std.specs.Prelude.{◌≡◌, ◌==◌, ◌+◌, ◌-◌, ◌<◌, ◌≤◌, ◌^◌, ◌&&◌, ◌↔◌, ◌++◌, [], ◌∷◌, length, slice_get, swap_remove, IfOk, OnOk, OnErr, IsSome, Some, None};
+ghost use Rattle.std.specs.Prelude.{◌≡◌, ◌==◌, ◌+◌, ◌-◌, ◌<◌, ◌≤◌, ◌^◌, ◌&&◌, ◌↔◌, ◌++◌, [], ◌∷◌, length, position, slice_get, swap_remove, IfOk, OnOk, OnErr, IsSome, Some, None};
 ghost use Rattle.std.specs.Str.{bytes_eq};
 ghost use Rattle.hc_types.specs.Charge.{charge_of};
 ghost use Rattle.hc_memory.specs.Item.{Open};
-ghost use Rattle.hc_memory.specs.Charges.{charge_at, usage_of, open_at};
+ghost use Rattle.hc_memory.specs.Charges.{has_number, charge_at, usage_of, open_at, closed, all_closed};
 
 use crate::usage::Usage;
 use hc_types::{Key, VALUE_MAX, charge};
@@ -117,6 +117,31 @@ impl<A: Allocator> OpenCharges<A> {
                 self.usage[at] = without_charge(self.usage[at], cost);
             }
             None => unreachable!(),
+        }
+    }
+
+    /// The place of the charge with this number, if it is open.
+    fn place_at(&self, number: u64) -> Option<usize>
+        ensures { result ≡ position (has_number number) self.now.charges }
+    {
+        self.charges.get_index_of(&number)
+    }
+
+    /// Closes the charge with this number, whose place the last one takes. Nothing changes where it isn't open.
+    pub fn end(&mut self, number: u64)
+        ensures { self.new ≡ record self.old { charges = closed number self.old.charges } }
+    {
+        if let Some(place) = self.place_at(number) {
+            self.end_at(place);
+        }
+    }
+
+    /// Closes the charges with these numbers, the first one first.
+    pub fn end_each(&mut self, numbers: &[u64])
+        ensures { self.new ≡ record self.old { charges = all_closed numbers.now self.old.charges } }
+    {
+        for number in numbers {
+            self.end(*number);
         }
     }
 }

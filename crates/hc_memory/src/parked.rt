@@ -1,10 +1,10 @@
 // A write handle that is set aside.
-ghost use Rattle.std.specs.Prelude.{◌≡◌};
+ghost use Rattle.std.specs.Prelude.{◌≡◌, IfOk};
 
 use crate::handles::Sealed;
 use crate::item::Held;
 use hc_types::Key;
-use std::alloc::{Allocator, Global};
+use std::alloc::{AllocError, Allocator, Global};
 use std::marker::Model;
 
 /// A sealed handle that is set aside, as that of a call that waits. Contracts see it as a `Handle`.
@@ -49,5 +49,23 @@ impl<A: Allocator> Parked<A> {
         ensures { result ≡ self.now.number }
     {
         self.held.number
+    }
+}
+
+impl<A: Allocator + Clone> Parked<A> {
+    /// The handle beside this one, which stays: its key is a copy, and its value shared. At most one of both may be
+    /// spent, since they have one charge. Refused only where memory lacks.
+    pub fn twin(&self) -> Result<Sealed<A>, AllocError>
+        ensures { IfOk result (λ sealed. sealed ≡ self.now) }
+    {
+        let key = self.key.clone()?;
+        let held = Held {
+            number: self.held.number,
+            pool: self.held.pool,
+            value: self.held.value.clone()?,
+            expiry: self.held.expiry,
+            clean: false,
+        };
+        Ok(Sealed::from_parts(key, held))
     }
 }

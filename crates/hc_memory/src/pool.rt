@@ -1,5 +1,5 @@
 // One pool: the items that can be found, in the order of their use.
-ghost use Rattle.std.specs.Prelude.{◌≡◌, ℕ, ◌+◌, ◌-◌, ◌<◌, ◌≤◌, ◌^◌, ◌++◌, ◌∷◌, [], false, not, ◌&&◌, ◌||◌, ◌==◌, nat_lt, List, length, map, take, drop, slice_get, vec_len, vec_capacity, IfOk, IfErr, IfSome, OnOk, OnErr, IsOk, IsSome, is_some, option_map};
+ghost use Rattle.std.specs.Prelude.{◌≡◌, ℕ, ◌+◌, ◌-◌, ◌<◌, ◌≤◌, ◌^◌, ◌++◌, ◌∷◌, [], false, not, ◌&&◌, ◌||◌, ◌==◌, nat_lt, List, length, map, take, drop, slice_get, vec_len, vec_capacity, IfOk, IfErr, IfSome, OnOk, OnErr, IsOk, IsSome, is_some, option_map, None};
 ghost use Rattle.std.specs.Option.{option_map_or};
 ghost use Rattle.lru.specs.LruCache.{lru_cache, last_entry};
 ghost use Rattle.hc_types.specs.Loss.{scope_of};
@@ -264,6 +264,28 @@ impl<A: Allocator + Clone> Pool<A> {
         let (number, freed) = taken(key_len, old);
         self.bytes = self.bytes - freed + cost;
         Ok(number)
+    }
+
+    /// Links an item under its key, which has none, as the one that was used last, and takes out so many of those that
+    /// were there, as `evict` does. On an error, for want of memory, nothing changed, and the item is dropped.
+    pub fn bring(
+        &mut self,
+        key: Key<A>,
+        held: Held<A>,
+        count: usize,
+        victims: &mut Vec<Item<A>, A>,
+    ) -> Result<(), AllocError>
+        requires absent { item_at key self.old.items ≡ None }
+        requires bytes { bytes_of self.old.items + item_cost (item_of (key, held)) < 2 ^ 64 }
+        requires some { count ≤ length self.old.items }
+        requires room { vec_len victims.old + count ≤ vec_capacity victims.old }
+        ensures victims { OnOk result (victims.new.items ≡ victims.old.items ++ take count self.old.items) }
+        ensures items { OnOk result (self.new ≡ record { size = self.old.size; items = drop count self.old.items ++ item_of (key, held) ∷ [] }) }
+        ensures err { OnErr result (self.new ≡ self.old) }
+    {
+        self.link(key, held)?;
+        self.evict(count, victims);
+        Ok(())
     }
 }
 

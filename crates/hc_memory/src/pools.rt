@@ -219,7 +219,10 @@ fn empty_pools<A: Allocator + Copy>(
 }
 
 /// A list with room for so many items.
-fn room_for<A: Allocator + Clone>(alloc: &A, count: usize) -> Result<Vec<Item<A>, A>, AllocError>
+pub(crate) fn room_for<A: Allocator + Clone>(
+    alloc: &A,
+    count: usize,
+) -> Result<Vec<Item<A>, A>, AllocError>
     ensures empty { IfOk result (λ items. items.items ≡ []) }
     ensures len { IfOk result (λ items. vec_len items ≡ 0) }
     ensures room { IfOk result (λ items. count ≤ vec_capacity items) }

@@ -1,0 +1,114 @@
+use Rattle.std.proofs.Common.{◌≡◌, ◌+◌, ◌++◌, ◌∷◌, [], List, take, drop, length, true, not, false, sym, ◌∙◌, ap, arith, length-set}
+use Rattle.hc_types.specs.Charge.{charge_of}
+use Rattle.hc_memory.specs.Item.{Item, item_by}
+use Rattle.hc_memory.specs.Pool.{dropped}
+use Rattle.hc_memory.specs.Charges.{usage_of}
+use Rattle.hc_memory.specs.Clean.{is_listed, is_missed}
+use Rattle.hc_memory.specs.Memory.{Memory, handle_for}
+use Rattle.hc_memory.proofs.Making.{there-at, known, take-dropped, dropped-few}
+use Rattle.hc_memory.proofs.Listing.{listed-more, listed-evicted}
+use Rattle.hc_memory.proofs.Handing.{untouched}
+use Rattle.hc_memory.proofs.Bringing.{absent-there, absent-none, brought, brought-set, brought-sound, brought-small, listed-brought, brought-single}
+use Rattle.hc_memory.proofs.pools.Pools.bring.Goals as goal
+
+pub invariant_of-self : goal.invariant_of-self
+invariant_of-self g c =
+    let i = c.self.invariant in
+    (i.0, i.1, i.2, listed-more c.self.inside.flash c.self.inside.clean c.list.new.self c.self.inside.pools.items i.3 c.list.ensures.stay)
+
+pub bring-requires-clause-absent : goal.bring-requires-clause-absent
+bring-requires-clause-absent g c =
+    let lt = rw (← c.self.view_is) at c.requires.pool in
+    let none = rw (← c.self.view_is) at c.requires.absent in
+    let at = there-at c.self.inside.pools.items c.args.pool c.from.result c.index_mut.result.now lt c.from.ensures c.index_mut.ensures.value in
+    absent-there c.args.key c.self.inside.pools.items c.args.pool c.index_mut.result.now none at
+
+pub bring-requires-clause-bytes : goal.bring-requires-clause-bytes
+bring-requires-clause-bytes g c =
+    let lt = rw (← c.self.view_is) at c.requires.pool in
+    let room = rw (← c.self.view_is) at c.requires.room in
+    let none = rw (← c.self.view_is) at c.requires.absent in
+    let view : Memory = record { flash = c.self.inside.flash; pools = c.self.inside.pools.items; charges = c.self.inside.charges.charges; made = c.self.inside.made } in
+    let at = there-at c.self.inside.pools.items c.args.pool c.from.result c.index_mut.result.now lt c.from.ensures c.index_mut.ensures.value in
+    brought-small view c.args.pool c.args.key c.args.value c.args.expiry c.index_mut.result.now c.self.invariant.0 at none room
+
+pub bring-requires-clause-some : goal.bring-requires-clause-some
+bring-requires-clause-some g c =
+    let lt = rw (← c.self.view_is) at c.requires.pool in
+    let counted = rw (← c.self.view_is) at c.requires.count in
+    let want = charge_of c.args.key (length c.args.value) in
+    let view : Memory = record { flash = c.self.inside.flash; pools = c.self.inside.pools.items; charges = c.self.inside.charges.charges; made = c.self.inside.made } in
+    let at = there-at c.self.inside.pools.items c.args.pool c.from.result c.index_mut.result.now lt c.from.ensures c.index_mut.ensures.value in
+    let few = dropped-few c.index_mut.result.now.size (usage_of c.args.pool c.self.inside.charges.charges) want c.index_mut.result.now.items in
+    let same = ap (λ (l : List Item). length l) (known view c.args.pool want c.index_mut.result.now at).victims in
+    omega (arith, few, counted, same)
+
+pub bring-requires-clause-room : goal.bring-requires-clause-room
+bring-requires-clause-room g c = omega (arith, c.in_ok-victims.ensures.len, c.in_ok-victims.ensures.room)
+
+pub invariant_of-self-in_err-bring : goal.invariant_of-self-in_err-bring
+invariant_of-self-in_err-bring g c =
+    let i = c.self.invariant in
+    let lt = rw (← c.self.view_is) at c.requires.pool in
+    let same = untouched c.self.inside.pools.items c.from.result c.index_mut.result.now c.bring.new.self (omega (arith, lt, c.from.ensures)) c.index_mut.ensures.value c.in_err-bring.ensures.err in
+    rw same (i.0, i.1, i.2, listed-more c.self.inside.flash c.self.inside.clean c.list.new.self c.self.inside.pools.items i.3 c.list.ensures.stay)
+
+pub invariant_of-self-2 : goal.invariant_of-self-2
+invariant_of-self-2 g c =
+    let room = rw (← c.self.view_is) at c.requires.room in
+    let i = c.self.invariant in
+    let lt = rw (← c.self.view_is) at c.requires.pool in
+    let none = rw (← c.self.view_is) at c.requires.absent in
+    let counted = rw (← c.self.view_is) at c.requires.count in
+    let want = charge_of c.args.key (length c.args.value) in
+    let there = c.index_mut.result.now in
+    let view : Memory = record { flash = c.self.inside.flash; pools = c.self.inside.pools.items; charges = c.self.inside.charges.charges; made = c.self.inside.made } in
+    let at = there-at c.self.inside.pools.items c.args.pool c.from.result c.index_mut.result.now lt c.from.ensures c.index_mut.ensures.value in
+    let count : c.args.count ≡ length (dropped c.index_mut.result.now.size (usage_of c.args.pool c.self.inside.charges.charges) (charge_of c.args.key (length c.args.value)) c.index_mut.result.now.items) = counted ∙ ap (λ (l : List Item). length l) (known view c.args.pool want there at).victims in
+    let x : Item = item_by true (handle_for view c.args.pool c.args.key c.args.value c.args.expiry) in
+    let numbered : c.in-Some.number ≡ c.self.inside.made + 1 = omega (arith, c.in-Some.ensures) in
+    let is : c.bring.new.self ≡ record { size = c.index_mut.result.now.size; items = drop c.args.count c.index_mut.result.now.items ++ item_by true (handle_for view c.args.pool c.args.key c.args.value c.args.expiry) ∷ [] } =
+    c.in_ok-bring.ensures.items ∙ (λ j. record { size = c.index_mut.result.now.size; items = drop c.args.count c.index_mut.result.now.items ++ record { number = numbered j; pool = c.args.pool; key = c.args.key; value = c.args.value; expiry = c.args.expiry; clean = true } ∷ [] }) in
+    let set = brought-set c.self.inside.pools.items c.from.result c.args.pool want c.args.count (usage_of c.args.pool c.self.inside.charges.charges) there c.bring.new.self x c.from.ensures is count in
+    let listed = listed-more c.self.inside.flash c.self.inside.clean c.list.new.self c.self.inside.pools.items i.3 c.list.ensures.stay in
+    let unmissed : is_missed c.self.inside.flash c.list.new.self x ≡ false = (λ j. not (is_listed c.self.inside.flash c.list.new.self c.args.key (sym c.len-len.ensures.value j))) ∙ ap not c.in_ok-list.ensures.listed in
+    let gone = c.as_slice.ensures.value ∙ c.in_ok-bring.ensures.victims ∙ ap (λ (vs : List Item). vs ++ take c.args.count c.index_mut.result.now.items) c.in_ok-victims.ensures.empty in (
+      rw (set, numbered) (brought-sound view c.args.pool c.args.key c.args.value c.args.expiry there i.0 at none room),
+      i.1 ∙ sym (length-set c.self.inside.pools.items c.from.result c.bring.new.self),
+      i.2,
+      listed-evicted c.self.inside.flash c.list.new.self c.forget_items.new.index _ c.as_slice.result.now (listed-brought c.self.inside.flash c.list.new.self c.self.inside.pools.items c.from.result c.args.count there c.bring.new.self x listed unmissed (rw c.from.ensures at) is)
+          (λ other. brought-single c.self.inside.pools.items c.from.result c.args.count there c.bring.new.self c.as_slice.result.now x other (absent-none c.args.key c.self.inside.pools.items none) (i.0.single other) (rw c.from.ensures at) is gone) c.forget_items.ensures,
+    )
+
+pub returns-clause-victims : goal.returns-clause-victims
+returns-clause-victims g c =
+    let i = c.self.invariant in
+    let lt = rw (← c.self.view_is) at c.requires.pool in
+    let none = rw (← c.self.view_is) at c.requires.absent in
+    let counted = rw (← c.self.view_is) at c.requires.count in
+    let want = charge_of c.args.key (length c.args.value) in
+    let there = c.index_mut.result.now in
+    let view : Memory = record { flash = c.self.inside.flash; pools = c.self.inside.pools.items; charges = c.self.inside.charges.charges; made = c.self.inside.made } in
+    let at = there-at c.self.inside.pools.items c.args.pool c.from.result c.index_mut.result.now lt c.from.ensures c.index_mut.ensures.value in
+    let count : c.args.count ≡ length (dropped c.index_mut.result.now.size (usage_of c.args.pool c.self.inside.charges.charges) (charge_of c.args.key (length c.args.value)) c.index_mut.result.now.items) = counted ∙ ap (λ (l : List Item). length l) (known view c.args.pool want there at).victims in
+    let go = take-dropped c.index_mut.result.now.size (usage_of c.args.pool c.self.inside.charges.charges) want c.index_mut.result.now.items in
+    rw (← c.self.view_is) (c.in_ok-bring.ensures.victims ∙ ap (λ (vs : List Item). vs ++ take c.args.count c.index_mut.result.now.items) c.in_ok-victims.ensures.empty ∙ ap (λ n. take n c.index_mut.result.now.items) count ∙ go ∙ sym (known view c.args.pool want there at).victims)
+
+pub returns-clause-pools : goal.returns-clause-pools
+returns-clause-pools g c =
+    let i = c.self.invariant in
+    let lt = rw (← c.self.view_is) at c.requires.pool in
+    let none = rw (← c.self.view_is) at c.requires.absent in
+    let counted = rw (← c.self.view_is) at c.requires.count in
+    let want = charge_of c.args.key (length c.args.value) in
+    let there = c.index_mut.result.now in
+    let view : Memory = record { flash = c.self.inside.flash; pools = c.self.inside.pools.items; charges = c.self.inside.charges.charges; made = c.self.inside.made } in
+    let at = there-at c.self.inside.pools.items c.args.pool c.from.result c.index_mut.result.now lt c.from.ensures c.index_mut.ensures.value in
+    let count : c.args.count ≡ length (dropped c.index_mut.result.now.size (usage_of c.args.pool c.self.inside.charges.charges) (charge_of c.args.key (length c.args.value)) c.index_mut.result.now.items) = counted ∙ ap (λ (l : List Item). length l) (known view c.args.pool want there at).victims in
+    let x : Item = item_by true (handle_for view c.args.pool c.args.key c.args.value c.args.expiry) in
+    let numbered : c.in-Some.number ≡ c.self.inside.made + 1 = omega (arith, c.in-Some.ensures) in
+    let is : c.bring.new.self ≡ record { size = c.index_mut.result.now.size; items = drop c.args.count c.index_mut.result.now.items ++ item_by true (handle_for view c.args.pool c.args.key c.args.value c.args.expiry) ∷ [] } =
+    c.in_ok-bring.ensures.items ∙ (λ j. record { size = c.index_mut.result.now.size; items = drop c.args.count c.index_mut.result.now.items ++ record { number = numbered j; pool = c.args.pool; key = c.args.key; value = c.args.value; expiry = c.args.expiry; clean = true } ∷ [] }) in
+    let set = brought-set c.self.inside.pools.items c.from.result c.args.pool want c.args.count (usage_of c.args.pool c.self.inside.charges.charges) there c.bring.new.self x c.from.ensures is count in
+    let after = brought view c.args.pool c.args.key c.args.value c.args.expiry there i.0 at none in
+    rw (← c.self.view_is) ((λ j. record { flash = c.self.inside.flash; pools = set j; charges = c.self.inside.charges.charges; made = numbered j }) ∙ sym after)
