@@ -25,7 +25,7 @@ use std::marker::Model;
 /// size and its items in the order of their use, the open charges, and how many charges there were.
 ///
 /// Each call first takes all the memory that it needs, and then changes what is there: a refusal leaves everything as
-/// it was, and gives back what was handed in.
+/// it was, and gives back what was handed in, but for what `bring` was handed.
 #[derive(Drop)]
 pub struct Pools<A: Allocator = Global> {
     pub(crate) flash: Option<FlashConfig>,
