@@ -13,7 +13,7 @@ use Rattle.hc_memory.specs.declared.usage.Usage.{Usage}
 use Rattle.hc_memory.specs.Item.{Item, Handle, cost, item_by}
 use Rattle.hc_memory.specs.Charges.{closed, usage_of}
 use Rattle.hc_memory.specs.Pool.{Pool, bytes_of, is_at, item_at, without, is_full, kept, dropped, unmarked_where, is_covered}
-use Rattle.hc_memory.specs.Memory.{Memory, has, linked_at, change_at, change_home, unlinked, is_hopeless, victims_of, after_room, handle_for, after_charge, after_free, after_frees, after_link, planted, early, after_unmark}
+use Rattle.hc_memory.specs.Memory.{Memory, has, linked_at, change_at, change_home, unlinked, is_hopeless, victims_of, after_room, handle_for, after_charge, after_free, after_frees, after_link, planted, early, after_unlink, after_unmark}
 use Rattle.hc_memory.proofs.Keyed.{tally-unmarked, unmarked-push, is_some-mapped}
 
 -- ---- one item
@@ -151,6 +151,10 @@ unmark-free m n s = refl
 
 pub unmark-frees : (ns : List ℕ) (m : Memory) (s : Scope) → after_unmark (after_frees ns m) s ≡ after_frees ns (after_unmark m s)
 unmark-frees ns m s = refl
+
+-- the item under a key goes
+pub unmark-unlink : (m : Memory) (key : List ℕ) (s : Scope) → after_unmark (after_unlink m key) s ≡ after_unlink (after_unmark m s) key
+unmark-unlink m key s = let pools = unlinked-off m.flash s key m.pools in λ i. record { flash = m.flash; pools = sym pools i; charges = m.charges; made = m.made }
 
 -- an unclean item is linked
 pub unmark-link : (m : Memory) (h : Handle) (s : Scope) → after_unmark (after_link m false h) s ≡ after_link (after_unmark m s) false h

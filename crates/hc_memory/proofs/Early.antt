@@ -62,7 +62,7 @@ module _ (key : List ℕ) where
       let push = tally-push (λ (y : Item). cond (is_at key y) 1 0) pool.items x in
       omega (arith, sum, push, none, one_step x (is_at key x) refl)
 
-  linked-single : (x : Item) (pools : List Pool) (own : ℕ) → items_at key pools ≤ 1 → items_at key (change_at own (pushed x) (unlinked key pools)) ≤ 1
+  pub linked-single : (x : Item) (pools : List Pool) (own : ℕ) → items_at key pools ≤ 1 → items_at key (change_at own (pushed x) (unlinked key pools)) ≤ 1
   linked-single x pools own single = single_step x (unlinked key pools) own (slice_get (unlinked key pools) own) refl (gone key pools single)
 
 -- as a handle links it
@@ -79,7 +79,7 @@ link-over-link m h g single same =
     λ i. record { flash = m.flash; pools = change_at g.pool (pushed (item_by false g)) (pools i); charges = closed g.number (closed h.number m.charges); made = m.made }
 
 -- what is linked early hangs on the other keys' items alone
-early-same : (key : List ℕ) (h : Handle) (hs : List Handle) (m : Memory) (pools : List Pool) → unlinked key m.pools ≡ unlinked key pools → h.key ≡ key → AllByRecursion (λ (g : Handle). g.key ≡ key) hs → early (h ∷ hs) m ≡ early (h ∷ hs) (record m { pools = pools })
+pub early-same : (key : List ℕ) (h : Handle) (hs : List Handle) (m : Memory) (pools : List Pool) → unlinked key m.pools ≡ unlinked key pools → h.key ≡ key → AllByRecursion (λ (g : Handle). g.key ≡ key) hs → early (h ∷ hs) m ≡ early (h ∷ hs) (record m { pools = pools })
 early-same key h [] m pools e same all =
     let e' : unlinked h.key m.pools ≡ unlinked h.key pools = (λ i. unlinked (same i) m.pools) ∙ e ∙ (λ i. unlinked (sym same i) pools) in
     λ i. record { flash = m.flash; pools = change_at h.pool (pushed (item_by false h)) (e' i); charges = closed h.number m.charges; made = m.made }

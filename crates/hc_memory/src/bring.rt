@@ -7,6 +7,7 @@ use crate::answers::Brought;
 use crate::clean::forget_items;
 use crate::item::Held;
 use crate::pools::{Pools, room_for};
+use crate::value::ItemValue;
 use bytes::Bytes;
 use hc_types::{Key, VALUE_MAX};
 use std::alloc::{AllocError, Allocator};
@@ -45,7 +46,7 @@ impl<A: Allocator + Clone> Pools<A> {
         let held = Held {
             number,
             pool,
-            value,
+            value: ItemValue::new(value),
             expiry,
             clean: true,
         };

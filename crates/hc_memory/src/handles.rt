@@ -285,7 +285,7 @@ impl<A: Allocator> Sealed<A> {
 
 impl<A: Allocator> ReadHandle<A> {
     /// A handle to these bytes.
-    pub(crate) fn new(bytes: Bytes<A>) -> ReadHandle<A>
+    pub fn new(bytes: Bytes<A>) -> ReadHandle<A>
         ensures { result ≡ bytes }
     {
         ReadHandle { bytes }
