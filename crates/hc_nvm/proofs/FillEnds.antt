@@ -1,6 +1,6 @@
 -- A fill ends in two steps: what is known beforehand is the machine's step.
-use Rattle.std.proofs.Common.{◌≡◌, ℕ, ◌+◌, ◌≤◌, ◌<◌, Bool, true, false, List, [], ◌∷◌, length, slice_get, Option, Some, None, refl, sym, ap, ◌∙◌, subst}
-use Rattle.std.specs.Prelude.{option_map, is_some, if◌then◌else◌}
+use Rattle.std.proofs.Common.{◌≡◌, ℕ, ◌+◌, ◌≤◌, Bool, true, false, List, [], ◌∷◌, length, slice_get, Option, Some, None, refl, sym, ap, ◌∙◌, subst}
+use Rattle.std.specs.Prelude.{option_map, is_some}
 use Rattle.hc_types.specs.declared.config.FlashConfig.{FlashConfig}
 use Rattle.hc_memory.specs.Memory.{Memory}
 use Rattle.hc_engines.specs.Engine.{Get, IoResult, Outcome, Next, Busy, Io, Done}
@@ -12,7 +12,7 @@ use Rattle.hc_block.specs.Endings.{without_lost}
 use Rattle.hc_pair.specs.Endings.{Ends, left_by as pair_left, is_done, EndsAtOnce as PairEndsAtOnce, IsEndingAtOnce as PairEndingAtOnce}
 use Rattle.hc_history.specs.Told.{Heard, Nothing, told_more}
 use Rattle.hc_machine.specs.Cache.{unmarked_by}
-use Rattle.hc_machine.specs.Nvm.{Nvm, Tombstone, Task, Putting, Deleting, Filling, Flushing, Fill, is_fill_of, fill_at, fill_by, without_fill, taken_fill, next_fill, Job, job_at, without_job}
+use Rattle.hc_machine.specs.Nvm.{Nvm, Tombstone, Task, Putting, Deleting, Filling, Flushing, Fill, is_fill_of, fill_at, fill_by, without_fill, taken_fill, next_fill, Job, without_job}
 use Rattle.hc_machine.specs.Takes.{Take, Taken, Filled, Finished, finished, launched, found_in, finish, filler_take, take_fill, told_before, goes_on, result_note, loss_notes}
 use Rattle.hc_nvm.specs.After.{settled_left, settled_part}
 use Rattle.hc_nvm.specs.Endings.{Ending, Shows, EndsFill, EndsAtOnce}
@@ -45,7 +45,7 @@ over_is : (number : ℕ) (job : Job) (outcome : Outcome) (nvm : Nvm) → job.num
 over_is number job outcome nvm own apart =
     ap (finished job.task job.number outcome.answer) (settled_is job.task outcome (record nvm { jobs = without_job job.number nvm.jobs }))
     ∙ finished_is job.task job.number outcome.answer (settled_part nvm.pair.small.flash job.task outcome nvm.tombstones)
-        (record nvm { tombstones = settled_left nvm.pair.small.flash job.task outcome nvm.tombstones; jobs = without_job job.number nvm.jobs }) (subst (λ (n : ℕ). AreApart n nvm.fills) (sym own) apart)
+    (record nvm { tombstones = settled_left nvm.pair.small.flash job.task outcome nvm.tombstones; jobs = without_job job.number nvm.jobs }) (subst (λ (n : ℕ). AreApart n nvm.fills) (sym own) apart)
     ∙ ap (λ (n : ℕ). over_taken n job outcome nvm) own
 
 -- the key that is brought is that of a fill

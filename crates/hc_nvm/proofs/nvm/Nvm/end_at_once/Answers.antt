@@ -1,4 +1,4 @@
-use Rattle.std.proofs.Common.{◌≡◌, ◌∙◌, ◌+◌, Some, Option, refl, sym, ap, subst}
+use Rattle.std.proofs.Common.{◌∙◌, ◌+◌, Some, Option, refl, sym, ap, subst}
 use Rattle.std.specs.Prelude.{option_map}
 use Rattle.hc_types.specs.FlashEntry.{FlashEntry}
 use Rattle.hc_machine.specs.Nvm.{Nvm}
