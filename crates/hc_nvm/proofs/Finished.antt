@@ -95,7 +95,7 @@ no_place number (x ∷ xs) h = of (x.number == number) refl (no_place number xs)
 
 -- ---- what is told of a result
 
-result_unmarks : (order : Order) (result : IoResult) (rest : List Note) (memory : Memory) → unmarked_by (result_note order result ∷ rest) memory ≡ unmarked_by rest memory
+pub result_unmarks : (order : Order) (result : IoResult) (rest : List Note) (memory : Memory) → unmarked_by (result_note order result ∷ rest) memory ≡ unmarked_by rest memory
 result_unmarks (Read page) (Page bytes) rest memory = refl
 result_unmarks (Read page) Written rest memory = refl
 result_unmarks (Read page) Failed rest memory = refl
@@ -179,7 +179,7 @@ place_within number at (x ∷ xs) e = of (is_job number x) refl (λ n b. place_w
 
 -- ---- a job is over
 
-finished_is : (task : Task) (number : ℕ) (answer : Answer) (part : List Note) (n : Nvm) → ((fill : Fill) → fill_by number n.fills ≡ Some fill → fill_at fill.key n.fills ≡ Some fill)
+pub finished_is : (task : Task) (number : ℕ) (answer : Answer) (part : List Note) (n : Nvm) → ((fill : Fill) → fill_by number n.fills ≡ Some fill → fill_at fill.key n.fills ≡ Some fill)
     → finished task number answer (changed part n) ≡ record { nvm = record n { fills = left_by (brought_key number n.fills task) n.fills }; take = Finished; part = part; filled = over_of (found_in answer) (waiters_by (brought_key number n.fills task) n.fills) }
 finished_is (Putting key) number answer part n alone = refl
 finished_is (Deleting key) number answer part n alone = refl

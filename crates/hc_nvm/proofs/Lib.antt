@@ -15,3 +15,4 @@ pub mod Fetched
 pub mod Reclaimed
 pub mod Finished
 pub mod Free
+pub mod FillEnds

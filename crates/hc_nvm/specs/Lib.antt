@@ -9,3 +9,4 @@ pub mod Taking
 pub mod Starting
 pub mod Filled
 pub mod Finishing
+pub mod Endings

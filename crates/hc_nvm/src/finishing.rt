@@ -77,7 +77,7 @@ fn has_number<A: Allocator>(job: &Job<A>, number: u64) -> bool
 }
 
 /// Where the job with this number stands.
-fn place_of<A: Allocator>(jobs: &[Job<A>], number: u64) -> Option<usize>
+pub(crate) fn place_of<A: Allocator>(jobs: &[Job<A>], number: u64) -> Option<usize>
     ensures value { result ≡ place number jobs.now }
     ensures within { IfSome result (λ at. at < length jobs.now) }
 {
@@ -192,7 +192,7 @@ impl<A: Allocator + Clone + Copy> Nvm<A> {
                 }
                 Next::Done(outcome) => {
                     self.fills_are_apart();
-                    Ok(self.end(number, at, key, outcome, came, notes, pools))
+                    Ok(self.close_job(number, at, key, outcome, came, notes, pools))
                 }
                 Next::Busy => unreachable!(),
             },
@@ -239,7 +239,7 @@ impl<A: Allocator + Clone + Copy> Nvm<A> {
     }
 
     /// Room is made for what a result tells, and the key is copied of the fill that its job brings.
-    fn make_ready<N: Notes<Note<A>>>(
+    pub(crate) fn make_ready<N: Notes<Note<A>>>(
         &self,
         at: usize,
         number: u64,
@@ -260,7 +260,7 @@ impl<A: Allocator + Clone + Copy> Nvm<A> {
     }
 
     /// No two fills have the same key: a law to call where a proof asks for it. It does nothing.
-    fn fills_are_apart(&self)
+    pub(crate) fn fills_are_apart(&self)
         ensures { (number : ℕ) (fill : Fill) → fill_by number self.now.nvm.fills ≡ Some fill → fill_at fill.key self.now.nvm.fills ≡ Some fill }
     {
         self.fills.is_sound();
@@ -292,7 +292,7 @@ impl<A: Allocator + Clone + Copy> Nvm<A> {
 
     /// The operation is over: its job is taken out, and a fill that ends is handed up. `key` is that of the fill that the job
     /// brings, unless it is an orphan.
-    fn end<N: Notes<Note<A>>>(
+    pub(crate) fn close_job<N: Notes<Note<A>>>(
         &mut self,
         number: u64,
         at: usize,
@@ -333,7 +333,7 @@ fn take_job<A: Allocator>(jobs: &mut Vec<Job<A>, A>, at: usize) -> (Task<A>, Ord
 }
 
 /// The fill of this key ends, which found this, where there is a key.
-fn end_fill<A: Allocator + Copy>(
+pub(crate) fn end_fill<A: Allocator + Copy>(
     fills: &mut Fills<A>,
     key: Option<Key<A>>,
     found: Option<Entry<A>>,

@@ -3,6 +3,7 @@
 
 mod choosing;
 mod counting;
+mod endings;
 mod filler;
 mod finding;
 mod finishing;
@@ -20,6 +21,7 @@ mod takes;
 mod telling;
 mod waiting;
 
+pub use endings::Ending;
 pub use filler::{Filled, Taken};
 pub use finishing::Unfinished;
 pub use nvm::Nvm;

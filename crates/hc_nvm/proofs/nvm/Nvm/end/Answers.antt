@@ -1,61 +1,58 @@
-use Rattle.std.proofs.Common.{◌≡◌, ◌∙◌, [], ◌∷◌, List, Option, Some, None, slice_get, refl, sym, ap, subst}
-use Rattle.std.specs.Prelude.{option_map}
-use Rattle.std.specs.List.{remove}
-use Rattle.hc_types.specs.FlashEntry.{FlashEntry, entry_of}
-use Rattle.hc_engines.specs.Engine.{Order, Done}
+use Rattle.std.proofs.Common.{◌≡◌, ◌∙◌, Some, None, Option, false, true, is_some, refl, sym, ap, subst}
+use Rattle.std.specs.Prelude.{option_map, Ok}
+use Rattle.hc_engines.specs.Engine.{Outcome, Done}
 use Rattle.hc_bighash.specs.Seen.{result_of}
-use Rattle.hc_history.specs.Told.{told_more}
-use Rattle.hc_machine.specs.Nvm.{Nvm, Fill, Job, fill_at, fill_by, job_at}
-use Rattle.hc_machine.specs.Takes.{Finished, goes_on, result_note, told_before}
+use Rattle.hc_machine.specs.Nvm.{Nvm, Job, job_at}
+use Rattle.hc_machine.specs.Takes.{finish}
+use Rattle.hc_nvm.specs.Endings.{Ending, EndsFill}
 use Rattle.hc_nvm.specs.Filled.{filled_of}
-use Rattle.hc_nvm.specs.Finishing.{place, brought_key}
-use Rattle.hc_nvm.specs.Seen.{task_of}
-use Rattle.hc_nvm.specs.Stock.{Stock, AreNumbered, AreBrought}
-use Rattle.hc_nvm.specs.Taking.{IsTaken}
-use Rattle.hc_nvm.proofs.Finished.{Ended, ended, stands, job_stands, numbered_without, brought_left, place_within}
+use Rattle.hc_nvm.specs.Finishing.{IsFinished, IsHandedIn, place}
+use Rattle.hc_nvm.specs.Seen.{take_of}
+use Rattle.hc_nvm.specs.Stock.{Stock}
+use Rattle.hc_nvm.proofs.FillEnds.{AreApart}
+use Rattle.hc_nvm.proofs.Finished.{stands, no_place, handed_kept, carried_out}
 use Rattle.hc_nvm.proofs.nvm.Nvm.end.Goals as goal
 
-pub take_job-task-requires : goal.take_job-task-requires
-take_job-task-requires g c = place_within c.args.number c.args.at c.self.inside.jobs.items (rw (← c.self.view_is) at c.requires.at)
+pub unreachable-requires : goal.unreachable-requires
+unreachable-requires g c =
+    let jobs = c.self.inside.jobs.items in
+    let none : job_at c.args.number jobs ≡ None = no_place c.args.number jobs (sym (c.in_default.ensures.value ∙ ap (place c.args.number) c.as_slice.ensures.value)) in
+    let there : is_some (job_at c.args.number jobs) ≡ true = subst (λ (s : Stock). is_some (job_at c.args.number s.nvm.jobs) ≡ true) (sym c.self.view_is) c.requires.ends.there in
+    let wrong : false ≡ true = sym (ap (λ (o : Option Job). is_some o) none) ∙ there in
+    absurd cc
 
 pub invariant_of-self : goal.invariant_of-self
 invariant_of-self g c =
     let i = c.self.invariant in
-    let here : place c.args.number c.self.inside.jobs.items ≡ Some c.args.at = rw (← c.self.view_is) at c.requires.at in
-    let jobs = c.take_job-task.ensures.jobs ∙ (stands 1 c.self.inside.made c.args.number c.args.at c.self.inside.jobs.items i.3.numbered here).over in
-    let numbered = subst (AreNumbered 1 c.self.inside.made) (sym jobs) (numbered_without 1 c.self.inside.made c.args.number c.self.inside.jobs.items i.3.numbered) in
-    let brought = subst (AreBrought c.self.inside.made) (sym c.end_fill-filled.ensures.left) (brought_left c.self.inside.made c.args.key c.self.inside.fills.fills i.3.brought) in
-    (i.0, c.settle-found.ensures.flash ∙ i.1, c.end_fill-filled.ensures.flash ∙ i.2, record { below = i.3.below; starts = i.3.starts; short = i.3.short; numbered = numbered; brought = brought })
+    let came = result_of c.args.came in
+    let inside : Nvm = record { pair = c.self.inside.pair; queue = c.self.inside.queue.puts; tombstones = c.self.inside.tombstones.stones; fills = c.self.inside.fills.fills; jobs = c.self.inside.jobs.items; made = c.self.inside.made } in
+    let ends : EndsFill c.args.number came inside (record { key = c.ending.inside.key; over = c.ending.inside.over }) =
+    subst (λ (s : Stock). EndsFill c.args.number came s.nvm (record { key = c.ending.inside.key; over = c.ending.inside.over })) (sym c.self.view_is) (subst (λ (e : Ending). EndsFill c.args.number came c.args.self.now.nvm e) (sym c.ending.view_is) c.requires.ends) in
+    let kept = handed_kept {T = Outcome} {E = Nvm} (Ok c.end-outcome.result) (λ (o : Outcome). Done o) c.args.number came inside c.end-outcome.new.self c.is_sound.ensures.sound c.is_sound.ensures.apart i.3 (c.end-outcome.ensures.step came ends.ends) tt in
+    (i.0 ∙ sym kept.0, i.1 ∙ sym kept.0, i.2 ∙ sym kept.0, kept.1)
+
+pub close_job-requires-clause-alone : goal.close_job-requires-clause-alone
+close_job-requires-clause-alone g c = subst (λ (s : Stock). AreApart c.args.number s.nvm.fills) (sym c.self.view_is) (c.fills_are_apart.ensures c.args.number)
+
+pub close_job-requires-clause-key : goal.close_job-requires-clause-key
+close_job-requires-clause-key g c =
+    let came = result_of c.args.came in
+    let inside : Nvm = record { pair = c.self.inside.pair; queue = c.self.inside.queue.puts; tombstones = c.self.inside.tombstones.stones; fills = c.self.inside.fills.fills; jobs = c.self.inside.jobs.items; made = c.self.inside.made } in
+    let ends : EndsFill c.args.number came inside (record { key = c.ending.inside.key; over = c.ending.inside.over }) =
+    subst (λ (s : Stock). EndsFill c.args.number came s.nvm (record { key = c.ending.inside.key; over = c.ending.inside.over })) (sym c.self.view_is) (subst (λ (e : Ending). EndsFill c.args.number came c.args.self.now.nvm e) (sym c.ending.view_is) c.requires.ends) in
+    ends.key_is
 
 pub returns-clause-taken : goal.returns-clause-taken
 returns-clause-taken g c =
     let i = c.self.invariant in
+    let came = result_of c.args.came in
     let inside : Nvm = record { pair = c.self.inside.pair; queue = c.self.inside.queue.puts; tombstones = c.self.inside.tombstones.stones; fills = c.self.inside.fills.fills; jobs = c.self.inside.jobs.items; made = c.self.inside.made } in
-    let new : Nvm = record { pair = c.self.inside.pair; queue = c.self.inside.queue.puts; tombstones = c.settle-found.new.stones.stones; fills = c.end_fill-filled.new.fills.fills; jobs = c.take_job-task.new.jobs.items; made = c.self.inside.made } in
-    let here : place c.args.number c.self.inside.jobs.items ≡ Some c.args.at = rw (← c.self.view_is) at c.requires.at in
-    let alone : (fill : Fill) → fill_by c.args.number inside.fills ≡ Some fill → fill_at fill.key inside.fills ≡ Some fill =
-    subst (λ (s : Stock). (fill : Fill) → fill_by c.args.number s.nvm.fills ≡ Some fill → fill_at fill.key s.nvm.fills ≡ Some fill) (sym c.self.view_is) c.requires.alone in
-    let keyed : (job : Job) → job_at c.args.number inside.jobs ≡ Some job → c.args.key ≡ brought_key c.args.number inside.fills job.task =
-    subst (λ (s : Stock). (job : Job) → job_at c.args.number s.nvm.jobs ≡ Some job → c.args.key ≡ brought_key c.args.number s.nvm.fills job.task) (sym c.self.view_is) c.requires.key in
-    let of : (job : Job) → job_at c.args.number inside.jobs ≡ Some job → IsTaken (told_before (result_note job.order (result_of c.args.came) ∷ []) (goes_on job (Done c.args.outcome) inside)) new Finished (option_map filled_of c.end_fill-filled.result)
-    (g.N.Notes.told c.args.notes.now) (g.N.Notes.told c.settle-found.new.notes) c.args.pools.now c.settle-found.new.pools =
-    λ job there.
-    let stood : slice_get c.self.inside.jobs.items c.args.at ≡ Some job = (stands 1 c.self.inside.made c.args.number c.args.at c.self.inside.jobs.items i.3.numbered here).here ∙ ap (λ (j : Job). Some j) (job_stands 1 c.self.inside.made c.args.number c.args.at c.self.inside.jobs.items job i.3.numbered here there) in
-    ended inside c.args.number c.args.at job (result_of c.args.came) c.args.outcome c.self.inside.tombstones.flash (task_of c.take_job-task.result.0) c.args.key new (option_map filled_of c.end_fill-filled.result) (option_map entry_of c.settle-found.result)
-    (g.N.Notes.told c.args.notes.now) (g.N.Notes.told c.tell_result.new.notes) (g.N.Notes.told c.settle-found.new.notes) c.args.pools.now c.settle-found.new.pools (record {
-      place_is = here;
-      numbered = i.3.numbered;
-      alone = alone;
-      there = there;
-      same_flash = i.1;
-      same_task = c.take_job-task.ensures.task job stood;
-      key_is = keyed job there;
-      new_is = λ j. record { pair = c.self.inside.pair; queue = c.self.inside.queue.puts; tombstones = c.settle-found.ensures.left j; fills = c.end_fill-filled.ensures.left j; jobs = c.take_job-task.ensures.jobs j; made = c.self.inside.made };
-      found_is = c.settle-found.ensures.found;
-      filled_is = c.end_fill-filled.ensures.filled;
-      result_is = c.tell_result.ensures.told ∙ ap (λ (o : Order). told_more (g.N.Notes.told c.args.notes.now) (result_note o (result_of c.args.came) ∷ [])) (c.take_job-task.ensures.order job stood);
-      told_is = c.settle-found.ensures.told;
-      marks = c.settle-found.ensures.marks;
-    }) in
-    subst (λ (s : Stock). (job : Job) → job_at c.args.number s.nvm.jobs ≡ Some job → IsTaken (told_before (result_note job.order (result_of c.args.came) ∷ []) (goes_on job (Done c.args.outcome) s.nvm)) new Finished (option_map filled_of c.end_fill-filled.result)
-    (g.N.Notes.told c.args.notes.now) (g.N.Notes.told c.settle-found.new.notes) c.args.pools.now c.settle-found.new.pools) c.self.view_is of
+    let ends : EndsFill c.args.number came inside (record { key = c.ending.inside.key; over = c.ending.inside.over }) =
+    subst (λ (s : Stock). EndsFill c.args.number came s.nvm (record { key = c.ending.inside.key; over = c.ending.inside.over })) (sym c.self.view_is) (subst (λ (e : Ending). EndsFill c.args.number came c.args.self.now.nvm e) (sym c.ending.view_is) c.requires.ends) in
+    let here : place c.args.number inside.jobs ≡ Some c.in-Some.at = sym (c.in-Some.ensures.value ∙ ap (place c.args.number) c.as_slice.ensures.value) in
+    let s = stands 1 inside.made c.args.number c.in-Some.at inside.jobs i.3.numbered here in
+    let handed : IsHandedIn c.args.number came inside (record inside { pair = c.end-outcome.new.self }) (Done c.end-outcome.result) c.ending.inside.key =
+    record { job = s.job; there = s.there; came = c.end-outcome.ensures.step came ends.ends; same = refl; key_is = ends.key_is s.job s.there } in
+    subst (λ (s : Stock). IsFinished (finish c.args.number came s.nvm) c.close_job.new.self.nvm (take_of c.close_job.result.take) (option_map filled_of c.close_job.result.filled) (g.N.Notes.told c.args.notes.now) (g.N.Notes.told c.close_job.new.notes) c.args.pools.now c.close_job.new.pools) c.self.view_is
+    (carried_out c.args.number came inside (record inside { pair = c.end-outcome.new.self }) (Done c.end-outcome.result) c.ending.inside.key handed (Done c.end-outcome.result) refl
+    c.close_job.new.self.nvm (take_of c.close_job.result.take) (option_map filled_of c.close_job.result.filled) (g.N.Notes.told c.args.notes.now) (g.N.Notes.told c.args.notes.now) (g.N.Notes.told c.close_job.new.notes) c.args.pools.now c.close_job.new.pools refl c.close_job.ensures.taken)

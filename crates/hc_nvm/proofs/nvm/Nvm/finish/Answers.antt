@@ -16,4 +16,4 @@ returns-in-Io-clause-ok g c =
 pub returns-in-Done-clause-ok : goal.returns-in-Done-clause-ok
 returns-in-Done-clause-ok g c =
     carried_out c.args.number (result_of c.args.came) c.args.self.now.nvm c.hand_in.new.self.nvm (next_seen c.in-Ok.field-0.next) c.in-Ok.field-0.key c.in-Ok.ensures.ok (Done c.in-Done.outcome) (ap next_seen c.in-Done.is)
-    c.end.new.self.nvm (take_of c.end.result.take) (option_map filled_of c.end.result.filled) (g.N.Notes.told c.args.notes.now) (g.N.Notes.told c.hand_in.new.notes) (g.N.Notes.told c.end.new.notes) c.args.pools.now c.end.new.pools c.hand_in.ensures.told c.end.ensures.taken
+    c.close_job.new.self.nvm (take_of c.close_job.result.take) (option_map filled_of c.close_job.result.filled) (g.N.Notes.told c.args.notes.now) (g.N.Notes.told c.hand_in.new.notes) (g.N.Notes.told c.close_job.new.notes) c.args.pools.now c.close_job.new.pools c.hand_in.ensures.told c.close_job.ensures.taken
