@@ -1,6 +1,6 @@
 -- What a writer and a filler choose.
-use Rattle.std.proofs.Common.{◌≡◌, ℕ, ◌+◌, ◌≤◌, Bool, true, false, not, List, [], ◌∷◌, ◌++◌, length, Option, Some, None, refl, sym, ap, ◌∙◌, subst, arith}
-use Rattle.std.specs.Prelude.{option_map, Result, Ok, Err, IfOk, OnErr, OnOk}
+use Rattle.std.proofs.Common.{◌≡◌, ℕ, ◌+◌, Bool, true, false, List, Option, Some, None, refl, ap, subst, arith}
+use Rattle.std.specs.Prelude.{option_map, Result, Ok, Err, IfOk, OnErr}
 use Rattle.hc_types.specs.FlashEntry.{FlashEntry}
 use Rattle.hc_memory.specs.Memory.{Memory}
 use Rattle.hc_engines.specs.Engine.{Put, Flush, Next, Busy, Io, Done}
@@ -8,10 +8,10 @@ use Rattle.hc_engines.specs.pair.Pair.{Moved, start}
 use Rattle.hc_history.specs.Told.{Heard}
 use Rattle.hc_machine.specs.Cache.{unmarked_by}
 use Rattle.hc_machine.specs.Nvm.{Nvm, Tombstone, Flushing, next_delete, next_put}
-use Rattle.hc_machine.specs.Takes.{Taken, told_before, launch, launch_by, take_page, take_delete, take_put, take_sized, writer_take}
+use Rattle.hc_machine.specs.Takes.{told_before, launch, launch_by, take_page, take_delete, take_put, take_sized, writer_take}
 use Rattle.hc_pair.specs.Found.{is_io}
 use Rattle.hc_nvm.specs.Stock.{Stock}
-use Rattle.hc_nvm.specs.Starting.{IsRefused, KeepsRoom, flush_taken, delete_taken, put_taken, put_task, writing_of, put_notes}
+use Rattle.hc_nvm.specs.Starting.{IsRefused, KeepsRoom, flush_taken, delete_taken, put_task, writing_of, put_notes}
 use Rattle.hc_nvm.proofs.Launching.{BringsNothing}
 
 -- ---- results

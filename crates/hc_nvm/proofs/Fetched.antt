@@ -1,24 +1,23 @@
 -- A key is brought from flash.
-use Rattle.std.proofs.Common.{◌≡◌, ℕ, ◌+◌, ◌≤◌, ◌==◌, Bool, true, false, not, List, [], ◌∷◌, ◌++◌, length, Option, Some, None, refl, sym, ap, ◌∙◌, subst, arith, ◌&&◌}
-use Rattle.std.specs.List.{filter, find}
+use Rattle.std.proofs.Common.{◌≡◌, ℕ, ◌+◌, ◌==◌, Bool, true, false, not, List, [], ◌∷◌, ◌++◌, Option, Some, None, refl, sym, ap, ◌∙◌, subst, arith, ◌&&◌}
+use Rattle.std.specs.List.{find}
 use Rattle.std.specs.Str.{bytes_eq}
-use Rattle.std.specs.Prelude.{option_map, map, is_some, if◌then◌else◌}
+use Rattle.std.specs.Prelude.{option_map, is_some}
 use Rattle.hc_types.specs.declared.config.FlashConfig.{FlashConfig}
-use Rattle.hc_types.specs.FlashEntry.{FlashEntry}
 use Rattle.hc_memory.specs.Memory.{Memory}
 use Rattle.hc_engines.proofs.Keys.{same-true}
 use Rattle.hc_items.proofs.Items.{bytes_eq-refl}
 use Rattle.hc_engines.specs.Engine.{Op, Get, Next, Busy, Io, Done}
-use Rattle.hc_engines.specs.small.BigHash.{key_of}
 use Rattle.hc_engines.specs.pair.Pair.{Pair, Moved, start, is_busy_for}
 use Rattle.hc_engines.proofs.pair.Waiting.{busy_is_true}
 use Rattle.hc_bighash.specs.Found.{losses_of}
 use Rattle.hc_history.specs.Told.{Heard, told_more}
 use Rattle.hc_machine.specs.Cache.{unmarked_by}
-use Rattle.hc_machine.specs.Leaving.{Changed, changed}
-use Rattle.hc_machine.specs.Nvm.{Nvm, Tombstone, Task, Filling, Fill, Job, is_fill_of, fill_at, fill_by, is_brought_by, without_fill, taken_fill, next_fill}
-use Rattle.hc_machine.specs.Takes.{Taken, Take, Filled, Idle, Finished, Work, takes, launch, launch_by, launched, finished, fill_out, loss_notes, take_fill, filler_take, found_in}
+use Rattle.hc_machine.specs.Leaving.{changed}
+use Rattle.hc_machine.specs.Nvm.{Nvm, Tombstone, Filling, Fill, Job, is_fill_of, fill_at, fill_by, is_brought_by, without_fill, taken_fill, next_fill}
+use Rattle.hc_machine.specs.Takes.{Taken, Take, Filled, Finished, Work, takes, launch, launch_by, launched, finished, fill_out, loss_notes, take_fill, filler_take, found_in}
 use Rattle.hc_nvm.specs.After.{After, after, settled_part, settled_left}
+use Rattle.hc_nvm.specs.Fetching.{AreServed}
 use Rattle.hc_nvm.specs.Filled.{filled_if, left_if, over_of}
 use Rattle.hc_nvm.specs.Starting.{made_after}
 use Rattle.hc_engines.specs.pair.Below.{IsBelow}
@@ -197,8 +196,8 @@ fill_goes nvm key pair next o next_is same started busy = of (next_fill nvm) ref
 -- what holds at every time, with these fills left
 pub fetched_kept : (nvm : Nvm) (pair : Pair) (flash : FlashConfig) (next : Next) (stones left : List Tombstone) (jobs : List Job) (made : ℕ) (fills : List Fill) → Kept nvm
     → IsBelow (made_after nvm.made next + 1) pair → pair.small.flash ≡ nvm.pair.small.flash
-    → jobs ≡ (after flash Filling next stones nvm.jobs nvm.made).jobs → made ≡ (after flash Filling next stones nvm.jobs nvm.made).made → AreBrought made fills
+    → jobs ≡ (after flash Filling next stones nvm.jobs nvm.made).jobs → made ≡ (after flash Filling next stones nvm.jobs nvm.made).made → AreBrought made fills → AreServed pair (after flash Filling next stones nvm.jobs nvm.made).jobs
     → Kept (record nvm { pair = pair; tombstones = left; fills = fills; jobs = jobs; made = made })
-fetched_kept nvm pair flash next stones left jobs made fills kept below same jobs_are made_so brought =
-    let k = started_kept nvm pair flash Filling next nvm.queue stones left jobs made kept below same kept.starts (omega arith) jobs_are made_so in
-    record { below = k.below; starts = k.starts; short = k.short; numbered = k.numbered; brought = brought }
+fetched_kept nvm pair flash next stones left jobs made fills kept below same jobs_are made_so brought served =
+    let k = started_kept nvm pair flash Filling next nvm.queue stones left jobs made kept below same kept.starts (omega arith) jobs_are made_so served in
+    record { below = k.below; starts = k.starts; short = k.short; numbered = k.numbered; brought = brought; served = k.served }

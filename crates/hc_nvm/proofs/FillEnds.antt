@@ -3,19 +3,21 @@ use Rattle.std.proofs.Common.{◌≡◌, ℕ, ◌+◌, ◌≤◌, Bool, true, fa
 use Rattle.std.specs.Prelude.{option_map, is_some}
 use Rattle.hc_types.specs.declared.config.FlashConfig.{FlashConfig}
 use Rattle.hc_memory.specs.Memory.{Memory}
-use Rattle.hc_engines.specs.Engine.{Get, IoResult, Outcome, Next, Busy, Io, Done}
+use Rattle.hc_engines.specs.Engine.{Get, IoResult, Answer, Outcome, Next, Busy, Io, Done}
 use Rattle.hc_engines.specs.large.Sound.{Sound}
 use Rattle.hc_engines.specs.pair.Apart.{IsApart}
 use Rattle.hc_engines.specs.pair.Held.{under_way}
-use Rattle.hc_engines.specs.pair.Pair.{Pair, start}
+use Rattle.hc_engines.specs.pair.Pair.{Pair, Moved, start, resume}
 use Rattle.hc_block.specs.Endings.{without_lost}
-use Rattle.hc_pair.specs.Endings.{Ends, left_by as pair_left, is_done, EndsAtOnce as PairEndsAtOnce, IsEndingAtOnce as PairEndingAtOnce}
+use Rattle.hc_pair.specs.Endings.{Ends, left_by as pair_left, is_done, IsEnding as PairIsEnding, EndsAtOnce as PairEndsAtOnce, IsEndingAtOnce as PairEndingAtOnce}
 use Rattle.hc_history.specs.Told.{Heard, Nothing, told_more}
 use Rattle.hc_machine.specs.Cache.{unmarked_by}
+use Rattle.hc_machine.specs.Leaving.{Changed}
 use Rattle.hc_machine.specs.Nvm.{Nvm, Tombstone, Task, Putting, Deleting, Filling, Flushing, Fill, is_fill_of, fill_at, fill_by, without_fill, taken_fill, next_fill, Job, without_job}
-use Rattle.hc_machine.specs.Takes.{Take, Taken, Filled, Finished, finished, launched, found_in, finish, filler_take, take_fill, told_before, goes_on, result_note, loss_notes}
+use Rattle.hc_machine.specs.Takes.{Take, Taken, Filled, Finished, finished, launched, found_in, finish, finish_job, resumed, filler_take, take_fill, told_before, goes_on, result_note, loss_notes}
 use Rattle.hc_nvm.specs.After.{settled_left, settled_part}
 use Rattle.hc_nvm.specs.Endings.{Ending, Shows, EndsFill, EndsAtOnce}
+use Rattle.hc_nvm.specs.Fetching.{is_fetch, serves, AreServed}
 use Rattle.hc_nvm.specs.Filled.{over_of, filled_if, left_if}
 use Rattle.hc_nvm.specs.Finishing.{IsHandedIn, place, brought_key, left_by, waiters_by}
 use Rattle.hc_nvm.specs.Stock.{Kept, AllCanStart, AreNumbered, AreBrought}
@@ -23,7 +25,9 @@ use Rattle.hc_nvm.specs.Taking.{IsTaken}
 use Rattle.hc_nvm.proofs.Fetched.{fill_is_taken}
 use Rattle.hc_nvm.proofs.Finished.{Stands, stands, finished_is, handed_is, brought_left, result_unmarks}
 use Rattle.hc_nvm.proofs.Launching.{settled_is, settled_unmark}
-use Rattle.hc_nvm.proofs.Numbers.{started_below, started_flash}
+use Rattle.hc_nvm.proofs.Numbers.{next_is_free, started_below, started_flash}
+use Rattle.hc_nvm.proofs.Fetching.{not_done}
+use Rattle.hc_nvm.proofs.Serving.{served_at, served_started}
 
 some_is : {X : Type 0} (x y : X) → Some x ≡ Some y → x ≡ y
 some_is x y h = cc
@@ -95,6 +99,34 @@ fill_ends number at came nvm ending numbered here apart keyed over = record {
       losses = λ memory. result_unmarks s.job.order came (settled_part left.pair.small.flash s.job.task ending.over.outcome nvm.tombstones) memory ∙ settled_unmark left.pair.small.flash s.job.task ending.over.outcome nvm.tombstones memory;
       waits = λ key e. brought_waits number nvm.fills s.job.task key apart (sym own_key ∙ e);
     }
+
+-- ---- where no get is over
+
+finished_none : (task : Task) (number : ℕ) (answer : Answer) (change : Changed) → (task ≡ Filling → ⊥) → (finished task number answer change).filled ≡ None
+finished_none (Putting key) number answer change h = refl
+finished_none (Deleting key) number answer change h = refl
+finished_none Flushing number answer change h = refl
+finished_none Filling number answer change h = absurd (h refl)
+
+goes_none : (job : Job) (next : Next) (nvm : Nvm) → (job.task ≡ Filling → is_done next ≡ false) → (goes_on job next nvm).filled ≡ None
+goes_none job Busy nvm h = refl
+goes_none job (Io order outcome) nvm h = refl
+goes_none job (Done outcome) nvm h = finished_none job.task job.number outcome.answer _ (λ fills. let wrong = h fills in absurd cc)
+
+pub no_fill_ends : (number at : ℕ) (came : IoResult) (nvm : Nvm) → AreNumbered 1 nvm.made nvm.jobs → place number nvm.jobs ≡ Some at → AreServed nvm.pair nvm.jobs → PairIsEnding number came nvm.pair None → (taken : Taken) → finish number came nvm ≡ Some taken → taken.filled ≡ None
+no_fill_ends number at came nvm numbered here served on taken made = of (resume number came nvm.pair) refl (sym answer ∙ made)
+  where
+    s : Stands number at nvm.jobs
+    s = stands 1 nvm.made number at nvm.jobs numbered here
+
+    answer : finish number came nvm ≡ option_map (resumed s.job came nvm) (resume number came nvm.pair)
+    answer = ap (λ (o : Option Job). finish_job o came nvm) s.there ∙ ap (λ (n : ℕ). option_map (resumed s.job came nvm) (resume n came nvm.pair)) s.own
+
+    of : (o : Option Moved) → resume number came nvm.pair ≡ o → option_map (resumed (stands 1 nvm.made number at nvm.jobs numbered here).job came nvm) o ≡ Some taken → taken.filled ≡ None
+    of None e h = absurd cc
+    of (Some m) e h =
+        let fetches : s.job.task ≡ Filling → is_fetch (under_way nvm.pair number) ≡ true = λ fills. ap (λ (n : ℕ). is_fetch (under_way nvm.pair n)) (sym s.own) ∙ ap (λ (t : Task). serves t (under_way nvm.pair s.job.number)) (sym fills) ∙ served_at nvm.pair number nvm.jobs s.job served s.there in
+        ap (λ (t : Taken). t.filled) (sym (some_is _ taken h)) ∙ goes_none s.job m.next (record nvm { pair = m.pair }) (λ fills. not_done nvm.pair number came m (fetches fills) on e)
 
 -- ---- as it is taken
 
@@ -220,5 +252,6 @@ kept_at_once nvm key pair outcome stones fills sound apart kept started left =
         short = subst (λ (f : FlashConfig). length nvm.queue ≤ f.queue) (sym same) kept.short;
         numbered = kept.numbered;
         brought = subst (AreBrought nvm.made) (sym left) (brought_left nvm.made (Some key) nvm.fills kept.brought);
+        served = served_started nvm.pair pair nvm.made (Get key) (Done outcome) Filling nvm.pair.small.flash stones nvm.jobs sound (next_is_free nvm.made nvm.pair kept.below) started tt kept.numbered kept.served;
       },
     )

@@ -1,5 +1,5 @@
 -- A result is handed in: its job goes on, or is over.
-use Rattle.std.proofs.Common.{◌≡◌, ℕ, ◌+◌, ◌≤◌, ◌<◌, ◌==◌, suc, Bool, true, false, not, List, [], ◌∷◌, length, set, slice_get, Option, Some, None, refl, sym, ap, ◌∙◌, subst, arith}
+use Rattle.std.proofs.Common.{◌≡◌, ℕ, ◌+◌, ◌≤◌, ◌<◌, ◌==◌, suc, Bool, true, false, List, [], ◌∷◌, length, set, slice_get, Option, Some, None, refl, sym, ap, ◌∙◌, subst, arith}
 use Rattle.std.proofs.lemmas.Bool.{eqb-true}
 use Rattle.std.specs.List.{remove}
 use Rattle.std.specs.Prelude.{option_map, is_some, Result, Ok, Err, IfOk, OnErr}
@@ -25,6 +25,7 @@ use Rattle.hc_nvm.specs.Taking.{IsTaken}
 use Rattle.hc_nvm.proofs.Keeping.{numbered_from}
 use Rattle.hc_nvm.proofs.Launching.{holds_is, held_unmark, settled_is, settled_unmark}
 use Rattle.hc_nvm.proofs.Numbers.{resumed_below, resumed_flash}
+use Rattle.hc_nvm.proofs.Serving.{served_resumed}
 
 some_is : {X : Type 0} (x y : X) → Some x ≡ Some y → x ≡ y
 some_is x y h = cc
@@ -327,6 +328,7 @@ handed_kept (Ok next) view number result nvm new sound apart kept came _ =
         short = subst (λ (f : FlashConfig). length nvm.queue ≤ f.queue) (sym same) kept.short;
         numbered = kept.numbered;
         brought = kept.brought;
+        served = served_resumed nvm.pair new number result (view next) nvm.jobs apart sound came kept.served;
       },
     )
 handed_kept (Err _) view number result nvm new sound apart kept _ same = (ap (λ (p : Pair). p.small.flash) same, subst (λ (p : Pair). Kept (record nvm { pair = p })) (sym same) kept)

@@ -11,4 +11,5 @@ kept_new flash = record {
   short = omega arith;
   numbered = omega arith;
   brought = tt;
+  served = tt;
 }

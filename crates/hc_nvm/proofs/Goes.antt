@@ -1,5 +1,5 @@
 -- A put comes or goes, and what holds at every time stays.
-use Rattle.std.proofs.Common.{◌≡◌, ℕ, ◌≢◌, ◌+◌, ◌++◌, ◌≤◌, length, length-append, Bool, true, false, not, List, [], ◌∷◌, Option, Some, None, refl, sym, ap, arith, subst}
+use Rattle.std.proofs.Common.{◌≡◌, ℕ, ◌≢◌, ◌++◌, ◌≤◌, length, length-append, Bool, true, false, not, List, [], ◌∷◌, Option, Some, None, refl, sym, ap, arith, subst}
 use Rattle.std.specs.List.{filter, find}
 use Rattle.std.specs.Str.{bytes_eq}
 use Rattle.std.proofs.lemmas.Slice.Eq.{bytes_eq-Decides}
@@ -75,6 +75,7 @@ kept_without key nvm queue left kept = rw left (record {
   short = omega (arith, kept.short, fewer (λ put. not (is_put_of key put)) nvm.queue);
   numbered = kept.numbered;
   brought = kept.brought;
+  served = kept.served;
 })
 
 -- ---- a put comes
@@ -90,4 +91,5 @@ kept_with entry nvm queue is can full kept = rw is (record {
   short = rw (length-append nvm.queue (entry ∷ [])) (omega (arith, kept.short, full));
   numbered = kept.numbered;
   brought = kept.brought;
+  served = kept.served;
 })

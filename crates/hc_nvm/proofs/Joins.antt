@@ -37,6 +37,7 @@ kept_joined key waiter nvm fills is kept = rw is (record {
   short = kept.short;
   numbered = kept.numbered;
   brought = brought_joined nvm.made key waiter nvm.fills kept.brought;
+  served = kept.served;
 })
 
 pub kept_ended : (key : List ℕ) (nvm : Nvm) (fills : List Fill) → fills ≡ without_fill key nvm.fills → Kept nvm → Kept (record nvm { fills = fills })
@@ -46,6 +47,7 @@ kept_ended key nvm fills is kept = rw is (record {
   short = kept.short;
   numbered = kept.numbered;
   brought = brought_left nvm.made (λ fill. not (is_fill_of key fill)) nvm.fills kept.brought;
+  served = kept.served;
 })
 
 none_there : (fill : Option Fill) → is_some fill ≡ false → fill ≡ None

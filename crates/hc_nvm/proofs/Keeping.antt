@@ -1,15 +1,15 @@
 -- What holds at every time, once an operation was started or a result handed in.
-use Rattle.std.proofs.Common.{◌≡◌, ℕ, ◌+◌, ◌≤◌, Bool, true, false, not, ◌∷◌, List, [], ◌++◌, length, Option, Some, None, refl, sym, ap, ◌∙◌, subst, arith}
+use Rattle.std.proofs.Common.{◌≡◌, ℕ, ◌+◌, ◌≤◌, Bool, true, false, ◌∷◌, List, [], ◌++◌, length, Option, Some, None, refl, sym, ◌∙◌, subst, arith}
 use Rattle.std.specs.List.{filter, find}
-use Rattle.std.specs.Prelude.{if◌then◌else◌, map}
 use Rattle.hc_types.specs.declared.config.FlashConfig.{FlashConfig}
 use Rattle.hc_types.specs.FlashEntry.{FlashEntry}
 use Rattle.hc_engines.specs.Engine.{Put, Order, Next, Busy, Io, Done}
 use Rattle.hc_engines.specs.pair.Below.{IsBelow}
 use Rattle.hc_engines.specs.pair.Pair.{Pair}
 use Rattle.hc_pair.specs.Joined.{CanStart}
-use Rattle.hc_machine.specs.Nvm.{Nvm, Tombstone, Task, Fill, Job, without_put, is_job, without_job, ordered}
+use Rattle.hc_machine.specs.Nvm.{Nvm, Tombstone, Task, Fill, Job}
 use Rattle.hc_nvm.specs.After.{after}
+use Rattle.hc_nvm.specs.Fetching.{AreServed}
 use Rattle.hc_nvm.specs.Starting.{made_after}
 use Rattle.hc_nvm.specs.Stock.{Kept, AllCanStart, AreNumbered, IsUpTo, AreBrought}
 
@@ -83,14 +83,15 @@ fewer_left {X} test (x ∷ xs) = by (test x) refl (fewer_left test xs)
 -- with these puts and fills left, of which each can be put, and none is brought by a job that wasn't made
 pub started_kept : (nvm : Nvm) (pair : Pair) (flash : FlashConfig) (task : Task) (next : Next) (puts : List FlashEntry) (stones left : List Tombstone) (jobs : List Job) (made : ℕ) → Kept nvm
     → IsBelow (made_after nvm.made next + 1) pair → pair.small.flash ≡ nvm.pair.small.flash → AllCanStart nvm.pair.small.flash puts → length puts ≤ length nvm.queue
-    → jobs ≡ (after flash task next stones nvm.jobs nvm.made).jobs → made ≡ (after flash task next stones nvm.jobs nvm.made).made
+    → jobs ≡ (after flash task next stones nvm.jobs nvm.made).jobs → made ≡ (after flash task next stones nvm.jobs nvm.made).made → AreServed pair (after flash task next stones nvm.jobs nvm.made).jobs
     → Kept (record nvm { pair = pair; queue = puts; tombstones = left; jobs = jobs; made = made })
-started_kept nvm pair flash task next puts stones left jobs made kept below same starts fewer jobs_are made_so = record {
+started_kept nvm pair flash task next puts stones left jobs made kept below same starts fewer jobs_are made_so served = record {
   below = subst (λ (n : ℕ). IsBelow (n + 1) pair) count below;
   starts = subst (λ (f : FlashConfig). AllCanStart f puts) (sym same) starts;
   short = let short = kept.short in let most : length puts ≤ nvm.pair.small.flash.queue = omega (arith, short, fewer) in subst (λ (f : FlashConfig). length puts ≤ f.queue) (sym same) most;
   numbered = let h = numbered_after flash task next stones nvm.jobs nvm.made kept.numbered in subst (λ (n : ℕ). AreNumbered 1 n jobs) (sym made_so) (subst (λ (js : List Job). AreNumbered 1 (after flash task next stones nvm.jobs nvm.made).made js) (sym jobs_are) h);
   brought = subst (λ (n : ℕ). AreBrought n nvm.fills) count (brought_more nvm.made (made_after nvm.made next) nvm.fills (not_fewer nvm.made next) kept.brought);
+  served = subst (AreServed pair) (sym jobs_are) served;
 }
   where
     count : made_after nvm.made next ≡ made

@@ -1,9 +1,7 @@
 -- What an operation comes to that was started: the machine's notes, marks and state.
-use Rattle.std.proofs.Common.{◌≡◌, ℕ, ◌+◌, Bool, true, false, not, map, ◌∷◌, List, [], append-nil, append_assoc, ◌++◌, Option, Some, None, refl, sym, ap, ◌∙◌}
-use Rattle.std.specs.Bool.{⊤}
+use Rattle.std.proofs.Common.{◌≡◌, ℕ, ◌+◌, false, not, map, ◌∷◌, List, [], ◌++◌, Option, Some, None, refl, sym, ap, ◌∙◌}
 use Rattle.std.specs.List.{filter}
 use Rattle.hc_types.specs.declared.config.FlashConfig.{FlashConfig}
-use Rattle.hc_types.specs.FlashEntry.{FlashEntry}
 use Rattle.hc_memory.specs.Memory.{Memory, after_unmark}
 use Rattle.hc_engines.specs.Engine.{Op, Loss, Outcome, Next, Busy, Io, Done}
 use Rattle.hc_engines.specs.pair.Pair.{Pair, Moved, start}
@@ -12,11 +10,10 @@ use Rattle.hc_history.specs.Note.{Note, Lose, Opened, Raised, Flushed, Cleared}
 use Rattle.hc_history.specs.Told.{Heard, told_more}
 use Rattle.hc_history.proofs.Telling.{told-twice}
 use Rattle.hc_machine.specs.Cache.{unmarked_by}
-use Rattle.hc_machine.specs.Nvm.{Nvm, Tombstone, Task, Putting, Deleting, Filling, Flushing, Job, Fill, fill_by, without_fill}
+use Rattle.hc_machine.specs.Nvm.{Nvm, Tombstone, Task, Putting, Deleting, Filling, Flushing, Job}
 use Rattle.hc_machine.specs.Leaving.{Changed, changed, and_then}
-use Rattle.hc_machine.specs.Takes.{Taken, Take, Filled, Finished, Work, takes, told_before, holds, settled, launch, launch_by, launched, finished, fill_out, bucket_lost, region_note, loss_notes, ends_with, closing_notes, written_note, raise, found_in}
+use Rattle.hc_machine.specs.Takes.{Taken, Take, Finished, Work, takes, told_before, holds, settled, launch, launch_by, launched, bucket_lost, region_note, loss_notes, ends_with, closing_notes, raise}
 use Rattle.hc_nvm.specs.After.{After, after, raised, by_bucket, held_left, held_part, settled_left, settled_part}
-use Rattle.hc_nvm.specs.Starting.{made_after}
 use Rattle.hc_nvm.specs.Taking.{IsTaken}
 
 -- ---- marks

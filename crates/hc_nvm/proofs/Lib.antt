@@ -8,6 +8,9 @@ pub mod Joins
 pub mod Outdates
 pub mod Fresh
 pub mod Numbers
+pub mod Fetching
+pub mod UnderWay
+pub mod Serving
 pub mod Launching
 pub mod Keeping
 pub mod Choices

@@ -2,7 +2,6 @@
 use Rattle.std.proofs.Common.{◌≡◌, ℕ, ◌+◌, ◌≤◌, ◌==◌, Bool, true, false, List, [], length, Option, Some, None, refl, sym, ap, subst, arith, ◌∙◌}
 use Rattle.std.proofs.lemmas.Bool.{eqb-true}
 use Rattle.std.specs.Prelude.{if◌then◌else◌, option_map}
-use Rattle.hc_types.specs.declared.config.FlashConfig.{FlashConfig}
 use Rattle.hc_types.specs.Places.{is_small_by}
 use Rattle.hc_types.specs.FlashEntry.{FlashEntry}
 use Rattle.hc_engines.specs.Engine.{Op, Put, Get, Delete, Flush, Reclaim, Order, IoResult, Answer, Nothing, Over, Absent, Found, Loss, Outcome, Next, Busy, Io, Done, then_under_way}
@@ -18,7 +17,7 @@ use Rattle.hc_engines.specs.large.Steps as steps
 use Rattle.hc_engines.specs.pair.Apart.{IsApart}
 use Rattle.hc_engines.specs.pair.Below.{IsBelow}
 use Rattle.hc_engines.specs.pair.Held.{work_under_way, under_way}
-use Rattle.hc_engines.specs.pair.Pair.{Pair, Moved, after_losses, next_of, by_small, by_large, went_on, then_large, after_small, start, resume, resume_in, resume_large, resume_work}
+use Rattle.hc_engines.specs.pair.Pair.{Pair, Moved, after_losses, next_of, by_small, by_large, went_on, then_large, after_small, start, resume, resume_in, resume_large}
 use Rattle.hc_engines.proofs.pair.Below.{start_below, resume_below}
 use Rattle.hc_engines.proofs.pair.LargeSteps.{Leaves, start_leaves}
 use Rattle.hc_engines.proofs.pair.Numbers.{mapped_none, mapped_some}

@@ -6,7 +6,7 @@ use Rattle.std.proofs.lemmas.List.Folds.{list_any-append}
 use Rattle.hc_items.proofs.Items.{bytes_eq-refl}
 use Rattle.hc_types.specs.FlashEntry.{FlashEntry}
 use Rattle.hc_engines.specs.large.Index.{Indexed, place_at, without}
-use Rattle.hc_engines.specs.pair.Pair.{hash_in, is_indexed}
+use Rattle.hc_engines.specs.pair.Pair.{Pair, hash_in, is_indexed, take_index}
 use Rattle.hc_engines.proofs.large.Lists.{place_at-without}
 use Rattle.hc_history.specs.Told.{Heard, Nothing, Log, Counts, told_more, is_log}
 use Rattle.hc_history.specs.Note.{Note}
@@ -14,7 +14,9 @@ use Rattle.hc_history.proofs.Telling.{told-nothing}
 use Rattle.hc_machine.specs.Nvm.{Nvm, Tombstone, is_stone_of, is_due, without_put}
 use Rattle.hc_machine.specs.Leaving.{bury, unindex, unqueue, outdate}
 use Rattle.hc_nvm.proofs.Goes.{unqueue_nvm}
+use Rattle.hc_nvm.proofs.Serving.{served_index}
 use Rattle.hc_nvm.specs.Outdating.{Serves}
+use Rattle.hc_nvm.specs.Stock.{Kept}
 use Rattle.hc_nvm.specs.declared.outdating.Outdating.{Outdating}
 
 -- nothing is told where no tombstone is due
@@ -80,3 +82,18 @@ unindexed_once key nvm = by_index (is_indexed nvm.pair key) refl
 
 pub not_indexed_again : (key : List ℕ) (nvm : Nvm) → is_indexed (outdate key nvm).nvm.pair key ≡ false
 not_indexed_again key nvm = unindexed_once key (bury key nvm).nvm
+
+-- ---- an index entry goes, and what holds at every time stays
+
+pub kept_unindexed : (key : List ℕ) (nvm : Nvm) (pair : Pair) → pair ≡ take_index key nvm.pair → Kept nvm → (pair.small.flash ≡ nvm.pair.small.flash) × Kept (record nvm { pair = pair })
+kept_unindexed key nvm pair is kept = rw is (
+  refl,
+  record {
+    below = kept.below;
+    starts = kept.starts;
+    short = kept.short;
+    numbered = kept.numbered;
+    brought = kept.brought;
+    served = served_index nvm.pair (without (hash_in nvm.pair key) nvm.pair.large.index) nvm.jobs kept.served;
+  },
+)

@@ -1,9 +1,9 @@
 -- Tombstones that end.
-use Rattle.std.proofs.Common.{◌≡◌, ℕ, ◌+◌, Bool, true, false, not, List, [], ◌∷◌, Option, Some, None, refl, sym, ap, ◌∙◌, length, arith, if◌then◌else◌}
+use Rattle.std.proofs.Common.{◌≡◌, ℕ, ◌+◌, Bool, true, false, List, [], ◌∷◌, Option, Some, None, refl, sym, ap, length, arith, if◌then◌else◌}
 use Rattle.std.specs.List.{filter, find}
 use Rattle.std.specs.Prelude.{map, option_map}
 use Rattle.hc_types.specs.declared.config.FlashConfig.{FlashConfig}
-use Rattle.hc_history.specs.Note.{Note, Raised}
+use Rattle.hc_history.specs.Note.{Raised}
 use Rattle.hc_machine.specs.Nvm.{Tombstone}
 use Rattle.hc_nvm.specs.After.{by_bucket, raised, standing}
 use Rattle.hc_waiting.specs.Line.{without_first}

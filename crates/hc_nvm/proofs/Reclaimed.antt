@@ -1,5 +1,5 @@
 -- A region is given up.
-use Rattle.std.proofs.Common.{◌≡◌, ℕ, ◌+◌, ◌≤◌, Bool, true, false, not, List, [], ◌∷◌, ◌++◌, length, Option, Some, None, refl, sym, ap, ◌∙◌, subst, arith}
+use Rattle.std.proofs.Common.{◌≡◌, ℕ, ◌+◌, ◌≤◌, Bool, true, false, not, List, [], ◌∷◌, ◌++◌, length, Option, Some, None, refl, sym, ap, ◌∙◌, subst}
 use Rattle.std.specs.List.{filter}
 use Rattle.std.specs.Prelude.{map, if◌then◌else◌, nat_lt}
 use Rattle.hc_types.specs.declared.config.FlashConfig.{FlashConfig}
@@ -9,17 +9,21 @@ use Rattle.hc_engines.specs.large.Block as block
 use Rattle.hc_engines.specs.large.Block.{Block, unmoved}
 use Rattle.hc_engines.specs.large.Steps as steps
 use Rattle.hc_engines.specs.large.Steps.{oldest, reclaim_of, clean_count}
-use Rattle.hc_engines.specs.pair.Pair.{Pair, Moved, start, by_large, after_losses, next_of}
-use Rattle.hc_bighash.specs.Found.{losses_of}
+use Rattle.hc_engines.specs.large.Sound.{Sound}
+use Rattle.hc_engines.specs.pair.Apart.{IsApart}
+use Rattle.hc_engines.specs.pair.Pair.{Pair, Moved, start, next_of}
 use Rattle.hc_history.specs.Note.{Raised}
 use Rattle.hc_history.specs.Told.{Heard, told_more}
 use Rattle.hc_machine.specs.Cache.{unmarked_by}
 use Rattle.hc_machine.specs.Leaving.{Changed, changed}
 use Rattle.hc_machine.specs.Nvm.{Nvm, Tombstone, Flushing}
-use Rattle.hc_machine.specs.Takes.{Reclaiming, settled, reclaim, reclaimed, reclaimed_by, loss_notes}
-use Rattle.hc_nvm.specs.After.{settled_left, settled_part, raised, standing}
+use Rattle.hc_machine.specs.Takes.{Reclaiming, settled, reclaim, reclaimed, loss_notes}
+use Rattle.hc_nvm.specs.After.{settled_left, settled_part, standing}
 use Rattle.hc_nvm.specs.Starting.{IsReclaimed}
+use Rattle.hc_nvm.specs.Stock.{Kept, AllCanStart}
 use Rattle.hc_nvm.proofs.Launching.{settled_is, settled_unmark}
+use Rattle.hc_nvm.proofs.Numbers.{next_is_free, started_below, started_flash}
+use Rattle.hc_nvm.proofs.Serving.{served_started}
 
 none_ends : {X : Type 0} (xs : List X) → filter (λ (x : X). false) xs ≡ []
 none_ends [] = refl
@@ -103,3 +107,20 @@ is_reclaimed nvm number pair outcome flash new region heard middle told memory l
 
     whole : record { region = outcome.reclaimed; change = settled Flushing outcome (record nvm { pair = pair }) } ≡ reclaim nvm
     whole = (λ i. record { region = (done_is outcome m.outcome so.1 i).reclaimed; change = settled Flushing (done_is outcome m.outcome so.1 i) (record nvm { pair = so.0 i }) }) ∙ sym (reclaims nvm).step
+
+-- ---- what holds at every time
+
+pub kept_reclaimed : (nvm : Nvm) (pair : Pair) (outcome : Outcome) (stones : List Tombstone) → Sound nvm.pair.small.flash nvm.pair.large → IsApart nvm.pair → Kept nvm
+    → start (nvm.made + 1) Reclaim nvm.pair ≡ record { pair = pair; next = Done outcome } → (pair.small.flash ≡ nvm.pair.small.flash) × Kept (record nvm { pair = pair; tombstones = stones })
+kept_reclaimed nvm pair outcome stones sound apart kept started =
+    let same : pair.small.flash ≡ nvm.pair.small.flash = started_flash nvm.pair pair (nvm.made + 1) Reclaim (Done outcome) started in (
+      same,
+      record {
+        below = started_below nvm.pair pair nvm.made Reclaim (Done outcome) sound apart kept.below started;
+        starts = subst (λ (f : FlashConfig). AllCanStart f nvm.queue) (sym same) kept.starts;
+        short = subst (λ (f : FlashConfig). length nvm.queue ≤ f.queue) (sym same) kept.short;
+        numbered = kept.numbered;
+        brought = kept.brought;
+        served = served_started nvm.pair pair nvm.made Reclaim (Done outcome) Flushing nvm.pair.small.flash stones nvm.jobs sound (next_is_free nvm.made nvm.pair kept.below) started tt kept.numbered kept.served;
+      },
+    )

@@ -1,8 +1,8 @@
 -- What an outcome comes to.
-use Rattle.std.proofs.Common.{◌≡◌, List, [], append-nil, append_assoc, ◌++◌, refl, sym, ap, ◌∙◌}
+use Rattle.std.proofs.Common.{◌≡◌, List, append_assoc, ◌++◌, ap, ◌∙◌}
 use Rattle.hc_history.specs.Note.{Note}
 use Rattle.hc_history.specs.Told.{Heard, told_more}
-use Rattle.hc_history.proofs.Telling.{told-twice, told-nothing}
+use Rattle.hc_history.proofs.Telling.{told-twice}
 
 -- three parts, one after the other
 pub told-three : (a b c : List Note) (log one two three : Heard) → one ≡ told_more log a → two ≡ told_more one b → three ≡ told_more two c → three ≡ told_more log ((a ++ b) ++ c)

@@ -42,9 +42,9 @@ pub record EndsFill (number : ℕ) (came : IoResult) (nvm : Nvm) (ending : Endin
   pub steps : IsSome (finish number came nvm)
   pub shows : (taken : Taken) → finish number came nvm ≡ Some taken → Shows taken nvm.fills ending
 
--- how a get is over with a result; none where no get is
+-- how a get is over with a result; where none is, no fill ends
 abbrev pub IsEnding : ℕ → IoResult → Nvm → Option Ending → Type 0
-IsEnding number came nvm None = pair.IsEnding number came nvm.pair None
+IsEnding number came nvm None = (taken : Taken) → finish number came nvm ≡ Some taken → taken.filled ≡ None
 IsEnding number came nvm (Some ending) = EndsFill number came nvm ending
 
 -- ---- as it is taken

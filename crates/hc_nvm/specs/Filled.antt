@@ -2,7 +2,7 @@
 use Rattle.std.specs.Prelude.{ℕ, List, Option, Some, None, option_map}
 use Rattle.hc_types.specs.FlashEntry.{FlashEntry, entry_of}
 use Rattle.hc_machine.specs.Nvm.{Fill, Waiter, without_fill}
-use Rattle.hc_machine.specs.Takes.{Filled as Over, Take, Idle, Finished, Work}
+use Rattle.hc_machine.specs.Takes.{Filled as Over, Take, Finished}
 use Rattle.hc_nvm.specs.declared.filler.Filled.{Filled}
 
 abbrev pub filled_of : {A : Type 0} → Filled A → Over

@@ -1,5 +1,6 @@
 -- What waits for flash, as code holds it.
 pub mod Seen
+pub mod Fetching
 pub mod Stock
 pub mod Asked
 pub mod Leaving

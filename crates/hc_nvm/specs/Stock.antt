@@ -1,11 +1,12 @@
 -- What waits for flash and comes from it, as contracts see it, and what holds of it at every time.
-use Rattle.std.specs.Prelude.{◌≡◌, ℕ, ◌+◌, ◌≤◌, List, [], ◌∷◌, Option, Some, None, length, ⊤}
+use Rattle.std.specs.Prelude.{ℕ, ◌+◌, ◌≤◌, List, [], ◌∷◌, Option, Some, None, length, ⊤}
 use Rattle.hc_types.specs.declared.config.FlashConfig.{FlashConfig}
 use Rattle.hc_types.specs.FlashEntry.{FlashEntry}
 use Rattle.hc_engines.specs.Engine.{Put}
 use Rattle.hc_engines.specs.pair.Below.{IsBelow}
 use Rattle.hc_pair.specs.Joined.{CanStart}
 use Rattle.hc_machine.specs.Nvm.{Nvm, Fill, Job}
+use Rattle.hc_nvm.specs.Fetching.{AreServed}
 
 -- its machine's state, and for how many more puts, tombstones and fills there is room
 pub record Stock : Type 0 where
@@ -40,3 +41,5 @@ pub record Kept (nvm : Nvm) : Type 0 where
   pub short : length nvm.queue ≤ nvm.pair.small.flash.queue
   pub numbered : AreNumbered 1 nvm.made nvm.jobs
   pub brought : AreBrought nvm.made nvm.fills
+  -- what is under way for a job that brings a key is a get that reads a page
+  pub served : AreServed nvm.pair nvm.jobs

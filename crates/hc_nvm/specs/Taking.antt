@@ -1,5 +1,5 @@
 -- What a worker's call comes to.
-use Rattle.std.specs.Prelude.{◌≡◌, ℕ, Option}
+use Rattle.std.specs.Prelude.{◌≡◌, Option}
 use Rattle.hc_memory.specs.Memory.{Memory}
 use Rattle.hc_history.specs.Told.{Heard, told_more}
 use Rattle.hc_machine.specs.Nvm.{Nvm}

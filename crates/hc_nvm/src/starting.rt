@@ -1,5 +1,5 @@
 // An operation is started: the half of a worker's call that may be refused.
-ghost use Rattle.std.specs.Prelude.{◌≡◌, ◌≤◌, ◌<◌, ◌+◌, ◌^◌, length, false, OnOk, OnErr, IfOk, vec_len, vec_capacity};
+ghost use Rattle.std.specs.Prelude.{◌≡◌, ◌≤◌, ◌<◌, ◌+◌, ◌^◌, List, length, false, OnOk, OnErr, IfOk, vec_len, vec_capacity};
 ghost use Rattle.hc_engines.specs.pair.Below.{IsBelow};
 ghost use Rattle.hc_engines.specs.pair.Pair.{start as start_step};
 ghost use Rattle.hc_bighash.specs.Found.{losses_of};
@@ -7,7 +7,12 @@ ghost use Rattle.hc_bighash.specs.Next.{next_seen};
 ghost use Rattle.hc_bighash.specs.Seen.{op_of};
 ghost use Rattle.hc_pair.specs.Found.{is_reclaim};
 ghost use Rattle.hc_pair.specs.Joined.{CanStart};
+ghost use Rattle.hc_types.specs.declared.config.FlashConfig.{FlashConfig};
+ghost use Rattle.hc_machine.specs.Nvm.{Task, Tombstone};
+ghost use Rattle.hc_nvm.specs.After.{after};
+ghost use Rattle.hc_nvm.specs.Fetching.{AreServed, Brings};
 ghost use Rattle.hc_nvm.specs.Starting.{made_after};
+ghost use Rattle.hc_nvm.specs.Stock.{AreNumbered};
 
 use crate::jobs::Job;
 use hc_bighash::{Next, Op};
@@ -45,6 +50,7 @@ pub(crate) fn start_in<A: Allocator + Clone + Copy, N: Notes<Note<A>>>(
     ensures ok { IfOk result (λ next. start_step (made + 1) (op_of op.now) pair.old ≡ record { pair = pair.new; next = next_seen next }) }
     ensures below { IfOk result (λ next. IsBelow (made_after made (next_seen next) + 1) pair.new) }
     ensures flash { OnOk result (pair.new.small.flash ≡ pair.old.small.flash) }
+    ensures served { IfOk result (λ next. (task : Task) (flash : FlashConfig) (stones : List Tombstone) → Brings task (op_of op.now) → AreNumbered 1 made jobs.old.items → AreServed pair.old jobs.old.items → AreServed pair.new (after flash task (next_seen next) stones jobs.old.items made).jobs) }
     ensures err { OnErr result (pair.new ≡ pair.old) }
     ensures jobs { jobs.new.items ≡ jobs.old.items }
     ensures job { OnOk result (vec_len jobs.new < vec_capacity jobs.new) }

@@ -1,8 +1,8 @@
-use Rattle.std.proofs.Common.{◌≡◌, ℕ, List, [], ◌∷◌, Some, None, length, map, refl, sym, ap, ◌∙◌, arith}
+use Rattle.std.proofs.Common.{◌≡◌, List, [], ◌∷◌, Some, length, map, sym, ap, ◌∙◌, arith}
 use Rattle.std.specs.List.{filter, find}
 use Rattle.std.specs.Prelude.{option_map}
 use Rattle.hc_types.specs.declared.config.FlashConfig.{FlashConfig}
-use Rattle.hc_history.specs.Note.{Note, Raised}
+use Rattle.hc_history.specs.Note.{Raised}
 use Rattle.hc_history.specs.Told.{told_more}
 use Rattle.hc_history.proofs.Telling.{told-twice, told-nothing}
 use Rattle.hc_machine.specs.Nvm.{Tombstone}

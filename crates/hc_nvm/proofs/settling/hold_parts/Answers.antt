@@ -1,4 +1,4 @@
-use Rattle.std.proofs.Common.{◌≡◌, ℕ, Option, ap, ◌∙◌}
+use Rattle.std.proofs.Common.{ℕ, Option, ap, ◌∙◌}
 use Rattle.hc_history.specs.Note.{Opened}
 use Rattle.hc_history.specs.Told.{told_more}
 use Rattle.hc_machine.specs.Takes.{region_note, loss_notes, bucket_lost}

@@ -1,4 +1,4 @@
-use Rattle.std.proofs.Common.{◌≡◌, List, map, refl, sym, ap, ◌∙◌}
+use Rattle.std.proofs.Common.{List, map, sym, ap, ◌∙◌}
 use Rattle.hc_history.specs.Note.{Raised}
 use Rattle.hc_history.specs.Told.{told_more}
 use Rattle.hc_history.proofs.Telling.{told-nothing}

@@ -1,4 +1,4 @@
-use Rattle.std.proofs.Common.{◌≡◌, ◌∙◌, [], ◌∷◌, ap}
+use Rattle.std.proofs.Common.{◌∙◌, [], ◌∷◌, ap}
 use Rattle.hc_history.specs.Note.{Unqueued, Writing}
 use Rattle.hc_history.specs.Told.{Heard, told_more}
 use Rattle.hc_history.proofs.Telling.{told-twice}

@@ -1,18 +1,19 @@
-use Rattle.std.proofs.Common.{◌≡◌, ◌∙◌, [], ◌∷◌, List, Option, Some, None, slice_get, refl, sym, ap, subst}
+use Rattle.std.proofs.Common.{◌≡◌, ◌∙◌, [], ◌∷◌, Some, slice_get, sym, ap, subst}
 use Rattle.std.specs.Prelude.{option_map}
-use Rattle.std.specs.List.{remove}
-use Rattle.hc_types.specs.FlashEntry.{FlashEntry, entry_of}
+use Rattle.hc_types.specs.FlashEntry.{entry_of}
 use Rattle.hc_engines.specs.Engine.{Order, Done}
 use Rattle.hc_bighash.specs.Seen.{result_of}
 use Rattle.hc_history.specs.Told.{told_more}
 use Rattle.hc_machine.specs.Nvm.{Nvm, Fill, Job, fill_at, fill_by, job_at}
 use Rattle.hc_machine.specs.Takes.{Finished, goes_on, result_note, told_before}
+use Rattle.hc_nvm.specs.Fetching.{AreServed}
 use Rattle.hc_nvm.specs.Filled.{filled_of}
 use Rattle.hc_nvm.specs.Finishing.{place, brought_key}
 use Rattle.hc_nvm.specs.Seen.{task_of}
 use Rattle.hc_nvm.specs.Stock.{Stock, AreNumbered, AreBrought}
 use Rattle.hc_nvm.specs.Taking.{IsTaken}
-use Rattle.hc_nvm.proofs.Finished.{Ended, ended, stands, job_stands, numbered_without, brought_left, place_within}
+use Rattle.hc_nvm.proofs.Finished.{ended, stands, job_stands, numbered_without, brought_left, place_within}
+use Rattle.hc_nvm.proofs.Serving.{served_without}
 use Rattle.hc_nvm.proofs.nvm.Nvm.close_job.Goals as goal
 
 pub take_job-task-requires : goal.take_job-task-requires
@@ -25,7 +26,8 @@ invariant_of-self g c =
     let jobs = c.take_job-task.ensures.jobs ∙ (stands 1 c.self.inside.made c.args.number c.args.at c.self.inside.jobs.items i.3.numbered here).over in
     let numbered = subst (AreNumbered 1 c.self.inside.made) (sym jobs) (numbered_without 1 c.self.inside.made c.args.number c.self.inside.jobs.items i.3.numbered) in
     let brought = subst (AreBrought c.self.inside.made) (sym c.end_fill-filled.ensures.left) (brought_left c.self.inside.made c.args.key c.self.inside.fills.fills i.3.brought) in
-    (i.0, c.settle-found.ensures.flash ∙ i.1, c.end_fill-filled.ensures.flash ∙ i.2, record { below = i.3.below; starts = i.3.starts; short = i.3.short; numbered = numbered; brought = brought })
+    let served = subst (AreServed c.self.inside.pair) (sym jobs) (served_without c.self.inside.pair c.args.number c.self.inside.jobs.items i.3.served) in
+    (i.0, c.settle-found.ensures.flash ∙ i.1, c.end_fill-filled.ensures.flash ∙ i.2, record { below = i.3.below; starts = i.3.starts; short = i.3.short; numbered = numbered; brought = brought; served = served })
 
 pub returns-clause-taken : goal.returns-clause-taken
 returns-clause-taken g c =

@@ -1,12 +1,13 @@
-use Rattle.std.proofs.Common.{◌≡◌, ◌+◌, ◌∙◌, List, Option, Some, None, refl, sym, ap, subst}
+use Rattle.std.proofs.Common.{◌≡◌, ◌+◌, ◌∙◌, List, Option, Some, sym, ap, subst}
 use Rattle.std.specs.Prelude.{option_map}
-use Rattle.hc_types.specs.FlashEntry.{FlashEntry, entry_of}
+use Rattle.hc_types.specs.FlashEntry.{FlashEntry}
 use Rattle.hc_engines.specs.Engine.{Next}
 use Rattle.hc_bighash.specs.Next.{next_seen}
 use Rattle.hc_bighash.specs.Seen.{op_of}
 use Rattle.hc_machine.specs.Nvm.{Nvm, Job, Fill, Filling, fill_at, fill_by, taken_fill, next_fill}
 use Rattle.hc_machine.specs.Takes.{filler_take}
 use Rattle.hc_nvm.specs.After.{after}
+use Rattle.hc_nvm.specs.Fetching.{Brings}
 use Rattle.hc_nvm.specs.Filled.{filled_of, filled_if, left_if}
 use Rattle.hc_nvm.specs.Seen.{take_of}
 use Rattle.hc_nvm.specs.Stock.{Stock, AreBrought}
@@ -46,7 +47,8 @@ invariant_of-self-2 g c =
       c.filled_by-filled.ensures.flash ∙ c.bring.ensures.flash ∙ c.reserve.ensures.flash ∙ i.2 ∙ sym same,
       fetched_kept inside c.start_in.new.pair c.self.inside.tombstones.flash next c.self.inside.tombstones.stones c.launched-outset.new.stones.stones c.launched-outset.new.jobs.items c.launched-outset.result.made c.filled_by-filled.new.fills.fills
           i.3 c.in_ok-next.ensures.below same jobs made
-          (subst (λ (n : _). AreBrought n c.filled_by-filled.new.fills.fills) (sym made) (subst (AreBrought (came c.self.inside.jobs.items).made) (sym gone) brought)),
+          (subst (λ (n : _). AreBrought n c.filled_by-filled.new.fills.fills) (sym made) (subst (AreBrought (came c.self.inside.jobs.items).made) (sym gone) brought))
+          (c.in_ok-next.ensures.served Filling c.self.inside.tombstones.flash c.self.inside.tombstones.stones (subst (Brings Filling) (sym c.in_ok-op.ensures) tt) i.3.numbered i.3.served),
     )
 
 pub returns-clause-ok : goal.returns-clause-ok

@@ -1,6 +1,6 @@
-use Rattle.std.proofs.Common.{◌≡◌, ℕ, List, Bool, ◌∙◌, ap}
+use Rattle.std.proofs.Common.{ℕ, Bool, ◌∙◌, ap}
 use Rattle.std.specs.List.{find}
-use Rattle.std.specs.Prelude.{option_map, IfOk}
+use Rattle.std.specs.Prelude.{option_map}
 use Rattle.hc_types.specs.declared.config.FlashConfig.{FlashConfig}
 use Rattle.hc_engines.specs.small.BigHash.{is_busy}
 use Rattle.hc_machine.specs.Nvm.{Tombstone}

@@ -1,6 +1,5 @@
-use Rattle.std.proofs.Common.{◌≡◌, ℕ, Bool, ◌∙◌, ap}
+use Rattle.std.proofs.Common.{ℕ, Bool, ◌∙◌, ap}
 use Rattle.std.specs.List.{find}
-use Rattle.std.specs.Prelude.{IfOk}
 use Rattle.hc_types.specs.declared.config.FlashConfig.{FlashConfig}
 use Rattle.hc_engines.specs.small.BigHash.{is_busy}
 use Rattle.hc_waiting.specs.Puts.{can_be_put}

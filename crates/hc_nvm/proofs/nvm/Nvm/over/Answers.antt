@@ -1,14 +1,15 @@
-use Rattle.std.proofs.Common.{◌≡◌, ◌+◌, ◌≤◌, Option, Some, length, slice_get, sym, subst, arith}
+use Rattle.std.proofs.Common.{◌≡◌, ◌+◌, ◌≤◌, Option, Some, None, length, slice_get, sym, subst, arith}
 use Rattle.hc_engines.specs.Engine.{IoResult, Done}
 use Rattle.hc_engines.specs.pair.Pair.{Moved, resume}
 use Rattle.hc_bighash.specs.Found.{losses_of}
 use Rattle.hc_bighash.specs.Seen.{result_of}
 use Rattle.hc_pair.specs.Endings.{Ending, Ends, IsEnding, left_by}
 use Rattle.hc_machine.specs.Nvm.{Nvm, Job}
+use Rattle.hc_machine.specs.Takes.{Taken, finish}
 use Rattle.hc_nvm.specs.Endings.{EndsFill}
 use Rattle.hc_nvm.specs.Finishing.{place, brought_key}
 use Rattle.hc_nvm.specs.Stock.{Stock}
-use Rattle.hc_nvm.proofs.FillEnds.{AreApart, fill_ends}
+use Rattle.hc_nvm.proofs.FillEnds.{AreApart, fill_ends, no_fill_ends}
 use Rattle.hc_nvm.proofs.Finished.{place_within}
 use Rattle.hc_nvm.proofs.nvm.Nvm.over.Goals as goal
 
@@ -25,6 +26,14 @@ returns-in-Ok-Some-clause-ok g c =
     let ends : Ends c.args.number (result_of c.args.came.now) c.self.inside.pair c.in-Ok-Some.over = subst (λ (o : Option Ending). IsEnding c.args.number (result_of c.args.came.now) c.self.inside.pair o) c.in-Ok-Some.field-0-is c.in-Ok-Some.ensures in
     subst (λ (s : Stock). EndsFill c.args.number (result_of c.args.came.now) s.nvm (record { key = c.in-Ok.key; over = c.in-Ok-Some.over })) c.self.view_is
     (fill_ends c.args.number c.args.at (result_of c.args.came.now) inside (record { key = c.in-Ok.key; over = c.in-Ok-Some.over }) c.self.invariant.3.numbered here apart keyed ends)
+
+pub returns-in-Ok-None-clause-ok : goal.returns-in-Ok-None-clause-ok
+returns-in-Ok-None-clause-ok g c =
+    let inside : Nvm = record { pair = c.self.inside.pair; queue = c.self.inside.queue.puts; tombstones = c.self.inside.tombstones.stones; fills = c.self.inside.fills.fills; jobs = c.self.inside.jobs.items; made = c.self.inside.made } in
+    let here : place c.args.number inside.jobs ≡ Some c.args.at = subst (λ (s : Stock). place c.args.number s.nvm.jobs ≡ Some c.args.at) (sym c.self.view_is) c.requires.at in
+    let on = subst (λ (o : Option Ending). IsEnding c.args.number (result_of c.args.came.now) c.self.inside.pair o) c.in-Ok-None.field-0-is c.in-Ok-None.ensures in
+    subst (λ (s : Stock). (taken : Taken) → finish c.args.number (result_of c.args.came.now) s.nvm ≡ Some taken → taken.filled ≡ None) c.self.view_is
+    (no_fill_ends c.args.number c.args.at (result_of c.args.came.now) inside c.self.invariant.3.numbered here c.self.invariant.3.served on)
 
 pub returns-in-Ok-Some-clause-room : goal.returns-in-Ok-Some-clause-room
 returns-in-Ok-Some-clause-room g c =

@@ -1,4 +1,4 @@
-use Rattle.std.proofs.Common.{◌≡◌, ◌+◌, ◌∙◌, ◌≤◌, refl, sym, ap, subst, arith, length}
+use Rattle.std.proofs.Common.{◌≡◌, ◌+◌, ◌∙◌, ◌≤◌, sym, ap, subst, arith, length}
 use Rattle.hc_engines.specs.Engine.{Reclaim, Outcome, Done}
 use Rattle.hc_engines.specs.pair.Pair.{Moved, start}
 use Rattle.hc_bighash.specs.Found.{losses_of}
@@ -7,7 +7,7 @@ use Rattle.hc_machine.specs.Takes.{reclaim}
 use Rattle.hc_nvm.specs.Starting.{IsReclaimed}
 use Rattle.hc_nvm.specs.Stock.{Stock}
 use Rattle.hc_nvm.proofs.Numbers.{started_flash}
-use Rattle.hc_nvm.proofs.Reclaimed.{Came, is_reclaimed}
+use Rattle.hc_nvm.proofs.Reclaimed.{Came, is_reclaimed, kept_reclaimed}
 use Rattle.hc_nvm.proofs.nvm.Nvm.reclaim.Goals as goal
 
 pub settle-found-requires : goal.settle-found-requires
@@ -19,6 +19,14 @@ settle-found-requires g c =
     let stones = c.len.ensures in
     let room = c.in_ok-reserve.ensures.room in
     record { room = omega (arith, fewer, others, all, stones, room) }
+
+pub invariant_of-self-in-Done : goal.invariant_of-self-in-Done
+invariant_of-self-in-Done g c =
+    let i = c.self.invariant in
+    let inside : Nvm = record { pair = c.self.inside.pair; queue = c.self.inside.queue.puts; tombstones = c.self.inside.tombstones.stones; fills = c.self.inside.fills.fills; jobs = c.self.inside.jobs.items; made = c.self.inside.made } in
+    let started : start (c.self.inside.made + 1) Reclaim c.self.inside.pair ≡ record { pair = c.start.new.self; next = Done c.in-Done.outcome } = rw c.in-Done.is at c.in_ok-next.ensures.ok in
+    let kept = kept_reclaimed inside c.start.new.self c.in-Done.outcome c.settle-found.new.stones.stones c.is_sound.ensures.sound c.is_sound.ensures.apart i.3 started in
+    (i.0 ∙ sym kept.0, c.settle-found.ensures.flash ∙ i.1 ∙ sym kept.0, i.2 ∙ sym kept.0, kept.1)
 
 pub returns-clause-room : goal.returns-clause-room
 returns-clause-room g c =

@@ -1,10 +1,11 @@
-use Rattle.std.proofs.Common.{◌≡◌, ◌+◌, ◌∙◌, ◌≤◌, [], List, refl, sym, ap, arith, length}
+use Rattle.std.proofs.Common.{◌∙◌, [], List, refl, sym, ap, subst, arith}
 use Rattle.hc_engines.specs.Engine.{Delete, Next}
 use Rattle.hc_bighash.specs.Next.{next_seen}
 use Rattle.hc_bighash.specs.Seen.{op_of}
 use Rattle.hc_history.proofs.Telling.{told-nothing}
-use Rattle.hc_machine.specs.Nvm.{Nvm, Job, Deleting, taken_stone}
+use Rattle.hc_machine.specs.Nvm.{Nvm, Task, Job, Deleting, taken_stone}
 use Rattle.hc_nvm.specs.After.{after}
+use Rattle.hc_nvm.specs.Fetching.{Brings}
 use Rattle.hc_nvm.specs.Seen.{task_of, take_of}
 use Rattle.hc_nvm.proofs.Launching.{Came, came_is_taken}
 use Rattle.hc_nvm.proofs.Keeping.{started_kept}
@@ -22,7 +23,8 @@ invariant_of-self-2 g c =
       i.2 ∙ sym same,
       started_kept inside c.start_in.new.pair c.mark.new.self.flash (task_of c.in_ok-task.task) next c.self.inside.queue.puts c.mark.new.self.stones c.launched-outset.new.stones.stones c.launched-outset.new.jobs.items c.launched-outset.result.made
           i.3 c.in_ok-next.ensures.below same i.3.starts (omega arith)
-          (c.launched-outset.ensures.jobs ∙ ap (λ (js : List Job). (came js).jobs) c.start_in.ensures.jobs) (c.launched-outset.ensures.made ∙ ap (λ (js : List Job). (came js).made) c.start_in.ensures.jobs),
+          (c.launched-outset.ensures.jobs ∙ ap (λ (js : List Job). (came js).jobs) c.start_in.ensures.jobs) (c.launched-outset.ensures.made ∙ ap (λ (js : List Job). (came js).made) c.start_in.ensures.jobs)
+          (c.in_ok-next.ensures.served (task_of c.in_ok-task.task) c.mark.new.self.flash c.mark.new.self.stones (subst (λ (t : Task). Brings t (op_of c.in_ok-task.op)) (sym c.in_ok-task.ensures.task) tt) i.3.numbered i.3.served),
     )
 
 pub returns-clause-ok : goal.returns-clause-ok

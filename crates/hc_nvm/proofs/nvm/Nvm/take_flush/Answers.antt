@@ -1,4 +1,4 @@
-use Rattle.std.proofs.Common.{◌≡◌, ◌+◌, ◌∙◌, ◌≤◌, [], List, None, refl, sym, ap, subst, arith, length}
+use Rattle.std.proofs.Common.{◌∙◌, [], List, None, refl, sym, ap, subst, arith}
 use Rattle.hc_engines.specs.Engine.{Flush, Next}
 use Rattle.hc_bighash.specs.Next.{next_seen}
 use Rattle.hc_history.proofs.Telling.{told-nothing}
@@ -24,7 +24,8 @@ invariant_of-self-2 g c =
       i.2 ∙ sym same,
       started_kept inside c.start_in.new.pair c.self.inside.tombstones.flash Flushing next c.self.inside.queue.puts c.self.inside.tombstones.stones c.launched-outset.new.stones.stones c.launched-outset.new.jobs.items c.launched-outset.result.made
           i.3 c.in_ok-next.ensures.below same i.3.starts (omega arith)
-          (c.launched-outset.ensures.jobs ∙ ap (λ (js : List Job). (came js).jobs) c.start_in.ensures.jobs) (c.launched-outset.ensures.made ∙ ap (λ (js : List Job). (came js).made) c.start_in.ensures.jobs),
+          (c.launched-outset.ensures.jobs ∙ ap (λ (js : List Job). (came js).jobs) c.start_in.ensures.jobs) (c.launched-outset.ensures.made ∙ ap (λ (js : List Job). (came js).made) c.start_in.ensures.jobs)
+          (c.in_ok-next.ensures.served Flushing c.self.inside.tombstones.flash c.self.inside.tombstones.stones tt i.3.numbered i.3.served),
     )
 
 pub returns-clause-ok : goal.returns-clause-ok

@@ -1,6 +1,5 @@
-use Rattle.std.proofs.Common.{◌≡◌, ◌∙◌, Some, sym, ap, subst}
-use Rattle.std.specs.Prelude.{option_map}
-use Rattle.hc_types.specs.FlashEntry.{FlashEntry, entry_of}
+use Rattle.std.proofs.Common.{◌≡◌, Some, sym, subst}
+use Rattle.hc_types.specs.FlashEntry.{entry_of}
 use Rattle.hc_engines.specs.Engine.{Put}
 use Rattle.hc_pair.specs.Joined.{CanStart}
 use Rattle.hc_machine.specs.Nvm.{Nvm, next_put}

@@ -1,12 +1,11 @@
-use Rattle.std.proofs.Common.{◌≡◌, ◌+◌, ◌∙◌, ◌≤◌, Bool, true, false, [], List, Some, None, length, refl, sym, ap, subst, arith}
+use Rattle.std.proofs.Common.{◌≡◌, ◌∙◌, ◌≤◌, Bool, List, None, length, refl, sym, ap, subst}
 use Rattle.hc_types.specs.FlashEntry.{FlashEntry, entry_of}
 use Rattle.hc_types.specs.Places.{is_small_by}
-use Rattle.hc_engines.specs.Engine.{Op, Put, Next}
+use Rattle.hc_engines.specs.Engine.{Put, Next}
 use Rattle.hc_bighash.specs.Next.{next_seen}
 use Rattle.hc_bighash.specs.Seen.{op_of}
-use Rattle.hc_history.specs.Note.{Note}
 use Rattle.hc_history.specs.Told.{told_more}
-use Rattle.hc_machine.specs.Nvm.{Nvm, Job, Tombstone, is_put_of, without_put}
+use Rattle.hc_machine.specs.Nvm.{Nvm, Job, without_put}
 use Rattle.hc_machine.specs.Takes.{Taken}
 use Rattle.hc_pair.specs.Found.{is_reclaim}
 use Rattle.hc_pair.specs.Joined.{CanStart}
@@ -16,7 +15,8 @@ use Rattle.hc_nvm.specs.Starting.{put_taken, put_task, put_notes, writing_of}
 use Rattle.hc_nvm.specs.Stock.{Stock, AllCanStart}
 use Rattle.hc_nvm.specs.Taking.{IsTaken}
 use Rattle.hc_nvm.proofs.Choices.{put_brings_nothing, put_is, put_unmarks}
-use Rattle.hc_nvm.proofs.Launching.{Came, came_is_taken}
+use Rattle.hc_nvm.proofs.Launching.{BringsNothing, Came, came_is_taken}
+use Rattle.hc_nvm.proofs.Serving.{brings_in}
 use Rattle.hc_nvm.proofs.Keeping.{started_kept, can_start_without, fewer_left}
 use Rattle.hc_nvm.proofs.nvm.Nvm.take_put.Goals as goal
 
@@ -41,7 +41,8 @@ invariant_of-self-2 g c =
           i.3 c.in_ok-next.ensures.below same
           (subst (AllCanStart c.self.inside.pair.small.flash) (sym without) (can_start_without c.self.inside.pair.small.flash _ c.self.inside.queue.puts i.3.starts))
           (subst (λ (puts : List FlashEntry). length puts ≤ length c.self.inside.queue.puts) (sym without) (fewer_left _ c.self.inside.queue.puts))
-          (c.launched-outset.ensures.jobs ∙ ap (λ (js : List Job). (came js).jobs) c.start_in.ensures.jobs) (c.launched-outset.ensures.made ∙ ap (λ (js : List Job). (came js).made) c.start_in.ensures.jobs),
+          (c.launched-outset.ensures.jobs ∙ ap (λ (js : List Job). (came js).jobs) c.start_in.ensures.jobs) (c.launched-outset.ensures.made ∙ ap (λ (js : List Job). (came js).made) c.start_in.ensures.jobs)
+          (c.in_ok-next.ensures.served (task_of c.in_ok-plan.plan.task) c.self.inside.tombstones.flash c.self.inside.tombstones.stones (brings_in (task_of c.in_ok-plan.plan.task) (op_of c.in_ok-plan.plan.op) (subst BringsNothing (sym c.in_ok-plan.ensures.task) (put_brings_nothing c.is_small-is_small.result c.args.entry.key))) i.3.numbered i.3.served),
     )
 
 pub returns-clause-ok : goal.returns-clause-ok

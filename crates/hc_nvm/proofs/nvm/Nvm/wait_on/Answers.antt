@@ -1,14 +1,16 @@
-use Rattle.std.proofs.Common.{◌≡◌, ◌∙◌, [], ◌∷◌, List, Some, None, set, slice_get, refl, sym, ap, subst}
+use Rattle.std.proofs.Common.{◌≡◌, ◌∙◌, [], ◌∷◌, Some, None, set, slice_get, sym, ap, subst}
 use Rattle.hc_engines.specs.Engine.{Order, Io}
 use Rattle.hc_bighash.specs.Seen.{order_of as order_asked, result_of}
 use Rattle.hc_history.specs.Told.{told_more}
 use Rattle.hc_machine.specs.Nvm.{Nvm, Job, job_at}
 use Rattle.hc_machine.specs.Takes.{Work, goes_on, result_note, told_before}
+use Rattle.hc_nvm.specs.Fetching.{AreServed}
 use Rattle.hc_nvm.specs.Finishing.{place}
 use Rattle.hc_nvm.specs.Seen.{order_of}
-use Rattle.hc_nvm.specs.Stock.{Stock, Kept, AreNumbered}
+use Rattle.hc_nvm.specs.Stock.{Stock, AreNumbered}
 use Rattle.hc_nvm.specs.Taking.{IsTaken}
-use Rattle.hc_nvm.proofs.Finished.{WaitsOn, waits_on, Stands, stands, job_stands, numbered_ordered, place_within}
+use Rattle.hc_nvm.proofs.Finished.{waits_on, stands, job_stands, numbered_ordered, place_within}
+use Rattle.hc_nvm.proofs.Serving.{served_ordered}
 use Rattle.hc_nvm.proofs.nvm.Nvm.wait_on.Goals as goal
 
 pub put_order-was-requires : goal.put_order-was-requires
@@ -21,7 +23,8 @@ invariant_of-self g c =
     let s = stands 1 c.self.inside.made c.args.number c.args.at c.self.inside.jobs.items i.3.numbered here in
     let jobs = c.put_order-was.ensures.jobs s.job s.here ∙ s.goes_on (order_of c.twice-ours.result.1) in
     let numbered = subst (AreNumbered 1 c.self.inside.made) (sym jobs) (numbered_ordered 1 c.self.inside.made c.args.number (order_of c.twice-ours.result.1) c.self.inside.jobs.items i.3.numbered) in
-    (i.0, c.hold.ensures.flash ∙ i.1, i.2, record { below = i.3.below; starts = i.3.starts; short = i.3.short; numbered = numbered; brought = i.3.brought })
+    let served = subst (AreServed c.self.inside.pair) (sym jobs) (served_ordered c.self.inside.pair c.args.number (order_of c.twice-ours.result.1) c.self.inside.jobs.items i.3.served) in
+    (i.0, c.hold.ensures.flash ∙ i.1, i.2, record { below = i.3.below; starts = i.3.starts; short = i.3.short; numbered = numbered; brought = i.3.brought; served = served })
 
 pub returns-clause-taken : goal.returns-clause-taken
 returns-clause-taken g c =
