@@ -1,0 +1,23 @@
+-- Lemmas.
+pub mod Begun
+pub mod Charging
+pub mod Configured
+pub mod Courses
+pub mod FillKey
+pub mod FillReady
+pub mod Filled
+pub mod Freeing
+pub mod Frees
+pub mod Joining
+pub mod Known
+pub mod Leaving
+pub mod Looks
+pub mod Owed
+pub mod Plans
+pub mod Refusing
+pub mod Served
+pub mod Serves
+pub mod Stepping
+pub mod Stored
+pub mod Unqueued
+pub mod Works

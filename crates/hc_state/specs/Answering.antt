@@ -1,0 +1,14 @@
+-- What calls answer, and why they are refused.
+use Rattle.std.specs.Prelude.{◌≡◌, ◌⊎◌, Option, Some, None}
+use Rattle.hc_types.specs.declared.refusal.Refusal.{Refusal}
+use Rattle.hc_types.specs.declared.refusal.Refusal.TheVariants.{NoMemory}
+use Rattle.hc_machine.specs.Cache.{Answer, Refused}
+
+-- why the machine refuses the call, where it does
+abbrev pub refusal_in : Answer → Option Refusal
+refusal_in (Refused refusal) = Some refusal
+refusal_in answer = None
+
+-- the call is refused as the machine refuses it, and only for want of memory where the machine doesn't
+abbrev pub IsReason : Answer → Refusal → Type 0
+IsReason answer refusal = (refusal_in answer ≡ Some refusal) ⊎ ((refusal_in answer ≡ None) × (refusal ≡ NoMemory))

@@ -1,0 +1,13 @@
+-- A cache with flash as contracts see it, and the parts of its steps.
+pub mod Allocating
+pub mod Answering
+pub mod Courses
+pub mod Filling
+pub mod Finding
+pub mod Leaving
+pub mod Outdating
+pub mod Owing
+pub mod Planned
+pub mod Serving
+pub mod Telling
+pub mod Whole
