@@ -4,7 +4,6 @@ use mathlib.Core.Bool.{cond}
 use Rattle.hc_types.specs.Tally.{count}
 use Rattle.hc_types.proofs.Tallies.{tally-append}
 use Rattle.hc_engines.specs.Engine.{Loss}
-use Rattle.hc_memory.specs.Item.{Item}
 use Rattle.hc_memory.specs.Pool.{is_at}
 use Rattle.hc_memory.specs.Memory.{Memory, linked_at, victims_of, after_room}
 use Rattle.hc_memory.proofs.Keyed.{count-none}
@@ -13,11 +12,8 @@ use Rattle.hc_items.proofs.Flat.{linked-flat}
 use Rattle.hc_machine.specs.Nvm.{Nvm, Waiter, Fill, is_put_of, is_fill_of, fill_at, put_at, adds}
 use Rattle.hc_machine.specs.Takes.{Filled, Taken, loss_notes}
 use Rattle.hc_machine.specs.Cache.{Cache, Told, with_memory, unmarked_by, takes_in}
-use Rattle.hc_machine.specs.Evicting.{all_leave}
 use Rattle.hc_invariant.specs.Tells.{waiters_of}
-use Rattle.hc_invariant.specs.Jobs.{AllWishes}
 use Rattle.hc_invariant.specs.Structure.{Structured, queue_of}
-use Rattle.hc_proof_calls.specs.calls.Serving.{ghost}
 use Rattle.hc_proof_structure.specs.Parts.{Held, FewerFills, FewerWait}
 use Rattle.hc_proof_structure.specs.Takes.{FilledSo, Leaves}
 use Rattle.hc_proof_structure.proofs.Parts.{parts_of, whole_of, same_items, same_puts, held_less}

@@ -1,16 +1,16 @@
 -- Once a fill ended there is at most one open charge more: so there is room to give each up.
-use Rattle.std.proofs.Common.{◌≡◌, ℕ, ◌+◌, ◌≤◌, ◌++◌, Bool, true, false, List, [], ◌∷◌, Option, Some, None, length, refl, sym, ap, ◌∙◌, arith, if◌then◌else◌}
+use Rattle.std.proofs.Common.{◌≡◌, ℕ, ◌+◌, ◌≤◌, ◌++◌, Bool, true, false, List, [], ◌∷◌, Option, Some, None, length, refl, sym, ap, arith, if◌then◌else◌}
 use Rattle.hc_types.specs.Tally.{tally}
 use Rattle.hc_types.specs.FlashEntry.{FlashEntry}
 use Rattle.hc_types.specs.Charge.{charge_of}
 use Rattle.hc_types.proofs.Tallies.{tally-append}
-use Rattle.hc_memory.specs.Item.{Item, Open}
+use Rattle.hc_memory.specs.Item.{Open}
 use Rattle.hc_memory.specs.Charges.{closed}
 use Rattle.hc_memory.specs.Memory.{Memory, victims_of, after_room}
 use Rattle.hc_memory.proofs.Making.{closed-less}
-use Rattle.hc_machine.specs.Nvm.{Nvm, Waiter, Wish, ToFind, ToAdd}
+use Rattle.hc_machine.specs.Nvm.{Waiter, Wish, ToFind, ToAdd}
 use Rattle.hc_machine.specs.Takes.{Filled, Taken}
-use Rattle.hc_machine.specs.Cache.{Cache, Told, tells, and_then, with_memory, takes_in}
+use Rattle.hc_machine.specs.Cache.{Cache, tells, and_then, with_memory, takes_in}
 use Rattle.hc_machine.specs.Evicting.{all_leave, make_charge, handle_for}
 use Rattle.hc_machine.specs.Waiting.{clear, live, serve, there_after, serve_all}
 use Rattle.hc_machine.specs.Workers.{can_link, link_clean, bring, fill, after_take}

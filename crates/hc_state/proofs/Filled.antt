@@ -91,7 +91,7 @@ served-there (waiter ∷ waiters) entry standing c fresh = rw fresh (by waiter.w
 -- ---- an entry is linked
 
 module _ (entry : FlashEntry) where
-  abbrev want_of : ℕ
+  abbrev pub want_of : ℕ
   want_of = charge_of entry.key (length entry.value)
 
   -- it is linked as the machine does it, where the pools did it already
@@ -177,7 +177,7 @@ over-fresh false more entry can = refl
 pub can-fresh : (c : Cache) (entry : FlashEntry) → can_link c entry ≡ true → is_over c.now entry ≡ false
 can-fresh c entry can = over-fresh (is_over c.now entry) (not (is_some (refusal_of c.memory entry.pool entry.key (length entry.value)))) entry can
 
-brought-now : (entry : FlashEntry) (number want : ℕ) (victims : List Item) (c : Cache) → (brought_by number entry.pool entry.key want victims c).cache.now ≡ c.now
+pub brought-now : (entry : FlashEntry) (number want : ℕ) (victims : List Item) (c : Cache) → (brought_by number entry.pool entry.key want victims c).cache.now ≡ c.now
 brought-now entry number want victims c = all_leave-now entry.pool want victims c
 
 -- what was found is linked as the machine does it, and the calls that wait are served, where it was linked before flash told its losses

@@ -1,16 +1,25 @@
 -- Lemmas.
 pub mod Begun
+pub mod Brought
 pub mod Charging
 pub mod Configured
 pub mod Courses
+pub mod Ended
+pub mod Fewer
+pub mod FillDone
 pub mod FillKey
+pub mod FillPlan
 pub mod FillReady
+pub mod FillSteps
 pub mod Filled
+pub mod Finds
 pub mod Freeing
 pub mod Frees
+pub mod Inserted
 pub mod Joining
 pub mod Known
 pub mod Leaving
+pub mod Links
 pub mod Looks
 pub mod Owed
 pub mod Plans

@@ -1,7 +1,7 @@
 -- The replies that are owed are of calls before this one.
-use Rattle.std.proofs.Common.{◌≡◌, ℕ, ◌+◌, ◌<◌, ◌≤◌, ◌==◌, Bool, true, false, List, [], ◌∷◌, Option, Some, None, refl, sym, ap, ◌∙◌, arith}
+use Rattle.std.proofs.Common.{◌≡◌, ℕ, ◌<◌, ◌≤◌, ◌==◌, Bool, true, false, List, [], ◌∷◌, refl, ap, arith}
 use Rattle.hc_history.specs.Note.{Reply}
-use Rattle.hc_machine.specs.Cache.{Owed, is_owed, owed_at, owed_anew, owed_with, owed_less}
+use Rattle.hc_machine.specs.Cache.{Owed, is_owed, owed_anew, owed_with, owed_less}
 use Rattle.hc_replies.specs.Replies.{AreBefore}
 
 pub before-more : (n m : ℕ) (owed : List Owed) → n ≤ m → AreBefore n owed → AreBefore m owed

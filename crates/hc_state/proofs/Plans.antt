@@ -1,13 +1,13 @@
 -- One call more is planned for, behind the others.
-use Rattle.std.proofs.Common.{◌≡◌, ℕ, Bool, List, [], ◌∷◌, ◌++◌, Option, refl, sym, ap, ◌∙◌, append_assoc, append-nil}
-use Rattle.std.specs.Prelude.{⊤}
+use Rattle.std.proofs.Common.{◌≡◌, ℕ, ◌+◌, ◌<◌, ◌≤◌, Bool, List, [], ◌∷◌, ◌++◌, length, take, get_or, Option, add-one, refl, sym, ap, ◌∙◌, subst}
+use Rattle.std.proofs.Math.Seq.{take-suc}
+use Rattle.std.proofs.lemmas.List.{take_all}
 use Rattle.hc_types.specs.FlashEntry.{FlashEntry}
-use Rattle.hc_memory.specs.Item.{Handle}
 use Rattle.hc_machine.specs.Nvm.{Waiter}
 use Rattle.hc_machine.specs.Waiting.{live, there_after}
-use Rattle.hc_state.specs.Serving.{stored_by, all_stored}
 use Rattle.hc_state.specs.Courses.{IsCourse, AreCourses}
-use Rattle.hc_state.specs.Planned.{there_past}
+use Rattle.hc_state.specs.Planned.{IsThere, IsNext, there_past}
+use Rattle.hc_state.specs.declared.planning.There.{There}
 use Rattle.hc_state.specs.declared.serving.Course.{Course}
 
 pub courses-more : {A : Type 0} (keeps : Bool) (key : List ℕ) (now : ℕ) (waiters : List Waiter) (there : Option FlashEntry) (courses : List (Course A)) (w : Waiter) (c : Course A) → AreCourses keeps key now waiters there courses → IsCourse keeps key w.wish (live now (there_past now waiters there)) c → AreCourses keeps key now (waiters ++ w ∷ []) there (courses ++ c ∷ [])
@@ -20,10 +20,28 @@ pub past-more : (now : ℕ) (waiters : List Waiter) (there : Option FlashEntry) 
 past-more now [] there w = refl
 past-more now (v ∷ waiters) there w = past-more now waiters (there_after v.wish (live now there)) w
 
-pub stored-more : (now : ℕ) (waiters : List Waiter) (there : Option FlashEntry) (w : Waiter) → all_stored now (waiters ++ w ∷ []) there ≡ all_stored now waiters there ++ stored_by w.wish (live now (there_past now waiters there))
-stored-more now [] there w = append-nil (stored_by w.wish (live now there))
-stored-more now (v ∷ waiters) there w =
-    let given = live now there in
-    let next = there_after v.wish given in
-    ap (λ (hs : List Handle). stored_by v.wish given ++ hs) (stored-more now waiters next w)
-    ∙ sym (append_assoc (stored_by v.wish given) (all_stored now waiters next) (stored_by w.wish (live now (there_past now waiters next))))
+-- ---- a loop over the calls
+
+-- the calls that a loop has passed, and the one at its place
+taken-more : (waiters : List Waiter) (i : ℕ) (w : Waiter) → i < length waiters → w ≡ get_or waiters i w → take (i + 1) waiters ≡ take i waiters ++ w ∷ []
+taken-more waiters i w h at =
+    let more : take (i + 1) waiters ≡ take i waiters ++ get_or waiters i w ∷ [] = rw add-one (take-suc waiters i w h) in
+    more ∙ ap (λ (x : Waiter). take i waiters ++ x ∷ []) (sym at)
+
+pub courses-next : {A : Type 0} (keeps : Bool) (key : List ℕ) (now : ℕ) (waiters : List Waiter) (i : ℕ) (w : Waiter) (there : Option FlashEntry) (courses new : List (Course A)) (c : Course A) (next : Option (There A))
+    → i < length waiters → w ≡ get_or waiters i w → new ≡ courses ++ c ∷ [] → AreCourses keeps key now (take i waiters) there courses
+    → IsNext keeps key w.wish (live now (there_past now (take i waiters) there)) c next → AreCourses keeps key now (take (i + 1) waiters) there new
+courses-next keeps key now waiters i w there courses new c next h at is plan step =
+    let more : AreCourses keeps key now (take i waiters ++ w ∷ []) there (courses ++ c ∷ []) = courses-more keeps key now (take i waiters) there courses w c plan step.course_is in
+    subst (λ (ws : List Waiter). AreCourses keeps key now ws there new) (sym (taken-more waiters i w h at))
+    (subst (λ (cs : List (Course _)). AreCourses keeps key now (take i waiters ++ w ∷ []) there cs) (sym is) more)
+
+pub there-next : {A : Type 0} (keeps : Bool) (key : List ℕ) (now : ℕ) (waiters : List Waiter) (i : ℕ) (w : Waiter) (there : Option FlashEntry) (c : Course A) (next : Option (There A))
+    → i < length waiters → w ≡ get_or waiters i w
+    → IsNext keeps key w.wish (live now (there_past now (take i waiters) there)) c next → IsThere (there_past now (take (i + 1) waiters) there) next
+there-next keeps key now waiters i w there c next h at step =
+    subst (λ (ws : List Waiter). IsThere (there_past now ws there) next) (sym (taken-more waiters i w h at))
+    (subst (λ (e : Option FlashEntry). IsThere e next) (sym (past-more now (take i waiters) there w)) step.there_is)
+
+pub courses-whole : {A : Type 0} (keeps : Bool) (key : List ℕ) (now : ℕ) (waiters : List Waiter) (i : ℕ) (there : Option FlashEntry) (courses : List (Course A)) → length waiters ≤ i → AreCourses keeps key now (take i waiters) there courses → AreCourses keeps key now waiters there courses
+courses-whole keeps key now waiters i there courses h plan = subst (λ (ws : List Waiter). AreCourses keeps key now ws there courses) (take_all i waiters h) plan

@@ -26,6 +26,7 @@ use Rattle.hc_memory.proofs.Commuting.{unmark-early, unmark-unlink}
 use Rattle.hc_memory.proofs.Early.{early-same, unlinked-none}
 use Rattle.hc_proof_frames.proofs.fresh.Calming.{fill_key}
 use Rattle.hc_state.specs.Serving.{all_stored, clear_by, planted_by, all_served, waiters_at, without_calls, ended_by, stored_with, stored_without, store_by, unstore_by}
+use Rattle.hc_state.specs.Linked.{removed_early}
 use Rattle.hc_state.proofs.Served.{Fits, AllFit, over, number_at, clear-over, plant-over, stored-keys, served-over, clear-now, fits-clear, fits-link, linked-last}
 
 -- ---- the fill of a key
@@ -56,25 +57,25 @@ ended-over key pools there standing c all fits is = by_nvm c.nvm refl all
 
 -- ---- calls that wait stay as the key is cleared
 
-waiters-of : (f : Nvm → Changed) → ((nvm : Nvm) → (f nvm).nvm.fills ≡ nvm.fills) → (o : Option Nvm) (c : Cache) (key : List ℕ) → c.nvm ≡ o → waiters_at (on_flash_of o f c).cache.nvm key ≡ waiters_at c.nvm key
+pub waiters-of : (f : Nvm → Changed) → ((nvm : Nvm) → (f nvm).nvm.fills ≡ nvm.fills) → (o : Option Nvm) (c : Cache) (key : List ℕ) → c.nvm ≡ o → waiters_at (on_flash_of o f c).cache.nvm key ≡ waiters_at c.nvm key
 waiters-of f same None c key has = refl
 waiters-of f same (Some nvm) c key has = ap (λ (fills : List Fill). option_map_or (λ (fill : Fill). fill.waiters) (fill_at key fills) []) (same nvm) ∙ ap (λ (o : Option Nvm). waiters_at o key) (sym has)
 
-unqueue-fills : (key : List ℕ) (nvm : Nvm) → (unqueue key nvm).nvm.fills ≡ nvm.fills
+pub unqueue-fills : (key : List ℕ) (nvm : Nvm) → (unqueue key nvm).nvm.fills ≡ nvm.fills
 unqueue-fills key nvm = by (is_some (put_at key nvm.queue)) refl
   where
     by : (b : Bool) → is_some (put_at key nvm.queue) ≡ b → (unqueue key nvm).nvm.fills ≡ nvm.fills
     by true e = rw e refl
     by false e = rw e refl
 
-bury-fills : (key : List ℕ) (nvm : Nvm) → (bury key nvm).nvm.fills ≡ nvm.fills
+pub bury-fills : (key : List ℕ) (nvm : Nvm) → (bury key nvm).nvm.fills ≡ nvm.fills
 bury-fills key nvm = by (is_due nvm key) refl
   where
     by : (b : Bool) → is_due nvm key ≡ b → (bury key nvm).nvm.fills ≡ nvm.fills
     by true e = rw e refl
     by false e = rw e refl
 
-unindex-fills : (key : List ℕ) (nvm : Nvm) → (unindex key nvm).nvm.fills ≡ nvm.fills
+pub unindex-fills : (key : List ℕ) (nvm : Nvm) → (unindex key nvm).nvm.fills ≡ nvm.fills
 unindex-fills key nvm = by (is_indexed nvm.pair key) refl
   where
     by : (b : Bool) → is_indexed nvm.pair key ≡ b → (unindex key nvm).nvm.fills ≡ nvm.fills
@@ -106,11 +107,6 @@ store-over pools standing h c less all fits is =
     ∙ ap then more
 
 -- ---- removes
-
--- the memory once the last item that calls store is linked, or else the key's item is gone
-abbrev pub removed_early : List ℕ → List Handle → Memory → Memory
-removed_early key [] m = after_unlink m key
-removed_early key (h ∷ hs) m = early (h ∷ hs) m
 
 bare-none : (key : List ℕ) (pools : List Pool) → items_at key pools ≡ 0 → linked_at key pools ≡ None
 bare-none key [] none = refl

@@ -1,6 +1,6 @@
 -- Calls that wait for a key from flash, and the replies that they are owed.
 use Rattle.std.specs.Prelude.{ℕ, ◌+◌, Bool, false, List, Option, Some, None}
-use Rattle.hc_machine.specs.Nvm.{Nvm, Waiter, Fill, fill_at, joined_by}
+use Rattle.hc_machine.specs.Nvm.{Nvm, Waiter, fill_at, joined_by}
 use Rattle.hc_machine.specs.Cache.{Owed, Cache, owed_anew}
 use Rattle.hc_replies.specs.Replies.{AreBefore}
 use Rattle.hc_waiting.specs.Fills.{is_kept_in}

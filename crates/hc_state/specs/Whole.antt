@@ -81,3 +81,9 @@ pub record IsStep (moved : Moved) (answer : Answer) (old new : Whole) : Type 0 w
   pub answer_is : answer ≡ moved.answer
   pub log : new.log ≡ told_more old.log moved.part
   pub ready : IsReady new
+
+-- nothing of the cache or its log changed, and there is room for as many notes
+pub record IsUnchanged (old new : Whole) : Type 0 where
+  pub cache : new.cache ≡ old.cache
+  pub log : new.log ≡ old.log
+  pub notes : old.notes ≤ new.notes

@@ -21,7 +21,7 @@ use hc_types::{Cause, Config, Entry, Key, Scope, Why};
 use std::alloc::{AllocError, Allocator};
 
 /// What allocates the lists of the configuration, and so all of the cache.
-fn alloc_of<A: Allocator + Copy>(config: &Config<A>) -> A {
+pub(crate) fn alloc_of<A: Allocator + Copy>(config: &Config<A>) -> A {
     *config.pools.allocator()
 }
 

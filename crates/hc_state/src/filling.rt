@@ -1,0 +1,60 @@
+// A fill ends: what it brings is linked, where it can be, and the calls that wait for its key are served.
+ghost use Rattle.std.specs.Prelude.{◌≡◌, ◌+◌, ◌≤◌, None, length};
+ghost use Rattle.hc_bighash.specs.Seen.{result_of};
+ghost use Rattle.hc_machine.specs.Cache.{Took};
+ghost use Rattle.hc_machine.specs.Workers.{finish as finish_step};
+ghost use Rattle.hc_nvm.specs.Seen.{take_of};
+ghost use Rattle.hc_state.specs.FillEnds.{EndsIn, EndsAtOnceIn, finish_in, filler_take_in, most_told_in, TookBy};
+ghost use Rattle.hc_state.specs.Whole.{IsStep};
+
+use crate::state::State;
+use hc_bighash::IoResult;
+use hc_history::{Note, Notes};
+use hc_nvm::{Ending, Take, Taken};
+use std::alloc::Allocator;
+
+impl<N: Notes<Note<A>>, A: Allocator + Clone + Copy> State<N, A> {
+    /// The get of the job with this number is over with this result, as `ending` has it: flash tells what it told, and what
+    /// it loses. The fill that ends is handed up.
+    pub(crate) fn end_get(&mut self, number: u64, ending: Ending<A>, came: IoResult<A>) -> Taken<A>
+        requires ends { EndsIn number (result_of came) self.old.cache.nvm ending }
+        requires room { most_told_in ending.over.outcome.losses self.old.cache.nvm ≤ self.old.notes }
+        ensures { TookBy (finish_in self.old.cache.nvm number (result_of came)) (most_told_in ending.over.outcome.losses self.old.cache.nvm) result self.old self.new }
+    {
+        match &mut self.nvm {
+            Some(nvm) => nvm.end(number, ending, came, &mut self.notes, &mut self.pools),
+            None => unreachable!(),
+        }
+    }
+
+    /// The fill that is next is taken and over at once, as `ending` has it: the same.
+    pub(crate) fn end_get_at_once(&mut self, ending: Ending<A>) -> Taken<A>
+        requires ends { EndsAtOnceIn self.old.cache.nvm ending }
+        requires room { most_told_in ending.over.outcome.losses self.old.cache.nvm ≤ self.old.notes }
+        ensures { TookBy (filler_take_in self.old.cache.nvm) (most_told_in ending.over.outcome.losses self.old.cache.nvm) result self.old self.new }
+    {
+        match &mut self.nvm {
+            Some(nvm) => nvm.end_at_once(ending, &mut self.notes, &mut self.pools),
+            None => unreachable!(),
+        }
+    }
+
+    /// The get of an orphan is over with this result, as `ending` has it: nothing that it found is linked, and nobody is
+    /// answered. Nothing is refused.
+    pub(crate) fn finish_orphan(
+        &mut self,
+        number: u64,
+        ending: Ending<A>,
+        came: IoResult<A>,
+    ) -> Take<A>
+        requires ends { EndsIn number (result_of came) self.old.cache.nvm ending }
+        requires orphan { ending.key ≡ None }
+        requires room { length self.old.cache.memory.charges + 1 + most_told_in ending.over.outcome.losses self.old.cache.nvm ≤ self.old.notes }
+        ensures { IsStep (finish_step number (result_of came) self.old.cache) (Took (take_of result)) self.old self.new }
+    {
+        let taken = self.end_get(number, ending, came);
+        let Taken { take, filled } = taken;
+        drop(filled);
+        take
+    }
+}

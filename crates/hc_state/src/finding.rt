@@ -1,0 +1,279 @@
+// Finds.
+ghost use Rattle.std.specs.Prelude.{◌≡◌, ◌+◌, ◌≤◌, [], ◌∷◌, true, false, Some, length, option_map, option_to_list, IfOk, OnOk, OnErr, IfErr};
+ghost use Rattle.hc_types.specs.FlashEntry.{entry_of};
+ghost use Rattle.hc_memory.specs.Memory.{after_find};
+ghost use Rattle.hc_history.specs.Note.{Begin, Did, End, Find};
+ghost use Rattle.hc_history.specs.Seen.{reply_of};
+ghost use Rattle.hc_history.specs.Told.{where_kept, told_more, kind_of};
+ghost use Rattle.hc_machine.specs.Cache.{Replied};
+ghost use Rattle.hc_machine.specs.Calls.{waiting_at, must_wait as must_wait_seen, find as find_step};
+ghost use Rattle.hc_machine.specs.Waiting.{live, find_reply};
+ghost use Rattle.hc_state.specs.Finding.{found_answer, reply_by, stands_in, told_did};
+ghost use Rattle.hc_state.specs.Owing.{OwesBegun};
+ghost use Rattle.hc_state.specs.Whole.{IsReady, IsStep, Stays, IsUnchanged, nvm_of};
+
+use crate::answers::Found;
+use crate::beginning::{begin_find, number_after, room_for_notes};
+use crate::state::State;
+use crate::tells;
+use crate::waiting::{is_linked, wait};
+use bytes::Bytes;
+use hc_history::{Kind, Note, Notes, Reply, Said};
+use hc_memory::{Pools, ReadHandle};
+use hc_nvm::Nvm;
+use hc_types::{Entry, Key, Refusal};
+use hc_waiting::{Waiter, Wish};
+use std::alloc::{AllocError, Allocator};
+
+/// The value of a put that waits, unless it is expired at `now` (seconds).
+fn live_value<A: Allocator>(put: Option<Entry<A>>, now: u64) -> Option<Bytes<A>>
+    ensures { reply_by result ≡ find_reply (live now (option_map entry_of put)) }
+{
+    let Some(put) = put else {
+        return None;
+    };
+    let Entry { value, expiry, .. } = put;
+    if expiry != 0 && expiry <= now {
+        return None;
+    }
+    Some(value)
+}
+
+/// Another owner of the value of the key's put that waits, unless it is expired at `now` (seconds).
+fn waiting_value<A: Allocator + Clone + Copy>(
+    nvm: &Option<Nvm<A>>,
+    key: &Key<A>,
+    now: u64,
+) -> Result<Option<Bytes<A>>, AllocError>
+    ensures { IfOk result (λ found. reply_by found ≡ find_reply (live now (waiting_at (nvm_of nvm.now) key.now))) }
+{
+    let Some(nvm) = nvm else {
+        return Ok(None);
+    };
+    let put = nvm.put(key)?;
+    Ok(live_value(put, now))
+}
+
+/// Another owner of the value that stands under the key, unless it is expired at `now` (seconds): of its item, or else of
+/// its put that waits. The item isn't used.
+fn value_in<A: Allocator + Clone + Copy>(
+    pools: &Pools<A>,
+    nvm: &Option<Nvm<A>>,
+    key: &Key<A>,
+    now: u64,
+) -> Result<Option<Bytes<A>>, AllocError>
+    ensures { IfOk result (λ found. reply_by found ≡ find_reply (live now (stands_in pools.now.pools (nvm_of nvm.now) key.now))) }
+{
+    if is_linked(pools, key) {
+        return pools.value(key, now);
+    }
+    waiting_value(nvm, key, now)
+}
+
+/// A handle to that value. An item that is found is now the one that was used last in its pool.
+fn look_up<A: Allocator + Clone + Copy>(
+    pools: &mut Pools<A>,
+    nvm: &Option<Nvm<A>>,
+    key: &Key<A>,
+    now: u64,
+) -> Result<Option<ReadHandle<A>>, AllocError>
+    ensures value { IfOk result (λ found. reply_by found ≡ find_reply (live now (stands_in pools.old.pools (nvm_of nvm.now) key.now))) }
+    ensures pools { OnOk result (pools.new ≡ after_find pools.old now key.now) }
+    ensures err { OnErr result (pools.new ≡ pools.old) }
+{
+    if is_linked(pools, key) {
+        return pools.find(key, now);
+    }
+    match waiting_value(nvm, key, now)? {
+        Some(value) => Ok(Some(ReadHandle::new(value))),
+        None => Ok(None),
+    }
+}
+
+/// What a find is told that came to this value.
+fn reply_to_find<A: Allocator>(value: Option<Bytes<A>>) -> Reply<A>
+    ensures { reply_of result ≡ reply_by value }
+{
+    match value {
+        Some(value) => Reply::Hit(value),
+        None => Reply::Miss,
+    }
+}
+
+/// As what a find is counted, by what was found.
+fn kind_by<A: Allocator>(found: &Option<ReadHandle<A>>) -> Kind
+    ensures { Some result ≡ kind_of (reply_by found.now) }
+{
+    match found {
+        Some(_) => Kind::Hit,
+        None => Kind::Miss,
+    }
+}
+
+/// What a find answers, by what was found.
+fn found_by<A: Allocator>(found: Option<ReadHandle<A>>) -> Found<A>
+    ensures { found_answer result ≡ Replied (reply_by found) }
+{
+    match found {
+        Some(handle) => Found::Hit(handle),
+        None => Found::Miss,
+    }
+}
+
+/// A find that is answered at once: its number, and its notes, where they are kept.
+#[derive(Drop)]
+struct Finding<A: Allocator> {
+    call: u64,
+    begin: Option<Note<A>>,
+    did: Option<Note<A>>,
+}
+
+/// The note that answers a find of the key at `now` (seconds), where notes are kept.
+fn did_find<A: Allocator + Clone + Copy, N: Notes<Note<A>>>(
+    notes: &N,
+    call: u64,
+    pools: &Pools<A>,
+    nvm: &Option<Nvm<A>>,
+    key: &Key<A>,
+    now: u64,
+) -> Result<Option<Note<A>>, AllocError>
+    ensures { IfOk result (λ note. note ≡ where_kept (N.told notes.now) (Did call (find_reply (live now (stands_in pools.now.pools (nvm_of nvm.now) key.now))))) }
+{
+    if !notes.keeps() {
+        return Ok(None);
+    }
+    let reply = reply_to_find(value_in(pools, nvm, key, now)?);
+    Ok(Some(Note::new(Said::Did { call, reply })))
+}
+
+/// The notes of the find with this number, where notes are kept.
+fn notes_of_find<A: Allocator + Clone + Copy, N: Notes<Note<A>>>(
+    notes: &N,
+    call: u64,
+    client: u8,
+    pools: &Pools<A>,
+    nvm: &Option<Nvm<A>>,
+    key: &Key<A>,
+    now: u64,
+) -> Result<Finding<A>, AllocError>
+    ensures call { IfOk result (λ plan. plan.call ≡ call) }
+    ensures begin { IfOk result (λ plan. plan.begin ≡ where_kept (N.told notes.now) (Begin call client (Find key.now))) }
+    ensures did { IfOk result (λ plan. plan.did ≡ where_kept (N.told notes.now) (Did call (find_reply (live now (stands_in pools.now.pools (nvm_of nvm.now) key.now))))) }
+{
+    let begin = begin_find(notes, call, client, key)?;
+    match did_find(notes, call, pools, nvm, key, now) {
+        Ok(did) => Ok(Finding { call, begin, did }),
+        Err(no_memory) => {
+            drop(begin);
+            Err(no_memory)
+        }
+    }
+}
+
+/// Answers a find: by its note, where notes are kept.
+fn tell_did<A: Allocator, N: Notes<Note<A>>>(notes: &mut N, did: Option<Note<A>>, kind: Kind)
+    requires { 1 ≤ N.room notes.old }
+    ensures told { N.told notes.new ≡ told_did (N.told notes.old) did kind }
+    ensures room { N.room notes.old ≤ N.room notes.new + 1 }
+{
+    match did {
+        Some(note) => notes.note(note),
+        None => notes.count(kind),
+    }
+}
+
+/// Tells the notes of a find, or counts its answer as this kind.
+fn tell_find<A: Allocator, N: Notes<Note<A>>>(notes: &mut N, plan: Finding<A>, kind: Kind)
+    requires { 3 ≤ N.room notes.old }
+    ensures told { N.told notes.new ≡ told_more (told_did (told_more (N.told notes.old) (option_to_list plan.begin)) plan.did kind) (End plan.call ∷ []) }
+    ensures room { N.room notes.old ≤ N.room notes.new + 3 }
+{
+    let Finding { call, begin, did } = plan;
+    tells::tell(notes, begin);
+    tell_did(notes, did, kind);
+    tells::ended(notes, call);
+}
+
+impl<N: Notes<Note<A>>, A: Allocator + Clone + Copy> State<N, A> {
+    /// A find that memory answers: the value is there, or flash can't have it.
+    fn find_now(&mut self, call: u64, client: u8, key: &Key<A>) -> Result<Found<A>, Refusal>
+        requires ready { IsReady self.old }
+        requires call { call ≡ self.old.cache.calls + 1 }
+        requires now { must_wait_seen self.old.cache key.now ≡ false }
+        ensures ok { IfOk result (λ found. IsStep (find_step client key.now self.old.cache) (found_answer found) self.old self.new) }
+        ensures err { OnErr result (Stays self.old self.new) }
+        ensures memory { IfErr result (λ refusal. refusal ≡ Refusal.NoMemory) }
+    {
+        room_for_notes(&mut self.notes, &self.pools, 3)?;
+        let plan = notes_of_find(
+            &self.notes,
+            call,
+            client,
+            &self.pools,
+            &self.nvm,
+            key,
+            self.clock,
+        )?;
+        let found = match look_up(&mut self.pools, &self.nvm, key, self.clock) {
+            Ok(found) => found,
+            Err(_) => {
+                drop(plan);
+                return Err(Refusal::NoMemory);
+            }
+        };
+
+        self.calls = call;
+        let kind = kind_by(&found);
+        tell_find(&mut self.notes, plan, kind);
+        Ok(found_by(found))
+    }
+
+    /// A find that waits for flash.
+    fn find_later(&mut self, call: u64, client: u8, key: &Key<A>) -> Result<Found<A>, Refusal>
+        requires ready { IsReady self.old }
+        requires begun { OwesBegun self.old.cache }
+        requires call { call ≡ self.old.cache.calls + 1 }
+        requires later { must_wait_seen self.old.cache key.now ≡ true }
+        ensures ok { IfOk result (λ found. IsStep (find_step client key.now self.old.cache) (found_answer found) self.old self.new) }
+        ensures err { OnErr result (IsUnchanged self.old self.new) }
+        ensures memory { IfErr result (λ refusal. refusal ≡ Refusal.NoMemory) }
+    {
+        room_for_notes(&mut self.notes, &self.pools, 1)?;
+        let begin = begin_find(&self.notes, call, client, key)?;
+        let waiter = Waiter {
+            call,
+            wish: Wish::Find,
+        };
+        match wait(&mut self.nvm, &mut self.replies, key, waiter) {
+            Ok(()) => {}
+            Err(waiter) => {
+                drop(waiter);
+                drop(begin);
+                return Err(Refusal::NoMemory);
+            }
+        }
+
+        self.calls = call;
+        tells::tell(&mut self.notes, begin);
+        Ok(Found::Waiting(call))
+    }
+
+    /// Finds the value under the key: of its item, which becomes the one of its pool that was used last, or else of its put
+    /// that waits for flash. An expired one is a miss, and stays where it is. Where memory has neither and flash may have the
+    /// key, the call waits, and its reply is taken later. Refused with `NoMemory`, also where the call numbers have run out.
+    pub fn find(&mut self, client: u8, key: &Key<A>) -> Result<Found<A>, Refusal>
+        requires ready { IsReady self.old }
+        requires begun { OwesBegun self.old.cache }
+        ensures ok { IfOk result (λ found. IsStep (find_step client key.now self.old.cache) (found_answer found) self.old self.new) }
+        ensures err { OnErr result (IsUnchanged self.old self.new) }
+        ensures memory { IfErr result (λ refusal. refusal ≡ Refusal.NoMemory) }
+        ensures begun { OwesBegun self.new.cache }
+    {
+        let call = number_after(self.calls)?;
+        if self.must_wait(key) {
+            self.find_later(call, client, key)
+        } else {
+            self.find_now(call, client, key)
+        }
+    }
+}

@@ -1,0 +1,62 @@
+// What an insert or a remove needs before it changes anything.
+ghost use Rattle.std.specs.Prelude.{◌≡◌, ◌≤◌, ◌+◌, ◌*◌, length, IfSome, OnOk};
+ghost use Rattle.hc_state.specs.Storing.{how_many};
+ghost use Rattle.hc_state.specs.Serving.{waiters_at};
+ghost use Rattle.hc_state.specs.Whole.{Stays, nvm_of};
+
+use crate::state::State;
+use hc_history::{Note, Notes};
+use hc_nvm::Nvm;
+use hc_types::Key;
+use std::alloc::{AllocError, Allocator};
+
+/// How many calls wait for the key.
+fn how_many_wait<A: Allocator + Clone + Copy>(nvm: &Option<Nvm<A>>, key: &Key<A>) -> usize
+    ensures { result ≡ length (waiters_at (nvm_of nvm.now) key.now) }
+{
+    match nvm {
+        Some(nvm) => nvm.waiters(key).len(),
+        None => 0,
+    }
+}
+
+/// How many notes a call tells for whose key so many others wait, beside one for each open charge. None where that is more
+/// than can be counted.
+fn notes_for(waiting: usize, charges: usize) -> Option<usize>
+    requires { charges ≤ 16777216 }
+    ensures { IfSome result (λ notes. notes ≡ 6 * waiting + 8 + charges) }
+{
+    let each = waiting.checked_mul(6)?;
+    each.checked_add(8 + charges)
+}
+
+impl<N: Notes<Note<A>>, A: Allocator + Clone + Copy> State<N, A> {
+    /// Room for the tombstones of a call for whose key so many others wait.
+    fn room_for_stones(&mut self, waiting: usize) -> Result<(), AllocError>
+        ensures stays { Stays self.old self.new }
+        ensures notes { self.old.notes ≤ self.new.notes }
+        ensures stones { OnOk result (waiting + 1 ≤ self.new.spare.stones) }
+    {
+        let Some(stones) = waiting.checked_add(1) else {
+            return Err(AllocError);
+        };
+        match &mut self.nvm {
+            Some(nvm) => nvm.reserve(0, stones, 0),
+            None => Ok(()),
+        }
+    }
+
+    /// Room for what a call tells and buries that inserts or removes this key. Refused only where memory lacks.
+    pub(crate) fn room_for(&mut self, key: &Key<A>) -> Result<(), AllocError>
+        ensures stays { Stays self.old self.new }
+        ensures notes { OnOk result (6 * how_many key.now self.old + 8 + length self.old.cache.memory.charges ≤ self.new.notes) }
+        ensures stones { OnOk result (how_many key.now self.old + 1 ≤ self.new.spare.stones) }
+    {
+        let waiting = how_many_wait(&self.nvm, key);
+        let Some(notes) = notes_for(waiting, self.pools.open_charges()) else {
+            return Err(AllocError);
+        };
+        self.notes.reserve(notes)?;
+        self.room_for_stones(waiting)
+    }
+}
