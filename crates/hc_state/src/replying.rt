@@ -15,7 +15,7 @@ use std::alloc::Allocator;
 
 impl<N: Notes<Note<A>>, A: Allocator + Clone + Copy> State<N, A> {
     /// Takes the reply of the call that waited. Refused with `UnknownCall` where none is owed to the call, with `NotReady`
-    /// where it still waits, and with `NoMemory`, only where notes are kept.
+    /// where it still waits, and with `NoMemory`.
     pub fn take_reply(&mut self, call: u64) -> Result<Reply<A>, Refusal>
         requires ready { IsReady self.old }
         ensures ok { IfOk result (λ reply. IsStep (take_step call self.old.cache) (Replied (reply_of reply)) self.old self.new) }
