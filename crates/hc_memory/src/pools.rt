@@ -4,7 +4,7 @@ ghost use Rattle.hc_types.specs.Limits.{first_wrong};
 ghost use Rattle.hc_types.specs.Charge.{charge_of};
 ghost use Rattle.hc_memory.specs.Planned.{IsPlanned};
 ghost use Rattle.hc_memory.specs.Pool.{is_full, kept, dropped};
-ghost use Rattle.hc_memory.specs.Sound.{Sound, IsWithin};
+ghost use Rattle.hc_memory.specs.Sound.{Sound, FlashFits, IsWithin};
 ghost use Rattle.hc_memory.specs.Seen.{item_of, filled, glance_of};
 ghost use Rattle.hc_memory.specs.Memory.{empty_pool, pool_usage, home_of, linked_at, value_at, is_hopeless, victims_of, oldest_keys, handle_for, unlinked, after_room, after_charge, after_unlink, after_find};
 
@@ -50,6 +50,15 @@ impl<A: Allocator> Model for Pools<A> {
 }
 
 impl<A: Allocator> Pools<A> {
+    /// The flash behind the pools, by which clean marks are taken. Its numbers are such that a scope can be told.
+    #[must_use]
+    pub fn flash(&self) -> &Option<FlashConfig>
+        ensures value { result.now ≡ self.now.flash }
+        ensures fits { FlashFits self.now.flash }
+    {
+        &self.flash
+    }
+
     /// How many pools there are: 1 to 16. Each is within its limits, no key has two items, and no two open charges have
     /// one number.
     #[must_use]

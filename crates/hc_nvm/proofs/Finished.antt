@@ -94,6 +94,20 @@ no_place number (x ∷ xs) h = of (x.number == number) refl (no_place number xs)
     of true t more = let wrong : Some 0 ≡ None = (rw t at h) in absurd cc
     of false t more = rw t (more (none (place number xs) (rw t at h)))
 
+-- the job that is found stands at its place
+pub placed_there : (number at : ℕ) (jobs : List Job) → place number jobs ≡ Some at → slice_get jobs at ≡ job_at number jobs
+placed_there number at [] e = absurd cc
+placed_there number at (x ∷ xs) e = of (x.number == number) refl (λ n b. placed_there number n xs b)
+  where
+    of : (t : Bool) → (x.number == number) ≡ t → ((n : ℕ) → place number xs ≡ Some n → slice_get xs n ≡ job_at number xs) → slice_get (x ∷ xs) at ≡ job_at number (x ∷ xs)
+    of true t more =
+        let here : 0 ≡ at = some_is 0 at (rw t at e) in
+        subst (λ (n : ℕ). slice_get (x ∷ xs) n ≡ job_at number (x ∷ xs)) here (rw t refl)
+    of false t more =
+        let behind = place_tail (place number xs) at (rw t at e) in
+        let next : suc behind.0 ≡ at = (let is = behind.2 in omega (arith, is)) in
+        subst (λ (n : ℕ). slice_get (x ∷ xs) n ≡ job_at number (x ∷ xs)) next (rw t (more behind.0 behind.1))
+
 -- ---- what is told of a result
 
 pub result_unmarks : (order : Order) (result : IoResult) (rest : List Note) (memory : Memory) → unmarked_by (result_note order result ∷ rest) memory ≡ unmarked_by rest memory

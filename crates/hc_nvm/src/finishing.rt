@@ -70,7 +70,7 @@ fn copy_brought<A: Allocator + Copy>(
 }
 
 /// Whether the job has this number.
-fn has_number<A: Allocator>(job: &Job<A>, number: u64) -> bool
+pub(crate) fn has_number<A: Allocator>(job: &Job<A>, number: u64) -> bool
     ensures { result ≡ is_job number job.now }
 {
     job.number == number

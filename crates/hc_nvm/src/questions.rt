@@ -1,16 +1,19 @@
 // What a caller asks before it calls: nothing changes, and only the jobs are walked, which are few.
-ghost use Rattle.std.specs.Prelude.{◌≡◌, ◌≤◌, Some, length, is_some, option_map, IfOk, OnOk};
-ghost use Rattle.std.specs.List.{list_any};
+ghost use Rattle.std.specs.Prelude.{◌≡◌, ◌≤◌, ◌==◌, Some, length, is_some, option_map, IfOk, OnOk};
+ghost use Rattle.std.specs.List.{list_all, list_any};
 ghost use Rattle.std.specs.Option.{option_copied};
 ghost use Rattle.hc_types.specs.FlashEntry.{entry_of};
 ghost use Rattle.hc_engines.specs.pair.Pair.{could_have as could_have_seen, hash_in, is_indexed as is_indexed_seen};
-ghost use Rattle.hc_machine.specs.Nvm.{Fill, fill_at, fill_by, put_at, puts as puts_seen, is_buried as is_buried_seen, is_due as is_due_seen, is_written_now as is_written_now_seen, may_come as may_come_seen};
+ghost use Rattle.hc_machine.specs.Nvm.{Fill, Job as Waits, fill_at, fill_by, is_job, job_at, put_at, puts as puts_seen, is_buried as is_buried_seen, is_due as is_due_seen, is_written_now as is_written_now_seen, may_come as may_come_seen};
 ghost use Rattle.hc_machine.specs.Calls.{must_wait_in};
 ghost use Rattle.hc_nvm.specs.Asked.{calls_of};
+ghost use Rattle.hc_nvm.specs.Seen.{order_of};
 ghost use Rattle.hc_waiting.specs.Fills.{is_kept_in};
 
+use crate::finishing::{has_number, place_of};
 use crate::jobs::{Job, Task};
 use crate::nvm::Nvm;
+use crate::orders::Order;
 use hc_types::{Entry, FlashConfig, Key};
 use hc_waiting::Waiter;
 use std::alloc::{AllocError, Allocator};
@@ -30,6 +33,16 @@ fn one_puts<A: Allocator>(jobs: &[Job<A>], key: &Key<A>) -> bool
     ensures { result ≡ list_any (λ job. puts_seen key.now job.task) jobs.now }
 {
     jobs.iter().any(|job| puts(job, key))
+}
+
+/// What the job with this number waits for.
+fn order_in<A: Allocator>(jobs: &[Job<A>], number: u64) -> Option<&Order<A>>
+    ensures { option_map order_of (option_copied result) ≡ option_map (λ (job : Waits). job.order) (job_at number jobs.now) }
+{
+    match place_of(jobs, number) {
+        Some(at) => Some(&jobs[at].order),
+        None => None,
+    }
 }
 
 impl<A: Allocator + Clone + Copy> Nvm<A> {
@@ -145,6 +158,30 @@ impl<A: Allocator + Clone + Copy> Nvm<A> {
         ensures { option_copied result ≡ option_map (λ (fill : Fill). fill.key) (fill_by number self.now.nvm.fills) }
     {
         self.fills.key_of(number)
+    }
+
+    /// The device operation for which the job with this number waits.
+    #[must_use]
+    pub fn order(&self, number: u64) -> Option<&Order<A>>
+        ensures { option_map order_of (option_copied result) ≡ option_map (λ (job : Waits). job.order) (job_at number self.now.nvm.jobs) }
+    {
+        order_in(self.jobs.as_slice(), number)
+    }
+
+    /// Whether no job is under way but the one with this number.
+    #[must_use]
+    pub fn is_alone(&self, number: u64) -> bool
+        ensures { result ≡ list_all (is_job number) self.now.nvm.jobs }
+    {
+        self.jobs.iter().all(|job| has_number(job, number))
+    }
+
+    /// Whether no job is under way.
+    #[must_use]
+    pub fn is_idle(&self) -> bool
+        ensures { result ≡ (length self.now.nvm.jobs == 0) }
+    {
+        self.jobs.is_empty()
     }
 
     /// How many tombstones stand.
