@@ -40,7 +40,10 @@ fn order_in<A: Allocator>(jobs: &[Job<A>], number: u64) -> Option<&Order<A>>
     ensures { option_map order_of (option_copied result) ≡ option_map (λ (job : Waits). job.order) (job_at number jobs.now) }
 {
     match place_of(jobs, number) {
-        Some(at) => Some(&jobs[at].order),
+        Some(at) => {
+            let job = &jobs[at];
+            Some(&job.order)
+        }
         None => None,
     }
 }
