@@ -144,6 +144,14 @@ impl<A: Allocator + Clone + Copy> Nvm<A> {
         self.queue.value(key)
     }
 
+    /// The second at which the key's put that waits expires (0: never).
+    #[must_use]
+    pub fn put_expiry(&self, key: &Key<A>) -> Option<u64>
+        ensures { result ≡ option_map (λ put. put.expiry) (put_at key.now self.now.nvm.queue) }
+    {
+        self.queue.expiry(key)
+    }
+
     /// The calls that wait for the key, in order.
     #[must_use]
     pub fn waiters(&self, key: &Key<A>) -> &[Waiter<A>]
