@@ -1,0 +1,3 @@
+-- Proofs of what is true of every trace.
+pub mod Logs
+pub mod Answered

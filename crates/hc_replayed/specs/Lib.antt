@@ -1,0 +1,4 @@
+-- What a trace comes to, with flash or without.
+pub mod Actions
+pub mod Trace
+pub mod Promise
