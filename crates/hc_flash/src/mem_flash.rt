@@ -49,6 +49,19 @@ impl<A: Allocator + Clone> MemFlash<A> {
     }
 }
 
+impl<A: Allocator> MemFlash<A> {
+    /// Nothing is known of the page any more, as after a write of it that failed. No failure is counted: who fails an
+    /// operation before it comes to the device says so here, where that was a write.
+    pub fn forget(&mut self, page: u32)
+        ensures lost { held_by self.new page ≡ None }
+        ensures others { (other : ℕ) → ¬ (other ≡ page) → held_by self.new other ≡ held_by self.old other }
+        ensures size { (self.new.pages ≡ self.old.pages) × (self.new.page_size ≡ self.old.page_size) }
+        ensures not_counted { self.new.failed ≡ self.old.failed }
+    {
+        self.written.remove(&page);
+    }
+}
+
 impl<A: Allocator + Clone> Flash<A> for MemFlash<A> {
     ghost held = { held_by };
 

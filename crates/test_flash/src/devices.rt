@@ -108,6 +108,21 @@ fn a_page_is_lost_until_it_is_written_again(rt: HostRuntime) -> Result<(), Fail>
     Ok(())
 }
 
+fn forgets(rt: &impl Abort, flash: &mut MemFlash) {
+    writes(rt, flash, 0, b"page");
+    writes(rt, flash, 1, b"kept");
+    flash.forget(0);
+    has_failed(rt, flash, 0);
+    fails_to_read(rt, flash, 0, "forgotten");
+    reads(rt, flash, 1, b"kept");
+}
+
+#[test]
+fn a_page_is_forgotten_and_no_failure_counted(rt: HostRuntime) -> Result<(), Fail> {
+    forgets(&rt, &mut memory(rt.alloc(), 2)?);
+    Ok(())
+}
+
 fn fails_third(rt: &impl Abort, inner: impl Flash<Global>) {
     let flash = &mut FailAt::new(inner, 3);
     writes(rt, flash, 0, b"old ");
