@@ -2,3 +2,4 @@
 pub mod Actions
 pub mod Trace
 pub mod Promise
+pub mod Runs
