@@ -3,3 +3,4 @@ pub mod Logs
 pub mod Answered
 pub mod Steps
 pub mod Traces
+pub mod Rows
