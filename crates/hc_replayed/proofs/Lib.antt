@@ -3,4 +3,5 @@ pub mod Logs
 pub mod Answered
 pub mod Steps
 pub mod Traces
+pub mod Same
 pub mod Rows

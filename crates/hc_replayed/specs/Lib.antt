@@ -3,3 +3,4 @@ pub mod Actions
 pub mod Trace
 pub mod Promise
 pub mod Runs
+pub mod Turns

@@ -1,6 +1,7 @@
 // What is true of every trace. A function here does nothing: its contract is the law.
 ghost use Rattle.hc_replayed.specs.Promise.{EachLineIsAnswered, LogsAreRight};
 ghost use Rattle.hc_replayed.specs.Runs.{LinesAreSteps, TracesAreRuns};
+ghost use Rattle.hc_replayed.specs.Turns.{OutputIsByLines};
 
 /// The log of every trace is legal, and honest.
 pub fn logs_are_right()
@@ -20,4 +21,9 @@ pub fn lines_are_steps()
 /// The log of every trace is that of a schedule, which follows its steps.
 pub fn traces_are_runs()
     ensures { TracesAreRuns }
+{}
+
+/// Line by line, as it is read, a trace comes to its output.
+pub fn output_is_by_lines()
+    ensures { OutputIsByLines }
 {}
