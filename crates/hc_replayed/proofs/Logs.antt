@@ -37,7 +37,7 @@ same-log (action ∷ actions) w = by-deed (deed_of action) w (acted_lines action
 
 -- ---- keys that aren't refused have 1 to 255 bytes
 
-abbrev DeedSized : Deed → Type 0
+abbrev pub DeedSized : Deed → Type 0
 DeedSized (Acts line) = LineSized line
 DeedSized (Barred refusal) = Unit {0}
 
@@ -68,7 +68,7 @@ work-sized (Io job fails) = tt
 work-sized (Finish job) = tt
 work-sized (Reply call) = tt
 
-deed-sized : (action : Action) → DeedSized (deed_of action)
+pub deed-sized : (action : Action) → DeedSized (deed_of action)
 deed-sized (Do step) = step-sized step
 deed-sized (Serve work) = work-sized work
 

@@ -2,3 +2,5 @@
 pub mod Actions
 pub mod Trace
 pub mod Promise
+pub mod Runs
+pub mod Turns
