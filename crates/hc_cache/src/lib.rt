@@ -4,6 +4,8 @@
 mod cache;
 mod giving_up;
 mod laws;
+mod reading;
+mod workers;
 
 pub use cache::Core;
 pub use giving_up::{give_up, give_up_blank};
