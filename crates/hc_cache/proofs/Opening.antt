@@ -62,7 +62,7 @@ pub opened-known : {E : Type 0} (pool : ℕ) (key value : List ℕ) (ttl : ℕ) 
 opened-known pool key value ttl old new (Err e) structured opens is = tt
 opened-known pool key value ttl old new (Ok blank) structured opens is =
     let free : is_kept_in new.cache.nvm blank.number ≡ false =
-        (λ i. is_kept_in (opens.cache i).nvm (is i).number) ∙ unkept pool key (length value) old.cache structured in
+    (λ i. is_kept_in (opens.cache i).nvm (is i).number) ∙ unkept pool key (length value) old.cache structured in
     λ i. opens.is_open i && not (free i)
 
 -- ---- what is known

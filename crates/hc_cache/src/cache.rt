@@ -5,18 +5,15 @@ ghost use Rattle.hc_types.specs.declared.refusal.Refusal.TheVariants.{ForeignHan
 ghost use Rattle.hc_history.specs.Seen.{reply_of};
 ghost use Rattle.hc_history.specs.Told.{IfLog, Hears};
 ghost use Rattle.hc_memory.specs.Seen.{filled};
-ghost use Rattle.hc_machine.specs.Cache.{new_cache, Opened, Discarded, Replied, Moment, Took, Reclaimed, Refused};
+ghost use Rattle.hc_machine.specs.Cache.{new_cache, Opened, Discarded, Replied, Moment, Refused};
 ghost use Rattle.hc_machine.specs.Evicting.{allocate as allocate_step};
 ghost use Rattle.hc_machine.specs.Calls.{is_known, discard as discard_step, find as find_step, take_reply as reply_step, tick as tick_step};
-ghost use Rattle.hc_machine.specs.Workers.{writer_take as writer_step, reclaim as reclaim_step};
-ghost use Rattle.hc_nvm.specs.Seen.{take_of};
 ghost use Rattle.hc_state.specs.Answering.{IsReason};
 ghost use Rattle.hc_state.specs.Finding.{found_answer};
 ghost use Rattle.hc_cache.specs.Logged.{IsCall};
 
 use hc_history::{Note, Notes, Reply};
 use hc_memory::{Blank, Fill, Sealed, Uncharged};
-use hc_nvm::Take;
 use hc_state::{Found, State};
 use hc_types::{Config, Key, Refusal};
 use std::alloc::{Allocator, Global};
@@ -38,7 +35,7 @@ use std::marker::Model;
 /// An insert, a find and a remove take the number of the client that calls, for the log to tell.
 #[derive(Drop)]
 pub struct Core<N: Notes<Note<A>>, A: Allocator = Global> {
-    state: State<N, A>,
+    pub(crate) state: State<N, A>,
 }
 
 impl<N: Notes<Note<A>>, A: Allocator> Model for Core<N, A> {
@@ -159,25 +156,5 @@ impl<N: Notes<Note<A>>, A: Allocator + Clone + Copy> Core<N, A> {
     {
         let _sized = key.len();
         self.state.allocate_with(pool, key, fill, ttl)
-    }
-
-    /// The writer takes what is next: a region's page, or else a delete, or else a put. Where that goes on with a page, the
-    /// job waits for that device operation. Refused with `NoMemory`.
-    pub fn writer_take(&mut self) -> Result<Take<A>, Refusal>
-        ensures ok { IfOk result (λ take. IsCall (writer_step self.old.cache) (Took (take_of take)) self.old self.new) }
-        ensures err { OnErr result (self.new ≡ self.old) }
-        ensures memory { IfErr result (λ refusal. refusal ≡ Refusal.NoMemory) }
-    {
-        self.state.writer_take()
-    }
-
-    /// Gives up the region that was written first, where fewer regions are clean than are wanted: its entries are forgotten.
-    /// Answers its number. Refused with `NoMemory`.
-    pub fn reclaim(&mut self) -> Result<Option<u32>, Refusal>
-        ensures ok { IfOk result (λ region. IsCall (reclaim_step self.old.cache) (Reclaimed region) self.old self.new) }
-        ensures err { OnErr result (self.new ≡ self.old) }
-        ensures memory { IfErr result (λ refusal. refusal ≡ Refusal.NoMemory) }
-    {
-        self.state.reclaim()
     }
 }

@@ -16,6 +16,7 @@ mod flash;
 mod linking;
 mod marking;
 mod planning;
+mod reading;
 mod removing;
 mod replying;
 mod reserving;

@@ -4,8 +4,11 @@ use Rattle.hc_cache.proofs.Keeping.{call-holds}
 use Rattle.hc_cache.proofs.Calling.{called, unchanged}
 use Rattle.hc_cache.proofs.cache.Core.find.Goals as goal
 
-pub invariant_of-self-2 : goal.invariant_of-self-2
-invariant_of-self-2 g c =
+pub find-requires : goal.find-requires
+find-requires g c = record { ready = c.self.invariant.ready; begun = c.self.invariant.begun }
+
+pub invariant_of-self : goal.invariant_of-self
+invariant_of-self g c =
     call-holds (Finds c.args.client c.args.key.now) c.self.inside.state c.find.new.self tt c.self.invariant found_answer c.find.result c.find.ensures.ok c.find.ensures.err
 
 pub returns-clause-ok : goal.returns-clause-ok
