@@ -1,0 +1,9 @@
+pub mod Stepping
+pub mod Chaining
+pub mod Promising
+pub mod Going
+pub mod Slotting
+pub mod Devices
+pub mod Refusing
+pub mod Owning
+pub mod Staging
