@@ -7,3 +7,5 @@ pub mod Devices
 pub mod Refusing
 pub mod Owning
 pub mod Staging
+pub mod Resulting
+pub mod Ending

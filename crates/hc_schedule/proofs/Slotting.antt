@@ -1,6 +1,7 @@
 -- Slots that are filled and emptied.
-use Rattle.std.proofs.Common.{◌≡◌, ℕ, zero, suc, ◌+◌, ◌<◌, ◌==◌, Bool, true, false, not, List, [], ◌∷◌, Option, Some, None, length, slice_set, refl, ap, subst, ◌∙◌, arith, zero-add}
+use Rattle.std.proofs.Common.{◌≡◌, sym, ℕ, zero, suc, ◌+◌, ◌<◌, ◌==◌, Bool, true, false, not, List, [], ◌∷◌, Option, Some, None, length, slice_set, refl, ap, subst, ◌∙◌, arith, zero-add}
 use Rattle.std.specs.Prelude.{if◌then◌else◌, nat_lt, option_map}
+use Rattle.std.proofs.lemmas.List.{set-set, set-get_or}
 use Rattle.hc_memory.specs.Item.{Handle}
 use Rattle.hc_machine.specs.Schedule.{Slot, slot_at, without_slot, with_slot}
 use Rattle.hc_schedule.specs.Slots.{handle_in, filled_from}
@@ -87,3 +88,16 @@ module _ (slots : List (Option Handle)) (i : ℕ) where
 
   pub with-is : (handle : Handle) → i < length slots → handle_in i slots ≡ None → with_slot (slot_of i handle) (filled_from 0 slots) ≡ filled_from 0 (slice_set slots i (Some handle))
   with-is handle within empty = subst (λ (k : ℕ). with_slot (slot_of k handle) (filled_from 0 slots) ≡ filled_from 0 (slice_set slots i (Some handle))) (zero-add i) (with_from 0 i handle slots within empty)
+
+-- a handle that was taken out and is put back stands where it stood
+pub put-back : (slots taken back : List (Option Handle)) (slot : ℕ) (handle same : Handle) → handle_in slot slots ≡ Some handle → taken ≡ slice_set slots slot None → same ≡ handle → back ≡ slice_set taken slot (Some same) → back ≡ slots
+put-back slots taken back slot handle same is out e in_place =
+    in_place
+    ∙ (λ i. slice_set (out i) slot (Some (e i)))
+    ∙ set-set slots slot None (Some handle)
+    ∙ ap (slice_set slots slot) (sym is)
+    ∙ set-get_or slots slot None
+
+-- an empty slot is emptied
+pub set-none : (slots : List (Option Handle)) (slot : ℕ) → handle_in slot slots ≡ None → slice_set slots slot None ≡ slots
+set-none slots slot is = ap (slice_set slots slot) (sym is) ∙ set-get_or slots slot None
