@@ -1,0 +1,11 @@
+//! Schedules: any list of steps of clients and workers on a new cache over any device, and the log that they leave.
+#![tactic(auto)]
+
+mod device;
+mod laws;
+mod results;
+mod slots;
+mod steps;
+
+pub use laws::{chains_are_runs, runs_keep_promise, runs_stand};
+pub use steps::{Answer, Outcome, Request, Step};
