@@ -1,5 +1,4 @@
--- What a step of a trace does, and what is printed for a trace.
-pub mod Moves
+-- What a replay prints, as it goes.
+pub mod Places
+pub mod Telling
 pub mod Trace
-pub mod Machine
-pub mod Runs

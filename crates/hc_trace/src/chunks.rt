@@ -2,13 +2,16 @@
 ghost use Rattle.std.specs.Prelude.{◌≡◌, ◌≢◌, ◌<◌, ◌≤◌, ◌+◌, ◌++◌, ◌∷◌, ◌^◌, ◌==◌, [], length, take, vec_len, None, IfOk, OnOk, IfSome, OnSome, MatchOption, if◌then◌else◌};
 ghost use Rattle.std.specs.Io.KnownBytes.{Appends, Consumes, IsAtEnd, append_known};
 ghost use Rattle.hc_lines.specs.Lines.{Lacks};
-ghost use Rattle.hc_trace.specs.Trace.{Answers, LogsAreLegal};
-ghost use Rattle.hc_trace.specs.Runs.{RunsAreOfTheWorld};
-ghost use Rattle.hc_trace.specs.Machine.{begun, turn_of, output_from, Leads, Ends};
+ghost use Rattle.hc_replayed.specs.Promise.{LogsAreRight};
+ghost use Rattle.hc_replayed.specs.Runs.{TracesAreRuns};
+ghost use Rattle.hc_replayed.specs.Turns.{begun, turn_of, output_from};
+ghost use Rattle.hc_trace.specs.Trace.{Answers};
+ghost use Rattle.hc_trace.specs.Places.{place_of, IsAt, IsBetween, Leads, Ends};
 
 use crate::machine::{end, turn};
-use crate::state::{Sizes, State};
+use crate::state::State;
 use hc_lines::LONGEST;
+use hc_types::Config;
 use memchr::memchr;
 use std::alloc::{AllocError, Global};
 use std::io;
@@ -56,10 +59,11 @@ fn take_line(
     line: &[u8],
     taken: u64,
 ) -> Result<bool, AllocError>
-    requires { taken < 2 ^ 63 }
-    ensures state { OnOk result (state.new ≡ (turn_of taken state.old line.now).state) }
-    ensures text { OnOk result (out.new.items ≡ out.old.items ++ (turn_of taken state.old line.now).text) }
-    ensures goes { IfOk result (λ goes. goes ≡ (turn_of taken state.old line.now).goes) }
+    requires short { taken < 2 ^ 63 }
+    requires between { IsBetween state.old }
+    ensures state { OnOk result (IsAt state.new (turn_of taken (place_of state.old) line.now).state) }
+    ensures text { OnOk result (out.new.items ≡ out.old.items ++ (turn_of taken (place_of state.old) line.now).text) }
+    ensures goes { IfOk result (λ goes. goes ≡ (turn_of taken (place_of state.old) line.now).goes) }
 {
     let whole = out.len();
     match turn(alloc, state, out, line, taken) {
@@ -80,10 +84,11 @@ fn put_line<W: Write>(
     line: &[u8],
     taken: u64,
 ) -> io::Result<bool>
-    requires { taken < 2 ^ 63 }
-    ensures state { OnOk result (state.new ≡ (turn_of taken state.old line.now).state) }
-    ensures goes { IfOk result (λ goes. goes ≡ (turn_of taken state.old line.now).goes) }
-    ensures bytes { OnOk result (Appends (append_known (W.contents writer.old) out.old.items) (append_known (W.contents writer.new) out.new.items) (turn_of taken state.old line.now).text) }
+    requires short { taken < 2 ^ 63 }
+    requires between { IsBetween state.old }
+    ensures state { OnOk result (IsAt state.new (turn_of taken (place_of state.old) line.now).state) }
+    ensures goes { IfOk result (λ goes. goes ≡ (turn_of taken (place_of state.old) line.now).goes) }
+    ensures bytes { OnOk result (Appends (append_known (W.contents writer.old) out.old.items) (append_known (W.contents writer.new) out.new.items) (turn_of taken (place_of state.old) line.now).text) }
 {
     let goes = take_line(alloc, state, out, line, taken)?;
     if out.len() > FULL {
@@ -102,10 +107,11 @@ fn end_line<W: Write>(
     part: &[u8],
     taken: u64,
 ) -> io::Result<bool>
-    requires { taken < 2 ^ 63 }
-    ensures state { OnOk result (state.new ≡ (turn_of taken state.old (spill.old.items ++ part.now)).state) }
-    ensures goes { IfOk result (λ goes. goes ≡ (turn_of taken state.old (spill.old.items ++ part.now)).goes) }
-    ensures bytes { OnOk result (Appends (append_known (W.contents writer.old) out.old.items) (append_known (W.contents writer.new) out.new.items) (turn_of taken state.old (spill.old.items ++ part.now)).text) }
+    requires short { taken < 2 ^ 63 }
+    requires between { IsBetween state.old }
+    ensures state { OnOk result (IsAt state.new (turn_of taken (place_of state.old) (spill.old.items ++ part.now)).state) }
+    ensures goes { IfOk result (λ goes. goes ≡ (turn_of taken (place_of state.old) (spill.old.items ++ part.now)).goes) }
+    ensures bytes { OnOk result (Appends (append_known (W.contents writer.old) out.old.items) (append_known (W.contents writer.new) out.new.items) (turn_of taken (place_of state.old) (spill.old.items ++ part.now)).text) }
     ensures empty { OnOk result (spill.new.items ≡ []) }
 {
     if spill.is_empty() {
@@ -138,10 +144,12 @@ fn take_chunk<W: Write>(
 ) -> io::Result<Option<u64>>
     requires whole { Lacks 10 spill.old.items }
     requires room { taken + length chunk.now < 2 ^ 63 }
+    requires between { IsBetween state.old }
+    ensures between { IfOk result (λ next. OnSome next (IsBetween state.new)) }
     ensures whole { IfOk result (λ next. OnSome next (Lacks 10 spill.new.items)) }
     ensures room { IfOk result (λ next. IfSome next (λ n. n ≤ taken + length chunk.now)) }
     ensures leads { IfOk result (λ next. let old = append_known (W.contents writer.old) out.old.items in let new = append_known (W.contents writer.new) out.new.items in
-        let bytes = spill.old.items ++ chunk.now in MatchOption next (Ends old new taken state.old bytes) (λ n. Leads old new taken state.old bytes n state.new spill.new.items)) }
+        let bytes = spill.old.items ++ chunk.now in MatchOption next (Ends old new taken (place_of state.old) bytes) (λ n. Leads old new taken (place_of state.old) bytes n (place_of state.new) spill.new.items)) }
 {
     let mut taken = taken;
     let mut rest = chunk;
@@ -169,8 +177,9 @@ fn finish<W: Write>(
     line: &[u8],
     taken: u64,
 ) -> io::Result<u8>
-    requires { taken < 2 ^ 62 }
-    ensures { IfOk result (λ status. let output = output_from taken state.old (if length line.now == 0 then [] else line.now ∷ []) in
+    requires short { taken < 2 ^ 62 }
+    requires between { IsBetween state.old }
+    ensures { IfOk result (λ status. let output = output_from taken (place_of state.old) (if length line.now == 0 then [] else line.now ∷ []) in
         (status ≡ output.1) × Appends (append_known (W.contents writer.old) out.old.items) (append_known (W.contents writer.new) out.new.items) output.0) }
 {
     let mut taken = taken;
@@ -196,7 +205,8 @@ fn answer_chunks<R: Read, W: Write>(
 ) -> io::Result<u8>
     requires sized { vec_len buffer.old ≡ 65536 }
     requires empty { spill.old.items ≡ [] }
-    requires begun { state.old ≡ begun }
+    requires begun { place_of state.old ≡ begun }
+    requires between { IsBetween state.old }
     ensures { IfOk result (λ status. Answers (R.remaining reader.old) (append_known (W.contents writer.old) out.old.items) (append_known (W.contents writer.new) out.new.items) status) }
 {
     let mut taken = 0u64;
@@ -232,7 +242,7 @@ fn run<R: Read, W: Write>(
     let mut buffer = Vec::new(alloc);
     buffer.resize(CHUNK, 0u8)?;
     let mut spill = Vec::new(alloc);
-    let mut state = State::Configuring(Sizes::new(alloc));
+    let mut state = State::Configuring(Config::new(Vec::new(alloc), None));
     answer_chunks(
         alloc,
         reader,
@@ -257,8 +267,8 @@ pub fn replay<R: Read, W: Write>(
 ) -> u8
     requires { clients ≡ None }
     ensures answers { result ≢ 4 → Answers (R.remaining reader.old) (W.contents writer.old) (W.contents writer.new) result }
-    ensures log { LogsAreLegal }
-    ensures runs { RunsAreOfTheWorld }
+    ensures log { LogsAreRight }
+    ensures runs { TracesAreRuns }
 {
     let mut out = Vec::new(alloc);
     let status = match run(alloc, reader, writer, &mut out) {

@@ -4,6 +4,6 @@
 mod chunks;
 mod machine;
 mod state;
-mod steps;
+mod telling;
 
 pub use crate::chunks::replay;

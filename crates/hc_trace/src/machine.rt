@@ -1,16 +1,23 @@
 // One line of a trace after another.
-ghost use Rattle.std.specs.Prelude.{◌≡◌, ◌+◌, ◌^◌, ◌<◌, ◌++◌, None, Some, false, IfOk, OnOk, MatchResult};
+ghost use Rattle.std.specs.Prelude.{◌≡◌, ◌+◌, ◌^◌, ◌<◌, ◌++◌, [], None, Some, false, IfOk, OnOk, MatchResult};
 ghost use Rattle.hc_types.specs.Limits.{first_wrong};
+ghost use Rattle.hc_history.specs.Told.{Counts, no_counts};
 ghost use Rattle.hc_trace.specs.declared.state.State.TheVariants.{Running};
-ghost use Rattle.hc_lines.specs.Seen.{order_seen};
+ghost use Rattle.hc_lines.specs.Seen.{order_seen, step_seen, work_seen};
 ghost use Rattle.hc_lines.specs.Grammar as spec;
-ghost use Rattle.hc_trace.specs.Machine.{counting_cache, stops, obeyed, turn_of, ended};
 ghost use Rattle.hc_lines.specs.Texts.{fault_text};
+ghost use Rattle.hc_player.specs.Alike.{Alike};
+ghost use Rattle.hc_player.specs.Playing.{world_of};
+ghost use Rattle.hc_replayed.specs.Trace.{fresh};
+ghost use Rattle.hc_replayed.specs.Turns.{obeyed, turn_of, ended};
+ghost use Rattle.hc_trace.specs.Places.{place_of, closed, IsAt, IsBetween};
 
 use crate::state::State;
-use crate::steps::take_step;
-use hc_core::{Config, Core, Counting, PoolSize, Refusal};
-use hc_lines::{Line, Order, add_fault, add_refusal, add_stats, add_verdict, line_in};
+use crate::telling::{do_work, take_step};
+use hc_history::Counting;
+use hc_lines::{Line, Order, Step, Work, add_fault, add_refusal, add_stats, add_verdict, line_in};
+use hc_player::Player;
+use hc_types::{Config, FlashConfig, PoolSize, Refusal};
 use std::alloc::{AllocError, Global};
 
 // The fault at the line after so many. The trace stops.
@@ -30,37 +37,40 @@ fn take_pool(
     size: PoolSize,
     taken: u64,
 ) -> Result<bool, AllocError>
-    requires { taken < 2 ^ 63 }
-    ensures state { OnOk result (state.new ≡ (obeyed taken state.old (spec.Pool size.bytes size.items)).state) }
-    ensures text { OnOk result (out.new.items ≡ out.old.items ++ (obeyed taken state.old (spec.Pool size.bytes size.items)).text) }
-    ensures goes { IfOk result (λ goes. goes ≡ (obeyed taken state.old (spec.Pool size.bytes size.items)).goes) }
+    requires short { taken < 2 ^ 63 }
+    requires between { IsBetween state.old }
+    ensures state { OnOk result (IsAt state.new (obeyed taken (place_of state.old) (spec.Pool size.bytes size.items)).state) }
+    ensures text { OnOk result (out.new.items ≡ out.old.items ++ (obeyed taken (place_of state.old) (spec.Pool size.bytes size.items)).text) }
+    ensures goes { IfOk result (λ goes. goes ≡ (obeyed taken (place_of state.old) (spec.Pool size.bytes size.items)).goes) }
 {
     match state {
-        State::Configuring(sizes) => {
-            sizes.push(size)?;
+        State::Configuring(config) => {
+            config.pools.push(size)?;
             Ok(true)
         }
         State::Running(_) => fault(out, taken),
     }
 }
 
-// The core of this configuration, or why there is none.
-fn new_core(alloc: Global, config: &Config) -> Result<Result<Core<Counting>, Refusal>, AllocError>
-    requires { config.now.flash ≡ None }
-    ensures { IfOk result (λ made. MatchResult made (λ core. (first_wrong config.now ≡ None) × (core ≡ counting_cache config.now)) (λ refusal. first_wrong config.now ≡ Some refusal)) }
+// The cache of this configuration, or why there is none.
+fn new_player(
+    alloc: Global,
+    config: &Config,
+) -> Result<Result<Player<Counting>, Refusal>, AllocError>
+    ensures { IfOk result (λ made. MatchResult made (λ player. (first_wrong config.now ≡ None) × Alike (world_of player) (fresh config.now) × (player.log ≡ Counts no_counts [])) (λ refusal. first_wrong config.now ≡ Some refusal)) }
 {
-    match Core::new(alloc, config, Counting::new(alloc)) {
-        Ok(core) => Ok(Ok(core)),
+    match Player::new(alloc, config, Counting::new(alloc)) {
+        Ok(player) => Ok(Ok(player)),
         Err(Refusal::NoMemory) => Err(AllocError),
         Err(refusal) => Ok(Err(refusal)),
     }
 }
 
-// From here on the steps are run.
-fn begin(state: &mut State, core: Core<Counting>)
-    ensures { state.new ≡ Running core }
+// From here on the lines are run.
+fn begin(state: &mut State, player: Player<Counting>)
+    ensures { state.new ≡ Running player }
 {
-    *state = State::Running(core);
+    *state = State::Running(player);
 }
 
 // The end of the configuration.
@@ -68,24 +78,66 @@ fn end_configuration(
     alloc: Global,
     state: &mut State,
     out: &mut Vec<u8>,
+    flash: Option<FlashConfig>,
     taken: u64,
 ) -> Result<bool, AllocError>
-    requires { taken < 2 ^ 63 }
-    ensures state { OnOk result (state.new ≡ (obeyed taken state.old spec.NoFlash).state) }
-    ensures text { OnOk result (out.new.items ≡ out.old.items ++ (obeyed taken state.old spec.NoFlash).text) }
-    ensures goes { IfOk result (λ goes. goes ≡ (obeyed taken state.old spec.NoFlash).goes) }
+    requires short { taken < 2 ^ 63 }
+    requires between { IsBetween state.old }
+    ensures state { OnOk result (IsAt state.new (closed taken (place_of state.old) flash).state) }
+    ensures text { OnOk result (out.new.items ≡ out.old.items ++ (closed taken (place_of state.old) flash).text) }
+    ensures goes { IfOk result (λ goes. goes ≡ (closed taken (place_of state.old) flash).goes) }
 {
-    let State::Configuring(sizes) = state else {
+    let State::Configuring(config) = state else {
         return fault(out, taken);
     };
-    match new_core(alloc, sizes.config())? {
-        Ok(core) => {
-            begin(state, core);
+    config.flash = flash;
+    match new_player(alloc, config)? {
+        Ok(player) => {
+            begin(state, player);
             Ok(true)
         }
         Err(refusal) => {
             add_refusal(out, refusal)?;
             Ok(false)
+        }
+    }
+}
+
+// A step, which only a cache can do.
+fn do_step(
+    state: &mut State,
+    out: &mut Vec<u8>,
+    step: &Step<'_>,
+    taken: u64,
+) -> Result<bool, AllocError>
+    requires short { taken < 2 ^ 63 }
+    requires between { IsBetween state.old }
+    ensures state { OnOk result (IsAt state.new (obeyed taken (place_of state.old) (spec.Do (step_seen step.now))).state) }
+    ensures text { OnOk result (out.new.items ≡ out.old.items ++ (obeyed taken (place_of state.old) (spec.Do (step_seen step.now))).text) }
+    ensures goes { IfOk result (λ goes. goes ≡ (obeyed taken (place_of state.old) (spec.Do (step_seen step.now))).goes) }
+{
+    match state {
+        State::Configuring(_) => fault(out, taken),
+        State::Running(player) => {
+            take_step(player, out, step)?;
+            Ok(true)
+        }
+    }
+}
+
+// Work, which only a cache has.
+fn serve(state: &mut State, out: &mut Vec<u8>, work: &Work, taken: u64) -> Result<bool, AllocError>
+    requires short { taken < 2 ^ 63 }
+    requires between { IsBetween state.old }
+    ensures state { OnOk result (IsAt state.new (obeyed taken (place_of state.old) (spec.Serve (work_seen work.now))).state) }
+    ensures text { OnOk result (out.new.items ≡ out.old.items ++ (obeyed taken (place_of state.old) (spec.Serve (work_seen work.now))).text) }
+    ensures goes { IfOk result (λ goes. goes ≡ (obeyed taken (place_of state.old) (spec.Serve (work_seen work.now))).goes) }
+{
+    match state {
+        State::Configuring(_) => fault(out, taken),
+        State::Running(player) => {
+            do_work(player, out, work)?;
+            Ok(true)
         }
     }
 }
@@ -98,10 +150,11 @@ fn obey(
     order: &Order<'_>,
     taken: u64,
 ) -> Result<bool, AllocError>
-    requires { taken < 2 ^ 63 }
-    ensures state { OnOk result (state.new ≡ (obeyed taken state.old (order_seen order.now)).state) }
-    ensures text { OnOk result (out.new.items ≡ out.old.items ++ (obeyed taken state.old (order_seen order.now)).text) }
-    ensures goes { IfOk result (λ goes. goes ≡ (obeyed taken state.old (order_seen order.now)).goes) }
+    requires short { taken < 2 ^ 63 }
+    requires between { IsBetween state.old }
+    ensures state { OnOk result (IsAt state.new (obeyed taken (place_of state.old) (order_seen order.now)).state) }
+    ensures text { OnOk result (out.new.items ≡ out.old.items ++ (obeyed taken (place_of state.old) (order_seen order.now)).text) }
+    ensures goes { IfOk result (λ goes. goes ≡ (obeyed taken (place_of state.old) (order_seen order.now)).goes) }
 {
     match order {
         Order::Pool(bytes, items) => {
@@ -111,15 +164,10 @@ fn obey(
             };
             take_pool(state, out, size, taken)
         }
-        Order::NoFlash => end_configuration(alloc, state, out, taken),
-        Order::Do(step) => {
-            if let State::Running(core) = state {
-                take_step(core, out, step)?;
-                return Ok(true);
-            }
-            fault(out, taken)
-        }
-        Order::Flash(_) | Order::Serve(_) => fault(out, taken),
+        Order::NoFlash => end_configuration(alloc, state, out, None, taken),
+        Order::Flash(flash) => end_configuration(alloc, state, out, Some(*flash), taken),
+        Order::Do(step) => do_step(state, out, step, taken),
+        Order::Serve(work) => serve(state, out, work, taken),
     }
 }
 
@@ -133,10 +181,11 @@ pub fn turn(
     line: &[u8],
     taken: u64,
 ) -> Result<bool, AllocError>
-    requires { taken < 2 ^ 63 }
-    ensures state { OnOk result (state.new ≡ (turn_of taken state.old line.now).state) }
-    ensures text { OnOk result (out.new.items ≡ out.old.items ++ (turn_of taken state.old line.now).text) }
-    ensures goes { IfOk result (λ goes. goes ≡ (turn_of taken state.old line.now).goes) }
+    requires short { taken < 2 ^ 63 }
+    requires between { IsBetween state.old }
+    ensures state { OnOk result (IsAt state.new (turn_of taken (place_of state.old) line.now).state) }
+    ensures text { OnOk result (out.new.items ≡ out.old.items ++ (turn_of taken (place_of state.old) line.now).text) }
+    ensures goes { IfOk result (λ goes. goes ≡ (turn_of taken (place_of state.old) line.now).goes) }
 {
     match &line_in(line) {
         Line::Skipped => Ok(true),
@@ -148,14 +197,14 @@ pub fn turn(
 /// The end of a trace of so many lines. Returns the status.
 pub fn end(state: &State, out: &mut Vec<u8>, taken: u64) -> Result<u8, AllocError>
     requires { taken < 2 ^ 63 }
-    ensures text { OnOk result (out.new.items ≡ out.old.items ++ (ended taken state.now).0) }
-    ensures status { IfOk result (λ status. status ≡ (ended taken state.now).1) }
+    ensures text { OnOk result (out.new.items ≡ out.old.items ++ (ended taken (place_of state.now)).0) }
+    ensures status { IfOk result (λ status. status ≡ (ended taken (place_of state.now)).1) }
 {
-    let State::Running(core) = state else {
+    let State::Running(player) = state else {
         fault(out, taken)?;
         return Ok(1);
     };
-    add_stats(out, &core.notes().counts)?;
+    add_stats(out, &player.notes().counts)?;
     add_verdict(out)?;
     Ok(0)
 }

@@ -1,0 +1,26 @@
+-- What contracts see of a cache over a device in memory, and what a line does to it.
+use Rattle.std.specs.Prelude.{◌≡◌, List, [], Some}
+use Rattle.hc_flash.specs.Devices.{Memory, held_by}
+use Rattle.hc_history.specs.Told.{Heard, told_more}
+use Rattle.hc_lines.specs.Steps.{Answer}
+use Rattle.hc_machine.specs.Cache.{Cache}
+use Rattle.hc_machine.specs.World.{World, Result}
+use Rattle.hc_replayed.specs.Actions.{Action, act}
+use Rattle.hc_player.specs.Alike.{Alike}
+
+-- the machine's cache, what is heard of its log, its device, and the results that wait
+pub record Playing : Type 0 where
+  pub cache : Cache
+  pub log : Heard
+  pub flash : Memory
+  pub results : List Result
+
+-- what the device holds of a page is what is known of it; it fails nothing by itself
+abbrev pub world_of : Playing → World
+world_of p = record { cache = p.cache; pages = held_by p.flash; results = p.results; breaks = []; failures = 0 }
+
+-- A line does what the machine has it do, is answered as it is there, and tells the same.
+pub record Acts (action : Action) (answer : Answer) (old new : Playing) : Type 0 where
+  pub world : Alike (world_of new) (act action (world_of old)).world
+  pub answered : (act action (world_of old)).answer ≡ Some answer
+  pub log : new.log ≡ told_more old.log (act action (world_of old)).notes

@@ -1,0 +1,16 @@
+-- Results that wait, and for how many more there is room.
+use Rattle.std.specs.Prelude.{ℕ, List, map}
+use Rattle.hc_bighash.specs.declared.ops.IoResult.{IoResult}
+use Rattle.hc_bighash.specs.Seen.{result_of}
+use Rattle.hc_machine.specs.World.{Result}
+
+-- a result that waits, with its job
+abbrev pub waits_for : {A : Type 0} → ℕ × IoResult A → Result
+waits_for entry = record { job = entry.0; result = result_of entry.1 }
+
+abbrev pub results_of : {A : Type 0} → List (ℕ × IoResult A) → List Result
+results_of entries = map waits_for entries
+
+pub record Waiting : Type 0 where
+  pub results : List Result
+  pub room : ℕ
