@@ -43,20 +43,20 @@ no-put now None e = refl
 no-put now (Some put) e = absurd cc
 
 -- an item, by what a glance at it tells
-pub item-live : (now : ℕ) (glance : Glance) (found : Option Item) (else : Option FlashEntry) → Some glance ≡ option_map glance_of found
-    → not (not (glance.expiry == 0) && not (nat_lt now glance.expiry)) ≡ is_some (live now (option_map_or (λ item. Some (entry_of_item item)) found else))
-item-live now glance None else e = absurd cc
-item-live now glance (Some item) else e =
+pub item-live : (now : ℕ) (glance : Glance) (found : Option Item) (other : Option FlashEntry) → Some glance ≡ option_map glance_of found
+    → not (not (glance.expiry == 0) && not (nat_lt now glance.expiry)) ≡ is_some (live now (option_map_or (λ item. Some (entry_of_item item)) found other))
+item-live now glance None other e = absurd cc
+item-live now glance (Some item) other e =
     let same : glance.expiry ≡ item.expiry = ap (λ (o : Option Glance). option_map_or (λ (g : Glance). g.expiry) o glance.expiry) e in
     ap (λ (n : ℕ). not (not (n == 0) && not (nat_lt now n))) same ∙ live_is now (entry_of_item item) (is_over now (entry_of_item item)) refl
 
-pub no-item : (found : Option Item) (else : Option FlashEntry) → None ≡ option_map glance_of found → else ≡ option_map_or (λ item. Some (entry_of_item item)) found else
-no-item None else e = refl
-no-item (Some item) else e = absurd cc
+pub no-item : (found : Option Item) (other : Option FlashEntry) → None ≡ option_map glance_of found → other ≡ option_map_or (λ item. Some (entry_of_item item)) found other
+no-item None other e = refl
+no-item (Some item) other e = absurd cc
 
 -- ---- handles
 
-handle_in : Wish → Handle → Handle
+abbrev handle_in : Wish → Handle → Handle
 handle_in ToFind own = own
 handle_in (ToAdd handle) own = handle
 
@@ -66,7 +66,7 @@ same-handle a b e = ap (λ wish. handle_in wish a) e
 
 -- ---- inserts in place of what is there
 
-replace_as : Bool → ℕ → Handle → Cache → Moved
+abbrev replace_as : Bool → ℕ → Handle → Cache → Moved
 replace_as known client handle cache = if known then stored_step false client handle cache else stays (Refused ForeignHandle) cache
 
 pub replaces : (client : ℕ) (handle : Handle) (old new : Whole) → is_known old.cache handle ≡ true → IsStep (stored_step false client handle old.cache) (Replied Stored) old new → IsStep (insert_or_replace client handle old.cache) (Replied Stored) old new
@@ -80,10 +80,10 @@ replace-foreign client handle cache known = subst (λ b. IsReason (replace_as b 
 
 -- ---- inserts where there is no value
 
-insert_as : Bool → Bool → ℕ → Handle → Cache → Moved
+abbrev insert_as : Bool → Bool → ℕ → Handle → Cache → Moved
 insert_as there known client handle cache = if there then stays (Refused AlreadyExists) cache else (if known then add client handle cache else stays (Refused ForeignHandle) cache)
 
-add_as : Bool → ℕ → Handle → Cache → Moved
+abbrev add_as : Bool → ℕ → Handle → Cache → Moved
 add_as waits client handle cache =
     if waits then answers (Waits (cache.calls + 1)) (and_then (begin client (Add handle.key handle.value handle.expiry) cache) (wait_for handle.key (ToAdd handle)))
     else answers (Replied Stored) (and_then (begin client (Add handle.key handle.value handle.expiry) cache) (store handle))
