@@ -1,12 +1,12 @@
 -- A key is removed: what the parts of that need, and that they are the machine's step.
-use Rattle.std.proofs.Common.{◌≡◌, ℕ, ◌+◌, ◌*◌, ◌≤◌, Bool, true, List, [], ◌∷◌, length, Option, Some, None, refl, sym, ap, ◌∙◌, subst, arith}
+use Rattle.std.proofs.Common.{◌≡◌, ℕ, ◌+◌, ◌*◌, ◌≤◌, List, Option, Some, None, refl, sym, ap, ◌∙◌, subst, arith}
 use Rattle.std.specs.Prelude.{option_map}
 use Rattle.hc_memory.specs.Item.{Item}
 use Rattle.hc_memory.specs.Memory.{linked_at}
 use Rattle.hc_memory.specs.Sound.{Sound}
-use Rattle.hc_history.specs.Note.{Op, Reply, Remove}
+use Rattle.hc_history.specs.Note.{Remove}
 use Rattle.hc_history.specs.Told.{told_more, is_log}
-use Rattle.hc_machine.specs.Cache.{Cache, Told, Replied, and_then, answers}
+use Rattle.hc_machine.specs.Cache.{Cache, Told, Replied, and_then}
 use Rattle.hc_machine.specs.Calls.{begin, replies_then, remove_reply, remove_by, remove}
 use Rattle.hc_machine.specs.Waiting.{uproot, end_fill}
 use Rattle.hc_invariant.specs.Jobs.{AllWish}
@@ -19,7 +19,7 @@ use Rattle.hc_state.specs.Preparing.{HasRoomFor}
 use Rattle.hc_state.specs.Removing.{removed_of, removed_reply}
 use Rattle.hc_state.specs.Serving.{waiters_at}
 use Rattle.hc_state.specs.Storing.{unstore_as, how_many, CanServe}
-use Rattle.hc_state.specs.Whole.{Whole, costs, for_notes, both, Does, Stays, IsStep}
+use Rattle.hc_state.specs.Whole.{Whole, costs, for_notes, Does, Stays, IsStep}
 use Rattle.hc_state.specs.declared.serving.Course.{Course}
 use Rattle.hc_state.proofs.Ended.{can-then, many-then}
 use Rattle.hc_state.proofs.Fewer.{open_in, unlinked-fewer, unstore-fewer}

@@ -1,5 +1,5 @@
 -- An item of a handle that is known is stored: what its parts need, and that they are the machine's step.
-use Rattle.std.proofs.Common.{◌≡◌, ℕ, ◌+◌, ◌*◌, ◌≤◌, Bool, true, List, [], ◌∷◌, length, Option, Some, None, refl, sym, ap, ◌∙◌, subst, arith}
+use Rattle.std.proofs.Common.{◌≡◌, ℕ, ◌+◌, ◌*◌, ◌≤◌, true, List, length, Option, Some, refl, sym, ap, ◌∙◌, subst, arith}
 use Rattle.hc_types.specs.FlashEntry.{FlashEntry}
 use Rattle.hc_memory.specs.Item.{Handle, charge_by}
 use Rattle.hc_memory.specs.Charges.{is_open}
@@ -18,13 +18,13 @@ use Rattle.hc_state.specs.Outdating.{ServesIn}
 use Rattle.hc_state.specs.Preparing.{HasRoomFor}
 use Rattle.hc_state.specs.Serving.{waiters_at}
 use Rattle.hc_state.specs.Storing.{store_as, how_many, CanServe}
-use Rattle.hc_state.specs.Whole.{Whole, costs, for_notes, both, Does, Stays, IsStep}
+use Rattle.hc_state.specs.Whole.{Whole, costs, for_notes, Does, Stays, IsStep}
 use Rattle.hc_state.specs.declared.serving.Course.{Course}
 use Rattle.hc_state.proofs.Ended.{can-then, many-then}
 use Rattle.hc_state.proofs.Fewer.{open_in, linked-fewer, store-fewer}
 use Rattle.hc_state.proofs.Joining.{does-both}
 use Rattle.hc_state.proofs.Links.{courses-long}
-use Rattle.hc_state.proofs.Planted.{Known, known, wishes-of, inserted-by, insert-can}
+use Rattle.hc_state.proofs.Planted.{known, wishes-of, inserted-by, insert-can}
 use Rattle.hc_state.proofs.Unqueued.{does-log, serves-then}
 
 -- ---- before anything changes

@@ -1,4 +1,4 @@
-use Rattle.std.proofs.Common.{◌≡◌, ◌+◌, ◌*◌, ◌≤◌, ℕ, None, length, sym, ap, ◌∙◌, subst}
+use Rattle.std.proofs.Common.{◌≡◌, ◌+◌, ◌*◌, None, length, sym, ap, ◌∙◌, subst}
 use Rattle.hc_history.specs.Note.{Begin, Remove}
 use Rattle.hc_history.specs.Told.{where_kept}
 use Rattle.hc_machine.specs.Calls.{begin, remove}

@@ -1,4 +1,4 @@
-use Rattle.std.proofs.Common.{◌≡◌, ◌+◌, ◌*◌, ◌≤◌, ℕ, Some, length, sym, ap, ◌∙◌, subst}
+use Rattle.std.proofs.Common.{◌≡◌, ◌+◌, ◌*◌, ◌≤◌, Some, length, sym, ap, ◌∙◌, subst}
 use Rattle.hc_history.specs.Note.{Begin}
 use Rattle.hc_history.specs.Told.{is_log, where_kept}
 use Rattle.hc_machine.specs.Calls.{begin}
