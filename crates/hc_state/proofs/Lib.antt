@@ -1,4 +1,5 @@
 -- Lemmas.
+pub mod BareEnds
 pub mod Begun
 pub mod Brought
 pub mod Charging
@@ -16,6 +17,7 @@ pub mod Finds
 pub mod Freeing
 pub mod Frees
 pub mod Inserted
+pub mod ItemEnds
 pub mod Joining
 pub mod Known
 pub mod Leaving
@@ -23,10 +25,12 @@ pub mod Links
 pub mod Looks
 pub mod Owed
 pub mod Plans
+pub mod Prepares
 pub mod Refusing
 pub mod Served
 pub mod Serves
 pub mod Stepping
 pub mod Stored
 pub mod Unqueued
+pub mod Ways
 pub mod Works
