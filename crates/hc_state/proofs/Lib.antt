@@ -14,6 +14,7 @@ pub mod FillReady
 pub mod FillSteps
 pub mod Filled
 pub mod Finds
+pub mod Finishes
 pub mod Freeing
 pub mod Frees
 pub mod Inserted
