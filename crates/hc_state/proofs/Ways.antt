@@ -2,6 +2,7 @@
 use Rattle.std.proofs.Common.{◌≡◌, ℕ, ◌+◌, ◌≤◌, List, [], ◌∷◌, length, Option, Some, None, inr, refl, sym, ap, ◌∙◌, subst, arith}
 use Rattle.std.specs.Prelude.{option_map, IsSome}
 use Rattle.hc_types.specs.declared.refusal.Refusal.TheVariants.{NoMemory}
+use Rattle.hc_engines.specs.Engine.{IoResult}
 use Rattle.hc_bighash.specs.Seen.{result_of}
 use Rattle.hc_memory.specs.Memory.{Memory, linked_at}
 use Rattle.hc_history.specs.Told.{told_more}
@@ -19,8 +20,8 @@ use Rattle.hc_nvm.specs.Filled.{filled_of}
 use Rattle.hc_nvm.specs.declared.filler.Filled as ended
 use Rattle.hc_nvm.specs.declared.filler.Taken as answered
 use Rattle.hc_state.specs.Answering.{IsReason}
-use Rattle.hc_state.specs.Ends.{taken_by, EndsBy, step_by, found_by, losses_by, IsOver, IsOverBy}
-use Rattle.hc_state.specs.FillEnds.{TookIn, TookBy, finish_in, filler_take_in, most_told_in}
+use Rattle.hc_state.specs.Ends.{taken_by, EndsBy, step_by, found_by, losses_by, IsOver, IsOverBy, IsEndingIn, IsEndingAtOnceIn, IsNextIn}
+use Rattle.hc_state.specs.FillEnds.{EndsIn, EndsAtOnceIn, TookIn, TookBy, finish_in, filler_take_in, most_told_in}
 use Rattle.hc_state.specs.Serving.{waiters_at}
 use Rattle.hc_state.specs.Whole.{Whole, IsStep, Stays}
 use Rattle.hc_state.specs.declared.filling.Way.{Way}
@@ -63,6 +64,25 @@ stays-both old mid new first second = record {
     fills = omega (arith, first.room.fills, second.room.fills);
   };
 }
+
+-- ---- what was asked
+
+pub some-of : {X : Type 0} (o : Option X) → IsSome o → (x : X) × (o ≡ Some x)
+some-of None some = absurd cc
+some-of (Some x) some = (x, refl)
+
+pub ends-in : (number : ℕ) (came : IoResult) (nvm : Option Nvm) (ending : Ending) → IsEndingIn number came nvm (Some ending) → EndsIn number came nvm ending
+ends-in number came None ending is = is
+ends-in number came (Some nvm) ending is = is
+
+pub ends-once-in : (nvm : Option Nvm) (ending : Ending) → IsEndingAtOnceIn nvm (Some ending) → EndsAtOnceIn nvm ending
+ends-once-in None ending is = is
+ends-once-in (Some nvm) ending is = is
+
+-- the fill that is next is that of the key
+pub next-key : (key : List ℕ) (nvm : Option Nvm) (ending : Ending) → IsNextIn nvm (Some key) → EndsAtOnceIn nvm ending → ending.key ≡ Some key
+next-key key None ending next ends = absurd ends
+next-key key (Some nvm) ending next ends = ends.key_is ∙ sym ends.next ∙ sym next.0
 
 -- ---- what is taken
 

@@ -4,6 +4,7 @@ ghost use Rattle.std.specs.Prelude.{◌≡◌, ◌×◌, ℕ, ◌≤◌, List, t
 ghost use Rattle.hc_types.specs.Charge.{charge_of};
 ghost use Rattle.hc_types.specs.FlashEntry.{FlashEntry, entry_of};
 ghost use Rattle.hc_memory.specs.Memory.{linked_at, victims_of};
+ghost use Rattle.hc_memory.specs.Sound.{Sound};
 ghost use Rattle.hc_machine.specs.Cache.{Took};
 ghost use Rattle.hc_machine.specs.Workers.{can_link};
 ghost use Rattle.hc_invariant.specs.Structure.{Structured};
@@ -48,6 +49,13 @@ fn there_by<A: Allocator + Clone>(found: Option<&Entry<A>>) -> Result<Option<The
 }
 
 impl<N: Notes<Note<A>>, A: Allocator + Clone + Copy> State<N, A> {
+    /// What the pools hold at every time: a law to call where a proof asks for it. It does nothing.
+    pub(crate) fn pools_are_sound(&self)
+        ensures { Sound self.now.cache.memory.pools self.now.cache.memory.charges self.now.cache.memory.made }
+    {
+        let _sound = self.pools.len();
+    }
+
     /// Links the last of the items that the calls store by these courses, where one is stored, with room for what the end of
     /// the key's fill tells: nothing is told yet. Refused only where memory lacks.
     fn link_last(

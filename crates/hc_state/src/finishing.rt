@@ -58,10 +58,7 @@ impl<N: Notes<Note<A>>, A: Allocator + Clone + Copy> State<N, A> {
     {
         let spare = self.pools.open_charges();
         let Some(nvm) = &mut self.nvm else {
-            return Err(Unfinished {
-                refusal: Refusal::UnknownJob,
-                came,
-            });
+            unreachable!();
         };
         match nvm.finish(number, came, &mut self.notes, &mut self.pools, spare) {
             Ok(Taken { take, filled }) => {
@@ -88,7 +85,7 @@ impl<N: Notes<Note<A>>, A: Allocator + Clone + Copy> State<N, A> {
         ensures why { IfErr result (λ e. IsReason (finish_step number (result_of came) self.old.cache).answer e.refusal) }
         ensures came_returned { IfErr result (λ e. e.came ≡ came) }
     {
-        let _sound = self.pools.len();
+        self.pools_are_sound();
         match self.prepare(key, &ending) {
             Ok(plan) => Ok(self.end_prepared(Way::Handed(number, came), key, ending, plan)),
             Err(_) => {

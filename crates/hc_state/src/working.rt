@@ -63,7 +63,7 @@ impl<N: Notes<Note<A>>, A: Allocator + Clone + Copy> State<N, A> {
         ensures ok { IfOk result (λ take. IsStep (filler_step self.old.cache) (Took (take_of take)) self.old self.new) }
         ensures err { OnErr result (Stays self.old self.new) }
     {
-        let _sound = self.pools.len();
+        self.pools_are_sound();
         match self.prepare(key, &ending) {
             Ok(plan) => Ok(self.end_prepared(Way::AtOnce, key, ending, plan)),
             Err(no_memory) => {
