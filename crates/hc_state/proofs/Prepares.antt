@@ -1,5 +1,6 @@
 -- What is made ready before a fill ends: whether its entry can be linked, and what linking it leaves.
 use Rattle.std.proofs.Common.{◌≡◌, ℕ, ◌+◌, ◌*◌, ◌≤◌, ◌<◌, ◌&&◌, not, Bool, true, false, List, [], ◌∷◌, length, map, Option, Some, None, is_some, refl, sym, ap, ◌∙◌, subst, arith}
+use Rattle.std.specs.Prelude.{Result, Ok, Err, IfOk, OnOk}
 use Rattle.std.proofs.lemmas.List.{length-map}
 use mathlib.Core.Bool.{cond}
 use Rattle.hc_types.specs.Charge.{charge_of}
@@ -7,7 +8,7 @@ use Rattle.hc_types.specs.FlashEntry.{FlashEntry}
 use Rattle.hc_types.specs.declared.refusal.Refusal.{Refusal}
 use Rattle.hc_engines.specs.Engine.{Loss}
 use Rattle.hc_memory.specs.Item.{Item}
-use Rattle.hc_memory.specs.Memory.{Memory, victims_of, oldest_keys, is_hopeless}
+use Rattle.hc_memory.specs.Memory.{Memory, linked_at, victims_of, oldest_keys, is_hopeless}
 use Rattle.hc_history.specs.Told.{Heard, where_kept}
 use Rattle.hc_items.specs.Allocating.{refusal_of}
 use Rattle.hc_machine.specs.Leaving.{is_over}
@@ -22,6 +23,7 @@ use Rattle.hc_state.specs.Whole.{Whole, Stays}
 use Rattle.hc_state.specs.declared.bringing.Coming.{Coming}
 use Rattle.hc_state.specs.declared.bringing.Arrived.{Arrived}
 use Rattle.hc_state.proofs.Charging.{oldest-go}
+use Rattle.hc_state.proofs.FillPlan.{MayLink, can-room}
 use Rattle.hc_state.proofs.Filled.{want_of}
 
 -- ---- whether it can be linked
@@ -43,6 +45,29 @@ refused-cannot c entry refusal is = ap (λ o. can_if (is_over c.now entry) o ent
 
 pub fresh-can : (c : Cache) (entry : FlashEntry) → is_over c.now entry ≡ false → refusal_of c.memory entry.pool entry.key (length entry.value) ≡ None → can_link c entry ≡ true
 fresh-can c entry fresh is = λ i. can_if (fresh i) (is i) entry
+
+-- ---- the pools have what they need to link it
+
+pub record Comes {A : Type 0} (memory : Memory) (coming : Coming A) : Type 0 where
+  pub pool : coming.pool < length memory.pools
+  pub size : length coming.value ≤ 1048576
+  pub count : coming.count ≡ length (victims_of memory coming.pool (want_coming coming))
+  pub room : is_hopeless memory coming.pool (want_coming coming) ≡ false
+  pub absent : linked_at coming.key memory.pools ≡ None
+
+comes_at : {A : Type 0} (entry : FlashEntry) (coming : Coming A) (memory : Memory) → entry_coming coming ≡ entry → MayLink memory entry → coming.count ≡ length (victims_of memory entry.pool (want_of entry)) → linked_at entry.key memory.pools ≡ None → Comes memory coming
+comes_at entry coming memory is may count absent = record {
+  pool = omega (arith, ap (λ (e : FlashEntry). e.pool) is, may.pool);
+  size = omega (arith, ap (λ (e : FlashEntry). length e.value) is, may.size);
+  count = count ∙ sym (ap (λ (e : FlashEntry). length (victims_of memory e.pool (want_of e))) is);
+  room = ap (λ (e : FlashEntry). is_hopeless memory e.pool (want_of e)) is ∙ may.room;
+  absent = ap (λ (e : FlashEntry). linked_at e.key memory.pools) is ∙ absent;
+}
+
+pub comes-so : {A : Type 0} (entry : FlashEntry) (count : ℕ) (coming : Coming A) (old mid : Whole) → Stays old mid → IsComing entry count mid coming → can_link old.cache entry ≡ true
+    → count ≡ length (victims_of old.cache.memory entry.pool (want_of entry)) → linked_at entry.key old.cache.memory.pools ≡ None → Comes mid.cache.memory coming
+comes-so entry count coming old mid stays comes can many absent =
+    subst (λ (c : Cache). Comes c.memory coming) (sym stays.cache) (comes_at entry coming old.cache.memory comes.entry_is (can-room old.cache entry can) (comes.count_is ∙ many) absent)
 
 -- ---- it is linked
 
@@ -92,3 +117,15 @@ module _ {A : Type 0} (entry : FlashEntry) (ending : Ending) (count waiting : �
       fills = omega arith;
     };
   }
+
+
+pub linked-result : {A E : Type 0} (entry : FlashEntry) (ending : Ending) (count waiting : ℕ) (coming : Coming A) (result : Result (Arrived A) E) (old mid new : Whole) → Stays old mid → IsComing entry count mid coming
+    → count ≡ length (victims_of old.cache.memory entry.pool (want_of entry)) → HasRoomToEnd ending count waiting old.cache mid
+    → IfOk result (λ arrived. Arrives mid.cache.memory.flash (losses_by ending) mid.cache.memory coming arrived)
+    → OnOk result (new ≡ record mid { cache = with_memory (brought_in (entry_coming coming) mid.cache.memory) mid.cache }) → IfOk result (λ arrived. IsLinked entry ending waiting arrived old new)
+linked-result entry ending count waiting coming (Ok arrived) old mid new stays comes count_is room arrives is = linked-so entry ending count waiting coming arrived old mid new stays comes count_is arrives room is
+linked-result entry ending count waiting coming (Err e) old mid new stays comes count_is room arrives is = tt
+
+-- nothing changed, where what was tried changed nothing
+pub stayed : (old mid new : Whole) → Stays old mid → new ≡ mid → Stays old new
+stayed old mid new stays is = subst (λ (w : Whole). Stays old w) (sym is) stays

@@ -1,6 +1,7 @@
 // A key's fill ends: what it brought is linked, where it can be, and the calls that wait for the key are served. All that can
 // be refused comes first, and then nothing is.
-ghost use Rattle.std.specs.Prelude.{◌≡◌, ◌×◌, ℕ, ◌≤◌, List, true, false, None, Some, length, IfOk, OnErr};
+ghost use Rattle.std.specs.Prelude.{◌≡◌, ◌×◌, ℕ, ◌+◌, ◌≤◌, List, [], true, false, None, Some, length, option_map, vec_len, vec_capacity, IfOk, OnOk, OnErr};
+ghost use Rattle.std.specs.Option.{option_copied};
 ghost use Rattle.hc_types.specs.Charge.{charge_of};
 ghost use Rattle.hc_types.specs.FlashEntry.{FlashEntry, entry_of};
 ghost use Rattle.hc_memory.specs.Memory.{linked_at, victims_of};
@@ -56,6 +57,14 @@ impl<N: Notes<Note<A>>, A: Allocator + Clone + Copy> State<N, A> {
         let _sound = self.pools.len();
     }
 
+    /// Room for so many numbers of charges.
+    fn room_for_numbers(&self, count: usize) -> Result<Vec<u64, A>, AllocError>
+        ensures empty { IfOk result (λ numbers. numbers.items ≡ []) }
+        ensures room { IfOk result (λ numbers. vec_len numbers + count ≤ vec_capacity numbers) }
+    {
+        Vec::with_capacity(alloc_of(&self.config), count)
+    }
+
     /// Links the last of the items that the calls store by these courses, where one is stored, with room for what the end of
     /// the key's fill tells: nothing is told yet. Refused only where memory lacks.
     fn link_last(
@@ -72,7 +81,7 @@ impl<N: Notes<Note<A>>, A: Allocator + Clone + Copy> State<N, A> {
         ensures err { OnErr result (Stays self.old self.new) }
     {
         self.room_to_end(ending, 0, courses.len())?;
-        let mut earlier = Vec::with_capacity(alloc_of(&self.config), courses.len())?;
+        let mut earlier = self.room_for_numbers(courses.len())?;
         match self.unlink_stored(key, courses, &mut earlier) {
             Ok(_) => Ok(()),
             Err(no_memory) => Err(no_memory),

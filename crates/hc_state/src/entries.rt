@@ -4,6 +4,7 @@ ghost use Rattle.std.specs.Str.{bytes_eq};
 ghost use Rattle.hc_types.specs.Charge.{charge_of};
 ghost use Rattle.hc_types.specs.FlashEntry.{entry_of};
 ghost use Rattle.hc_memory.specs.Memory.{linked_at, victims_of};
+ghost use Rattle.hc_memory.specs.Sound.{FlashFits};
 ghost use Rattle.hc_machine.specs.Workers.{can_link};
 ghost use Rattle.hc_history.specs.Told.{where_kept};
 ghost use Rattle.hc_state.specs.Ends.{IsComing, IsLinked, MayCome};
@@ -19,7 +20,7 @@ use hc_bighash::Loss;
 use hc_history::{Note, Notes};
 use hc_memory::Fill;
 use hc_nvm::Ending;
-use hc_types::{Entry, Key};
+use hc_types::{Entry, FlashConfig, Key};
 use std::alloc::{AllocError, Allocator};
 
 /// The entry's key once more, where notes are kept, and its key and its value, which is shared. Refused only where memory
@@ -39,6 +40,14 @@ fn copies_of<A: Allocator, N: Notes<Note<A>>>(
 }
 
 impl<N: Notes<Note<A>>, A: Allocator + Clone + Copy> State<N, A> {
+    /// The flash behind the pools.
+    fn flash_of_pools(&self) -> Option<FlashConfig>
+        ensures value { result ≡ self.now.cache.memory.flash }
+        ensures fits { FlashFits result }
+    {
+        *self.pools.flash()
+    }
+
     /// How many items go for the entry, where it can be linked: it isn't expired, and its pool exists and can make room.
     pub(crate) fn victims_of_entry(&self, entry: &Entry<A>) -> Option<usize>
         ensures may { MayCome self.now.cache (entry_of entry.now) result }
@@ -104,7 +113,7 @@ impl<N: Notes<Note<A>>, A: Allocator + Clone + Copy> State<N, A> {
     {
         self.room_to_end(ending, count, waiting)?;
         let coming = self.coming_of(entry, count)?;
-        let flash = *self.pools.flash();
+        let flash = self.flash_of_pools();
         self.link_coming(coming, &flash, ending.losses())
     }
 }
