@@ -2,6 +2,8 @@
 use Rattle.std.proofs.Common.{◌≡◌, ℕ, ◌+◌, ◌*◌, ◌≤◌, ◌<◌, ◌&&◌, not, Bool, true, false, List, [], ◌∷◌, length, map, Option, Some, None, is_some, refl, sym, ap, ◌∙◌, subst, arith}
 use Rattle.std.specs.Prelude.{Result, Ok, Err, IfOk, OnOk}
 use Rattle.std.proofs.lemmas.List.{length-map}
+use Rattle.std.specs.Str.{bytes_eq}
+use Rattle.std.proofs.lemmas.Slice.Eq.{bytes_eq-Decides}
 use mathlib.Core.Bool.{cond}
 use Rattle.hc_types.specs.Charge.{charge_of}
 use Rattle.hc_types.specs.FlashEntry.{FlashEntry}
@@ -46,6 +48,16 @@ refused-cannot c entry refusal is = ap (λ o. can_if (is_over c.now entry) o ent
 
 pub fresh-can : (c : Cache) (entry : FlashEntry) → is_over c.now entry ≡ false → refusal_of c.memory entry.pool entry.key (length entry.value) ≡ None → can_link c entry ≡ true
 fresh-can c entry fresh is = λ i. can_if (fresh i) (is i) entry
+
+-- ---- it is the key's, and not lost
+
+pub apart-both : (same lost apart : Bool) → apart ≡ (same && not lost) → not apart ≡ false → (same ≡ true) × (lost ≡ false)
+apart-both true false apart is there = (refl, refl)
+apart-both true true apart is there = absurd (grind (is, there))
+apart-both false lost apart is there = absurd (grind (is, there))
+
+pub same-key : (own key : List ℕ) → bytes_eq own key ≡ true → own ≡ key
+same-key own key same = grind (arith, same, bytes_eq-Decides own key)
 
 -- ---- the pools have what they need to link it
 
