@@ -2,8 +2,6 @@
 use Rattle.std.proofs.Common.{◌≡◌, ℕ, ◌+◌, ◌*◌, ◌≤◌, ◌<◌, ◌&&◌, not, Bool, true, false, List, [], ◌∷◌, length, map, Option, Some, None, is_some, refl, sym, ap, ◌∙◌, subst, arith}
 use Rattle.std.specs.Prelude.{Result, Ok, Err, IfOk, OnOk}
 use Rattle.std.proofs.lemmas.List.{length-map}
-use Rattle.std.specs.Str.{bytes_eq}
-use Rattle.std.proofs.lemmas.Slice.Eq.{bytes_eq-Decides}
 use mathlib.Core.Bool.{cond}
 use Rattle.hc_types.specs.Charge.{charge_of}
 use Rattle.hc_types.specs.FlashEntry.{FlashEntry}
@@ -51,13 +49,10 @@ fresh-can c entry fresh is = λ i. can_if (fresh i) (is i) entry
 
 -- ---- it is the key's, and not lost
 
-pub apart-both : (same lost apart : Bool) → apart ≡ (same && not lost) → not apart ≡ false → (same ≡ true) × (lost ≡ false)
+pub apart-both : (same lost apart : Bool) → apart ≡ (same && not lost) → apart ≡ true → (same ≡ true) × (lost ≡ false)
 apart-both true false apart is there = (refl, refl)
-apart-both true true apart is there = absurd (grind (is, there))
-apart-both false lost apart is there = absurd (grind (is, there))
-
-pub same-key : (own key : List ℕ) → bytes_eq own key ≡ true → own ≡ key
-same-key own key same = grind (arith, same, bytes_eq-Decides own key)
+apart-both true true apart is there = absurd (let none : false ≡ true = sym is ∙ there in cc)
+apart-both false lost apart is there = absurd (let none : false ≡ true = sym is ∙ there in cc)
 
 -- ---- the pools have what they need to link it
 

@@ -1,12 +1,13 @@
 use Rattle.std.proofs.Common.{Some, length, refl, sym, ap, ◌∙◌, subst, arith}
 use Rattle.std.specs.Str.{bytes_eq}
 use Rattle.hc_types.specs.FlashEntry.{entry_of}
+use Rattle.hc_memory.proofs.Keyed.{same_bytes}
 use Rattle.hc_history.specs.Told.{is_log}
 use Rattle.hc_state.specs.Ends.{IsLinked, losses_by}
 use Rattle.hc_state.specs.Filling.{is_lost}
 use Rattle.hc_state.specs.Serving.{waiters_at}
 use Rattle.hc_state.proofs.Links.{courses-long}
-use Rattle.hc_state.proofs.Prepares.{apart-both, same-key}
+use Rattle.hc_state.proofs.Prepares.{apart-both}
 use Rattle.hc_state.proofs.state.State.prepare_item.Goals as goal
 
 pub returns-in-Ok-clause-ok : goal.returns-in-Ok-clause-ok
@@ -22,7 +23,7 @@ returns-in-Ok-clause-ok g c =
     record {
       entry = entry;
       found = c.requires.found;
-      own = same-key entry.key key both.0;
+      own = same_bytes entry.key key both.0;
       can = c.requires.can;
       apart = ap (λ ls. is_lost flash ls entry.key (length entry.value)) (sym c.losses.ensures) ∙ both.1;
       plan = plan;

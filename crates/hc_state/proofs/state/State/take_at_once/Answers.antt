@@ -8,7 +8,7 @@ prepare-requires g c =
     let ends = ends-once-in nvm c.args.ending c.requires.ends in
     record {
       structured = c.requires.structured;
-      absent = way-bare AtOnce c.args.ending c.args.key.now c.args.self.now.cache ends (next-key c.args.key.now nvm c.args.ending c.requires.next ends) c.requires.structured;
+      absent = way-bare {A = g.row.A.Denot} AtOnce c.args.ending c.args.key.now c.args.self.now.cache ends (next-key c.args.key.now nvm c.args.ending c.requires.next ends) c.requires.structured;
     }
 
 pub end_prepared-requires : goal.end_prepared-requires

@@ -6,7 +6,6 @@ use Rattle.hc_state.specs.Ends.{IsEndingAtOnceIn, IsNextIn}
 use Rattle.hc_state.specs.Whole.{Whole, nvm_of}
 use Rattle.hc_state.proofs.Finishes.{filler-step}
 use Rattle.hc_state.proofs.state.State.take_page.Goals as goal
-use Rattle.hc_state.proofs.state.State.take_page.Goals.{in-Ok, in-Err}
 
 pub filler_take-requires : goal.filler_take-requires
 filler_take-requires g c =
@@ -15,9 +14,8 @@ filler_take-requires g c =
 
 pub returns-clause-ok : goal.returns-clause-ok
 returns-clause-ok g c =
+    let taken = c.in_ok-taken.taken in
+    let e = c.in_ok-taken.ensures in
     let there = ap nvm_of c.in-Some.is in
     let none = subst (λ o. IsEndingAtOnceIn o None) (sym (ap (λ (w : Whole). w.cache.nvm) c.self.view_is) ∙ there) c.requires.none in
-    rw (← c.self.view_is) (elim c.match-filler_take.branch [
-      | in-Ok w ↦ rw w.result-is (filler-step c.in-Some.nvm.nvm c.filler_take.new.self.nvm c.filler_take.new.pools (take_of w.in-Ok.take) (option_map filled_of w.in-Ok.filled) _ _ there none w.in-Ok.ensures.ok refl (omega (arith, c.open_charges-spare.ensures.value, w.in-Ok.ensures.room)))
-      | in-Err w ↦ rw w.result-is tt
-    ])
+    rw (← c.self.view_is, c.take_of_other.ensures) (filler-step c.in-Some.nvm.nvm c.filler_take.new.self.nvm c.filler_take.new.pools (take_of taken.take) (option_map filled_of taken.filled) _ _ there none e.ok refl (omega (arith, c.open_charges-spare.ensures.value, e.room)))
