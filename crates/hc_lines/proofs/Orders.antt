@@ -1,5 +1,5 @@
 -- What the words of a line and its fields ask for.
-use Rattle.std.proofs.Common.{◌≡◌, ◌≢◌, ◌⊎◌, inl, inr, ℕ, zero, suc, ◌+◌, ◌<◌, nat_lt, List, [], ◌∷◌, ◌++◌, ◌^◌, length, take, drop, get_or, take_all, arith, Bool, ◌&&◌, true, false, ◌==◌, Option, None, Some, option_map, if◌then◌else◌, refl, sym, ◌∙◌, ap, append_assoc}
+use Rattle.std.proofs.Common.{◌≡◌, ◌≢◌, ◌⊎◌, inl, inr, ℕ, zero, suc, ◌+◌, ◌<◌, nat_lt, List, [], ◌∷◌, ◌++◌, ◌^◌, length, take, drop, get_or, take_all, arith, Bool, ◌&&◌, true, false, ◌==◌, Option, None, Some, option_map, if◌then◌else◌, refl, sym, ◌∙◌, ap, append_assoc, subst, rules}
 use Rattle.std.proofs.lemmas.Bool.{eqb-true}
 use Rattle.std.proofs.lemmas.Slice.Eq.{bytes_eq-Decides}
 use Rattle.std.specs.Char.{is_ascii_digit}
@@ -8,8 +8,8 @@ use Rattle.std.specs.Str.{bytes_eq, all_ascii_digits}
 use Rattle.std.specs.Prelude.{codes}
 use Rattle.hc_lines.specs.Lines.{onto_first, fields_of, Lacks}
 use Rattle.hc_lines.specs.Numbers.{is_visible, is_key, number_of, below, number_below, value_of}
-use Rattle.hc_lines.specs.Steps.{Get, Del, Now}
-use Rattle.hc_lines.specs.Grammar.{Order, Do, pool_with, pool_order, item_with, item_of, get_order, del_order, now_order, noflash_order, order_of}
+use Rattle.hc_lines.specs.Steps.{Get, Del, Now, Finish, Reply}
+use Rattle.hc_lines.specs.Grammar.{Order, Do, Serve, pool_with, pool_order, item_with, item_of, get_order, del_order, now_order, noflash_order, Five, five_with, five_of, flash_with, io_with, io_order, done_order, reply_order, alone_of, alone, served, serve_of, order_of}
 use Rattle.hc_lines.proofs.Decimals.{both, true-is-not-false, number-digits}
 use Rattle.hc_lines.proofs.Parts.{Some-fields, fields-some, fields-one, fields-ended, around, not-true}
 
@@ -172,33 +172,113 @@ not-word : (line word : List ℕ) (p : Parted line) → Not line (word ++ 32 ∷
 not-word line word p h false e = refl
 not-word line word p h true e = absurd (h p.rest (p.bytes ∙ ap (λ w. w ++ 32 ∷ p.rest) ((bytes_eq-Decides p.first word).0 e) ∙ sym (append_assoc word (32 ∷ []) p.rest)))
 
-some-noflash : (fields : List (List ℕ)) → Some-fields fields → noflash_order fields ≡ None
-some-noflash fields s = rw s.is refl
+-- a word that has no fields, and a space in the line
+pub no-space : (line word : List ℕ) → Lacks 32 word → Parted line → (b : Bool) → bytes_eq line word ≡ b → b ≡ false
+no-space line word h p true e = absurd (no-two word h (subst Parted ((bytes_eq-Decides line word).0 e) p))
+no-space line word h p false e = refl
 
-either-none : (b : Bool) (order : Option Order) → order ≡ None → (if b then order else None) ≡ None
-either-none true order e = e
-either-none false order e = refl
+pub alone-parted : (line : List ℕ) → Parted line → alone_of line ≡ None
+alone-parted line p =
+    rw (no-space line (codes "writer") (search rules) p _ refl, no-space line (codes "filler") (search rules) p _ refl, no-space line (codes "reclaim") (search rules) p _ refl) refl
 
-parted-none : (line : List ℕ) (p : Parted line) → Not line (codes "get ") → Not line (codes "set ") → Not line (codes "add ") → Not line (codes "del ") → Not line (codes "now ") → Not line (codes "pool ")
-    → order_of (p.first ∷ fields_of p.rest) ≡ None
-parted-none line p g s a d n o =
+-- nor is a word whose fields are missing
+past : (line word : List ℕ) (order : Option Order) → alone_of word ≡ None → order ≡ alone_of line → (if bytes_eq line word then None else order) ≡ alone_of line
+past line word order none same = by-test (bytes_eq line word) refl
+  where
+    by-test : (b : Bool) → bytes_eq line word ≡ b → (if b then None else order) ≡ alone_of line
+    by-test true e = sym (ap alone_of ((bytes_eq-Decides line word).0 e) ∙ none)
+    by-test false e = same
+
+serve-alone : (line : List ℕ) → served line [] ≡ alone_of line
+serve-alone line = past line (codes "io") _ refl (past line (codes "done") _ refl (past line (codes "reply") _ refl (past line (codes "flash") _ refl refl)))
+
+order-alone : (line : List ℕ) → bytes_eq line (codes "noflash") ≡ false → order_of (line ∷ []) ≡ alone_of line
+order-alone line h =
+    rw h (past line (codes "get") _ refl (past line (codes "set") _ refl (past line (codes "add") _ refl (past line (codes "del") _ refl (past line (codes "now") _ refl (past line (codes "pool") _ refl (serve-alone line)))))))
+
+-- the word of a configuration's end, with fields behind it
+noflash-parted : (word : List ℕ) (fields : List (List ℕ)) → Some-fields fields → (b : Bool) → bytes_eq word (codes "noflash") ≡ b → (if b then noflash_order fields else served word fields) ≡ served word fields
+noflash-parted word fields s true e = rw ((bytes_eq-Decides word (codes "noflash")).0 e, s.is) refl
+noflash-parted word fields s false e = refl
+
+order-parted : (line : List ℕ) (p : Parted line) → Not line (codes "get ") → Not line (codes "set ") → Not line (codes "add ") → Not line (codes "del ") → Not line (codes "now ") → Not line (codes "pool ")
+    → order_of (p.first ∷ fields_of p.rest) ≡ served p.first (fields_of p.rest)
+order-parted line p g s a d n o =
     rw (not-word line (codes "get") p g _ refl, not-word line (codes "set") p s _ refl, not-word line (codes "add") p a _ refl, not-word line (codes "del") p d _ refl, not-word line (codes "now") p n _ refl, not-word line (codes "pool") p o _ refl)
-    (either-none (bytes_eq p.first (codes "noflash")) _ (some-noflash _ (fields-some p.rest)))
+    (noflash-parted p.first (fields_of p.rest) (fields-some p.rest) (bytes_eq p.first (codes "noflash")) refl)
 
-inner : (b : Bool) {order : Option Order} → order ≡ None → (if b then None else order) ≡ None
-inner true e = refl
-inner false e = e
+serve-from : (line : List ℕ) → (fields_of line ≡ line ∷ []) ⊎ Parted line → Not line (codes "get ") → Not line (codes "set ") → Not line (codes "add ") → Not line (codes "del ") → Not line (codes "now ") → Not line (codes "pool ")
+    → bytes_eq line (codes "noflash") ≡ false → order_of (fields_of line) ≡ serve_of (fields_of line)
+serve-from line (inl one) g s a d n o f = ap order_of one ∙ order-alone line f ∙ sym (ap serve_of one ∙ serve-alone line)
+serve-from line (inr p) g s a d n o f = ap order_of p.fields ∙ order-parted line p g s a d n o ∙ sym (ap serve_of p.fields)
 
--- a word that stands alone
-alone : (word : List ℕ) → bytes_eq word (codes "noflash") ≡ false → order_of (word ∷ []) ≡ None
-alone word h =
-    rw h (inner (bytes_eq word (codes "get")) (inner (bytes_eq word (codes "set")) (inner (bytes_eq word (codes "add")) (inner (bytes_eq word (codes "del")) (inner (bytes_eq word (codes "now")) (inner (bytes_eq word (codes "pool")) refl))))))
+pub serves : (line : List ℕ) → Not line (codes "get ") → Not line (codes "set ") → Not line (codes "add ") → Not line (codes "del ") → Not line (codes "now ") → Not line (codes "pool ")
+    → bytes_eq line (codes "noflash") ≡ false → order_of (fields_of line) ≡ serve_of (fields_of line)
+serves line g s a d n o f = serve-from line (one-or-more line) g s a d n o f
 
-none-from : (line : List ℕ) → (fields_of line ≡ line ∷ []) ⊎ Parted line → Not line (codes "get ") → Not line (codes "set ") → Not line (codes "add ") → Not line (codes "del ") → Not line (codes "now ") → Not line (codes "pool ")
-    → bytes_eq line (codes "noflash") ≡ false → order_of (fields_of line) ≡ None
-none-from line (inl one) g s a d n o f = ap order_of one ∙ alone line f
-none-from line (inr p) g s a d n o f = ap order_of p.fields ∙ parted-none line p g s a d n o
+-- ---- none of those of the flash
 
-pub none-of : (line : List ℕ) → Not line (codes "get ") → Not line (codes "set ") → Not line (codes "add ") → Not line (codes "del ") → Not line (codes "now ") → Not line (codes "pool ")
-    → bytes_eq line (codes "noflash") ≡ false → order_of (fields_of line) ≡ None
-none-of line g s a d n o f = none-from line (one-or-more line) g s a d n o f
+alone-behind : (word : List ℕ) (fields : List (List ℕ)) → Some-fields fields → alone word fields ≡ None
+alone-behind word fields s = rw s.is refl
+
+alone-from : (line : List ℕ) → (fields_of line ≡ line ∷ []) ⊎ Parted line → Not line (codes "io ") → Not line (codes "done ") → Not line (codes "reply ") → Not line (codes "flash ")
+    → serve_of (fields_of line) ≡ alone_of line
+alone-from line (inl one) i d r f = ap serve_of one ∙ serve-alone line
+alone-from line (inr p) i d r f =
+    ap serve_of p.fields
+    ∙ rw (not-word line (codes "io") p i _ refl, not-word line (codes "done") p d _ refl, not-word line (codes "reply") p r _ refl, not-word line (codes "flash") p f _ refl) (alone-behind p.first (fields_of p.rest) (fields-some p.rest))
+    ∙ sym (alone-parted line p)
+
+pub stands-alone : (line : List ℕ) → Not line (codes "io ") → Not line (codes "done ") → Not line (codes "reply ") → Not line (codes "flash ") → serve_of (fields_of line) ≡ alone_of line
+stands-alone line i d r f = alone-from line (one-or-more line) i d r f
+
+-- ---- and what is behind these
+
+done-from : (text : List ℕ) → (fields_of text ≡ text ∷ []) ⊎ Parted text → done_order (fields_of text) ≡ option_map (λ job. Serve (Finish job)) (number_of text)
+done-from text (inl one) = ap done_order one
+done-from text (inr p) = ap done_order (two text p) ∙ sym (ap (λ r. option_map (λ job. Serve (Finish job)) r) (not-number text (number_of text) refl p))
+
+pub done-is : (text : List ℕ) → done_order (fields_of text) ≡ option_map (λ job. Serve (Finish job)) (number_of text)
+done-is text = done-from text (one-or-more text)
+
+reply-from : (text : List ℕ) → (fields_of text ≡ text ∷ []) ⊎ Parted text → reply_order (fields_of text) ≡ option_map (λ call. Serve (Reply call)) (number_of text)
+reply-from text (inl one) = ap reply_order one
+reply-from text (inr p) = ap reply_order (two text p) ∙ sym (ap (λ r. option_map (λ call. Serve (Reply call)) r) (not-number text (number_of text) refl p))
+
+pub reply-is : (text : List ℕ) → reply_order (fields_of text) ≡ option_map (λ call. Serve (Reply call)) (number_of text)
+reply-is text = reply-from text (one-or-more text)
+
+fail-two : (job first second : List ℕ) (rest : List (List ℕ)) → io_order (job ∷ first ∷ second ∷ rest) ≡ None
+fail-two job first second rest = refl
+
+fail-from : (job text : List ℕ) → (fields_of text ≡ text ∷ []) ⊎ Parted text → io_order (job ∷ fields_of text) ≡ (if bytes_eq text (codes "fail") then io_with true (number_of job) else None)
+fail-from job text (inl one) = ap (λ z. io_order (job ∷ z)) one
+fail-from job text (inr p) =
+    ap (λ z. io_order (job ∷ z)) (two text p)
+    ∙ sym (ap (λ b. if b then io_with true (number_of job) else None) (no-space text (codes "fail") (search rules) p (bytes_eq text (codes "fail")) refl))
+
+pub fail-is : (job text : List ℕ) → io_order (job ∷ fields_of text) ≡ (if bytes_eq text (codes "fail") then io_with true (number_of job) else None)
+fail-is job text = fail-from job text (one-or-more text)
+
+no-five : (a b c d : Option ℕ) → None ≡ five_with a b c d None
+no-five None b c d = refl
+no-five (Some a) None c d = refl
+no-five (Some a) (Some b) None d = refl
+no-five (Some a) (Some b) (Some c) None = refl
+no-five (Some a) (Some b) (Some c) (Some d) = refl
+
+five-from : (a b c d text : List ℕ) → (fields_of text ≡ text ∷ []) ⊎ Parted text
+    → five_of (a ∷ b ∷ c ∷ d ∷ fields_of text) ≡ five_with (number_of a) (number_of b) (number_of c) (number_of d) (number_of text)
+five-from a b c d text (inl one) = ap (λ z. five_of (a ∷ b ∷ c ∷ d ∷ z)) one
+five-from a b c d text (inr p) =
+    ap (λ z. five_of (a ∷ b ∷ c ∷ d ∷ z)) (two text p)
+    ∙ no-five (number_of a) (number_of b) (number_of c) (number_of d)
+    ∙ sym (ap (five_with (number_of a) (number_of b) (number_of c) (number_of d)) (not-number text (number_of text) refl p))
+
+pub five-is : (a b c d text : List ℕ) → five_of (a ∷ b ∷ c ∷ d ∷ fields_of text) ≡ five_with (number_of a) (number_of b) (number_of c) (number_of d) (number_of text)
+five-is a b c d text = five-from a b c d text (one-or-more text)
+
+-- a flash of five fields is none
+pub no-limits : (sizes : Option Five) → flash_with sizes None ≡ None
+no-limits None = refl
+no-limits (Some sizes) = refl

@@ -7,8 +7,10 @@ use Rattle.hc_lines.specs.declared.value.Value.TheVariants.{Plain, Repeated}
 use Rattle.hc_lines.specs.declared.grammar.NewItem.{NewItem}
 use Rattle.hc_lines.specs.declared.grammar.Step.{Step}
 use Rattle.hc_lines.specs.declared.grammar.Step.TheVariants.{Set, Add, Get, Del, Now}
+use Rattle.hc_lines.specs.declared.grammar.Work.{Work}
+use Rattle.hc_lines.specs.declared.grammar.Work.TheVariants.{Writer, Filler, Reclaim, Io, Finish, Reply}
 use Rattle.hc_lines.specs.declared.grammar.Order.{Order}
-use Rattle.hc_lines.specs.declared.grammar.Order.TheVariants.{Pool, NoFlash, Do}
+use Rattle.hc_lines.specs.declared.grammar.Order.TheVariants.{Pool, NoFlash, Flash, Do, Serve}
 use Rattle.hc_lines.specs.declared.grammar.Line.{Line}
 use Rattle.hc_lines.specs.declared.grammar.Line.TheVariants.{Skipped, Says, Fault}
 
@@ -27,10 +29,20 @@ step_seen (Get key) = steps.Get key.now
 step_seen (Del key) = steps.Del key.now
 step_seen (Now moment) = steps.Now moment
 
+abbrev pub work_seen : Work → steps.Work
+work_seen Writer = steps.Writer
+work_seen Filler = steps.Filler
+work_seen Reclaim = steps.Reclaim
+work_seen (Io job fails) = steps.Io job fails
+work_seen (Finish job) = steps.Finish job
+work_seen (Reply call) = steps.Reply call
+
 abbrev pub order_seen : Order → spec.Order
 order_seen (Pool bytes items) = spec.Pool bytes items
 order_seen NoFlash = spec.NoFlash
+order_seen (Flash flash) = spec.Flash flash
 order_seen (Do step) = spec.Do (step_seen step)
+order_seen (Serve work) = spec.Serve (work_seen work)
 
 abbrev pub line_seen : Line → spec.Line
 line_seen Skipped = spec.Skipped

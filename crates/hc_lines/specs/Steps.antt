@@ -1,5 +1,5 @@
 -- The steps of a trace, and their answers.
-use Rattle.std.specs.Prelude.{ℕ, List}
+use Rattle.std.specs.Prelude.{ℕ, Bool, List}
 use Rattle.hc_types.specs.declared.refusal.Refusal.{Refusal}
 
 -- what is to be stored: a value under a key, in a pool, for so many seconds (0: for good)
@@ -20,6 +20,21 @@ pub data Step : Type 0 where
   -- the clock moves on to this second
   Now : (moment : ℕ) → Step
 
+-- what a worker does with the cache, the device with a job, or a client that waited
+pub data Work : Type 0 where
+  -- the writer takes what is to be written next
+  Writer : Work
+  -- the filler takes what is to be read next
+  Filler : Work
+  -- a region is given up
+  Reclaim : Work
+  -- the operation of a job is made, or the device fails it
+  Io : (job : ℕ) (fails : Bool) → Work
+  -- the result of a job's operation is handed in
+  Finish : (job : ℕ) → Work
+  -- the reply of a call that waited is taken
+  Reply : (call : ℕ) → Work
+
 -- what a step is answered
 pub data Answer : Type 0 where
   Stored : Answer
@@ -30,3 +45,18 @@ pub data Answer : Type 0 where
   Absent : Answer
   -- the second that holds
   Moment : (now : ℕ) → Answer
+  -- what an add that waited found: an unexpired item
+  Exists : Answer
+  -- the call waits for flash, under this number
+  Waiting : (call : ℕ) → Answer
+  -- there is nothing to do
+  Idle : Answer
+  -- a piece of work is done
+  Finished : Answer
+  -- a job wants this page read, or written
+  Reads : (job page : ℕ) → Answer
+  Writes : (job page : ℕ) → Answer
+  -- the operation was made, or failed
+  Made : Answer
+  Failed : Answer
+  Reclaimed : (region : ℕ) → Answer

@@ -10,7 +10,7 @@ use Rattle.hc_history.specs.Note.{Note, Lose}
 use Rattle.hc_history.specs.Counts.{counts_text}
 use Rattle.hc_history.specs.declared.stats.Stats.{Stats}
 use Rattle.hc_lines.specs.Numbers.{is_visible, value_of}
-use Rattle.hc_lines.specs.Steps.{Answer, Stored, Refused, Hit, Miss, Found, Absent, Moment}
+use Rattle.hc_lines.specs.Steps.{Answer, Stored, Refused, Hit, Miss, Found, Absent, Moment, Exists, Waiting, Idle, Finished, Reads, Writes, Made, Failed, Reclaimed}
 
 -- four bytes or more, all equal, and no digits
 abbrev pub is_repeated : List ℕ → Bool
@@ -37,6 +37,15 @@ answer_text Miss = codes "miss"
 answer_text Found = codes "found"
 answer_text Absent = codes "absent"
 answer_text (Moment now) = codes "now " ++ decimal now
+answer_text Exists = codes "exists"
+answer_text (Waiting call) = codes "waiting " ++ decimal call
+answer_text Idle = codes "idle"
+answer_text Finished = codes "finished"
+answer_text (Reads job page) = (codes "job " ++ decimal job) ++ (codes " read " ++ decimal page)
+answer_text (Writes job page) = (codes "job " ++ decimal job) ++ (codes " write " ++ decimal page)
+answer_text Made = codes "ok"
+answer_text Failed = codes "failed"
+answer_text (Reclaimed region) = codes "reclaimed " ++ decimal region
 
 -- a line of its own
 abbrev pub line_text : List ℕ → List ℕ

@@ -9,7 +9,9 @@ ghost use Rattle.hc_lines.specs.Steps.{Get, Del};
 ghost use Rattle.hc_lines.specs.Seen.{item_seen, order_seen, line_seen};
 
 use crate::numbers::number;
+use crate::serving::serve_in;
 use crate::value::{Value, is_key, value_in, visible_front};
+use hc_types::FlashConfig;
 use memchr::memchr;
 
 /// The most bytes of a line.
@@ -38,14 +40,35 @@ pub enum Step<'a> {
     Now(u64),
 }
 
+/// What a worker does with the cache, the device with a job, or a client that waited.
+#[derive(Clone, Copy)]
+pub enum Work {
+    /// The writer takes what is to be written next.
+    Writer,
+    /// The filler takes what is to be read next.
+    Filler,
+    /// A region is given up.
+    Reclaim,
+    /// The operation of this job is made, or the device fails it.
+    Io(u64, bool),
+    /// The result of this job's operation is handed in.
+    Finish(u64),
+    /// The reply of this call, which waited, is taken.
+    Reply(u64),
+}
+
 /// What a line asks for.
 #[derive(Clone, Copy)]
 pub enum Order<'a> {
     /// One more pool, of so many bytes and items.
     Pool(u64, u64),
-    /// The end of the configuration.
+    /// The end of the configuration, without flash.
     NoFlash,
+    /// The end of the configuration, with flash. Whether the numbers are within their limits is for `Config::check`.
+    Flash(FlashConfig),
     Do(Step<'a>),
+    /// What only a cache with flash has to do.
+    Serve(Work),
 }
 
 /// What a line says.
@@ -196,7 +219,7 @@ fn now_in(fields: &[u8]) -> Option<Order<'_>>
 
 // The bytes behind these, where the line begins with them. A byte after another, so that the first byte of a line tells its
 // word at one jump.
-fn behind<'a>(line: &'a [u8], word: &[u8]) -> Option<&'a [u8]>
+pub(crate) fn behind<'a>(line: &'a [u8], word: &[u8]) -> Option<&'a [u8]>
     ensures { MatchOption result ((rest : List ℕ) → line.now ≢ word.now ++ rest) (λ rest. line.now ≡ word.now ++ rest.now) }
 {
     if line.len() < word.len() {
@@ -235,7 +258,7 @@ fn order_in(line: &[u8]) -> Option<Order<'_>>
     if line == b"noflash".as_slice() {
         Some(Order::NoFlash)
     } else {
-        None
+        serve_in(line)
     }
 }
 

@@ -8,7 +8,7 @@ ghost use Rattle.hc_types.specs.Refusals.{refusal_text};
 ghost use Rattle.hc_history.specs.Counts.{finds_text, calls_text, others_text};
 ghost use Rattle.hc_lines.specs.Texts as spec;
 ghost use Rattle.hc_lines.specs.Texts.{value_text, ReadsBack, line_text, lose_text, losses_text, stats_text, verdict_text, fault_text};
-ghost use Rattle.hc_lines.specs.Steps.{Hit, Moment};
+ghost use Rattle.hc_lines.specs.Steps.{Hit, Moment, Waiting, Reads, Writes, Reclaimed};
 
 use hc_history::{Note, Said, Stats};
 use hc_types::{Cause, Key, Refusal, Scope};
@@ -83,6 +83,40 @@ pub fn add_moment(out: &mut Vec<u8>, now: u64) -> Result<(), AllocError>
     ensures { OnOk result (out.new.items ≡ out.old.items ++ line_text (spec.answer_text (Moment now))) }
 {
     add_count(out, b"now ", now)?;
+    out.extend_from_slice(b"\n")
+}
+
+/// The line of a call that waits.
+pub fn add_waiting(out: &mut Vec<u8>, call: u64) -> Result<(), AllocError>
+    ensures { OnOk result (out.new.items ≡ out.old.items ++ line_text (spec.answer_text (Waiting call))) }
+{
+    add_count(out, b"waiting ", call)?;
+    out.extend_from_slice(b"\n")
+}
+
+/// The line of a job that wants a page read.
+pub fn add_reads(out: &mut Vec<u8>, job: u64, page: u64) -> Result<(), AllocError>
+    ensures { OnOk result (out.new.items ≡ out.old.items ++ line_text (spec.answer_text (Reads job page))) }
+{
+    add_count(out, b"job ", job)?;
+    add_count(out, b" read ", page)?;
+    out.extend_from_slice(b"\n")
+}
+
+/// The line of a job that wants a page written.
+pub fn add_writes(out: &mut Vec<u8>, job: u64, page: u64) -> Result<(), AllocError>
+    ensures { OnOk result (out.new.items ≡ out.old.items ++ line_text (spec.answer_text (Writes job page))) }
+{
+    add_count(out, b"job ", job)?;
+    add_count(out, b" write ", page)?;
+    out.extend_from_slice(b"\n")
+}
+
+/// The line of a region that was reclaimed.
+pub fn add_reclaimed(out: &mut Vec<u8>, region: u64) -> Result<(), AllocError>
+    ensures { OnOk result (out.new.items ≡ out.old.items ++ line_text (spec.answer_text (Reclaimed region))) }
+{
+    add_count(out, b"reclaimed ", region)?;
     out.extend_from_slice(b"\n")
 }
 

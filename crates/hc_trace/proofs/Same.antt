@@ -12,7 +12,7 @@ use Rattle.hc_history.proofs.Telling.{counts-none, counts-twice}
 use Rattle.hc_core.specs.Cache.{Cache}
 use Rattle.hc_trace.specs.declared.state.State.TheVariants.{Configuring, Running}
 use Rattle.hc_lines.specs.Lines.{lines_of}
-use Rattle.hc_lines.specs.Grammar.{Line, Skipped, Says, Fault, Pool, NoFlash, Do, line_of}
+use Rattle.hc_lines.specs.Grammar.{Line, Skipped, Says, Fault, Pool, NoFlash, Flash, Do, Serve, line_of}
 use Rattle.hc_trace.specs.Moves.{Moved, move}
 use Rattle.hc_trace.specs.Trace.{checked, steps_line, steps_from, config_of, trace_line, trace_from, Steps, empty_cache, step_text, steps_text, notes_of, ending, onto, trace_output, output_of}
 use Rattle.hc_trace.proofs.Logs.{counted, told-same, silent, move-silent}
@@ -30,6 +30,8 @@ run-line : (n : ℕ) (cache : Cache) (counts : Stats) (line : Line) (lines : Lis
 run-line n cache counts Skipped lines e later = later cache counts e
 run-line n cache counts (Says (Pool bytes items)) lines e later = refl
 run-line n cache counts (Says NoFlash) lines e later = refl
+run-line n cache counts (Says (Flash flash)) lines e later = refl
+run-line n cache counts (Says (Serve work)) lines e later = refl
 run-line n cache counts (Says (Do step)) lines e later =
     let rest = steps_from (n + 1) lines in
     let moved = move step cache in
@@ -72,7 +74,9 @@ trace-line-same : (n : ℕ) (sizes : List PoolSize) (line : Line) (lines : List 
 trace-line-same n sizes Skipped lines later = later sizes
 trace-line-same n sizes (Says (Pool bytes items)) lines later = later (sizes ++ record { bytes = bytes; items = items } ∷ [])
 trace-line-same n sizes (Says NoFlash) lines later = end-line n sizes (first_wrong (config_of sizes)) lines
+trace-line-same n sizes (Says (Flash flash)) lines later = refl
 trace-line-same n sizes (Says (Do step)) lines later = refl
+trace-line-same n sizes (Says (Serve work)) lines later = refl
 trace-line-same n sizes Fault lines later = refl
 
 trace-same : (n : ℕ) (sizes : List PoolSize) (lines : List (List ℕ)) → output_from n (Configuring sizes) lines ≡ trace_output (trace_from n sizes lines)

@@ -119,6 +119,7 @@ fn obey(
             }
             fault(out, taken)
         }
+        Order::Flash(_) | Order::Serve(_) => fault(out, taken),
     }
 }
 
