@@ -1,5 +1,4 @@
 -- What each call of the cache does.
 pub mod Logged
-pub mod Answers
 pub mod Events
 pub mod Holds
