@@ -7,11 +7,14 @@ pub mod Courses
 pub mod FillEnds
 pub mod Filling
 pub mod Finding
+pub mod Inserting
 pub mod Leaving
 pub mod Linked
 pub mod Outdating
 pub mod Owing
 pub mod Planned
+pub mod Preparing
+pub mod Removing
 pub mod Serving
 pub mod Storing
 pub mod Telling
