@@ -12,7 +12,7 @@ use Rattle.hc_history.specs.Told.{Heard, told_more, is_log, where_kept}
 use Rattle.hc_machine.specs.Nvm.{Nvm, Waiter, Wish, ToFind, ToAdd}
 use Rattle.hc_machine.specs.Leaving.{is_over}
 use Rattle.hc_machine.specs.Takes.{Taken, Filled, Take}
-use Rattle.hc_machine.specs.Cache.{Cache, Took, and_then, with_memory, unmarked_by, takes_in}
+use Rattle.hc_machine.specs.Cache.{Cache, Told, Took, and_then, with_memory, unmarked_by, takes_in}
 use Rattle.hc_machine.specs.Waiting.{live, there_after}
 use Rattle.hc_invariant.specs.Structure.{Structured}
 use Rattle.hc_nvm.specs.Endings.{Ending}
@@ -38,7 +38,7 @@ use Rattle.hc_state.proofs.FillSteps.{brought-step}
 use Rattle.hc_state.proofs.Filled.{want_of, can-fresh}
 use Rattle.hc_state.proofs.Leaving.{kept-told}
 use Rattle.hc_state.proofs.Unqueued.{does-log}
-use Rattle.hc_state.proofs.Ways.{taken-step, taken-some, leaves-by}
+use Rattle.hc_state.proofs.Ways.{taken-step, leaves-by, no-way}
 use Rattle.hc_state.proofs.Works.{unmarked-charges}
 
 -- ---- calls that wait for what is there store nothing
@@ -143,11 +143,7 @@ module _ {A : Type 0} (way : Way A) (key : List ℕ) (ending : Ending) (arrived 
         is.item.copy ∙ ap (λ (k : List ℕ). where_kept old.log k) brought.own ∙ sym (ap (λ (h : Heard). where_kept h key) (log_more taken over) ∙ kept-told old.log taken.part key)
 
     flash_there : (nvm : Option Nvm) → EndsBy way nvm ending → is_some nvm ≡ true
-    flash_there None ends = absurd (none way ends)
-      where
-        none : (way : Way A) → EndsBy way None ending → ⊥
-        none (Handed number came) e = e
-        none AtOnce e = e
+    flash_there None ends = absurd (no-way way ending ends)
     flash_there (Some nvm) ends = refl
 
     leaves_kept : (taken : Option Taken) → Over taken → AreFor told (keys_of arrived.victims.items) arrived.leaves.items
@@ -168,7 +164,7 @@ module _ {A : Type 0} (way : Way A) (key : List ℕ) (ending : Ending) (arrived 
 
     absent_by : (nvm : Option Nvm) (taken : Option Taken) → old.cache.nvm ≡ nvm → taken_by way nvm ≡ taken → EndsBy way nvm ending → Over taken → NoneWaits arrived.pool arrived.want arrived.victims.items told.cache
     absent_by nvm None nvm_is taken_is ends over = absurd over
-    absent_by None (Some taken) nvm_is taken_is ends over = absurd (let there : is_some None ≡ true = flash_there None ends in cc)
+    absent_by None (Some taken) nvm_is taken_is ends over = absurd (no-way way ending ends)
     absent_by (Some nvm) (Some taken) nvm_is taken_is ends over = absent_in nvm taken nvm_is taken_is over
 
     room_left : (taken : Option Taken) → Over taken → HasRoom (costs (2 * length arrived.victims.items + 2 + 6 * length waiters) (length arrived.victims.items) (length waiters) 0) told
@@ -219,11 +215,10 @@ module _ {A : Type 0} (way : Way A) (key : List ℕ) (ending : Ending) (arrived 
           let filled = over.filled_is ∙ ap (λ (e : Option FlashEntry). Some (record { entry = e; waiters = waiters })) brought.found in
           let then_served = all_served_as waiters courses (Some arrived.number) in
           let cost = costs (2 * length arrived.victims.items + 2 + 6 * length waiters) (length arrived.victims.items) (length waiters) 0 in
-          let brings = λ i. and_then (brought_by (is.item.number i) (is.item.pool i) (sym brought.own i) (is.item.want i) (is.item.victims i) told.cache) then_served in
           let count = ap (λ (xs : List Waiter). length xs) own in
           let most = ap (λ (o : Option Nvm). most_told_in losses o) same_flash in
           let step = brought-step (is_log old.log) key courses entry waiters losses taken (Some arrived.number) (for_notes (most_told_in losses linked.cache.nvm)) cost (with_cache c linked) linked told new
-          brought.can brought.apart over.losses filled plan (λ i. record linked { cache = is.cache i }) over.does (subst (λ t. Does t cost told new) brings serves)
+          brought.can brought.apart over.losses filled plan (λ i. record linked { cache = is.cache i }) over.does (subst (λ (t : Told). Does t cost told new) (λ i. and_then (brought_by (is.item.number i) (is.item.pool i) (sym brought.own i) (is.item.want i) (is.item.victims i) told.cache) then_served) serves)
           (omega (arith, is.room.notes, count, most)) in
           taken-step way (Took (take_of take)) taken old new taken_is (like-step taken (take_of take) old (with_cache c linked) new refl is.log over.take_is step)
 

@@ -17,6 +17,7 @@ use Rattle.hc_machine.specs.Workers.{can_link}
 use Rattle.hc_nvm.specs.Endings.{Ending}
 use Rattle.hc_state.specs.Bringing.{Arrives, entry_coming, want_coming}
 use Rattle.hc_state.specs.Ends.{losses_by, HasRoomToEnd, IsComing, IsItem, IsLinked}
+use Rattle.hc_state.specs.FillEnds.{most_told_in}
 use Rattle.hc_state.specs.Filling.{brought_in, marked_by, all_marked_by}
 use Rattle.hc_state.specs.Leaving.{leave_of, AreFor, keys_of}
 use Rattle.hc_state.specs.Whole.{Whole, Stays}
@@ -118,7 +119,6 @@ module _ {A : Type 0} (entry : FlashEntry) (ending : Ending) (count waiting : �
     };
   }
 
-
 pub linked-result : {A E : Type 0} (entry : FlashEntry) (ending : Ending) (count waiting : ℕ) (coming : Coming A) (result : Result (Arrived A) E) (old mid new : Whole) → Stays old mid → IsComing entry count mid coming
     → count ≡ length (victims_of old.cache.memory entry.pool (want_of entry)) → HasRoomToEnd ending count waiting old.cache mid
     → IfOk result (λ arrived. Arrives mid.cache.memory.flash (losses_by ending) mid.cache.memory coming arrived)
@@ -129,3 +129,18 @@ linked-result entry ending count waiting coming (Err e) old mid new stays comes 
 -- nothing changed, where what was tried changed nothing
 pub stayed : (old mid new : Whole) → Stays old mid → new ≡ mid → Stays old new
 stayed old mid new stays is = subst (λ (w : Whole). Stays old w) (sym is) stays
+
+-- ---- room
+
+-- there is more room, and nothing else changed
+pub stays-by : (old new : Whole) → new.cache ≡ old.cache → new.log ≡ old.log → old.notes ≤ new.notes → old.spare.puts ≤ new.spare.puts → old.spare.stones ≤ new.spare.stones → old.spare.fills ≤ new.spare.fills → Stays old new
+stays-by old new cache log notes puts stones fills = record {
+  cache = cache;
+  log = log;
+  room = record { notes = omega (arith, notes); puts = omega (arith, puts); stones = omega (arith, stones); fills = omega (arith, fills) };
+}
+
+pub has-room : {T E : Type 0} (result : Result T E) (ending : Ending) (victims waiting notes most : ℕ) (cache : Cache) (new : Whole) → OnOk result (notes ≤ new.notes) → notes ≡ length cache.memory.charges + 1 + (most + (2 * victims + 2 + 6 * waiting))
+    → most ≡ most_told_in (losses_by ending) cache.nvm → victims ≤ new.spare.puts → waiting ≤ new.spare.stones → OnOk result (HasRoomToEnd ending victims waiting cache new)
+has-room (Ok x) ending victims waiting notes most cache new room notes_are most_is puts stones = record { notes = omega (arith, room, notes_are, most_is); puts = puts; stones = stones; fills = omega arith }
+has-room (Err e) ending victims waiting notes most cache new room notes_are most_is puts stones = tt

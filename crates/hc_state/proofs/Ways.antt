@@ -86,13 +86,18 @@ next-key key (Some nvm) ending next ends = ends.key_is ∙ sym ends.next ∙ sym
 
 -- ---- what is taken
 
+-- without flash none is
+pub no-way : {A : Type 0} (way : Way A) (ending : Ending) → EndsBy way None ending → ⊥
+no-way (Handed number came) ending ends = ends
+no-way AtOnce ending ends = ends
+
 pub taken-some : {A : Type 0} (way : Way A) (nvm : Option Nvm) (ending : Ending) → EndsBy way nvm ending → IsSome (taken_by way nvm)
 taken-some (Handed number came) None ending ends = absurd ends
 taken-some (Handed number came) (Some nvm) ending ends = ends.steps
 taken-some AtOnce None ending ends = absurd ends
-taken-some AtOnce (Some nvm) ending ends = tt
+taken-some AtOnce (Some nvm) ending ends = refl
 
-shown_if : Option Taken → Nvm → Ending → Type 0
+abbrev shown_if : Option Taken → Nvm → Ending → Type 0
 shown_if None nvm ending = ⊥
 shown_if (Some taken) nvm ending = Shows taken nvm.fills ending
 
@@ -100,7 +105,7 @@ pub shows-by : {A : Type 0} (way : Way A) (nvm : Nvm) (ending : Ending) (taken :
 shows-by (Handed number came) nvm ending taken ends is = ends.shows taken is
 shows-by AtOnce nvm ending taken ends is = subst (λ (t : Option Taken). shown_if t nvm ending) is ends.shows
 
-leaves_if : Nvm → Option Taken → Type 0
+abbrev leaves_if : Nvm → Option Taken → Type 0
 leaves_if nvm None = ⊥
 leaves_if nvm (Some taken) = Leaves nvm taken
 
@@ -127,18 +132,14 @@ way-bare {A = A} AtOnce ending key cache ends key_is s = go cache.nvm refl ends
 -- it is a fill's
 pub filled-there : {A : Type 0} (filled : Option (ended.Filled A)) (over : Filled) → option_map filled_of filled ≡ Some over → IsSome filled
 filled-there None over is = absurd cc
-filled-there (Some filled) over is = tt
+filled-there (Some filled) over is = refl
 
 module _ {A : Type 0} (way : Way A) (ending : Ending) (key : List ℕ) (result : answered.Taken A) (old new : Whole) (key_is : ending.key ≡ Some key) where
   filled_in : (nvm : Nvm) (taken : Taken) → EndsBy way (Some nvm) ending → taken_by way (Some nvm) ≡ Some taken → TookIn taken (most_told_in (losses_by ending) old.cache.nvm) result old new → option_map filled_of result.filled ≡ Some (record { entry = found_by ending; waiters = waiters_at (Some nvm) key })
   filled_in nvm taken ends is took = took.filled_is ∙ filled-is key nvm taken ending (shows-by way nvm ending taken ends is) key_is
 
   ended_in : (nvm : Option Nvm) (taken : Option Taken) → EndsBy way nvm ending → taken_by way nvm ≡ taken → TookBy taken (most_told_in (losses_by ending) old.cache.nvm) result old new → IsSome result.filled
-  ended_in None taken ends is took = absurd (none way ends)
-    where
-      none : (way : Way A) → EndsBy way None ending → ⊥
-      none (Handed number came) e = e
-      none AtOnce e = e
+  ended_in None taken ends is took = absurd (no-way way ending ends)
   ended_in (Some nvm) None ends is took = absurd took
   ended_in (Some nvm) (Some taken) ends is took = filled-there result.filled _ (filled_in nvm taken ends is took)
 
@@ -160,11 +161,7 @@ module _ {A : Type 0} (way : Way A) (ending : Ending) (key : List ℕ) (result :
 
     over_by : (nvm : Option Nvm) (taken : Option Taken) → old.cache.nvm ≡ nvm → EndsBy way nvm ending → taken_by way nvm ≡ taken → TookBy taken (most_told_in (losses_by ending) old.cache.nvm) result old new → IsOverBy taken key ending result.take waiters old new
     over_by nvm None is ends taken_is took = absurd took
-    over_by None (Some taken) is ends taken_is took = absurd (none way taken_is)
-      where
-        none : (way : Way A) → taken_by way None ≡ Some taken → ⊥
-        none (Handed number came) e = cc
-        none AtOnce e = cc
+    over_by None (Some taken) is ends taken_is took = absurd (no-way way ending ends)
     over_by (Some nvm) (Some taken) is ends taken_is took = over_in nvm taken is ends taken_is took
 
     pub over-by : EndsBy way old.cache.nvm ending → TookBy (taken_by way old.cache.nvm) (most_told_in (losses_by ending) old.cache.nvm) result old new → IsOverBy (taken_by way old.cache.nvm) key ending result.take waiters old new

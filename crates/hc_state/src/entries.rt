@@ -1,5 +1,5 @@
 // What a fill brought is linked, where it can be: what that needs is made first.
-ghost use Rattle.std.specs.Prelude.{◌≡◌, ◌≤◌, ◌&&◌, not, true, None, length, IfSome, IfOk, OnErr};
+ghost use Rattle.std.specs.Prelude.{◌≡◌, ◌<◌, ◌≤◌, ◌&&◌, not, true, None, length, IfSome, IfOk, OnErr};
 ghost use Rattle.std.specs.Str.{bytes_eq};
 ghost use Rattle.hc_types.specs.Charge.{charge_of};
 ghost use Rattle.hc_types.specs.FlashEntry.{entry_of};

@@ -4,7 +4,7 @@ ghost use Rattle.hc_state.specs.Ends.{HasRoomToEnd, losses_by};
 ghost use Rattle.hc_state.specs.FillEnds.{most_told_in};
 ghost use Rattle.hc_state.specs.Storing.{how_many};
 ghost use Rattle.hc_state.specs.Serving.{waiters_at};
-ghost use Rattle.hc_state.specs.Whole.{Stays, nvm_of};
+ghost use Rattle.hc_state.specs.Whole.{Stays, nvm_of, spare_of};
 
 use crate::state::State;
 use hc_history::{Note, Notes};
@@ -30,6 +30,25 @@ fn notes_for(waiting: usize, charges: usize) -> Option<usize>
 {
     let each = waiting.checked_mul(6)?;
     each.checked_add(8 + charges)
+}
+
+/// Room for so many more puts that wait, and so many tombstones, where there is flash.
+fn reserve_flash<A: Allocator + Clone + Copy>(
+    nvm: &mut Option<Nvm<A>>,
+    puts: usize,
+    stones: usize,
+) -> Result<(), AllocError>
+    ensures same { nvm_of nvm.new ≡ nvm_of nvm.old }
+    ensures puts { OnOk result (puts ≤ (spare_of nvm.new).puts) }
+    ensures stones { OnOk result (stones ≤ (spare_of nvm.new).stones) }
+    ensures more_puts { (spare_of nvm.old).puts ≤ (spare_of nvm.new).puts }
+    ensures more_stones { (spare_of nvm.old).stones ≤ (spare_of nvm.new).stones }
+    ensures more_fills { (spare_of nvm.old).fills ≤ (spare_of nvm.new).fills }
+{
+    match nvm {
+        Some(nvm) => nvm.reserve(puts, stones, 0),
+        None => Ok(()),
+    }
 }
 
 /// How many notes flash tells at most with so many losses, where so many tombstones stand. None where that is more than can
@@ -82,11 +101,8 @@ impl<N: Notes<Note<A>>, A: Allocator + Clone + Copy> State<N, A> {
         let Some(notes) = notes_to_end(most, self.pools.open_charges(), victims, waiting) else {
             return Err(AllocError);
         };
-        self.notes.reserve(notes)?;
-        match &mut self.nvm {
-            Some(nvm) => nvm.reserve(victims, waiting, 0),
-            None => Ok(()),
-        }
+        reserve_flash(&mut self.nvm, victims, waiting)?;
+        self.notes.reserve(notes)
     }
 
     /// Room for the tombstones of a call for whose key so many others wait.
