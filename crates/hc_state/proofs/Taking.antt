@@ -1,8 +1,7 @@
 -- A result is handed in, or a fill is taken, with which no fill ends.
-use Rattle.std.proofs.Common.{◌≡◌, ℕ, ◌+◌, ◌≤◌, List, length, Option, Some, None, refl, sym, ap, ◌∙◌, subst, arith}
-use Rattle.std.specs.Prelude.{option_map}
+use Rattle.std.proofs.Common.{◌≡◌, ℕ, List, Option, Some, None, subst}
 use Rattle.hc_engines.specs.Engine.{IoResult}
-use Rattle.hc_machine.specs.Nvm.{Nvm, Fill, fill_at, next_fill}
+use Rattle.hc_machine.specs.Nvm.{Nvm}
 use Rattle.hc_machine.specs.Takes as flash
 use Rattle.hc_machine.specs.Takes.{Taken}
 use Rattle.hc_state.specs.Ends.{IsEndingIn, IsEndingAtOnceIn, IsNextIn}
