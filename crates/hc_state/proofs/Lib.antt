@@ -32,7 +32,6 @@ pub mod Served
 pub mod Serves
 pub mod Stepping
 pub mod Stored
-pub mod Taking
 pub mod Unqueued
 pub mod Ways
 pub mod Works

@@ -47,6 +47,13 @@ refused-cannot c entry refusal is = ap (λ o. can_if (is_over c.now entry) o ent
 pub fresh-can : (c : Cache) (entry : FlashEntry) → is_over c.now entry ≡ false → refusal_of c.memory entry.pool entry.key (length entry.value) ≡ None → can_link c entry ≡ true
 fresh-can c entry fresh is = λ i. can_if (fresh i) (is i) entry
 
+-- ---- it is the key's, and not lost
+
+pub apart-both : (same lost apart : Bool) → apart ≡ (same && not lost) → apart ≡ true → (same ≡ true) × (lost ≡ false)
+apart-both true false apart is there = (refl, refl)
+apart-both true true apart is there = absurd (let none : false ≡ true = sym is ∙ there in cc)
+apart-both false lost apart is there = absurd (let none : false ≡ true = sym is ∙ there in cc)
+
 -- ---- the pools have what they need to link it
 
 pub record Comes {A : Type 0} (memory : Memory) (coming : Coming A) : Type 0 where

@@ -38,7 +38,7 @@ pub(crate) enum Prepared<A: Allocator> {
 
 /// What a key has of which this was found: the value is shared. Refused only where memory lacks.
 fn there_by<A: Allocator + Clone>(found: Option<&Entry<A>>) -> Result<Option<There<A>>, AllocError>
-    ensures { IfOk result (λ there. IsThere (option_map entry_of (option_copied found)) there) }
+    ensures { IfOk result (λ there. IsThere (option_map entry_of (option_copied found.entry)) there) }
 {
     match found {
         Some(entry) => match There::of_entry(entry) {

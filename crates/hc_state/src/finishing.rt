@@ -31,6 +31,15 @@ fn key_of<A: Allocator>(ending: &Ending<A>) -> Result<Option<Key<A>>, AllocError
     }
 }
 
+/// What a worker is answered, where no fill ended.
+pub(crate) fn take_of_other<A: Allocator>(taken: Taken<A>) -> Take<A>
+    ensures { result ≡ taken.take }
+{
+    let Taken { take, filled } = taken;
+    drop(filled);
+    take
+}
+
 impl<N: Notes<Note<A>>, A: Allocator + Clone + Copy> State<N, A> {
     /// How the get of the job with this number is over with this result. Nothing where none is: then no fill ends with it.
     /// There is room for what its end tells, and for giving up what is open then. Refused with `UnknownJob` where no job waits
@@ -60,13 +69,11 @@ impl<N: Notes<Note<A>>, A: Allocator + Clone + Copy> State<N, A> {
         let Some(nvm) = &mut self.nvm else {
             unreachable!();
         };
-        match nvm.finish(number, came, &mut self.notes, &mut self.pools, spare) {
-            Ok(Taken { take, filled }) => {
-                drop(filled);
-                Ok(take)
-            }
-            Err(unfinished) => Err(unfinished),
-        }
+        let taken = match nvm.finish(number, came, &mut self.notes, &mut self.pools, spare) {
+            Ok(taken) => taken,
+            Err(unfinished) => return Err(unfinished),
+        };
+        Ok(take_of_other(taken))
     }
 
     /// A result is handed in with which the fill of this key ends.

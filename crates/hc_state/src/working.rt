@@ -5,14 +5,31 @@ ghost use Rattle.hc_machine.specs.Workers.{writer_take as writer_step, filler_ta
 ghost use Rattle.hc_invariant.specs.Structure.{Structured};
 ghost use Rattle.hc_nvm.specs.Seen.{take_of};
 ghost use Rattle.hc_state.specs.Ends.{IsEndingAtOnceIn, IsNextIn};
-ghost use Rattle.hc_state.specs.Whole.{IsReady, IsStep, Stays};
+ghost use Rattle.hc_state.specs.Whole.{IsReady, IsStep, Stays, nvm_of, spare_of};
 
 use crate::filling::Way;
+use crate::finishing::take_of_other;
 use crate::state::State;
 use hc_history::{Note, Notes};
-use hc_nvm::{Ending, Take, Taken};
+use hc_nvm::{Ending, Nvm, Take};
 use hc_types::{Key, Refusal};
 use std::alloc::{AllocError, Allocator};
+
+/// The key of the fill that can be taken next, where there is flash.
+fn next_fill_in<A: Allocator + Clone + Copy>(
+    nvm: &mut Option<Nvm<A>>,
+) -> Result<Option<Key<A>>, AllocError>
+    ensures same { nvm_of nvm.new ≡ nvm_of nvm.old }
+    ensures ok { IfOk result (λ key. IsNextIn (nvm_of nvm.old) key) }
+    ensures more_puts { (spare_of nvm.old).puts ≤ (spare_of nvm.new).puts }
+    ensures more_stones { (spare_of nvm.old).stones ≤ (spare_of nvm.new).stones }
+    ensures more_fills { (spare_of nvm.old).fills ≤ (spare_of nvm.new).fills }
+{
+    match nvm {
+        Some(nvm) => nvm.next_fill(),
+        None => Ok(None),
+    }
+}
 
 impl<N: Notes<Note<A>>, A: Allocator + Clone + Copy> State<N, A> {
     /// The writer takes what is next: a region's page, or else a delete, or else a put. Where that goes on with a page, the
@@ -36,10 +53,7 @@ impl<N: Notes<Note<A>>, A: Allocator + Clone + Copy> State<N, A> {
         ensures stays { Stays self.old self.new }
         ensures ok { IfOk result (λ key. IsNextIn self.old.cache.nvm key) }
     {
-        match &mut self.nvm {
-            Some(nvm) => nvm.next_fill(),
-            None => Ok(None),
-        }
+        next_fill_in(&mut self.nvm)
     }
 
     /// How the fill of this key, which is next, is over if it is taken now. Nothing where it isn't: then no fill ends.
@@ -84,13 +98,8 @@ impl<N: Notes<Note<A>>, A: Allocator + Clone + Copy> State<N, A> {
         let Some(nvm) = &mut self.nvm else {
             unreachable!();
         };
-        match nvm.filler_take(key, &mut self.notes, &mut self.pools, spare) {
-            Ok(Taken { take, filled }) => {
-                drop(filled);
-                Ok(take)
-            }
-            Err(no_memory) => Err(no_memory),
-        }
+        let taken = nvm.filler_take(key, &mut self.notes, &mut self.pools, spare)?;
+        Ok(take_of_other(taken))
     }
 
     /// The fill of this key is taken, which is next.

@@ -10,13 +10,8 @@ prepare-requires g c = record {
 }
 
 pub end_prepared-requires : goal.end_prepared-requires
-end_prepared-requires g c = record {
-  ready = (
-    c.args.self.now,
-    record { structured = c.requires.structured; sound = c.pools_are_sound.ensures; ends = c.requires.ends; key_is = c.requires.key },
-    c.in-Ok.ensures.ok,
-  );
-}
+end_prepared-requires g c =
+    record { ready = (c.args.self.now, record { structured = c.requires.structured; sound = c.pools_are_sound.ensures; ends = c.requires.ends; key_is = c.requires.key }, c.in-Ok.ensures.ok) }
 
 pub returns-in-Ok-clause-ok : goal.returns-in-Ok-clause-ok
 returns-in-Ok-clause-ok g c =

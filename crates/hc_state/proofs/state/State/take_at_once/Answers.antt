@@ -14,13 +14,8 @@ prepare-requires g c =
 pub end_prepared-requires : goal.end_prepared-requires
 end_prepared-requires g c =
     let nvm = c.args.self.now.cache.nvm in
-    let ends = ends-once-in nvm c.args.ending c.requires.ends in record {
-      ready = (
-        c.args.self.now,
-        record { structured = c.requires.structured; sound = c.pools_are_sound.ensures; ends = ends; key_is = next-key c.args.key.now nvm c.args.ending c.requires.next ends },
-        c.in-Ok.ensures.ok,
-      );
-    }
+    let ends = ends-once-in nvm c.args.ending c.requires.ends in
+    record { ready = (c.args.self.now, record { structured = c.requires.structured; sound = c.pools_are_sound.ensures; ends = ends; key_is = next-key c.args.key.now nvm c.args.ending c.requires.next ends }, c.in-Ok.ensures.ok) }
 
 pub returns-in-Ok-clause-ok : goal.returns-in-Ok-clause-ok
 returns-in-Ok-clause-ok g c =
