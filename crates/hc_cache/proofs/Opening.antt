@@ -1,11 +1,11 @@
 -- A handle that was allocated is known, and one that is known is given up.
-use Rattle.std.proofs.Common.{◌≡◌, ℕ, ◌+◌, ◌==◌, Bool, true, false, not, ◌&&◌, ◌||◌, List, [], ◌∷◌, length, Option, Some, None, if◌then◌else◌, refl, sym, ap, ◌∙◌, subst, arith}
+use Rattle.std.proofs.Common.{◌≡◌, ℕ, ◌+◌, Bool, true, false, not, ◌&&◌, List, [], ◌∷◌, length, Option, Some, None, if◌then◌else◌, refl, ap, ◌∙◌, subst}
 use Rattle.std.specs.Prelude.{Result, Ok, Err, IfOk}
 use Rattle.std.specs.List.{list_any}
 use Rattle.hc_types.specs.Tally.{count}
 use Rattle.hc_types.specs.declared.refusal.Refusal.TheVariants.{ForeignHandle}
 use Rattle.hc_memory.specs.Item.{Handle, charge_by}
-use Rattle.hc_memory.specs.Charges.{has_number, is_open}
+use Rattle.hc_memory.specs.Charges.{has_number}
 use Rattle.hc_memory.specs.Memory.{Memory, handle_for}
 use Rattle.hc_items.specs.Items.{items_of}
 use Rattle.hc_items.specs.Allocating.{expiry_of}

@@ -1,8 +1,7 @@
 -- Whatever the cache does, no charge is open for an item that is longer than an item may be.
-use Rattle.std.proofs.Common.{◌≡◌, ℕ, ◌+◌, ◌≤◌, nat_lt, Bool, true, false, cond, not, ◌&&◌, List, [], ◌∷◌, ◌++◌, length, Option, Some, None, if◌then◌else◌, refl, sym, ap, ◌∙◌, subst, arith, le-ltb}
+use Rattle.std.proofs.Common.{◌≡◌, ℕ, ◌+◌, ◌≤◌, Bool, true, false, cond, not, ◌&&◌, List, [], ◌∷◌, ◌++◌, length, Option, Some, None, if◌then◌else◌, refl, sym, ap, subst, arith, le-ltb}
 use Rattle.std.specs.Prelude.{is_some}
 use Rattle.hc_types.specs.Charge.{charge_of}
-use Rattle.hc_types.specs.Tally.{tally, count}
 use Rattle.hc_types.proofs.Tallies.{tally-append}
 use Rattle.hc_types.specs.declared.refusal.Refusal.{Refusal}
 use Rattle.hc_types.specs.declared.refusal.Refusal.TheVariants.{ForeignHandle, Exists as AlreadyExists}
@@ -10,19 +9,19 @@ use Rattle.hc_types.specs.FlashEntry.{FlashEntry}
 use Rattle.hc_engines.specs.Engine.{IoResult}
 use Rattle.hc_memory.specs.Item.{Open, Item, Handle}
 use Rattle.hc_memory.specs.Charges.{closed}
-use Rattle.hc_memory.specs.Memory.{Memory, linked_at, victims_of, after_room, after_unlink, after_link, after_unmark}
+use Rattle.hc_memory.specs.Memory.{Memory, linked_at, victims_of, after_room, after_link, after_unmark}
 use Rattle.hc_memory.proofs.Making.{closed-less}
-use Rattle.hc_history.specs.Note.{Note, Insert, Add, Find, Reply, Stored, Exists, Linked, Lose}
+use Rattle.hc_history.specs.Note.{Note, Insert, Add, Reply, Stored, Linked, Lose}
 use Rattle.hc_items.specs.Allocating.{refusal_of}
 use Rattle.hc_machine.specs.Nvm.{Nvm, Waiter, Wish, ToFind, ToAdd, Fill, fill_at, without_fill}
 use Rattle.hc_machine.specs.Leaving.{Changed, unqueue, outdate}
 use Rattle.hc_machine.specs.Takes as takes
 use Rattle.hc_machine.specs.Takes.{Taken, Filled}
 use Rattle.hc_machine.specs.Cache.{Owed, Cache, Moved, Refused, Discarded, Replied, Waits, answers, stays, Told, tells, and_then, on_flash_of, on_flash, with_memory, with_nvm, owed_at, takes_in, took_in, unmarked_by}
-use Rattle.hc_machine.specs.Evicting.{leaves_for, leaves, all_leave, make_room, charge, make_charge, handle_for, allocate_by, allocate}
-use Rattle.hc_machine.specs.Waiting.{freed_note, clear, uproot, plant, free, live, find_reply, answer, serve, there_after, serve_all, serve_fill, end_fill_of, end_fill, entry_of_handle}
-use Rattle.hc_machine.specs.Calls.{begin, replies_then, wait_in, wait_for, is_known, discard, store, insert_or_replace, in_memory, must_wait, add, insert, used, find_now, find, remove, take_of, take_reply, tick}
-use Rattle.hc_machine.specs.Workers.{can_link, link_clean, bring, fill, after_take, take_on, writer_take, filler_take, reclaim_on, reclaim, after_finish, finish_on, finish}
+use Rattle.hc_machine.specs.Evicting.{leaves_for, leaves, all_leave, make_room, make_charge, handle_for, allocate_by, allocate}
+use Rattle.hc_machine.specs.Waiting.{freed_note, clear, uproot, plant, free, live, find_reply, serve, there_after, serve_all, serve_fill, end_fill_of, end_fill, entry_of_handle}
+use Rattle.hc_machine.specs.Calls.{begin, replies_then, wait_in, wait_for, is_known, discard, store, insert_or_replace, in_memory, must_wait, add, insert, used, find_now, find, remove, take_of, take_reply}
+use Rattle.hc_machine.specs.Workers.{can_link, link_clean, bring, fill, after_take, take_on, reclaim_on, reclaim, after_finish, finish_on, finish}
 use Rattle.hc_proof_runs.specs.Events.{Event, Allocates, Inserts, Adds, Discards, Finds, Removes, Replies, Ticks, Writes, Fills, Reclaims, Finishes, act}
 use Rattle.hc_proof_runs.proofs.Running.{short_value}
 use Rattle.hc_cache.specs.Holds.{is_long, AreShort}

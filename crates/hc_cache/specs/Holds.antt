@@ -1,5 +1,5 @@
 -- What holds of a cache between two calls, whatever the device answers.
-use Rattle.std.specs.Prelude.{◌≡◌, ℕ, nat_lt, Bool, List}
+use Rattle.std.specs.Prelude.{◌≡◌, nat_lt, Bool, List}
 use Rattle.hc_types.specs.Tally.{count}
 use Rattle.hc_memory.specs.Item.{Open}
 use Rattle.hc_history.specs.Told.{IfLog}

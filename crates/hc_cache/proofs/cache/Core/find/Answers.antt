@@ -1,5 +1,5 @@
 use Rattle.hc_state.specs.Finding.{found_answer}
-use Rattle.hc_proof_runs.specs.Events.{Finds, act}
+use Rattle.hc_proof_runs.specs.Events.{Finds}
 use Rattle.hc_cache.proofs.Keeping.{call-holds}
 use Rattle.hc_cache.proofs.Calling.{called, unchanged}
 use Rattle.hc_cache.proofs.cache.Core.find.Goals as goal

@@ -1,4 +1,3 @@
-use Rattle.std.proofs.Common.{refl}
 use Rattle.hc_cache.proofs.Keeping.{new-holds}
 use Rattle.hc_cache.proofs.cache.Core.new.Goals as goal
 
