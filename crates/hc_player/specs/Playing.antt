@@ -3,9 +3,9 @@ use Rattle.std.specs.Prelude.{◌≡◌, List, [], Some}
 use Rattle.hc_flash.specs.Devices.{Memory, held_by}
 use Rattle.hc_history.specs.Told.{Heard, told_more}
 use Rattle.hc_lines.specs.Steps.{Answer}
-use Rattle.hc_machine.specs.Cache.{Cache}
+use Rattle.hc_machine.specs.Cache.{Cache, Moved}
 use Rattle.hc_machine.specs.World.{World, Result}
-use Rattle.hc_replayed.specs.Actions.{Action, act}
+use Rattle.hc_replayed.specs.Actions.{Action, answer_of, act}
 use Rattle.hc_player.specs.Alike.{Alike}
 
 -- the machine's cache, what is heard of its log, its device, and the results that wait
@@ -24,3 +24,11 @@ pub record Acts (action : Action) (answer : Answer) (old new : Playing) : Type 0
   pub world : Alike (world_of new) (act action (world_of old)).world
   pub answered : (act action (world_of old)).answer ≡ Some answer
   pub log : new.log ≡ told_more old.log (act action (world_of old)).notes
+
+-- A call of the cache is the machine's step, and is answered as it is there. The device and the results are as they were.
+pub record Calls (moved : Moved) (answer : Answer) (old new : Playing) : Type 0 where
+  pub cache : new.cache ≡ moved.cache
+  pub answered : answer_of moved.answer ≡ Some answer
+  pub log : new.log ≡ told_more old.log moved.part
+  pub flash : new.flash ≡ old.flash
+  pub results : new.results ≡ old.results

@@ -1,6 +1,5 @@
 // Operations of the device in memory.
-ghost use Rattle.std.specs.Prelude.{◌≡◌, ℕ, IfOk};
-ghost use Rattle.hc_flash.specs.Devices.{held_by};
+ghost use Rattle.std.specs.Prelude.{false, true, IfOk};
 ghost use Rattle.hc_bighash.specs.Seen.{result_of};
 ghost use Rattle.hc_nvm.specs.Seen.{order_of};
 ghost use Rattle.hc_engines.specs.Engine.{Read, Write};

@@ -1,5 +1,6 @@
 // A cache over a device in memory.
-ghost use Rattle.std.specs.Prelude.{◌≡◌, ◌⊎◌, [], None, Some, IfOk, OnOk, IfErr};
+ghost use Rattle.std.specs.Prelude.{◌≡◌, ◌⊎◌, ℕ, [], None, Some, IfOk, OnOk, IfErr};
+ghost use Rattle.hc_flash.specs.Devices.{held_by};
 ghost use Rattle.hc_types.specs.Limits.{first_wrong};
 ghost use Rattle.hc_history.specs.Told.{IfLog, losses_taken};
 ghost use Rattle.hc_replayed.specs.Trace.{fresh};

@@ -1,5 +1,5 @@
 // What a client does, or the clock.
-ghost use Rattle.std.specs.Prelude.{IfOk};
+ghost use Rattle.std.specs.Prelude.{◌≡◌, IfOk};
 ghost use Rattle.hc_memory.specs.Seen.{filled};
 ghost use Rattle.hc_lines.specs.Seen.{bytes_of, item_seen, step_seen};
 ghost use Rattle.hc_lines.specs.Steps.{Set, Add, Get, Del, Now};

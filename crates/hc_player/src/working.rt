@@ -1,10 +1,12 @@
 // What a worker does, the device with a job, or a client that waited.
 ghost use Rattle.std.specs.Prelude.{IfOk};
+ghost use Rattle.hc_bighash.specs.Seen.{result_of};
+ghost use Rattle.hc_machine.specs.Workers.{finish as finish_step};
 ghost use Rattle.hc_lines.specs.Seen.{work_seen};
 ghost use Rattle.hc_lines.specs.Steps.{Writer, Filler, Reclaim, Io, Finish, Reply};
 ghost use Rattle.hc_replayed.specs.Actions.{Serve};
 ghost use Rattle.hc_player.specs.Seen.{answer_seen};
-ghost use Rattle.hc_player.specs.Playing.{Acts};
+ghost use Rattle.hc_player.specs.Playing.{Acts, Calls};
 
 use crate::answers::Answer;
 use crate::device::operate;
@@ -63,7 +65,9 @@ impl<N: Notes<Note>> Player<N> {
     }
 
     /// The result is handed in.
-    fn hand_in(&mut self, job: u64, came: IoResult) -> Result<Answer, AllocError> {
+    fn hand_in(&mut self, job: u64, came: IoResult) -> Result<Answer, AllocError>
+        ensures { IfOk result (λ answer. Calls (finish_step job (result_of came) self.old.cache) (answer_seen answer) self.old self.new) }
+    {
         match self.core.finish(job, came) {
             Ok(take) => Ok(taken(take)),
             Err(Unfinished { refusal, came }) => {
