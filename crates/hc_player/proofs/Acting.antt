@@ -160,6 +160,10 @@ acts-made {answer} {old} {new} job false order came at none comes results cache 
     (made_like (world_of old) job order came (result_of order false (held_by old.flash)) new comes.result_is cache comes.pages results refl refl)
     (ap (λ (r : IoResult). Some (io_answer r)) (sym comes.result_is) ∙ ap (λ (a : Answer). Some a) seen) (log ∙ sym (told-nothing old.log))
 
+pub not-there : (o : Option IoResult) → is_some o ≡ false → o ≡ None
+not-there None h = refl
+not-there (Some r) h = absurd cc
+
 -- ---- results
 
 -- no result waits

@@ -1,6 +1,3 @@
-pub mod Logs
-pub mod Same
+pub mod Likening
+pub mod Losses
 pub mod Streams
-pub mod Legality
-pub mod Running
-pub mod Puts

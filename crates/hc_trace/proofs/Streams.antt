@@ -1,16 +1,21 @@
 -- What was written so far, and what is left to write.
-use Rattle.std.proofs.Common.{◌≡◌, ℕ, ◌+◌, ◌<◌, List, [], ◌∷◌, ◌++◌, length, Bool, true, false, ◌==◌, nat_lt, if◌then◌else◌, Option, None, Some, refl, sym, ◌∙◌, ap, arith, append_assoc, append-nil, length-append}
+use Rattle.std.proofs.Common.{◌≡◌, ℕ, ◌+◌, ◌<◌, List, [], ◌∷◌, ◌++◌, length, Bool, true, false, ◌==◌, nat_lt, if◌then◌else◌, Option, None, Some, Result, Ok, Err, OnOk, refl, sym, ◌∙◌, ap, arith, append_assoc, append-nil, length-append}
 use Rattle.std.proofs.lemmas.Bool.{lt-ltb}
 use Rattle.std.proofs.lemmas.Grind.{common_steps}
 use Rattle.std.proofs.KnownBytes.{Appends-nil, Appends-trans, Consumes-nil, Consumes-trans, Keeps-refl, append_known-grown}
 use Rattle.std.specs.Io.KnownBytes.{Appends, Consumes, IsAtEnd, append_known}
-use Rattle.hc_trace.specs.declared.state.State.{State}
 use Rattle.hc_lines.specs.Lines.{onto_first, lines_of, Lacks}
 use Rattle.hc_lines.specs.Texts.{fault_text}
-use Rattle.hc_trace.specs.Trace.{onto, output_of, Answers}
-use Rattle.hc_trace.specs.Machine.{begun, stops, turn_of, ended, after_turn, output_from, output_after, Leads, Ends}
+use Rattle.hc_replayed.specs.Trace.{onto, output_of}
+use Rattle.hc_replayed.specs.Turns.{State, begun, stops, turn_of, ended, after_turn, output_from}
+use Rattle.hc_trace.specs.Trace.{Answers}
+use Rattle.hc_trace.specs.Places.{output_after, Leads, Ends}
 use Rattle.hc_lines.proofs.Parts.{lacks-append, lines-ended}
-use Rattle.hc_trace.proofs.Same.{whole-same}
+use Rattle.hc_replayed.proofs.Same.{output_is_by_lines}
+
+pub on-ok : {T E P : Type 0} (r : Result T E) → P → OnOk r P
+on-ok (Ok x) h = h
+on-ok (Err e) h = tt
 
 lines-one : (b : ℕ) (line : List ℕ) → Lacks 10 (b ∷ line) → lines_of (b ∷ line) ≡ (b ∷ line) ∷ []
 lines-one b [] h = rw h.0 refl
@@ -60,7 +65,7 @@ turn-stops n state line later e = rw e refl
 
 -- a line after which the trace goes on
 pub leads-line : {a b : Option (List ℕ)} {n m : ℕ} {first state : State} {bytes : List ℕ} (c : Option (List ℕ)) (next : State) (line rest part later : List ℕ) (on : Bool) → Leads a b n first bytes m state (line ++ rest)
-    → rest ≡ part ++ 10 ∷ later → Lacks 10 line → Lacks 10 part → on ≡ (turn_of m state (line ++ part)).goes → on ≡ true → next ≡ (turn_of m state (line ++ part)).state
+    → rest ≡ part ++ 10 ∷ later → Lacks 10 line → Lacks 10 part → on ≡ (turn_of m state (line ++ part)).goes → on ≡ true → ((after : ℕ) (more : List (List ℕ)) → output_from after next more ≡ output_from after (turn_of m state (line ++ part)).state more)
     → Appends b c (turn_of m state (line ++ part)).text → Leads a c n first bytes (m + 1) next later
 leads-line {a} {b} {n} {m} {first} {state} {bytes} c next line rest part later on l e o p io hit is w =
     let turn = turn_of m state (line ++ part) in
@@ -70,7 +75,7 @@ leads-line {a} {b} {n} {m} {first} {state} {bytes} c next line rest part later o
       follows = λ more.
           let out = output_after (m + 1) turn.state (later ++ more) in
           let f : output_after m state ((line ++ rest) ++ more) ≡ onto turn.text out = ap (output_from m state) (head-line line part rest later more e o p) ∙ turn-goes m state (line ++ part) out (sym io ∙ hit) in
-          l.follows more ∙ ap (onto l.text) f ∙ ap (λ z. (z, out.1)) (sym (append_assoc l.text turn.text out.0)) ∙ ap (λ s. onto (l.text ++ turn.text) (output_after (m + 1) s (later ++ more))) (sym is);
+          l.follows more ∙ ap (onto l.text) f ∙ ap (λ z. (z, out.1)) (sym (append_assoc l.text turn.text out.0)) ∙ ap (onto (l.text ++ turn.text)) (sym (is (m + 1) (lines_of (later ++ more))));
     }
 
 -- a line after which it doesn't
@@ -120,7 +125,7 @@ answers-stopped (Some input) None new old mid after bytes line chunk m state c d
 answers-stopped (Some input) (Some rest) None old mid after bytes line chunk m state c d l r = absurd d
 answers-stopped (Some input) (Some rest) (Some next) old mid after bytes line chunk m state c d l r =
     let whole : output_of input ≡ (l.text ++ r.text, 1) =
-    whole-same input ∙ ap (output_after 0 begun) (c ∙ ap (λ z. bytes ++ z) d) ∙ l.follows (chunk ++ next) ∙ ap (λ z. onto l.text (output_after m state z)) (sym (append_assoc line chunk next)) ∙ ap (onto l.text) (r.follows next) in (
+    output_is_by_lines input ∙ ap (output_after 0 begun) (c ∙ ap (λ z. bytes ++ z) d) ∙ l.follows (chunk ++ next) ∙ ap (λ z. onto l.text (output_after m state z)) (sym (append_assoc line chunk next)) ∙ ap (onto l.text) (r.follows next) in (
       sym (ap (λ z. z.1) whole),
       rw whole (Appends-trans old mid after l.text r.text l.wrote r.wrote),
     )
@@ -133,7 +138,7 @@ answers-ended (Some input) None old mid after bytes line m status state c e l o 
 answers-ended (Some input) (Some rest) old mid after bytes line m status state c e l o s w =
     let out : List ℕ × ℕ = output_from m state (if length line == 0 then [] else line ∷ []) in
     let last : output_after m state (line ++ []) ≡ out = ap (output_after m state) (append-nil line) ∙ ap (output_from m state) (lines-last line o) in
-    let whole : output_of input ≡ onto l.text out = whole-same input ∙ ap (output_after 0 begun) (c ∙ ap (λ z. bytes ++ z) e) ∙ l.follows [] ∙ ap (onto l.text) last in (
+    let whole : output_of input ≡ onto l.text out = output_is_by_lines input ∙ ap (output_after 0 begun) (c ∙ ap (λ z. bytes ++ z) e) ∙ l.follows [] ∙ ap (onto l.text) last in (
       s ∙ sym (ap (λ z. z.1) whole),
       rw whole (Appends-trans old mid after l.text out.0 l.wrote w),
     )
@@ -183,12 +188,12 @@ pub progress-end : {read now old mid : Option (List ℕ)} {m : ℕ} {state : Sta
 progress-end {read} {now} {old} {mid} {m} {state} {line} after status p e o s w = answers-ended read now old mid after p.bytes line m status state p.took e p.leads o s w
 
 -- the last line, and the end
-pub finish-line : (a b : Option (List ℕ)) (out new line : List ℕ) (n m : ℕ) (state next : State) (on : Bool) (status : ℕ) → (length line == 0) ≡ false → on ≡ (turn_of n state line).goes → on ≡ true → next ≡ (turn_of n state line).state
+pub finish-line : (a b : Option (List ℕ)) (out new line : List ℕ) (n m : ℕ) (state next : State) (on : Bool) (status : ℕ) → (length line == 0) ≡ false → on ≡ (turn_of n state line).goes → on ≡ true → ((after : ℕ) (more : List (List ℕ)) → output_from after next more ≡ output_from after (turn_of n state line).state more)
     → Appends a (append_known b out) (turn_of n state line).text → m ≡ n + 1 → status ≡ (ended m next).1 → new ≡ out ++ (ended m next).0
     → (status ≡ (output_from n state (if length line == 0 then [] else line ∷ [])).1) × Appends a (append_known b new) (output_from n state (if length line == 0 then [] else line ∷ [])).0
 finish-line a b out new line n m state next on status some io hit is w e s g =
     let turn = turn_of n state line in
-    let f : output_from n state (line ∷ []) ≡ onto turn.text (ended m next) = turn-goes n state line (ended (n + 1) turn.state) (sym io ∙ hit) ∙ ap (λ k. onto turn.text (ended k turn.state)) (sym e) ∙ ap (λ t. onto turn.text (ended m t)) (sym is) in
+    let f : output_from n state (line ∷ []) ≡ onto turn.text (ended m next) = turn-goes n state line (ended (n + 1) turn.state) (sym io ∙ hit) ∙ ap (λ k. onto turn.text (ended k turn.state)) (sym e) ∙ ap (onto turn.text) (sym (is m [])) in
     rw (some, f) (s, gathered a b out new turn.text (ended m next).0 w g)
 
 pub finish-none : (b : Option (List ℕ)) (out new line : List ℕ) (n m : ℕ) (state next : State) (status : ℕ) → (length line == 0) ≡ true → m ≡ n → next ≡ state → status ≡ (ended m next).1 → new ≡ out ++ (ended m next).0

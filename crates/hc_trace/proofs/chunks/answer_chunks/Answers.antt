@@ -1,4 +1,5 @@
 use Rattle.std.proofs.Common.{take, rules, ◌∙◌}
+use Rattle.hc_trace.specs.Places.{place_of}
 use Rattle.hc_trace.proofs.Streams.{progress-start, progress-written, progress-more, progress-stopped, progress-end}
 use Rattle.hc_trace.proofs.chunks.answer_chunks.Goals as goal
 
@@ -10,6 +11,7 @@ chunks-init g c =
       few = search rules;
       most = search rules;
       unbroken = rw none tt;
+      between = c.requires.between;
       progress = rw (none, c.requires.begun) (progress-start _ _);
     }
 
@@ -43,5 +45,6 @@ chunks-preserved g c =
       few = search rules;
       most = search rules;
       unbroken = next.whole;
-      progress = progress-more _ _ c.in-Some.next c.take_chunk.new.state chunk c.take_chunk.new.spill.items p c.in_ok-n.ensures.bytes leads;
+      between = next.between;
+      progress = progress-more _ _ c.in-Some.next (place_of c.take_chunk.new.state) chunk c.take_chunk.new.spill.items p c.in_ok-n.ensures.bytes leads;
     }

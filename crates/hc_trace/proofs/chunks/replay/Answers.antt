@@ -1,15 +1,15 @@
-use Rattle.hc_trace.proofs.Legality.{logs-are-legal}
-use Rattle.hc_trace.proofs.Running.{runs-are-of-the-world}
+use Rattle.hc_replayed.proofs.Logs.{logs_are_right}
+use Rattle.hc_replayed.proofs.Traces.{traces_are_runs}
 use Rattle.hc_trace.proofs.chunks.replay.Goals as goal
 
 pub returns-in-Ok-write_out-clause-log : goal.returns-in-Ok-write_out-clause-log
-returns-in-Ok-write_out-clause-log g c = logs-are-legal
+returns-in-Ok-write_out-clause-log g c = logs_are_right
 
 pub returns-clause-log : goal.returns-clause-log
-returns-clause-log g c = logs-are-legal
+returns-clause-log g c = logs_are_right
 
 pub returns-in-Ok-write_out-clause-runs : goal.returns-in-Ok-write_out-clause-runs
-returns-in-Ok-write_out-clause-runs g c = runs-are-of-the-world
+returns-in-Ok-write_out-clause-runs g c = traces_are_runs
 
 pub returns-clause-runs : goal.returns-clause-runs
-returns-clause-runs g c = runs-are-of-the-world
+returns-clause-runs g c = traces_are_runs

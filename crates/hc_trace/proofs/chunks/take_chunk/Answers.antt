@@ -1,5 +1,7 @@
 use Rattle.std.proofs.Common.{◌<◌, ◌++◌, ◌∷◌, length, ap, ◌∙◌, arith, length-append}
 use Rattle.hc_lines.proofs.Parts.{lacks-append}
+use Rattle.hc_trace.specs.Places.{place_of}
+use Rattle.hc_trace.proofs.Likening.{at-same, at-between}
 use Rattle.hc_trace.proofs.Streams.{leads-line, leads-fault, leads-long}
 use Rattle.hc_trace.proofs.chunks.take_chunk.Goals as goal
 
@@ -18,8 +20,9 @@ lines-preserved g c =
     let long = ap length split.1 ∙ length-append c.in-Some.part.now (10 ∷ c.in-Some.later.now) in
     rw done.empty (record {
       unbroken = tt;
+      between = at-between _ _ done.state;
       room = omega (arith, i.room, long);
-      leads = leads-line _ c.end_line.new.state c.lines.spill.items c.lines.rest.now c.in-Some.part.now c.in-Some.later.now c.in_ok-end_line.field-0 i.leads split.1 i.unbroken split.0 done.goes c.if-not-branch.false done.state done.bytes;
+      leads = leads-line _ (place_of c.end_line.new.state) c.lines.spill.items c.lines.rest.now c.in-Some.part.now c.in-Some.later.now c.in_ok-end_line.field-0 i.leads split.1 i.unbroken split.0 done.goes c.if-not-branch.false (at-same _ _ done.state) done.bytes;
     })
 
 pub returns-then-len-gt-LONGEST-clause-leads : goal.returns-then-len-gt-LONGEST-clause-leads

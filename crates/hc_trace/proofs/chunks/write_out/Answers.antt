@@ -1,7 +1,7 @@
 use Rattle.std.proofs.Common.{subst}
 use Rattle.std.proofs.KnownBytes.{Appends-kept}
 use Rattle.std.specs.Io.KnownBytes.{Appends}
-use Rattle.hc_trace.proofs.Puts.{on-ok}
+use Rattle.hc_trace.proofs.Streams.{on-ok}
 use Rattle.hc_trace.proofs.chunks.write_out.Goals as goal
 
 pub returns-clause-wrote : goal.returns-clause-wrote
