@@ -89,6 +89,7 @@ pub(crate) struct Awaiting<A: Allocator> {
 
 impl<N: Notes<Note<A>>, A: Allocator + Clone + Copy> State<N, A> {
     /// Whether the key has an unexpired value in memory.
+    #[must_use]
     fn has_unexpired(&self, key: &Key<A>) -> bool
         ensures { result ≡ is_some (live self.now.cache.now (in_memory self.now.cache key.now)) }
     {

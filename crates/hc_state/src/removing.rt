@@ -1,9 +1,9 @@
 // Items are removed.
-ghost use Rattle.std.specs.Prelude.{◌≡◌, ◌≤◌, ◌+◌, ◌*◌, IfOk, OnOk, OnErr, IfErr};
-ghost use Rattle.hc_invariant.specs.Jobs.{AllWish};
-ghost use Rattle.hc_invariant.specs.Structure.{Structured};
+ghost use Rattle.std.specs.Prelude.{◌≡◌, ◌≤◌, ◌+◌, ◌*◌, length, IfOk, OnOk, OnErr, IfErr};
 ghost use Rattle.hc_history.specs.Seen.{reply_of};
 ghost use Rattle.hc_history.specs.Told.{is_log};
+ghost use Rattle.hc_invariant.specs.Jobs.{AllWish};
+ghost use Rattle.hc_invariant.specs.Structure.{Structured};
 ghost use Rattle.hc_machine.specs.Calls.{remove as remove_step};
 ghost use Rattle.hc_state.specs.Linked.{linked_without, number_at};
 ghost use Rattle.hc_state.specs.Outdating.{ServesIn};
@@ -11,7 +11,6 @@ ghost use Rattle.hc_state.specs.Removing.{removed_answer, removed_reply, removed
 ghost use Rattle.hc_state.specs.Serving.{waiters_at};
 ghost use Rattle.hc_state.specs.Storing.{how_many, unstore_as, CanServe};
 ghost use Rattle.hc_state.specs.Whole.{Does, IsReady, IsStep, Stays, costs};
-ghost use Rattle.std.specs.Prelude.{length};
 
 use crate::answers::Removed;
 use crate::evicting::alloc_of;
