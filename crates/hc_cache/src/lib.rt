@@ -5,6 +5,7 @@ mod cache;
 mod giving_up;
 mod laws;
 mod reading;
+mod storing;
 mod workers;
 
 pub use cache::Core;
@@ -16,5 +17,5 @@ pub use hc_bighash::IoResult;
 pub use hc_history::{Counting, Kept, Kind, Note, Notes, Op, Reply, Said, Says, Silent, Stats};
 pub use hc_memory::{Blank, Fill, PoolUsage, Pools, ReadHandle, Sealed, Uncharged, Usage};
 pub use hc_nvm::{Order, Take, Unfinished};
-pub use hc_state::Found;
+pub use hc_state::{Found, Inserted, Removed, Unlinked};
 pub use hc_types::{Cause, Config, FlashConfig, Key, PoolSize, Refusal, Scope, Why};
