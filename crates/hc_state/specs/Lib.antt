@@ -4,6 +4,7 @@ pub mod Answering
 pub mod Bringing
 pub mod Chosen
 pub mod Courses
+pub mod Ends
 pub mod FillEnds
 pub mod Filling
 pub mod Finding
