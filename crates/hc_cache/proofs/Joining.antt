@@ -1,5 +1,5 @@
 -- Two calls, one after the other, are a step that the machine takes at once.
-use Rattle.std.proofs.Common.{◌≡◌, ◌≢◌, ◌⊎◌, inl, inr, ℕ, Bool, true, false, List, Option, Some, None, if◌then◌else◌, refl, sym, ap, ◌∙◌, subst}
+use Rattle.std.proofs.Common.{◌≡◌, ◌≢◌, ◌⊎◌, inl, inr, ℕ, ◌+◌, Bool, true, false, List, Option, Some, None, if◌then◌else◌, refl, sym, ap, ◌∙◌, subst}
 use Rattle.std.specs.Prelude.{not, nat_lt, length, is_some}
 use Rattle.hc_types.specs.Charge.{charge_of}
 use Rattle.hc_types.specs.declared.refusal.Refusal.{Refusal}

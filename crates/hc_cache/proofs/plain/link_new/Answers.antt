@@ -13,4 +13,4 @@ returns-in-Err-clause-err g c =
     left-new c.args.sealed c.in-Err.field-0.refusal c.args.core.now c.give_up.new.core c.requires.mine e.why left
 
 pub returns-in-Ok-clause-ok : goal.returns-in-Ok-clause-ok
-returns-in-Ok-clause-ok g c = added-new c.args.sealed c.in-Ok.field-0 c.args.core.now c.insert.new.self c.in-Ok.ensures.ok
+returns-in-Ok-clause-ok g c = added-new c.args.sealed c.in-Ok.inserted c.args.core.now c.insert.new.self c.in-Ok.ensures.ok

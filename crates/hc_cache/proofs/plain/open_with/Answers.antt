@@ -21,12 +21,12 @@ pub returns-in-Err-seal-clause-err : goal.returns-in-Err-seal-clause-err
 returns-in-Err-seal-clause-err g c =
     let mid = c.allocate_with.new.self in
     let new = c.give_up_blank.new.core in
-    let left = discarded-so c.in-Ok.field-0 c.in-Err-seal.field-0 mid mid new c.in-Err-seal.ensures.err refl c.give_up_blank.ensures in
-    inr (then-call discard (allocate c.args.pool c.args.key (filled c.args.fill) c.args.ttl c.args.core.now.cache) c.in-Ok.field-0 Discarded c.args.core.now mid new c.in-Ok.ensures.ok left, refl)
+    let left = discarded-so c.in-Ok.blank c.in-Err-seal.blank mid mid new c.in-Err-seal.ensures.err refl c.give_up_blank.ensures in
+    inr (then-call discard (allocate c.args.pool c.args.key (filled c.args.fill) c.args.ttl c.args.core.now.cache) c.in-Ok.blank Discarded c.args.core.now mid new c.in-Ok.ensures.ok left, refl)
 
 pub returns-in-Err-seal-clause-why : goal.returns-in-Err-seal-clause-why
 returns-in-Err-seal-clause-why g c =
-    opened-why (allocate c.args.pool c.args.key (filled c.args.fill) c.args.ttl c.args.core.now.cache) c.in-Ok.field-0 _ c.args.core.now c.allocate_with.new.self c.in-Ok.ensures.ok refl
+    opened-why (allocate c.args.pool c.args.key (filled c.args.fill) c.args.ttl c.args.core.now.cache) c.in-Ok.blank _ c.args.core.now c.allocate_with.new.self c.in-Ok.ensures.ok refl
 
 pub returns-in-Ok-seal-clause-ok : goal.returns-in-Ok-seal-clause-ok
 returns-in-Ok-seal-clause-ok g c =
