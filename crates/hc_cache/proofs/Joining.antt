@@ -1,7 +1,9 @@
 -- Two calls, one after the other, are a step that the machine takes at once.
 use Rattle.std.proofs.Common.{◌≡◌, ◌≢◌, ◌⊎◌, inl, inr, ℕ, ◌+◌, Bool, true, false, List, Option, Some, None, if◌then◌else◌, refl, sym, ap, ◌∙◌, subst}
-use Rattle.std.specs.Prelude.{not, nat_lt, length, is_some}
+use Rattle.std.proofs.lemmas.Result.{on_ok_weaker}
+use Rattle.std.specs.Prelude.{not, nat_lt, length, is_some, Result, Ok, Err, IfOk, OnOk, OnErr, IfErr}
 use Rattle.hc_types.specs.Charge.{charge_of}
+use Rattle.hc_types.specs.Limits.{key_refusal}
 use Rattle.hc_types.specs.declared.refusal.Refusal.{Refusal}
 use Rattle.hc_types.specs.declared.refusal.Refusal.TheVariants.{NoPool, ValueTooLong, NoRoom, ForeignHandle, Exists, NoMemory}
 use Rattle.hc_memory.specs.Item.{Handle}
@@ -22,7 +24,7 @@ use Rattle.hc_state.specs.Inserting.{inserted_answer}
 use Rattle.hc_state.specs.declared.answers.Inserted.{Inserted}
 use Rattle.hc_state.specs.declared.answers.Inserted.TheVariants.{Stored, Waiting}
 use Rattle.hc_cache.specs.Logged.{Logged, IsCall}
-use Rattle.hc_cache.specs.Plain.{add_step, MayRefuse}
+use Rattle.hc_cache.specs.Plain.{set_step, add_step, give_up_step, MayRefuse}
 
 -- an item is allocated, and something is done with its handle
 pub then-call : (f : Handle → Cache → Moved) (opened : Moved) (handle : Handle) (answer : Answer) (old mid new : Logged) → IsCall opened (Opened handle) old mid
@@ -115,3 +117,49 @@ never-exists pool key value ttl cache refusal (inl h) e =
 -- what was allocated wasn't refused
 pub opened-why : (opened : Moved) (handle : Handle) (refusal : Refusal) (old new : Logged) → IsCall opened (Opened handle) old new → refusal ≡ NoMemory → IsReason opened.answer refusal
 opened-why opened handle refusal old new call is = inr (ap refusal_in (sym call.answer_is), is)
+
+-- ---- an item is allocated by the bytes of a key, and inserted or given up
+
+module _ (pool : ℕ) (key bytes value : List ℕ) (ttl : ℕ) (handle : Handle) (old mid new : Logged) (is : key ≡ bytes) (first : IsCall (allocate pool key value ttl old.cache) (Opened handle) old mid) where
+  then-done : (f : Handle → Cache → Moved) (answer : Answer) → IsCall (f handle mid.cache) answer mid new → IsCall (inserted f (allocate pool bytes value ttl old.cache)) answer old new
+  then-done f answer second =
+      subst (λ (k : List ℕ). IsCall (inserted f (allocate pool k value ttl old.cache)) answer old new) is (then-call f (allocate pool key value ttl old.cache) handle answer old mid new first second)
+
+  pub then-set : {T E : Type 0} (result : Result T E) → OnOk result (IsCall (insert_or_replace 0 handle mid.cache) (Replied note.Stored) mid new) → OnOk result (IsCall (set_step pool bytes value ttl old.cache) (Replied note.Stored) old new)
+  then-set result done = on_ok_weaker result (then-done (insert_or_replace 0) (Replied note.Stored)) done
+
+  pub then-left : {T : Type 0} (result : Result T Refusal) → OnErr result (IsCall (discard handle mid.cache) Discarded mid new) → IfErr result (λ refusal. refusal ≡ NoMemory)
+      → IfErr result (λ refusal. (new ≡ old) ⊎ (IsCall (give_up_step pool bytes value ttl old.cache) Discarded old new × (refusal ≡ NoMemory)))
+  then-left (Ok x) left memory = tt
+  then-left (Err refusal) left memory = inr (then-done discard Discarded left, memory)
+
+  pub then-added : {E : Type 0} (result : Result Inserted E) → IfOk result (λ done. IsCall (put_new handle mid.cache) (inserted_answer done) mid new)
+      → IfOk result (λ done. IsCall (add_step pool bytes value ttl old.cache) (inserted_answer done) old new)
+  then-added (Ok x) done = then-done put_new (inserted_answer x) done
+  then-added (Err e) done = tt
+
+  -- an item that isn't added: why, and what is left of it
+  abbrev LeftNew : Refusal → Type 0
+  LeftNew refusal = (IsCall (put_new handle mid.cache) (Refused Exists) mid new × (refusal ≡ Exists)) ⊎ (IsCall (discard handle mid.cache) Discarded mid new × (refusal ≡ NoMemory))
+
+  pub then-left-new : {T : Type 0} (result : Result T Refusal) → IfErr result LeftNew
+      → IfErr result (λ refusal. ((new ≡ old) × (refusal ≢ Exists)) ⊎ ((IsCall (add_step pool bytes value ttl old.cache) (Refused Exists) old new × (refusal ≡ Exists)) ⊎ (IsCall (give_up_step pool bytes value ttl old.cache) Discarded old new × (refusal ≡ NoMemory))))
+  then-left-new (Ok x) h = tt
+  then-left-new (Err refusal) (inl h) = inr (inl (then-done put_new (Refused Exists) h.0, h.1))
+  then-left-new (Err refusal) (inr h) = inr (inr (then-done discard Discarded h.0, h.1))
+
+  pub then-why-new : {T : Type 0} (result : Result T Refusal) → key_refusal bytes ≡ None → IfErr result LeftNew
+      → IfErr result (λ refusal. (key_refusal bytes ≡ Some refusal) ⊎ ((key_refusal bytes ≡ None) × MayRefuse (add_step pool bytes value ttl old.cache).answer refusal))
+  then-why-new (Ok x) fits h = tt
+  then-why-new (Err refusal) fits (inl h) = inr (fits, inl (sym (ap refusal_in (then-done put_new (Refused Exists) h.0).answer_is) ∙ ap (λ r. Some r) (sym h.1)))
+  then-why-new (Err refusal) fits (inr h) = inr (fits, inr h.1)
+
+-- what fits a key is refused for want of memory
+pub memory-why : {T : Type 0} (bytes : List ℕ) (answer : Answer) (result : Result T Refusal) → key_refusal bytes ≡ None → IfErr result (λ refusal. refusal ≡ NoMemory)
+    → IfErr result (λ refusal. (key_refusal bytes ≡ Some refusal) ⊎ ((key_refusal bytes ≡ None) × MayRefuse answer refusal))
+memory-why bytes answer (Ok x) fits h = tt
+memory-why bytes answer (Err refusal) fits h = inr (fits, inr h)
+
+pub fits-so : {T E P : Type 0} (result : Result T E) → P → OnOk result P
+fits-so (Ok x) p = p
+fits-so (Err e) p = tt

@@ -107,7 +107,7 @@ impl<N: Notes<Note<A>>, A: Allocator + Clone + Copy> Core<N, A> {
         ensures ok { OnOk result (IsCall (set_step pool key.now value.now ttl self.old.cache) (Replied Stored) self.old self.new) }
         ensures fits { OnOk result (key_refusal key.now ≡ None) }
         ensures err { IfErr result (λ refusal. (self.new ≡ self.old) ⊎ (IsCall (give_up_step pool key.now value.now ttl self.old.cache) Discarded self.old self.new × (refusal ≡ Refusal.NoMemory))) }
-        ensures why { IfErr result (λ refusal. (key_refusal key.now ≡ Some refusal) ⊎ ((key_refusal key.now ≡ None) × IsReason (allocate_step pool key.now value.now ttl self.old.cache).answer refusal)) }
+        ensures why { IfErr result (λ refusal. (key_refusal key.now ≡ Some refusal) ⊎ ((key_refusal key.now ≡ None) × MayRefuse (set_step pool key.now value.now ttl self.old.cache).answer refusal)) }
     {
         self.set_with(pool, key, Fill::Copied(value), ttl)
     }
@@ -123,12 +123,11 @@ impl<N: Notes<Note<A>>, A: Allocator + Clone + Copy> Core<N, A> {
         ensures ok { OnOk result (IsCall (set_step pool key.now (filled fill.entry) ttl self.old.cache) (Replied Stored) self.old self.new) }
         ensures fits { OnOk result (key_refusal key.now ≡ None) }
         ensures err { IfErr result (λ refusal. (self.new ≡ self.old) ⊎ (IsCall (give_up_step pool key.now (filled fill.entry) ttl self.old.cache) Discarded self.old self.new × (refusal ≡ Refusal.NoMemory))) }
-        ensures why { IfErr result (λ refusal. (key_refusal key.now ≡ Some refusal) ⊎ ((key_refusal key.now ≡ None) × IsReason (allocate_step pool key.now (filled fill.entry) ttl self.old.cache).answer refusal)) }
+        ensures why { IfErr result (λ refusal. (key_refusal key.now ≡ Some refusal) ⊎ ((key_refusal key.now ≡ None) × MayRefuse (set_step pool key.now (filled fill.entry) ttl self.old.cache).answer refusal)) }
     {
         let key = key_of(self.config(), key)?;
         let sealed = open_with(self, pool, key, fill, ttl)?;
-        link(self, sealed)?;
-        Ok(())
+        link(self, sealed)
     }
 
     /// Stores a copy of `value` as `set` does, where the key has no unexpired value once room is made. Where memory has
@@ -164,8 +163,7 @@ impl<N: Notes<Note<A>>, A: Allocator + Clone + Copy> Core<N, A> {
     {
         let key = key_of(self.config(), key)?;
         let sealed = open_with(self, pool, key, fill, ttl)?;
-        let inserted = link_new(self, sealed)?;
-        Ok(inserted)
+        link_new(self, sealed)
     }
 
     /// Finds the value under the key, as `find` does. Refused with `KeyEmpty` and `KeyTooLong`, and with `NoMemory`. A
