@@ -1,6 +1,5 @@
 -- A fill ends of which nothing is linked: the calls that wait are served as that was planned.
-use Rattle.std.proofs.Common.{◌≡◌, ℕ, ◌+◌, ◌*◌, ◌≤◌, Bool, true, false, List, [], ◌∷◌, length, Option, Some, None, is_some, refl, sym, ap, ◌∙◌, subst, arith}
-use Rattle.std.specs.Prelude.{IsSome}
+use Rattle.std.proofs.Common.{◌≡◌, ℕ, ◌*◌, ◌≤◌, Bool, List, [], ◌∷◌, length, Option, Some, None, is_some, refl, sym, ap, ◌∙◌, subst, arith}
 use Rattle.hc_types.specs.FlashEntry.{FlashEntry}
 use Rattle.hc_memory.specs.Item.{Handle}
 use Rattle.hc_memory.specs.Pool.{Pool, without}
@@ -9,7 +8,7 @@ use Rattle.hc_memory.specs.Sound.{Sound}
 use Rattle.hc_history.specs.Told.{Heard, told_more, is_log}
 use Rattle.hc_machine.specs.Nvm.{Nvm, Waiter}
 use Rattle.hc_machine.specs.Takes.{Taken, Filled, Take}
-use Rattle.hc_machine.specs.Cache.{Cache, Took, with_memory, unmarked_by, takes_in}
+use Rattle.hc_machine.specs.Cache.{Cache, Took, with_memory, takes_in}
 use Rattle.hc_machine.specs.Workers.{after_take}
 use Rattle.hc_invariant.specs.Structure.{Structured}
 use Rattle.hc_nvm.specs.Endings.{Ending}
@@ -17,9 +16,9 @@ use Rattle.hc_nvm.specs.Seen.{take_of}
 use Rattle.hc_nvm.specs.declared.settling.Take.{Take as Answers}
 use Rattle.hc_state.specs.Chosen.{all_stored_as}
 use Rattle.hc_state.specs.Courses.{AreCourses, AllFit, AllMayFree, ended, all_served_as}
-use Rattle.hc_state.specs.Ends.{taken_by, EndsBy, step_by, found_by, losses_by, IsOver, IsOverBy, CanEnd, IsBare}
+use Rattle.hc_state.specs.Ends.{taken_by, EndsBy, step_by, found_by, losses_by, IsOverBy, CanEnd, IsBare}
 use Rattle.hc_state.specs.FillEnds.{most_told_in}
-use Rattle.hc_state.specs.Linked.{removed_early, linked_without}
+use Rattle.hc_state.specs.Linked.{removed_early}
 use Rattle.hc_state.specs.Serving.{all_stored, waiters_at}
 use Rattle.hc_state.specs.Whole.{Whole, Does, IsStep, costs, for_notes}
 use Rattle.hc_state.specs.declared.filling.Way.{Way}

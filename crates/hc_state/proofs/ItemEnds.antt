@@ -1,25 +1,23 @@
 -- A fill ends whose entry was linked: it is told, and the calls that wait are served as that was planned.
 use Rattle.std.proofs.Common.{◌≡◌, ℕ, ◌+◌, ◌*◌, ◌≤◌, ◌++◌, Bool, true, false, List, [], ◌∷◌, length, map, Option, Some, None, is_some, refl, sym, ap, ◌∙◌, subst, arith}
 use mathlib.Core.Bool.{cond}
-use Rattle.hc_types.specs.Charge.{charge_of}
 use Rattle.hc_types.specs.FlashEntry.{FlashEntry}
 use Rattle.hc_types.specs.declared.config.FlashConfig.{FlashConfig}
 use Rattle.hc_engines.specs.Engine.{Loss}
-use Rattle.hc_memory.specs.Item.{Item, Open, Handle}
-use Rattle.hc_memory.specs.Memory.{Memory, victims_of}
+use Rattle.hc_memory.specs.Item.{Item, Handle}
+use Rattle.hc_memory.specs.Memory.{victims_of}
 use Rattle.hc_history.specs.Note.{Note, Queued}
 use Rattle.hc_history.specs.Told.{Heard, told_more, is_log, where_kept}
 use Rattle.hc_machine.specs.Nvm.{Nvm, Waiter, Wish, ToFind, ToAdd}
 use Rattle.hc_machine.specs.Leaving.{is_over}
-use Rattle.hc_machine.specs.Takes.{Taken, Filled, Take}
-use Rattle.hc_machine.specs.Cache.{Cache, Told, Took, and_then, with_memory, unmarked_by, takes_in}
+use Rattle.hc_machine.specs.Takes.{Taken}
+use Rattle.hc_machine.specs.Cache.{Cache, Told, Took, and_then, with_memory, takes_in}
 use Rattle.hc_machine.specs.Waiting.{live, there_after}
-use Rattle.hc_invariant.specs.Structure.{Structured}
 use Rattle.hc_nvm.specs.Endings.{Ending}
 use Rattle.hc_nvm.specs.Seen.{take_of}
 use Rattle.hc_nvm.specs.declared.settling.Take.{Take as Answers}
 use Rattle.hc_state.specs.Courses.{AreCourses, AllFit, AllMayFree, ended, all_served_as}
-use Rattle.hc_state.specs.Ends.{taken_by, EndsBy, step_by, found_by, losses_by, IsOver, IsOverBy, CanEnd, IsBrought, IsLinked}
+use Rattle.hc_state.specs.Ends.{taken_by, EndsBy, step_by, losses_by, IsOverBy, CanEnd, IsBrought, IsLinked}
 use Rattle.hc_state.specs.Storing.{how_many}
 use Rattle.hc_state.specs.FillEnds.{most_told_in}
 use Rattle.hc_state.specs.Filling.{brought_in, brought_by, is_lost, marked_by, all_marked_by}
@@ -27,9 +25,7 @@ use Rattle.hc_state.specs.Leaving.{leave_of, AreFor, keys_of, NoneWaits}
 use Rattle.hc_state.specs.Serving.{all_stored, stored_by, waiters_at}
 use Rattle.hc_state.specs.Whole.{Whole, Does, HasRoom, IsStep, costs, for_notes}
 use Rattle.hc_state.specs.declared.bringing.Arrived.{Arrived}
-use Rattle.hc_state.specs.declared.evicting.Leave.{Leave}
 use Rattle.hc_state.specs.declared.filling.Way.{Way}
-use Rattle.hc_state.specs.declared.filling.Way.TheVariants.{Handed, AtOnce}
 use Rattle.hc_state.specs.declared.serving.Course.{Course}
 use Rattle.hc_state.proofs.BareEnds.{plan-fit, plan-free, with_cache, like-step}
 use Rattle.hc_state.proofs.FillKey.{told-absent}

@@ -1,17 +1,12 @@
--- What is made ready before a fill ends: whether its entry can be linked, and what linking it leaves.
-use Rattle.std.proofs.Common.{◌≡◌, ℕ, ◌+◌, ◌*◌, ◌≤◌, ◌<◌, ◌&&◌, not, Bool, true, false, List, [], ◌∷◌, length, map, Option, Some, None, is_some, refl, sym, ap, ◌∙◌, subst, arith}
+-- What is made ready before a fill ends: what its entry needs to be linked, and what linking it leaves.
+use Rattle.std.proofs.Common.{◌≡◌, ℕ, ◌+◌, ◌*◌, ◌≤◌, ◌<◌, ◌&&◌, not, Bool, true, false, List, length, map, None, is_some, refl, sym, ap, ◌∙◌, subst, arith}
 use Rattle.std.specs.Prelude.{Result, Ok, Err, IfOk, OnOk}
 use Rattle.std.proofs.lemmas.List.{length-map}
-use mathlib.Core.Bool.{cond}
 use Rattle.hc_types.specs.Charge.{charge_of}
 use Rattle.hc_types.specs.FlashEntry.{FlashEntry}
-use Rattle.hc_types.specs.declared.refusal.Refusal.{Refusal}
-use Rattle.hc_engines.specs.Engine.{Loss}
 use Rattle.hc_memory.specs.Item.{Item}
 use Rattle.hc_memory.specs.Memory.{Memory, linked_at, victims_of, oldest_keys, is_hopeless}
 use Rattle.hc_history.specs.Told.{Heard, where_kept}
-use Rattle.hc_items.specs.Allocating.{refusal_of}
-use Rattle.hc_machine.specs.Leaving.{is_over}
 use Rattle.hc_machine.specs.Cache.{Cache, with_memory}
 use Rattle.hc_machine.specs.Workers.{can_link}
 use Rattle.hc_nvm.specs.Endings.{Ending}
@@ -26,26 +21,6 @@ use Rattle.hc_state.specs.declared.bringing.Arrived.{Arrived}
 use Rattle.hc_state.proofs.Charging.{oldest-go}
 use Rattle.hc_state.proofs.FillPlan.{MayLink, can-room}
 use Rattle.hc_state.proofs.Filled.{want_of}
-
--- ---- whether it can be linked
-
-abbrev can_if : Bool → Option Refusal → FlashEntry → Bool
-can_if over refusal entry = is_some (cond over None (Some entry)) && not (is_some refusal)
-
--- one that is expired can't be
-pub over-cannot : (c : Cache) (entry : FlashEntry) → is_over c.now entry ≡ true → can_link c entry ≡ false
-over-cannot c entry over = λ i. can_if (over i) (refusal_of c.memory entry.pool entry.key (length entry.value)) entry
-
--- nor one for which there is no room
-pub refused-cannot : (c : Cache) (entry : FlashEntry) (refusal : Refusal) → refusal_of c.memory entry.pool entry.key (length entry.value) ≡ Some refusal → can_link c entry ≡ false
-refused-cannot c entry refusal is = ap (λ o. can_if (is_over c.now entry) o entry) is ∙ by (is_over c.now entry)
-  where
-    by : (over : Bool) → can_if over (Some refusal) entry ≡ false
-    by true = refl
-    by false = refl
-
-pub fresh-can : (c : Cache) (entry : FlashEntry) → is_over c.now entry ≡ false → refusal_of c.memory entry.pool entry.key (length entry.value) ≡ None → can_link c entry ≡ true
-fresh-can c entry fresh is = λ i. can_if (fresh i) (is i) entry
 
 -- ---- it is the key's, and not lost
 

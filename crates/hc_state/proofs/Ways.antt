@@ -1,15 +1,13 @@
 -- A fill ends with a result or as it is taken: what is known of either way.
-use Rattle.std.proofs.Common.{◌≡◌, ℕ, ◌+◌, ◌≤◌, List, [], ◌∷◌, length, Option, Some, None, inr, refl, sym, ap, ◌∙◌, subst, arith}
+use Rattle.std.proofs.Common.{◌≡◌, ℕ, List, Option, Some, None, inr, refl, sym, ap, ◌∙◌, subst, arith}
 use Rattle.std.specs.Prelude.{option_map, IsSome}
 use Rattle.hc_types.specs.declared.refusal.Refusal.TheVariants.{NoMemory}
-use Rattle.hc_engines.specs.Engine.{IoResult}
 use Rattle.hc_bighash.specs.Seen.{result_of}
-use Rattle.hc_memory.specs.Memory.{Memory, linked_at}
-use Rattle.hc_history.specs.Told.{told_more}
+use Rattle.hc_memory.specs.Memory.{linked_at}
 use Rattle.hc_machine.specs.Nvm.{Nvm, Waiter, fill_at}
 use Rattle.hc_machine.specs.Takes as flash
 use Rattle.hc_machine.specs.Takes.{Taken, Filled}
-use Rattle.hc_machine.specs.Cache.{Cache, Moved, Answer}
+use Rattle.hc_machine.specs.Cache.{Cache, Answer}
 use Rattle.hc_machine.specs.Workers.{after_take, after_finish, take_on, finish_on}
 use Rattle.hc_invariant.specs.Structure.{Structured}
 use Rattle.hc_proof_structure.specs.Takes.{Leaves}
@@ -20,14 +18,13 @@ use Rattle.hc_nvm.specs.Filled.{filled_of}
 use Rattle.hc_nvm.specs.declared.filler.Filled as ended
 use Rattle.hc_nvm.specs.declared.filler.Taken as answered
 use Rattle.hc_state.specs.Answering.{IsReason}
-use Rattle.hc_state.specs.Ends.{taken_by, EndsBy, step_by, found_by, losses_by, IsOver, IsOverBy, IsEndingIn, IsEndingAtOnceIn, IsNextIn}
-use Rattle.hc_state.specs.FillEnds.{EndsIn, EndsAtOnceIn, TookIn, TookBy, finish_in, filler_take_in, most_told_in}
+use Rattle.hc_state.specs.Ends.{taken_by, EndsBy, step_by, found_by, losses_by, IsOver, IsOverBy, IsEndingAtOnceIn, IsNextIn}
+use Rattle.hc_state.specs.FillEnds.{EndsAtOnceIn, TookIn, TookBy, finish_in, filler_take_in, most_told_in}
 use Rattle.hc_state.specs.Serving.{waiters_at}
-use Rattle.hc_state.specs.Whole.{Whole, IsStep, Stays}
+use Rattle.hc_state.specs.Whole.{Whole, IsStep}
 use Rattle.hc_state.specs.declared.filling.Way.{Way}
 use Rattle.hc_state.specs.declared.filling.Way.TheVariants.{Handed, AtOnce}
 use Rattle.hc_state.proofs.FillDone.{filled-is, ends-bare, waits-bare}
-use Rattle.hc_state.proofs.Joining.{takes-both}
 
 -- ---- steps
 
@@ -44,36 +41,11 @@ taken-step AtOnce answer taken old new is step = go old.cache.nvm is
     go None is = absurd cc
     go (Some nvm) is = subst (λ (t : Option Taken). IsStep (after_finish t old.cache) answer old new) (sym is) step
 
--- a step from what stayed as it was
-pub stayed-step : (f : Cache → Moved) (answer : Answer) (old mid new : Whole) → Stays old mid → IsStep (f mid.cache) answer mid new → IsStep (f old.cache) answer old new
-stayed-step f answer old mid new stays step = record {
-  cache = step.cache ∙ ap (λ (c : Cache). (f c).cache) stays.cache;
-  answer_is = step.answer_is ∙ ap (λ (c : Cache). (f c).answer) stays.cache;
-  log = step.log ∙ (λ i. told_more (stays.log i) (f (stays.cache i)).part);
-  ready = step.ready;
-}
-
-pub stays-both : (old mid new : Whole) → Stays old mid → Stays mid new → Stays old new
-stays-both old mid new first second = record {
-  cache = second.cache ∙ first.cache;
-  log = second.log ∙ first.log;
-  room = record {
-    notes = omega (arith, first.room.notes, second.room.notes);
-    puts = omega (arith, first.room.puts, second.room.puts);
-    stones = omega (arith, first.room.stones, second.room.stones);
-    fills = omega (arith, first.room.fills, second.room.fills);
-  };
-}
-
 -- ---- what was asked
 
 pub some-of : {X : Type 0} (o : Option X) → IsSome o → (x : X) × (o ≡ Some x)
 some-of None some = absurd cc
 some-of (Some x) some = (x, refl)
-
-pub ends-in : (number : ℕ) (came : IoResult) (nvm : Option Nvm) (ending : Ending) → IsEndingIn number came nvm (Some ending) → EndsIn number came nvm ending
-ends-in number came None ending is = is
-ends-in number came (Some nvm) ending is = is
 
 pub ends-once-in : (nvm : Option Nvm) (ending : Ending) → IsEndingAtOnceIn nvm (Some ending) → EndsAtOnceIn nvm ending
 ends-once-in None ending is = is
@@ -90,12 +62,6 @@ next-key key (Some nvm) ending next ends = ends.key_is ∙ sym ends.next ∙ sym
 pub no-way : {A : Type 0} (way : Way A) (ending : Ending) → EndsBy way None ending → ⊥
 no-way (Handed number came) ending ends = ends
 no-way AtOnce ending ends = ends
-
-pub taken-some : {A : Type 0} (way : Way A) (nvm : Option Nvm) (ending : Ending) → EndsBy way nvm ending → IsSome (taken_by way nvm)
-taken-some (Handed number came) None ending ends = absurd ends
-taken-some (Handed number came) (Some nvm) ending ends = ends.steps
-taken-some AtOnce None ending ends = absurd ends
-taken-some AtOnce (Some nvm) ending ends = refl
 
 abbrev shown_if : Option Taken → Nvm → Ending → Type 0
 shown_if None nvm ending = ⊥

@@ -16,7 +16,7 @@ use Rattle.hc_nvm.specs.Endings.{Ending, IsEnding, IsEndingAtOnce}
 use Rattle.hc_nvm.specs.Seen.{take_of}
 use Rattle.hc_waiting.specs.Fills.{fill_under}
 use Rattle.hc_nvm.specs.declared.settling.Take.{Take as Answers}
-use Rattle.hc_state.specs.Bringing.{entry_coming, want_coming}
+use Rattle.hc_state.specs.Bringing.{entry_coming}
 use Rattle.hc_state.specs.Courses.{AreCourses}
 use Rattle.hc_state.specs.FillEnds.{EndsIn, EndsAtOnceIn, finish_in, filler_take_in, most_told_in}
 use Rattle.hc_state.specs.Filling.{can_bring, brought_in, is_lost, all_marked_by}

@@ -1,9 +1,9 @@
 // A key's fill ends: what it brought is linked, where it can be, and the calls that wait for the key are served. All that can
 // be refused comes first, and then nothing is.
-ghost use Rattle.std.specs.Prelude.{◌≡◌, ℕ, ◌+◌, ◌≤◌, List, [], true, false, None, Some, length, option_map, vec_len, vec_capacity, IfOk, OnOk, OnErr};
+ghost use Rattle.std.specs.Prelude.{◌≡◌, ◌+◌, ◌≤◌, [], true, false, None, Some, length, option_map, vec_len, vec_capacity, IfOk, OnOk, OnErr};
 ghost use Rattle.std.specs.Option.{option_copied};
 ghost use Rattle.hc_types.specs.Charge.{charge_of};
-ghost use Rattle.hc_types.specs.FlashEntry.{FlashEntry, entry_of};
+ghost use Rattle.hc_types.specs.FlashEntry.{entry_of};
 ghost use Rattle.hc_memory.specs.Memory.{linked_at, victims_of};
 ghost use Rattle.hc_memory.specs.Sound.{Sound};
 ghost use Rattle.hc_machine.specs.Cache.{Took};

@@ -1,5 +1,5 @@
 // The calls of workers: the writer and the filler take, and regions are reclaimed.
-ghost use Rattle.std.specs.Prelude.{◌≡◌, ◌≤◌, Some, None, length, option_map, IfSome, IfOk, OnOk, OnErr, IfErr};
+ghost use Rattle.std.specs.Prelude.{◌≡◌, ◌≤◌, Some, None, IfOk, OnErr, IfErr};
 ghost use Rattle.hc_machine.specs.Cache.{Took, Reclaimed};
 ghost use Rattle.hc_machine.specs.Workers.{writer_take as writer_step, filler_take as filler_step, reclaim as reclaim_step};
 ghost use Rattle.hc_invariant.specs.Structure.{Structured};

@@ -1,4 +1,3 @@
-use Rattle.hc_state.specs.Ends.{CanEnd}
 use Rattle.hc_state.specs.declared.filling.Way.TheVariants.{Handed}
 use Rattle.hc_state.proofs.Ways.{way-bare, ends-reason}
 use Rattle.hc_state.proofs.state.State.finish_key.Goals as goal

@@ -1,4 +1,4 @@
-use Rattle.std.proofs.Common.{◌<◌, length, sym, ap, ◌∙◌, subst}
+use Rattle.std.proofs.Common.{◌<◌, length, sym, subst}
 use Rattle.std.specs.Prelude.{IfOk}
 use Rattle.hc_types.specs.FlashEntry.{entry_of}
 use Rattle.hc_machine.specs.Cache.{Cache}

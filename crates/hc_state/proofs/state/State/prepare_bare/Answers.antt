@@ -1,4 +1,4 @@
-use Rattle.std.proofs.Common.{List, length, sym, ap, ◌∙◌, subst, arith}
+use Rattle.std.proofs.Common.{length, ap, ◌∙◌, subst}
 use Rattle.hc_history.specs.Told.{is_log}
 use Rattle.hc_state.specs.Ends.{HasRoomToEnd, found_by}
 use Rattle.hc_state.specs.Linked.{linked_without}

@@ -1,9 +1,9 @@
-use Rattle.std.proofs.Common.{Some, length, refl, sym, ap, ◌∙◌, subst, arith}
+use Rattle.std.proofs.Common.{Some, length, sym, ap, ◌∙◌, subst, arith}
 use Rattle.std.specs.Str.{bytes_eq}
 use Rattle.hc_types.specs.FlashEntry.{entry_of}
 use Rattle.hc_memory.proofs.Keyed.{same_bytes}
 use Rattle.hc_history.specs.Told.{is_log}
-use Rattle.hc_state.specs.Ends.{IsLinked, losses_by}
+use Rattle.hc_state.specs.Ends.{IsLinked}
 use Rattle.hc_state.specs.Filling.{is_lost}
 use Rattle.hc_state.specs.Serving.{waiters_at}
 use Rattle.hc_state.proofs.Links.{courses-long}
