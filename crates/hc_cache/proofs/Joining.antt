@@ -7,12 +7,11 @@ use Rattle.hc_types.specs.Limits.{key_refusal}
 use Rattle.hc_types.specs.declared.refusal.Refusal.{Refusal}
 use Rattle.hc_types.specs.declared.refusal.Refusal.TheVariants.{NoPool, ValueTooLong, NoRoom, ForeignHandle, Exists, NoMemory}
 use Rattle.hc_memory.specs.Item.{Handle}
-use Rattle.hc_memory.specs.Memory.{Memory, is_hopeless}
+use Rattle.hc_memory.specs.Memory.{is_hopeless}
 use Rattle.hc_history.specs.Told.{told_more}
 use Rattle.hc_history.specs.Note as note
 use Rattle.hc_history.specs.Note.{Add}
 use Rattle.hc_history.proofs.Telling.{told-twice}
-use Rattle.hc_items.specs.Allocating.{refusal_of}
 use Rattle.hc_machine.specs.Nvm.{ToAdd}
 use Rattle.hc_machine.specs.Cache.{Cache, Moved, Answer, Refused, Opened, Discarded, Replied, Waits, Moment, Took, Reclaimed, answers, stays, and_then}
 use Rattle.hc_machine.specs.Evicting.{allocate_by, allocate}
@@ -49,7 +48,7 @@ known-stores handle cache refusal known why =
     by (is_known cache handle) known why
   where
     by : (b : Bool) → b ≡ true
-      → IsReason (if b then answers (Replied note.Stored) (and_then (begin 0 (note.Insert handle.key handle.value handle.expiry) cache) (store handle)) else stays (Refused ForeignHandle) cache).answer refusal → refusal ≡ NoMemory
+        → IsReason (if b then answers (Replied note.Stored) (and_then (begin 0 (note.Insert handle.key handle.value handle.expiry) cache) (store handle)) else stays (Refused ForeignHandle) cache).answer refusal → refusal ≡ NoMemory
     by true k (inl h) = absurd cc
     by true k (inr h) = h.1
     by false k h = absurd cc
@@ -59,9 +58,9 @@ abbrev insert_by : (taken known waits : Bool) → Handle → Cache → Moved
 insert_by taken known waits handle cache =
     if taken then stays (Refused Exists) cache
     else (if known
-      then (if waits then answers (Waits (cache.calls + 1)) (and_then (begin 0 (Add handle.key handle.value handle.expiry) cache) (wait_for handle.key (ToAdd handle)))
-        else answers (Replied note.Stored) (and_then (begin 0 (Add handle.key handle.value handle.expiry) cache) (store handle)))
-      else stays (Refused ForeignHandle) cache)
+    then (if waits then answers (Waits (cache.calls + 1)) (and_then (begin 0 (Add handle.key handle.value handle.expiry) cache) (wait_for handle.key (ToAdd handle)))
+    else answers (Replied note.Stored) (and_then (begin 0 (Add handle.key handle.value handle.expiry) cache) (store handle)))
+    else stays (Refused ForeignHandle) cache)
 
 -- an item that isn't added is given up
 pub left-new : (handle : Handle) (refusal : Refusal) (old new : Logged) → is_known old.cache handle ≡ true → IsReason (insert 0 handle old.cache).answer refusal → IsCall (discard handle old.cache) Discarded old new
@@ -70,7 +69,7 @@ left-new handle refusal old new known why call =
     by (is_some (live old.cache.now (in_memory old.cache handle.key))) (is_known old.cache handle) (must_wait old.cache handle.key) known why
   where
     by : (taken known waits : Bool) → known ≡ true → IsReason (insert_by taken known waits handle old.cache).answer refusal
-      → (IsCall (given_up handle (insert_by taken known waits handle old.cache).answer (insert_by taken known waits handle old.cache)) (Refused Exists) old new × (refusal ≡ Exists)) ⊎ (IsCall (discard handle old.cache) Discarded old new × (refusal ≡ NoMemory))
+        → (IsCall (given_up handle (insert_by taken known waits handle old.cache).answer (insert_by taken known waits handle old.cache)) (Refused Exists) old new × (refusal ≡ Exists)) ⊎ (IsCall (discard handle old.cache) Discarded old new × (refusal ≡ NoMemory))
     by taken known waits k (inr h) = inr (call, h.1)
     by true known waits k (inl h) = inl (record { cache = call.cache; answer_is = refl; log = call.log }, cc)
     by false false waits k (inl h) = absurd cc

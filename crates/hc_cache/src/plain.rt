@@ -133,13 +133,7 @@ impl<N: Notes<Note<A>>, A: Allocator + Clone + Copy> Core<N, A> {
     /// Stores a copy of `value` as `set` does, where the key has no unexpired value once room is made. Where memory has
     /// none and flash may have one, the call waits, and its reply is taken later. Where memory has one, that one stays, and
     /// the call is refused with `Exists`: what went to make room has left memory. Otherwise refused as `set` is.
-    pub fn add(
-        &mut self,
-        pool: u8,
-        key: &[u8],
-        value: &[u8],
-        ttl: u32,
-    ) -> Result<Inserted, Refusal>
+    pub fn add(&mut self, pool: u8, key: &[u8], value: &[u8], ttl: u32) -> Result<Inserted, Refusal>
         ensures ok { IfOk result (λ inserted. IsCall (add_step pool key.now value.now ttl self.old.cache) (inserted_answer inserted) self.old self.new) }
         ensures fits { OnOk result (key_refusal key.now ≡ None) }
         ensures err { IfErr result (λ refusal. ((self.new ≡ self.old) × (refusal ≢ Refusal.Exists)) ⊎ ((IsCall (add_step pool key.now value.now ttl self.old.cache) (Refused Exists) self.old self.new × (refusal ≡ Refusal.Exists)) ⊎ (IsCall (give_up_step pool key.now value.now ttl self.old.cache) Discarded self.old self.new × (refusal ≡ Refusal.NoMemory)))) }

@@ -1,4 +1,4 @@
-use Rattle.std.proofs.Common.{◌∙◌, sym}
+use Rattle.std.proofs.Common.{◌∙◌}
 use Rattle.hc_machine.specs.Calls.{is_known}
 use Rattle.hc_cache.proofs.Joining.{discarded-so, known-stores}
 use Rattle.hc_cache.proofs.plain.link.Goals as goal
