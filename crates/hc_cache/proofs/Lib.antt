@@ -4,3 +4,4 @@ pub mod Guarding
 pub mod Keeping
 pub mod Opening
 pub mod Calling
+pub mod Joining

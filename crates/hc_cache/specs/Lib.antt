@@ -3,3 +3,4 @@ pub mod Logged
 pub mod Answers
 pub mod Events
 pub mod Holds
+pub mod Plain

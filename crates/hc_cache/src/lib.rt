@@ -4,6 +4,7 @@
 mod cache;
 mod giving_up;
 mod laws;
+mod plain;
 mod reading;
 mod storing;
 mod workers;
