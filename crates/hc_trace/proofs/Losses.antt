@@ -1,5 +1,5 @@
 -- A line's losses are printed, and taken.
-use Rattle.std.proofs.Common.{◌≡◌, ℕ, List, [], ◌∷◌, ◌++◌, Option, Some, refl, sym, ap, subst, ◌∙◌}
+use Rattle.std.proofs.Common.{◌≡◌, ℕ, List, [], ◌∷◌, ◌++◌, Option, Some, Result, Ok, Err, OnOk, refl, sym, ap, subst, ◌∙◌}
 use Rattle.hc_history.specs.Note.{Note, Begin, Did, End, Lose, Charged, Linked, Freed, Queued, Unqueued, Writing, Written, Buried, Raised, Read, Wrote, Opened, Flushed, Cleared, Now}
 use Rattle.hc_history.specs.Told.{Heard, Counts, told_more, counts_more, losses_of, losses_taken}
 use Rattle.hc_lines.specs.Steps.{Answer}
@@ -33,6 +33,10 @@ losses-same (Opened region ∷ notes) = losses-same notes
 losses-same (Flushed region ∷ notes) = losses-same notes
 losses-same (Cleared region ∷ notes) = losses-same notes
 losses-same (Now moment ∷ notes) = losses-same notes
+
+pub on-both : {T E A B C : Type 0} (r : Result T E) → OnOk r A → OnOk r B → (A → B → C) → OnOk r C
+on-both (Ok x) a b f = f a b
+on-both (Err e) a b f = tt
 
 -- where all losses were taken, those of the line are all that there are
 pub is-told : {action : Action} {answer : Answer} {old mid new : Playing} (before after : List ℕ) → IsCounted old.log → Acts action answer old mid → new ≡ record mid { log = losses_taken mid.log }
