@@ -9,3 +9,5 @@ pub mod Owning
 pub mod Staging
 pub mod Resulting
 pub mod Ending
+pub mod Answering
+pub mod Slotted

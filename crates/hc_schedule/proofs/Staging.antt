@@ -22,10 +22,10 @@ use Rattle.hc_schedule.specs.Devices.{CanRead, Comes, IsSame}
 use Rattle.hc_schedule.proofs.Stepping.{goes_calmly, goes_by_io, goes_idly}
 use Rattle.hc_schedule.proofs.Refusing.{allocate_stays, reply_stays, insert_stays}
 
-abbrev slot_of : ℕ → Handle → Slot
+abbrev pub slot_of : ℕ → Handle → Slot
 slot_of number handle = record { number = number; handle = handle }
 
-abbrev by_client : ℕ → Deed → Step
+abbrev pub by_client : ℕ → Deed → Step
 by_client client deed = record { client = client; deed = deed }
 
 -- ---- results
@@ -88,6 +88,10 @@ module _ {Device : Type 0} (sight : Sight Device) where
 
   calmly : (old new : Stage Device) (s : Step) (told : Told) (part : List Note) → IsCalm s.deed → DeedSized s.deed → new.log ≡ told_more old.log part → ((scene : Scene) → Shows sight old scene → Ends scene s told part new) → Moves sight old s told new
   calmly old new s told part calm sized log ends = record { part = part; log = log; sized = sized; leads = λ scene sh reads. leads_by scene s told part new calm (ends scene sh) }
+
+  -- told the same
+  pub retold : (old new : Stage Device) (s : Step) (told same : Told) → told ≡ same → Moves sight old s same new → Moves sight old s told new
+  retold old new s told same is moves = subst (λ (t : Told). Moves sight old s t new) (sym is) moves
 
   -- ---- nothing happens
 
