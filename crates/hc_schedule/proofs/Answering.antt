@@ -1,6 +1,6 @@
 -- What calls answer, as steps are told.
-use Rattle.std.proofs.Common.{◌≡◌, ⊎_elim, Option, Some, None, refl, ap, sym, subst, ◌∙◌}
-use Rattle.std.specs.Prelude.{Result, Ok, Err, IfOk, OnErr}
+use Rattle.std.proofs.Common.{◌≡◌, false, ⊎_elim, Option, Some, None, refl, ap, sym, subst, ◌∙◌}
+use Rattle.std.specs.Prelude.{Result, Ok, Err, IfOk, OnErr, is_some, option_map}
 use Rattle.hc_types.specs.declared.refusal.Refusal.{Refusal}
 use Rattle.hc_types.specs.declared.refusal.Refusal.TheVariants.{NoMemory}
 use Rattle.hc_machine.specs.Cache.{Answer, Refused, Opened, Discarded, Replied, Waits, Moment, Took, Reclaimed}
@@ -49,3 +49,11 @@ by-result P r same is p = subst (λ (r : Result _ _). IfOk r P) (sym is) p
 
 pub ok-quiet : {T E : Type 0} (P : Type 0) (r : Result T E) (x : T) → r ≡ Ok x → OnErr r P
 ok-quiet P r x is = subst (λ (r : Result _ _). OnErr r P) (sym is) tt
+
+pub map-some : {T U : Type 0} (f : T → U) (o : Option T) → is_some (option_map f o) ≡ is_some o
+map-some f None = refl
+map-some f (Some x) = refl
+
+pub no-some : {T : Type 0} (o : Option T) → is_some o ≡ false → o ≡ None
+no-some None h = refl
+no-some (Some x) h = absurd cc

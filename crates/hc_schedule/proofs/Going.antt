@@ -12,9 +12,11 @@ use Rattle.hc_proof_runs.specs.Schedule.{DeedSized, AllStepSized}
 use Rattle.hc_schedule.specs.Steps.{breaking}
 use Rattle.hc_schedule.specs.Shows.{Stage, Sight, AreOwn, Moves, Waits}
 use Rattle.hc_schedule.specs.Runs.{ends_from, IsRunOf}
+use Rattle.hc_follows.specs.Follows.{StopsAt}
+use Rattle.hc_schedule.specs.Laws.{Promised}
 use Rattle.hc_schedule.specs.Going.{log_length, GoesOn, IsOngoing}
 use Rattle.hc_schedule.proofs.Chaining.{IsRun-none, IsRun-more}
-use Rattle.hc_schedule.proofs.Promising.{runs_stand}
+use Rattle.hc_schedule.proofs.Promising.{runs_stand, runs_keep_promise}
 
 -- ---- parts and ends
 
@@ -101,3 +103,7 @@ module _ {Device : Type 0} (sight : Sight Device) (config : Config) where
         ended = o.ended ∙ ap (λ (r : Ran). ends_from 0 r.parts) (sym ran);
         told = ap log_in end ∙ ap log_of (sym ran);
       }
+
+  pub promised : (steps : List Step) (answers : List Told) (ends : List ℕ) (stage : Stage Device) (log : List Note) (stopped : Option ℕ) → first_wrong config ≡ None → IsOngoing sight config (take (length answers) steps) answers ends stage
+      → StopsAt stopped (length answers) (length steps) → Log log ≡ told_more stage.log (given_up stage.slots stage.cache).part → Promised config steps answers ends log stopped
+  promised steps answers ends stage log stopped right o stops last = runs_keep_promise config steps answers ends log stopped right o.sized stops (run_ends (take (length answers) steps) answers ends stage log o last)

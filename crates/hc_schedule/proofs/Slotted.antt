@@ -1,6 +1,6 @@
 -- Steps of a stage whose slots are as the code has them.
 use Rattle.std.proofs.Common.{◌≡◌, ℕ, ◌<◌, true, false, List, [], ◌∷◌, Option, Some, None, length, slice_set, refl, ap, sym, subst, ◌∙◌}
-use Rattle.std.specs.Prelude.{if◌then◌else◌, is_some, IfSome}
+use Rattle.std.specs.Prelude.{if◌then◌else◌, is_some, IfSome, IfOk, Result}
 use Rattle.hc_types.specs.declared.refusal.Refusal.{Refusal}
 use Rattle.hc_types.specs.declared.refusal.Refusal.TheVariants.{NoMemory, ForeignHandle}
 use Rattle.hc_memory.specs.Item.{Handle}
@@ -12,17 +12,19 @@ use Rattle.hc_machine.specs.Evicting.{allocate}
 use Rattle.hc_machine.specs.Waiting.{free}
 use Rattle.hc_machine.specs.Calls as calls
 use Rattle.hc_machine.specs.Calls.{is_known}
-use Rattle.hc_machine.specs.World.{Result, Says}
-use Rattle.hc_machine.specs.Schedule.{Deed, Open, Put, PutNew, Discard, Slot, Told, Tells, NoSlot, Filled, without_slot, left_after}
+use Rattle.hc_machine.specs.World.{Result as Waiting, Says}
+use Rattle.hc_machine.specs.Schedule.{Deed, Open, Put, PutNew, Discard, Reply, Slot, Told, Tells, NoSlot, Filled, without_slot, left_after}
 use Rattle.hc_invariant.specs.Good.{IsSized}
 use Rattle.hc_cache.specs.Answers.{IsReason}
+use Rattle.hc_schedule.specs.Asked.{told_of}
+use Rattle.hc_schedule.specs.declared.steps.Outcome.{Outcome}
 use Rattle.hc_schedule.specs.Ending.{after_give_up, part_of_give_up}
 use Rattle.hc_schedule.specs.Slots.{handle_in, filled_from}
 use Rattle.hc_schedule.specs.Shows.{Stage, Sight, AreOwn, Moves, Waits}
-use Rattle.hc_schedule.proofs.Answering.{but-memory, memory-alone}
+use Rattle.hc_schedule.proofs.Answering.{but-memory, memory-alone, refused-so}
 use Rattle.hc_schedule.proofs.Owning.{slot-known}
 use Rattle.hc_schedule.proofs.Slotting.{at-none, at-some, without-is, with-is, set-none, filled-has, none-held}
-use Rattle.hc_schedule.proofs.Staging.{by_client, slot_of, Called, no-slot-to-fill, opened, open-refused, no-slot-to-put, no-slot-to-put-new, no-slot-to-discard, put-stored, put-new-stored, put-new-refused, discarded}
+use Rattle.hc_schedule.proofs.Staging.{by_client, slot_of, Called, no-slot-to-fill, opened, open-refused, no-slot-to-put, no-slot-to-put-new, no-slot-to-discard, put-stored, put-new-stored, put-new-refused, discarded, reply-refused}
 
 -- what fills a slot is known
 pub slot-own : (cache : Cache) (items : List (Option Handle)) (slot : ℕ) (handle : Handle) → AreOwn (filled_from 0 items) cache → handle_in slot items ≡ Some handle → is_known cache handle ≡ true
@@ -41,7 +43,7 @@ put-memory client cache handle refusal known why =
 discard_answer : (cache : Cache) (handle : Handle) → is_known cache handle ≡ true → (calls.discard handle cache).answer ≡ Discarded
 discard_answer cache handle known = ap (λ t. (if t then answers Discarded (free handle.number cache) else stays (Refused ForeignHandle) cache).answer) known
 
-module _ {Device : Type 0} (device : Device) (before : ℕ) (results : List Result) where
+module _ {Device : Type 0} (device : Device) (before : ℕ) (results : List Waiting) where
   abbrev pub staged : Cache → Heard → List (Option Handle) → Stage Device
   staged cache log items = record { cache = cache; log = log; device = device; failed_before = before; results = results; slots = filled_from 0 items }
 
@@ -56,7 +58,7 @@ module _ {Device : Type 0} (sight : Sight Device) where
   pub waits-back : (old new : Stage Device) → new ≡ old → Waits sight old new
   waits-back old new same = subst (λ (s : Stage Device). Waits sight old s) (sym same) (record { log = refl; shows = λ scene sh. sh })
 
-  module _ (device : Device) (before : ℕ) (results : List Result) (cache cache' : Cache) (log log' : Heard) (items items' : List (Option Handle)) (client slot : ℕ) where
+  module _ (device : Device) (before : ℕ) (results : List Waiting) (cache cache' : Cache) (log log' : Heard) (items items' : List (Option Handle)) (client slot : ℕ) where
     abbrev old : Stage Device
     old = staged device before results cache log items
 
@@ -110,6 +112,25 @@ module _ {Device : Type 0} (sight : Sight Device) where
     pub new-not : (handle : Handle) (refusal : Refusal) → handle_in slot items ≡ Some handle → IsReason (calls.insert client handle cache).answer refusal → (refusal ≡ NoMemory → ⊥) → new ≡ old
         → Moves sight old (by_client client (PutNew slot)) (Tells (Says (Refused refusal))) new
     new-not handle refusal is why other same = moves-back old new client (PutNew slot) (Tells (Says (Refused refusal))) same (put-new-refused sight old client slot handle refusal (at-some items slot handle is) (but-memory _ refusal other why))
+
+    -- ---- what is refused, and not for want of memory
+
+    pub open-refused-ok : {A E : Type 0} (r : Result (Outcome A) E) (pool : ℕ) (key key' value value' : List ℕ) (ttl : ℕ) (refusal : Refusal) → IfOk r (λ outcome. (told_of outcome ≡ Tells (Says (Refused refusal))) × (refusal ≡ NoMemory → ⊥))
+        → handle_in slot items ≡ None → IsSized key [] 0 → key' ≡ key → value' ≡ value → IsReason (allocate pool key' value' ttl cache).answer refusal → new ≡ old
+        → IfOk r (λ outcome. Moves sight old (by_client client (Open slot pool key value ttl)) (told_of outcome) new)
+    open-refused-ok r pool key key' value value' ttl refusal is none sized k v why same =
+        refused-so (λ (t : Told). Moves sight old (by_client client (Open slot pool key value ttl)) t new) r refusal is (λ other. open-not pool key key' value value' ttl refusal none sized k v why other same)
+
+    pub new-refused-ok : {A E : Type 0} (r : Result (Outcome A) E) (handle : Handle) (refusal : Refusal) → IfOk r (λ outcome. (told_of outcome ≡ Tells (Says (Refused refusal))) × (refusal ≡ NoMemory → ⊥)) → handle_in slot items ≡ Some handle
+        → IsReason (calls.insert client handle cache).answer refusal → new ≡ old → IfOk r (λ outcome. Moves sight old (by_client client (PutNew slot)) (told_of outcome) new)
+    new-refused-ok r handle refusal is at why same =
+        refused-so (λ (t : Told). Moves sight old (by_client client (PutNew slot)) t new) r refusal is (λ other. new-not handle refusal at why other same)
+
+    pub reply-refused-ok : {A E : Type 0} (r : Result (Outcome A) E) (call : ℕ) (refusal : Refusal) → IfOk r (λ outcome. (told_of outcome ≡ Tells (Says (Refused refusal))) × (refusal ≡ NoMemory → ⊥))
+        → IsReason (calls.take_reply call cache).answer refusal → new ≡ old → IfOk r (λ outcome. Moves sight old (by_client client (Reply call)) (told_of outcome) new)
+    reply-refused-ok r call refusal is why same =
+        refused-so (λ (t : Told). Moves sight old (by_client client (Reply call)) t new) r refusal is (λ other.
+            moves-back old new client (Reply call) (Tells (Says (Refused refusal))) same (reply-refused sight old client call refusal (but-memory _ refusal other why)))
 
     -- ---- what is given up
 

@@ -1,8 +1,7 @@
 use Rattle.std.proofs.Common.{◌<◌, true, false, [], length, refl, arith}
 use Rattle.hc_invariant.specs.Good.{IsSized}
-use Rattle.hc_schedule.proofs.Answering.{refused-so}
 use Rattle.hc_schedule.proofs.Slotting.{read-is, none-held}
-use Rattle.hc_schedule.proofs.Slotted.{open-full, open-so, open-not, back-is}
+use Rattle.hc_schedule.proofs.Slotted.{open-full, open-so, open-refused-ok, back-is}
 use Rattle.hc_schedule.proofs.stage.Stage.open.Goals as goal
 
 pub returns-then-is_filled-clause-ok : goal.returns-then-is_filled-clause-ok
@@ -38,6 +37,6 @@ returns-in-Err-clause-ok g c =
     let sized : IsSized c.args.key.now [] 0 = record { some_key = omega (arith, c.len-sized.ensures.value, c.len-sized.ensures.least); short_key = omega (arith, c.len-sized.ensures.value, c.len-sized.ensures.most); short_value = omega arith; second = omega arith } in
     let kept = c.allocate_with.new.self in
     let same = back-is f.device f.failed_before f.results.results f.core.cache kept.cache f.core.log kept.log f.slots.items f.slots.items (λ i. (c.in-Err.ensures.err i).cache) (λ i. (c.in-Err.ensures.err i).log) refl in
-    rw (← c.self.view_is) (refused-so _ c.refused.result c.in-Err.field-0.refusal c.refused.ensures.ok (λ other.
-        open-not _ f.device f.failed_before f.results.results f.core.cache kept.cache f.core.log kept.log f.slots.items f.slots.items c.args.client c.args.slot c.args.pool c.args.key.now c.in_ok-key.key c.args.value.now c.as_slice.result.now c.args.ttl c.in-Err.field-0.refusal
-        none sized c.in_ok-key.ensures.cases c.as_slice.ensures c.in-Err.ensures.why other same))
+    rw (← c.self.view_is)
+    (open-refused-ok _ f.device f.failed_before f.results.results f.core.cache kept.cache f.core.log kept.log f.slots.items f.slots.items c.args.client c.args.slot c.refused.result c.args.pool c.args.key.now c.in_ok-key.key c.args.value.now c.as_slice.result.now c.args.ttl
+    c.in-Err.field-0.refusal c.refused.ensures.ok none sized c.in_ok-key.ensures.cases c.as_slice.ensures c.in-Err.ensures.why same)

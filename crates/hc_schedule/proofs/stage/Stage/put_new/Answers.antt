@@ -2,9 +2,9 @@ use Rattle.std.proofs.Common.{refl, sym, ap, ◌∙◌}
 use Rattle.hc_history.specs.Note.{Stored}
 use Rattle.hc_machine.specs.Cache.{Replied, Waits}
 use Rattle.hc_cache.specs.Answers.{inserted_answer}
-use Rattle.hc_schedule.proofs.Answering.{on-err, refused-so}
+use Rattle.hc_schedule.proofs.Answering.{on-err}
 use Rattle.hc_schedule.proofs.Slotting.{put-back}
-use Rattle.hc_schedule.proofs.Slotted.{new-none, new-so, new-not, waits-back, back-is}
+use Rattle.hc_schedule.proofs.Slotted.{new-none, new-so, new-refused-ok, waits-back, back-is}
 use Rattle.hc_schedule.proofs.stage.Stage.put_new.Goals as goal
 
 pub returns-in_default-clause-ok : goal.returns-in_default-clause-ok
@@ -40,9 +40,9 @@ returns-in-Err-clause-ok g c =
     let is = sym c.in_ok-sealed.ensures.ok ∙ c.in-Some.is in
     let back = put-back f.slots.items c.take_sealed.new.slots.items c.fill.new.slots.items c.args.slot c.in-Some.sealed c.in-Err.field-0.sealed is c.in_ok-sealed.ensures.slots c.in-Err.ensures.sealed_returned c.fill.ensures in
     let same = back-is f.device f.failed_before f.results.results f.core.cache c.insert.new.self.cache f.core.log c.insert.new.self.log f.slots.items c.fill.new.slots.items (λ i. (c.in-Err.ensures.err i).cache) (λ i. (c.in-Err.ensures.err i).log) back in
-    rw (← c.self.view_is) (refused-so _ c.refused.result c.in-Err.field-0.refusal c.refused.ensures.ok (λ other.
-        new-not _ f.device f.failed_before f.results.results f.core.cache c.insert.new.self.cache f.core.log c.insert.new.self.log f.slots.items c.fill.new.slots.items c.args.client c.args.slot c.in-Some.sealed c.in-Err.field-0.refusal
-        is c.in-Err.ensures.why other same))
+    rw (← c.self.view_is)
+    (new-refused-ok _ f.device f.failed_before f.results.results f.core.cache c.insert.new.self.cache f.core.log c.insert.new.self.log f.slots.items c.fill.new.slots.items c.args.client c.args.slot c.refused.result c.in-Some.sealed c.in-Err.field-0.refusal
+    c.refused.ensures.ok is c.in-Err.ensures.why same)
 
 pub returns-in-Err-clause-err : goal.returns-in-Err-clause-err
 returns-in-Err-clause-err g c =
