@@ -1,5 +1,5 @@
 -- A run goes on by one step.
-use Rattle.std.proofs.Common.{◌≡◌, ℕ, ◌+◌, ◌<◌, Bool, List, [], ◌∷◌, ◌++◌, length, take, get_or, None, refl, ap, sym, subst, ◌∙◌, arith, append_assoc, append-nil, length-append, zero-add}
+use Rattle.std.proofs.Common.{Option, ◌≡◌, ℕ, ◌+◌, ◌<◌, Bool, List, [], ◌∷◌, ◌++◌, length, take, get_or, None, refl, ap, sym, subst, ◌∙◌, arith, append_assoc, append-nil, length-append, zero-add}
 use Rattle.std.proofs.lemmas.List.{take_more}
 use Rattle.hc_types.specs.Config.{Config}
 use Rattle.hc_types.specs.Limits.{first_wrong}
@@ -76,10 +76,10 @@ module _ {Device : Type 0} (sight : Sight Device) (config : Config) where
       subst (λ (slots : List Slot). AreOwn slots stage.cache) o.shows.slots (subst (λ (cache : Cache). AreOwn o.scene.slots cache) o.shows.cache own)
 
   -- a turn of the run's loop
-  pub run_turn : (steps : List Step) (i : ℕ) (s : Step) (answers answers' : List Told) (ends ends' : List ℕ) (old new : Stage Device) → i < length steps → s ≡ get_or steps i s → first_wrong config ≡ None
+  pub run_turn : (steps : List Step) (s : Step) (i : ℕ) (answers answers' : List Told) (ends ends' : List ℕ) (old new : Stage Device) → i < length steps → s ≡ get_or steps i s → first_wrong config ≡ None
       → IsOngoing sight config (take i steps) answers ends old → length answers ≡ i → GoesOn sight old answers ends s new answers' ends'
       → IsOngoing sight config (take (i + 1) steps) answers' ends' new × (length answers' ≡ i + 1)
-  run_turn steps i s answers answers' ends ends' old new lt here right o made g =
+  run_turn steps s i answers answers' ends ends' old new lt here right o made g =
       let more : take (i + 1) steps ≡ take i steps ++ s ∷ [] = take_more steps i s lt ∙ ap (λ (s : Step). take i steps ++ s ∷ []) (sym here) in
       let next = ongoing-more (take i steps) answers ends old new s g.told right o g.moves in (
         subst (λ (all : List Step). IsOngoing sight config all answers' ends' new) (sym more)
@@ -107,3 +107,14 @@ module _ {Device : Type 0} (sight : Sight Device) (config : Config) where
   pub promised : (steps : List Step) (answers : List Told) (ends : List ℕ) (stage : Stage Device) (log : List Note) (stopped : Option ℕ) → first_wrong config ≡ None → IsOngoing sight config (take (length answers) steps) answers ends stage
       → StopsAt stopped (length answers) (length steps) → Log log ≡ told_more stage.log (given_up stage.slots stage.cache).part → Promised config steps answers ends log stopped
   promised steps answers ends stage log stopped right o stops last = runs_keep_promise config steps answers ends log stopped right o.sized stops (run_ends (take (length answers) steps) answers ends stage log o last)
+
+  -- as many steps were made as were answered
+  pub ongoing-made : (steps : List Step) (i : ℕ) (answers : List Told) (ends : List ℕ) (stage : Stage Device) → IsOngoing sight config (take i steps) answers ends stage → length answers ≡ i → IsOngoing sight config (take (length answers) steps) answers ends stage
+  ongoing-made steps i answers ends stage o made = subst (λ (n : ℕ). IsOngoing sight config (take n steps) answers ends stage) (sym made) o
+
+  -- the run stops here
+  pub ongoing-stopped : (steps : List Step) (i : ℕ) (answers answers' : List Told) (ends ends' : List ℕ) (old new : Stage Device) → IsOngoing sight config (take i steps) answers ends old → length answers ≡ i → Waits sight old new → answers' ≡ answers → ends' ≡ ends
+      → IsOngoing sight config (take (length answers') steps) answers' ends' new
+  ongoing-stopped steps i answers answers' ends ends' old new o made w a e =
+      subst (λ (as' : List Told). IsOngoing sight config (take (length as') steps) as' ends' new) (sym a)
+      (subst (λ (es : List ℕ). IsOngoing sight config (take (length answers) steps) answers es new) (sym e) (ongoing-waits (take (length answers) steps) answers ends old new (ongoing-made steps i answers ends old o made) w))
