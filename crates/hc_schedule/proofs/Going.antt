@@ -20,17 +20,17 @@ use Rattle.hc_schedule.proofs.Promising.{runs_stand, runs_keep_promise}
 
 -- ---- parts and ends
 
-all_more : (parts : List (List Note)) (part : List Note) → all_of (parts ++ part ∷ []) ≡ all_of parts ++ part
+pub all_more : (parts : List (List Note)) (part : List Note) → all_of (parts ++ part ∷ []) ≡ all_of parts ++ part
 all_more [] part = append-nil part
 all_more (p ∷ parts) part = ap (λ (notes : List Note). p ++ notes) (all_more parts part) ∙ sym (append_assoc p (all_of parts) part)
 
-ends_more : (at : ℕ) (parts : List (List Note)) (part : List Note) → ends_from at (parts ++ part ∷ []) ≡ ends_from at parts ++ (at + length (all_of parts ++ part)) ∷ []
+pub ends_more : (at : ℕ) (parts : List (List Note)) (part : List Note) → ends_from at (parts ++ part ∷ []) ≡ ends_from at parts ++ (at + length (all_of parts ++ part)) ∷ []
 ends_more at [] part = refl
 ends_more at (p ∷ parts) part =
     ap (λ (ends : List ℕ). (at + length p) ∷ ends) (ends_more (at + length p) parts part
     ∙ ap (λ (n : ℕ). ends_from (at + length p) parts ++ n ∷ []) (omega (arith, length-append p (all_of parts), length-append (p ++ all_of parts) part, length-append (all_of parts) part)))
 
-sized_more : (steps : List Step) (s : Step) → AllStepSized steps → DeedSized s.deed → AllStepSized (steps ++ s ∷ [])
+pub sized_more : (steps : List Step) (s : Step) → AllStepSized steps → DeedSized s.deed → AllStepSized (steps ++ s ∷ [])
 sized_more [] s all sized = (sized, tt)
 sized_more (first ∷ steps) s all sized = (all.0, sized_more steps s all.1 sized)
 
@@ -53,7 +53,7 @@ module _ {Device : Type 0} (sight : Sight Device) (config : Config) where
     sized = tt;
   }
 
-  pub ongoing-more : (steps : List Step) (answers : List Told) (ends : List ℕ) (old new : Stage Device) (s : Step) (told : Told) → first_wrong config ≡ None → IsOngoing sight config steps answers ends old → Moves sight old s told new
+  abbrev pub ongoing-more : (steps : List Step) (answers : List Told) (ends : List ℕ) (old new : Stage Device) (s : Step) (told : Told) → first_wrong config ≡ None → IsOngoing sight config steps answers ends old → Moves sight old s told new
       → IsOngoing sight config (steps ++ s ∷ []) (answers ++ told ∷ []) (ends ++ log_length new.log ∷ []) new
   ongoing-more steps answers ends old new s told right o m =
       let stands = runs_stand config steps answers o.parts o.scene right o.sized o.run in
@@ -89,11 +89,11 @@ module _ {Device : Type 0} (sight : Sight Device) (config : Config) where
       )
 
   -- the stage waits: the run is as far
-  pub ongoing-waits : (steps : List Step) (answers : List Told) (ends : List ℕ) (old new : Stage Device) → IsOngoing sight config steps answers ends old → Waits sight old new → IsOngoing sight config steps answers ends new
+  abbrev pub ongoing-waits : (steps : List Step) (answers : List Told) (ends : List ℕ) (old new : Stage Device) → IsOngoing sight config steps answers ends old → Waits sight old new → IsOngoing sight config steps answers ends new
   ongoing-waits steps answers ends old new o w = record { parts = o.parts; scene = o.scene; run = o.run; shows = w.shows o.scene o.shows; log = w.log ∙ o.log; ended = o.ended; sized = o.sized }
 
   -- what still fills the slots is given up, and the run is over
-  pub run_ends : (steps : List Step) (answers : List Told) (ends : List ℕ) (stage : Stage Device) (log : List Note) → IsOngoing sight config steps answers ends stage → Log log ≡ told_more stage.log (given_up stage.slots stage.cache).part → IsRunOf config steps answers ends log
+  abbrev pub run_ends : (steps : List Step) (answers : List Told) (ends : List ℕ) (stage : Stage Device) (log : List Note) → IsOngoing sight config steps answers ends stage → Log log ≡ told_more stage.log (given_up stage.slots stage.cache).part → IsRunOf config steps answers ends log
   run_ends steps answers ends stage log o last =
       let ran : run config o.run.broke steps ≡ record { scene = breaking [] o.scene; answers = answers; parts = o.parts } = subst (λ (breaks : List Bool). run config breaks steps ≡ record { scene = breaking [] o.scene; answers = answers; parts = o.parts }) (append-nil o.run.broke) (o.run.ran []) in
       let end : Log log ≡ Log (all_of o.parts ++ (given_up o.scene.slots o.scene.world.cache).part) = last ∙ (λ i. told_more (o.log i) (given_up (sym o.shows.slots i) (sym o.shows.cache i)).part) in

@@ -11,3 +11,4 @@ pub mod Resulting
 pub mod Ending
 pub mod Answering
 pub mod Slotted
+pub mod QuietGoing
