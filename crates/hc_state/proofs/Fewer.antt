@@ -16,7 +16,7 @@ use Rattle.hc_state.specs.Storing.{ended_as, store_as, unstore_as}
 use Rattle.hc_state.specs.declared.serving.Course.{Course}
 use Rattle.hc_state.specs.declared.serving.Course.TheVariants.{Find, Exists, Store}
 use Rattle.hc_state.proofs.Ended.{without-memory}
-use Rattle.hc_state.proofs.Inserted.{cleared-charges}
+use Rattle.hc_state.proofs.Planted.{cleared-charges}
 
 abbrev pub open_in : Cache → ℕ
 open_in cache = length cache.memory.charges

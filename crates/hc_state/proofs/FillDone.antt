@@ -37,9 +37,10 @@ filled-is key nvm taken ending shows key_is =
 pub filled-none : (nvm : Nvm) (taken : Taken) (ending : Ending) → Shows taken nvm.fills ending → ending.key ≡ None → taken.filled ≡ None
 filled-none nvm taken ending shows key_is = shows.filled ∙ ap (λ (k : Option (List ℕ)). over_of (found_in ending.over.outcome.answer) (waiters_by k nvm.fills)) key_is
 
-bare_by : (key : List ℕ) (cache : Cache) (nvm : Nvm) (fill : Option Fill) → cache.nvm ≡ Some nvm → fill_at key nvm.fills ≡ fill → IsSome fill → Structured cache → linked_at key cache.memory.pools ≡ None
-bare_by key cache nvm None is at there s = absurd cc
-bare_by key cache nvm (Some fill) is at there s = fill-bare key cache nvm fill is at s
+-- no item is linked under a key for which calls wait
+pub waits-bare : (key : List ℕ) (cache : Cache) (nvm : Nvm) (fill : Option Fill) → cache.nvm ≡ Some nvm → fill_at key nvm.fills ≡ fill → IsSome fill → Structured cache → linked_at key cache.memory.pools ≡ None
+waits-bare key cache nvm None is at there s = absurd cc
+waits-bare key cache nvm (Some fill) is at there s = fill-bare key cache nvm fill is at s
 
 -- no item is linked under the key
 pub ends-bare : (number : ℕ) (came : IoResult) (ending : Ending) (key : List ℕ) (cache : Cache) → EndsIn number came cache.nvm ending → ending.key ≡ Some key → Structured cache → linked_at key cache.memory.pools ≡ None
@@ -47,7 +48,7 @@ ends-bare number came ending key cache ends key_is s = by_nvm cache.nvm refl end
   where
     by_taken : (nvm : Nvm) (taken : Option Taken) → cache.nvm ≡ Some nvm → finish number came nvm ≡ taken → IsSome taken → EndsFill number came nvm ending → linked_at key cache.memory.pools ≡ None
     by_taken nvm None is at there e = absurd cc
-    by_taken nvm (Some taken) is at there e = bare_by key cache nvm (fill_at key nvm.fills) is refl ((e.shows taken at).waits key key_is) s
+    by_taken nvm (Some taken) is at there e = waits-bare key cache nvm (fill_at key nvm.fills) is refl ((e.shows taken at).waits key key_is) s
 
     by_nvm : (nvm : Option Nvm) → cache.nvm ≡ nvm → EndsIn number came nvm ending → linked_at key cache.memory.pools ≡ None
     by_nvm None is e = absurd e

@@ -1,4 +1,5 @@
 -- Lemmas.
+pub mod BareEnds
 pub mod Begun
 pub mod Brought
 pub mod Charging
@@ -13,20 +14,27 @@ pub mod FillReady
 pub mod FillSteps
 pub mod Filled
 pub mod Finds
+pub mod Finishes
 pub mod Freeing
 pub mod Frees
-pub mod Inserted
+pub mod Inserts
+pub mod ItemEnds
 pub mod Joining
 pub mod Known
 pub mod Leaving
 pub mod Links
 pub mod Looks
 pub mod Owed
+pub mod Planted
 pub mod Plans
+pub mod Prepares
 pub mod Refusing
+pub mod Removes
 pub mod Served
 pub mod Serves
 pub mod Stepping
 pub mod Stored
+pub mod Stores
 pub mod Unqueued
+pub mod Ways
 pub mod Works

@@ -35,9 +35,10 @@ unlinked-stands key pools nvm none = go (linked_at key pools) none
     go None none = refl
     go (Some item) none = absurd (cc)
 
-unchanged_home : (key : List ℕ) (f : Pool → Pool) (pools : List Pool) → is_some (linked_at key pools) ≡ false → change_home key f pools ≡ pools
-unchanged_home key f [] none = refl
-unchanged_home key f (pool ∷ pools) none = go (has key pool) refl none (λ more. unchanged_home key f pools more)
+-- where no item is linked under the key, no pool changes for it
+pub unchanged-home : (key : List ℕ) (f : Pool → Pool) (pools : List Pool) → is_some (linked_at key pools) ≡ false → change_home key f pools ≡ pools
+unchanged-home key f [] none = refl
+unchanged-home key f (pool ∷ pools) none = go (has key pool) refl none (λ more. unchanged-home key f pools more)
   where
     go : (b : Bool) → has key pool ≡ b → is_some (linked_at key (pool ∷ pools)) ≡ false → (is_some (linked_at key pools) ≡ false → change_home key f pools ≡ pools) → change_home key f (pool ∷ pools) ≡ pool ∷ pools
     go true p none more = absurd (let here : is_some (item_at key pool.items) ≡ false = (rw p at none) in cc)
@@ -46,7 +47,7 @@ unchanged_home key f (pool ∷ pools) none = go (has key pool) refl none (λ mor
 -- and nothing is used
 pub find-unlinked : (memory : Memory) (now : ℕ) (key : List ℕ) → is_some (linked_at key memory.pools) ≡ false → after_find memory now key ≡ memory
 find-unlinked memory now key none =
-    ap (λ (ps : List Pool). record memory { pools = ps }) (unchanged_home key (λ (pool : Pool). record pool { items = used key (unexpired now (item_at key pool.items)) pool.items }) memory.pools none)
+    ap (λ (ps : List Pool). record memory { pools = ps }) (unchanged-home key (λ (pool : Pool). record pool { items = used key (unexpired now (item_at key pool.items)) pool.items }) memory.pools none)
 
 -- ---- the log after a find
 

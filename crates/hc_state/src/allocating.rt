@@ -40,7 +40,7 @@ fn expiry_after(now: u64, ttl: u32) -> u64
 }
 
 /// A copy of the key, where notes are kept.
-fn copy_of<A: Allocator, N: Notes<Note<A>>>(
+pub(crate) fn copy_of<A: Allocator, N: Notes<Note<A>>>(
     notes: &N,
     key: &Key<A>,
 ) -> Result<Option<Key<A>>, AllocError>
@@ -54,7 +54,7 @@ fn copy_of<A: Allocator, N: Notes<Note<A>>>(
 
 /// Why an item of this key that begins as `fill` isn't allocated: `NoPool`, `ValueTooLong` or `NoRoom`, the first that
 /// holds. Otherwise how many items go to make room for it.
-fn victims_for<A: Allocator>(
+pub(crate) fn victims_for<A: Allocator>(
     pools: &Pools<A>,
     pool: u8,
     key: &Key<A>,

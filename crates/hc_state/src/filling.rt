@@ -1,17 +1,44 @@
 // A fill ends: what it brings is linked, where it can be, and the calls that wait for its key are served.
-ghost use Rattle.std.specs.Prelude.{◌≡◌, ◌+◌, ◌≤◌, None, length};
+ghost use Rattle.std.specs.Prelude.{◌≡◌, ℕ, ◌+◌, ◌≤◌, List, None, Some, length, option_map, IsSome};
 ghost use Rattle.hc_bighash.specs.Seen.{result_of};
 ghost use Rattle.hc_machine.specs.Cache.{Took};
+ghost use Rattle.hc_machine.specs.Takes.{Filled as Over};
 ghost use Rattle.hc_machine.specs.Workers.{finish as finish_step};
+ghost use Rattle.hc_nvm.specs.Filled.{filled_of};
 ghost use Rattle.hc_nvm.specs.Seen.{take_of};
 ghost use Rattle.hc_state.specs.FillEnds.{EndsIn, EndsAtOnceIn, finish_in, filler_take_in, most_told_in, TookBy};
+ghost use Rattle.hc_state.specs.Ends.{taken_by, EndsBy, IsOverBy};
 ghost use Rattle.hc_state.specs.Whole.{IsStep};
 
 use crate::state::State;
 use hc_bighash::IoResult;
 use hc_history::{Note, Notes};
-use hc_nvm::{Ending, Take, Taken};
+use hc_nvm::{Ending, Filled, Take, Taken};
+use hc_waiting::Waiter;
 use std::alloc::Allocator;
+
+/// How the get of a fill comes to be over.
+#[derive(Drop)]
+pub(crate) enum Way<A: Allocator> {
+    /// With this result of the device operation for which the job with the number waits.
+    Handed(u64, IoResult<A>),
+    /// As its fill is taken.
+    AtOnce,
+}
+
+/// The calls that waited for the fill that ended.
+fn waiters_of<A: Allocator>(filled: Option<Filled<A>>) -> Vec<Waiter<A>, A>
+    requires ended { IsSome filled }
+    ensures { (over : Over) → option_map filled_of filled ≡ Some over → result.items ≡ over.waiters }
+{
+    match filled {
+        Some(Filled { entry, waiters }) => {
+            drop(entry);
+            waiters
+        }
+        None => unreachable!(),
+    }
+}
 
 impl<N: Notes<Note<A>>, A: Allocator + Clone + Copy> State<N, A> {
     /// The get of the job with this number is over with this result, as `ending` has it: flash tells what it told, and what
@@ -37,6 +64,35 @@ impl<N: Notes<Note<A>>, A: Allocator + Clone + Copy> State<N, A> {
             Some(nvm) => nvm.end_at_once(ending, &mut self.notes, &mut self.pools),
             None => unreachable!(),
         }
+    }
+
+    /// The get is over that way, as `ending` has it.
+    fn end_by(&mut self, way: Way<A>, ending: Ending<A>) -> Taken<A>
+        requires ends { EndsBy way self.old.cache.nvm ending }
+        requires room { most_told_in ending.over.outcome.losses self.old.cache.nvm ≤ self.old.notes }
+        ensures { TookBy (taken_by way self.old.cache.nvm) (most_told_in ending.over.outcome.losses self.old.cache.nvm) result self.old self.new }
+    {
+        match way {
+            Way::Handed(number, came) => self.end_get(number, ending, came),
+            Way::AtOnce => self.end_get_at_once(ending),
+        }
+    }
+
+    /// The fill of a key ends that way, as `ending` has it: flash tells what it told, and what it loses. Answers what the
+    /// worker is answered, and the calls that waited for the key.
+    pub(crate) fn end_fill(
+        &mut self,
+        way: Way<A>,
+        ending: Ending<A>,
+    ) -> (Take<A>, Vec<Waiter<A>, A>)
+        requires ends { EndsBy way self.old.cache.nvm ending }
+        requires of_key { IsSome ending.key }
+        requires room { most_told_in ending.over.outcome.losses self.old.cache.nvm ≤ self.old.notes }
+        ensures { (key : List ℕ) → ending.key ≡ Some key → IsOverBy (taken_by way self.old.cache.nvm) key ending result.0 result.1.items self.old self.new }
+    {
+        let taken = self.end_by(way, ending);
+        let Taken { take, filled } = taken;
+        (take, waiters_of(filled))
     }
 
     /// The get of an orphan is over with this result, as `ending` has it: nothing that it found is linked, and nobody is

@@ -1,17 +1,46 @@
 // Items are removed.
-ghost use Rattle.std.specs.Prelude.{◌≡◌, ◌≤◌, ◌+◌, ◌*◌};
+ghost use Rattle.std.specs.Prelude.{◌≡◌, ◌≤◌, ◌+◌, ◌*◌, length, IfOk, OnOk, OnErr, IfErr};
 ghost use Rattle.hc_history.specs.Seen.{reply_of};
 ghost use Rattle.hc_history.specs.Told.{is_log};
+ghost use Rattle.hc_invariant.specs.Jobs.{AllWish};
+ghost use Rattle.hc_invariant.specs.Structure.{Structured};
+ghost use Rattle.hc_machine.specs.Calls.{remove as remove_step};
+ghost use Rattle.hc_state.specs.Linked.{linked_without, number_at};
 ghost use Rattle.hc_state.specs.Outdating.{ServesIn};
+ghost use Rattle.hc_state.specs.Removing.{removed_answer, removed_reply, removed_of as removed_seen};
+ghost use Rattle.hc_state.specs.Serving.{waiters_at};
 ghost use Rattle.hc_state.specs.Storing.{how_many, unstore_as, CanServe};
-ghost use Rattle.hc_state.specs.Whole.{Does, costs};
+ghost use Rattle.hc_state.specs.Whole.{Does, IsReady, IsStep, Stays, costs};
 
+use crate::answers::Removed;
+use crate::evicting::alloc_of;
+use crate::preparing::{Clearing, Prepared, room_for_charges};
 use crate::serving::Course;
 use crate::state::State;
 use hc_history::{Note, Notes, Reply};
 use hc_nvm::Outdating;
-use hc_types::Key;
-use std::alloc::Allocator;
+use hc_types::{Key, Refusal};
+use std::alloc::{AllocError, Allocator};
+
+/// What a remove answers where the key's item had this charge.
+fn removed_of(standing: Option<u64>) -> Removed
+    ensures { result ≡ removed_seen standing }
+{
+    match standing {
+        Some(_) => Removed::FoundInMemory,
+        None => Removed::NotInMemory,
+    }
+}
+
+/// That answer, as it is told.
+fn reply_to_remove<A: Allocator>(removed: Removed) -> Reply<A>
+    ensures { reply_of result ≡ removed_reply removed }
+{
+    match removed {
+        Removed::FoundInMemory => Reply::FoundInMemory,
+        Removed::NotInMemory => Reply::NotInMemory,
+    }
+}
 
 impl<N: Notes<Note<A>>, A: Allocator + Clone + Copy> State<N, A> {
     /// The newest call removes the key's item, which has the charge `standing`, and is answered `reply`: it is unlinked
@@ -33,5 +62,52 @@ impl<N: Notes<Note<A>>, A: Allocator + Clone + Copy> State<N, A> {
     {
         self.clear(key, standing, outdating);
         self.reply_and_serve(reply, key, courses, None);
+    }
+
+    /// Takes the key's item out, or links in its place the last of those that the calls store by these courses, and answers
+    /// the charge of the item that the key had. Refused only where memory lacks: then nothing changed.
+    fn unlink_by(&mut self, key: &Key<A>, courses: &[Course<A>]) -> Result<Option<u64>, AllocError>
+        requires wishes { AllWish self.old.cache.memory key.now (waiters_at self.old.cache.nvm key.now) }
+        requires courses { length courses.now ≡ length (waiters_at self.old.cache.nvm key.now) }
+        ensures ok { OnOk result (self.new ≡ record self.old { cache = linked_without key.now courses.now self.old.cache }) }
+        ensures standing { IfOk result (λ standing. standing ≡ number_at key.now self.old.cache.memory) }
+        ensures err { OnErr result (self.new ≡ self.old) }
+    {
+        let mut earlier = room_for_charges(alloc_of(&self.config), courses.len())?;
+        self.unlink_stored(key, courses, &mut earlier)
+    }
+
+    /// Takes the key's item out of the cache, expired or not, and its waiting put; its copies on flash are stale from then
+    /// on. The calls that wait for the key are served by what it has then. Refused with `NoMemory`, also where the call
+    /// numbers have run out.
+    pub fn remove(&mut self, client: u8, key: &Key<A>) -> Result<Removed, Refusal>
+        requires structured { Structured self.old.cache }
+        requires ready { IsReady self.old }
+        ensures ok { IfOk result (λ removed. IsStep (remove_step client key.now self.old.cache) (removed_answer removed) self.old self.new) }
+        ensures err { OnErr result (Stays self.old self.new) }
+        ensures memory { IfErr result (λ refusal. refusal ≡ Refusal.NoMemory) }
+    {
+        self.is_sound();
+        let plan = self.prepare_to_remove(client, key)?;
+        let Prepared {
+            call,
+            begin,
+            clearing,
+        } = plan;
+        let Clearing { outdating, courses } = clearing;
+        match self.unlink_by(key, courses.as_slice()) {
+            Ok(standing) => {
+                let removed = removed_of(standing);
+                self.start(call, begin);
+                self.clear_and_serve(standing, reply_to_remove(removed), key, outdating, courses);
+                Ok(removed)
+            }
+            Err(_) => {
+                drop(begin);
+                drop(outdating);
+                drop(courses);
+                Err(Refusal::NoMemory)
+            }
+        }
     }
 }

@@ -1,18 +1,30 @@
-// Items are inserted.
-ghost use Rattle.std.specs.Prelude.{◌≡◌, ◌≤◌, ◌+◌, ◌*◌, ℕ};
-ghost use Rattle.hc_history.specs.Note.{Begin, Op as Asked};
+// Items are stored.
+ghost use Rattle.std.specs.Prelude.{◌≡◌, ◌≤◌, ◌+◌, ◌*◌, ℕ, true, length, IfOk, OnOk, OnErr, IfErr};
+ghost use Rattle.hc_memory.specs.Item.{charge_by};
+ghost use Rattle.hc_memory.specs.Charges.{is_open};
+ghost use Rattle.hc_history.specs.Note.{Begin, Stored, Op as Asked};
 ghost use Rattle.hc_history.specs.Told.{is_log, where_kept};
-ghost use Rattle.hc_machine.specs.Calls.{begin as begin_step};
+ghost use Rattle.hc_invariant.specs.Jobs.{AllWish};
+ghost use Rattle.hc_invariant.specs.Structure.{Structured};
+ghost use Rattle.hc_machine.specs.Cache.{Replied};
+ghost use Rattle.hc_machine.specs.Calls.{begin as begin_step, is_known};
+ghost use Rattle.hc_state.specs.Inserting.{stored_step};
+ghost use Rattle.hc_state.specs.Linked.{linked_with, number_at};
 ghost use Rattle.hc_state.specs.Outdating.{ServesIn};
+ghost use Rattle.hc_state.specs.Serving.{waiters_at};
 ghost use Rattle.hc_state.specs.Storing.{how_many, store_as, CanServe};
-ghost use Rattle.hc_state.specs.Whole.{Does, costs, for_notes};
+ghost use Rattle.hc_state.specs.Whole.{Does, IsStep, Stays, costs, for_notes};
 
+use crate::answers::Unlinked;
+use crate::evicting::alloc_of;
+use crate::preparing::{Clearing, Prepared, room_for_charges};
 use crate::serving::Course;
 use crate::state::State;
 use crate::tells;
 use hc_history::{Note, Notes, Reply};
+use hc_memory::Sealed;
 use hc_nvm::Outdating;
-use hc_types::Key;
+use hc_types::{Key, Refusal};
 use std::alloc::Allocator;
 
 impl<N: Notes<Note<A>>, A: Allocator + Clone + Copy> State<N, A> {
@@ -45,5 +57,101 @@ impl<N: Notes<Note<A>>, A: Allocator + Clone + Copy> State<N, A> {
     {
         self.plant(standing, key, number, outdating);
         self.reply_and_serve(Reply::Stored, key, courses, Some(number));
+    }
+
+    /// Links the item of a handle that is known, or in its place the last of those that the calls store by these courses,
+    /// and answers the charge of the item that the key had. Refused only where memory lacks: then nothing changed, and the
+    /// handle comes back.
+    fn link_by(
+        &mut self,
+        sealed: Sealed<A>,
+        courses: &[Course<A>],
+    ) -> Result<Option<u64>, Sealed<A>>
+        requires open_charge { is_open (charge_by sealed) self.old.cache.memory.charges ≡ true }
+        requires wishes { AllWish self.old.cache.memory sealed.key (waiters_at self.old.cache.nvm sealed.key) }
+        requires courses { length courses.now ≡ length (waiters_at self.old.cache.nvm sealed.key) }
+        ensures ok { OnOk result (self.new ≡ record self.old { cache = linked_with sealed courses.now self.old.cache }) }
+        ensures standing { IfOk result (λ standing. standing ≡ number_at sealed.key self.old.cache.memory) }
+        ensures err { OnErr result (self.new ≡ self.old) }
+        ensures sealed_returned { IfErr result (λ back. back ≡ sealed) }
+    {
+        match room_for_charges(alloc_of(&self.config), courses.len()) {
+            Ok(mut earlier) => {
+                earlier.push_reserved(sealed.number());
+                self.link_stored(sealed, courses, &mut earlier)
+            }
+            Err(_) => Err(sealed),
+        }
+    }
+
+    /// The newest call stores the item of a handle that is known, under its key, as `store` does.
+    fn store_under(
+        &mut self,
+        client: u8,
+        key: &Key<A>,
+        sealed: Sealed<A>,
+        adds: bool,
+    ) -> Result<(), Unlinked<A>>
+        requires structured { Structured self.old.cache }
+        requires known { is_known self.old.cache sealed ≡ true }
+        requires key { sealed.key ≡ key.now }
+        ensures ok { OnOk result (IsStep (stored_step adds client sealed self.old.cache) (Replied Stored) self.old self.new) }
+        ensures err { OnErr result (Stays self.old self.new) }
+        ensures memory { IfErr result (λ e. e.refusal ≡ Refusal.NoMemory) }
+        ensures sealed_returned { IfErr result (λ e. e.sealed ≡ sealed) }
+    {
+        self.is_sound();
+        let plan = match self.prepare_to_store(client, &sealed, adds) {
+            Ok(plan) => plan,
+            Err(refusal) => return Err(Unlinked { refusal, sealed }),
+        };
+        let Prepared {
+            call,
+            begin,
+            clearing,
+        } = plan;
+        let Clearing { outdating, courses } = clearing;
+        let number = sealed.number();
+        match self.link_by(sealed, courses.as_slice()) {
+            Ok(standing) => {
+                self.start(call, begin);
+                self.plant_and_serve(standing, key, number, outdating, courses);
+                Ok(())
+            }
+            Err(sealed) => {
+                drop(begin);
+                drop(outdating);
+                drop(courses);
+                Err(Unlinked {
+                    refusal: Refusal::NoMemory,
+                    sealed,
+                })
+            }
+        }
+    }
+
+    /// Stores the item of a handle that is known: by an add, of a key that has no value, or by an insert. The calls that wait
+    /// for the key are served by what it has then. Refused with `NoMemory`, also where the call numbers have run out; then
+    /// the handle comes back.
+    pub(crate) fn store(
+        &mut self,
+        client: u8,
+        sealed: Sealed<A>,
+        adds: bool,
+    ) -> Result<(), Unlinked<A>>
+        requires structured { Structured self.old.cache }
+        requires known { is_known self.old.cache sealed ≡ true }
+        ensures ok { OnOk result (IsStep (stored_step adds client sealed self.old.cache) (Replied Stored) self.old self.new) }
+        ensures err { OnErr result (Stays self.old self.new) }
+        ensures memory { IfErr result (λ e. e.refusal ≡ Refusal.NoMemory) }
+        ensures sealed_returned { IfErr result (λ e. e.sealed ≡ sealed) }
+    {
+        match sealed.key().clone() {
+            Ok(key) => self.store_under(client, &key, sealed, adds),
+            Err(_) => Err(Unlinked {
+                refusal: Refusal::NoMemory,
+                sealed,
+            }),
+        }
     }
 }

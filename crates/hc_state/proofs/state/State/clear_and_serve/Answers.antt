@@ -3,7 +3,7 @@ use Rattle.hc_history.specs.Seen.{reply_of}
 use Rattle.hc_state.specs.Serving.{clear_by}
 use Rattle.hc_state.specs.Whole.{costs}
 use Rattle.hc_state.proofs.Ended.{can-then, many-then}
-use Rattle.hc_state.proofs.Inserted.{cleared-waiters, cleared-charges, unstored-as}
+use Rattle.hc_state.proofs.Planted.{cleared-waiters, cleared-charges, unstored-as}
 use Rattle.hc_state.proofs.state.State.clear_and_serve.Goals as goal
 
 pub reply_and_serve-requires : goal.reply_and_serve-requires

@@ -4,7 +4,7 @@ use Rattle.hc_machine.specs.Cache.{tells, and_then}
 use Rattle.hc_state.specs.Serving.{clear_by}
 use Rattle.hc_state.specs.Whole.{costs}
 use Rattle.hc_state.proofs.Ended.{can-then, many-then}
-use Rattle.hc_state.proofs.Inserted.{cleared-waiters, cleared-charges, stored-as}
+use Rattle.hc_state.proofs.Planted.{cleared-waiters, cleared-charges, stored-as}
 use Rattle.hc_state.proofs.state.State.plant_and_serve.Goals as goal
 
 pub reply_and_serve-requires : goal.reply_and_serve-requires

@@ -147,7 +147,7 @@ wishes-of key cache structured = by_nvm cache.nvm structured.wishes
     by_nvm (Some nvm) h = by_fill nvm.fills (fill_at key nvm.fills) refl h
 
 -- a call that waits for one key is one of those that wait
-fewer-adds : (n : ℕ) (key : List ℕ) (nvm : Option Nvm) → count (adds n) (waiters_at nvm key) ≤ count (adds n) (waiters_of (fills_of nvm))
+pub fewer-adds : (n : ℕ) (key : List ℕ) (nvm : Option Nvm) → count (adds n) (waiters_at nvm key) ≤ count (adds n) (waiters_of (fills_of nvm))
 fewer-adds n key None = omega arith
 fewer-adds n key (Some nvm) = by_fills nvm.fills
   where
@@ -163,7 +163,7 @@ fewer-adds n key (Some nvm) = by_fills nvm.fills
         step true rest = omega (arith, sum)
         step false rest = omega (arith, sum, rest)
 
-all-fit : (key : List ℕ) (memory : Memory) (waiters : List Waiter) → Sound memory.pools memory.charges memory.made → AllWish memory key waiters → served.AllFit key (length memory.pools) waiters
+pub all-fit : (key : List ℕ) (memory : Memory) (waiters : List Waiter) → Sound memory.pools memory.charges memory.made → AllWish memory key waiters → served.AllFit key (length memory.pools) waiters
 all-fit key memory [] sound wishes = tt
 all-fit key memory (w ∷ waiters) sound wishes = (by w.wish wishes.0, all-fit key memory waiters sound wishes.1)
   where
@@ -186,7 +186,7 @@ early-charges [] m = refl
 early-charges (handle ∷ []) m = refl
 early-charges (handle ∷ next ∷ handles) m = early-charges (next ∷ handles) (after_free m handle.number)
 
-removed-charges : (key : List ℕ) (handles : List Handle) (m : Memory) → (removed_early key handles m).charges ≡ ended handles m.charges
+pub removed-charges : (key : List ℕ) (handles : List Handle) (m : Memory) → (removed_early key handles m).charges ≡ ended handles m.charges
 removed-charges key [] m = refl
 removed-charges key (handle ∷ handles) m = early-charges (handle ∷ handles) m
 

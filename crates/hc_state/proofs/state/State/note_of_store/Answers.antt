@@ -1,0 +1,4 @@
+use Rattle.hc_state.proofs.state.State.note_of_store.Goals as goal
+
+pub returns : goal.returns
+returns g c = rw (← c.self.view_is) c.begin_store.ensures
