@@ -72,8 +72,8 @@ module _ {Device : Type 0} (sight : Sight Device) (config : Config) where
       let all : take (i + 1) steps ≡ take i steps ++ s ∷ [] = take_more steps i s lt ∙ ap (λ (s : Step). take i steps ++ s ∷ []) (sym here) in
       let next = more (take i steps) answers ends old new s g.told right q is g.moves in (
         subst (λ (ss : List Step). IsQuiet sight config ss answers' ends' new) (sym all)
-        (subst (λ (as' : List Told). IsQuiet sight config (take i steps ++ s ∷ []) as' ends' new) (sym g.answered)
-        (subst (λ (es : List ℕ). IsQuiet sight config (take i steps ++ s ∷ []) (answers ++ g.told ∷ []) es new) (sym g.ended) next)),
+            (subst (λ (as' : List Told). IsQuiet sight config (take i steps ++ s ∷ []) as' ends' new) (sym g.answered)
+            (subst (λ (es : List ℕ). IsQuiet sight config (take i steps ++ s ∷ []) (answers ++ g.told ∷ []) es new) (sym g.ended) next)),
         ap length g.answered ∙ length-append answers (g.told ∷ []) ∙ ap (λ (n : ℕ). n + 1) made,
       )
 

@@ -130,7 +130,7 @@ module _ {Device : Type 0} (sight : Sight Device) where
         → IsReason (calls.take_reply call cache).answer refusal → new ≡ old → IfOk r (λ outcome. Moves sight old (by_client client (Reply call)) (told_of outcome) new)
     reply-refused-ok r call refusal is why same =
         refused-so (λ (t : Told). Moves sight old (by_client client (Reply call)) t new) r refusal is (λ other.
-            moves-back old new client (Reply call) (Tells (Says (Refused refusal))) same (reply-refused sight old client call refusal (but-memory _ refusal other why)))
+        moves-back old new client (Reply call) (Tells (Says (Refused refusal))) same (reply-refused sight old client call refusal (but-memory _ refusal other why)))
 
     -- ---- what is given up
 

@@ -31,7 +31,7 @@ end-log-requires g c =
     let back = c.in-Err.ensures in
     record {
       own = ongoing-own _ c.args.config.now (take (length c.go_on.new.answers.items) c.args.steps.now) c.go_on.new.answers.items c.go_on.new.ends.items c.go_on.new.stage c.in_ok-stage.ensures.fits
-      (ongoing-stopped _ c.args.config.now c.args.steps.now l.i l.answers.items c.go_on.new.answers.items l.ends.items c.go_on.new.ends.items l.stage c.go_on.new.stage l.invariant.ongoing l.invariant.made back.err back.answers back.ends);
+          (ongoing-stopped _ c.args.config.now c.args.steps.now l.i l.answers.items c.go_on.new.answers.items l.ends.items c.go_on.new.ends.items l.stage c.go_on.new.stage l.invariant.ongoing l.invariant.made back.err back.answers back.ends);
     }
 
 pub returns-in-Err-clause-runs : goal.returns-in-Err-clause-runs

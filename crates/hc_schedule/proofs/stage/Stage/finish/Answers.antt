@@ -18,7 +18,7 @@ returns-in-Ok-clause-ok g c =
 pub returns-in_default-refusal : goal.returns-in_default-refusal
 returns-in_default-refusal g c = record {
   ok = rw (← c.self.view_is)
-  (finish-refused _ _ _ c.args.client c.args.job (result_of c.in_ok-came.came) c.in-Err.field-0.refusal (sym c.in-Some.ensures ∙ ap Some (sym c.in_ok-came.ensures)) (but-memory _ c.in-Err.field-0.refusal c.in_default-refusal.not-NoMemory c.in-Err.ensures.why)
-  (λ i. (c.in-Err.ensures.err i).cache) (λ i. (c.in-Err.ensures.err i).log) refl refl c.forget-in_default-refusal.ensures refl);
+      (finish-refused _ _ _ c.args.client c.args.job (result_of c.in_ok-came.came) c.in-Err.field-0.refusal (sym c.in-Some.ensures ∙ ap Some (sym c.in_ok-came.ensures)) (but-memory _ c.in-Err.field-0.refusal c.in_default-refusal.not-NoMemory c.in-Err.ensures.why)
+      (λ i. (c.in-Err.ensures.err i).cache) (λ i. (c.in-Err.ensures.err i).log) refl refl c.forget-in_default-refusal.ensures refl);
   err = tt;
 }

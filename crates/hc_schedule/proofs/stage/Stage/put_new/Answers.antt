@@ -50,4 +50,4 @@ returns-in-Err-clause-err g c =
     let is = sym c.in_ok-sealed.ensures.ok ∙ c.in-Some.is in
     let back = put-back f.slots.items c.take_sealed.new.slots.items c.fill.new.slots.items c.args.slot c.in-Some.sealed c.in-Err.field-0.sealed is c.in_ok-sealed.ensures.slots c.in-Err.ensures.sealed_returned c.fill.ensures in
     rw (← c.self.view_is) (on-err c.refused.result (waits-back _ _ _
-        (back-is f.device f.failed_before f.results.results f.core.cache c.insert.new.self.cache f.core.log c.insert.new.self.log f.slots.items c.fill.new.slots.items (λ i. (c.in-Err.ensures.err i).cache) (λ i. (c.in-Err.ensures.err i).log) back)))
+    (back-is f.device f.failed_before f.results.results f.core.cache c.insert.new.self.cache f.core.log c.insert.new.self.log f.slots.items c.fill.new.slots.items (λ i. (c.in-Err.ensures.err i).cache) (λ i. (c.in-Err.ensures.err i).log) back)))
