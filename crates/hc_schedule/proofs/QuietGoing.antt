@@ -7,13 +7,11 @@ use Rattle.hc_types.specs.Limits.{first_wrong}
 use Rattle.hc_history.specs.Note.{Note}
 use Rattle.hc_history.specs.Told.{Log, told_more}
 use Rattle.hc_machine.specs.Nvm.{Job, is_job}
-use Rattle.hc_machine.specs.Cache.{Cache}
-use Rattle.hc_machine.specs.Schedule.{Deed, Step, Scene, Told, Ran, new_scene, run_from, run, given_up, log_of, step}
-use Rattle.hc_machine.specs.Quiet.{is_own, is_quiet, jobs_in, AllQuiet, BreaksQuiet}
+use Rattle.hc_machine.specs.Schedule.{Deed, Step, Scene, Told, Ran, new_scene, run_from, run, given_up, step}
+use Rattle.hc_machine.specs.Quiet.{is_own, is_quiet, AllQuiet, BreaksQuiet}
 use Rattle.hc_schedule.specs.Steps.{breaking}
 use Rattle.hc_schedule.specs.Shows.{Stage, Sight, Moves, Waits}
 use Rattle.hc_schedule.specs.Going.{log_length, GoesOn, IsOngoing}
-use Rattle.hc_schedule.specs.Runs.{ends_from, IsRunOf}
 use Rattle.hc_schedule.specs.QuietRuns.{is_quiet_in, is_of, StopsQuietly, IsQuiet, IsQuietRunOf}
 use Rattle.hc_schedule.specs.declared.runs.Stopped.{Stopped}
 use Rattle.hc_schedule.proofs.Promising.{runs_stand}

@@ -1,12 +1,11 @@
 -- Steps of a stage whose slots are as the code has them.
-use Rattle.std.proofs.Common.{◌≡◌, ℕ, ◌<◌, true, false, List, [], ◌∷◌, Option, Some, None, length, slice_set, refl, ap, sym, subst, ◌∙◌}
+use Rattle.std.proofs.Common.{◌≡◌, ℕ, ◌<◌, true, false, List, [], Option, Some, None, length, slice_set, refl, ap, sym, subst, ◌∙◌}
 use Rattle.std.specs.Prelude.{if◌then◌else◌, is_some, IfSome, IfOk, Result}
 use Rattle.hc_types.specs.declared.refusal.Refusal.{Refusal}
 use Rattle.hc_types.specs.declared.refusal.Refusal.TheVariants.{NoMemory, ForeignHandle}
 use Rattle.hc_memory.specs.Item.{Handle}
 use Rattle.hc_history.specs.Note.{Stored, Insert}
 use Rattle.hc_history.specs.Told.{Heard, told_more}
-use Rattle.hc_machine.specs.Cache as machine
 use Rattle.hc_machine.specs.Cache.{Cache, Moved, Answer, Refused, Opened, Discarded, Replied, answers, stays, and_then}
 use Rattle.hc_machine.specs.Evicting.{allocate}
 use Rattle.hc_machine.specs.Waiting.{free}

@@ -1,5 +1,5 @@
 -- Quiet runs over any device.
-use Rattle.std.specs.Prelude.{◌≡◌, ℕ, ◌==◌, Bool, false, List, [], ◌++◌, Option, Some, None, take, drop, length}
+use Rattle.std.specs.Prelude.{◌≡◌, ℕ, ◌==◌, Bool, false, List, ◌++◌, Option, Some, None, take, drop, length}
 use Rattle.std.specs.List.{list_all}
 use Rattle.hc_types.specs.Config.{Config}
 use Rattle.hc_history.specs.Note.{Note}

@@ -1,11 +1,10 @@
-use Rattle.std.proofs.Common.{◌≡◌, ℕ, suc, ◌-◌, ◌∷◌, List, Option, length, refl, ap, sym, ◌∙◌, arith, subst}
+use Rattle.std.proofs.Common.{◌≡◌, ℕ, suc, ◌-◌, ◌∷◌, List, Option, length, ap, sym, ◌∙◌, arith, subst}
 use Rattle.std.specs.Vec.Iter.{into_iter_items}
 use Rattle.hc_memory.specs.Item.{Handle}
 use Rattle.hc_history.specs.Told.{told_more}
 use Rattle.hc_machine.specs.Cache.{Cache}
 use Rattle.hc_machine.specs.Schedule.{given_up}
 use Rattle.hc_schedule.specs.Asked.{handle_of}
-use Rattle.hc_schedule.specs.Ending.{after_give_up}
 use Rattle.hc_schedule.specs.Shows.{AreOwn}
 use Rattle.hc_schedule.specs.Slots.{filled_from}
 use Rattle.hc_schedule.proofs.Ending.{given-known, given-own, given-told, nothing-left, next-number}

@@ -1,4 +1,4 @@
-use Rattle.std.proofs.Common.{Some, None, length, take, ap, sym, ◌∙◌, arith}
+use Rattle.std.proofs.Common.{Some, None, length, take, ap, ◌∙◌, arith}
 use Rattle.hc_follows.specs.Follows.{StopsAt}
 use Rattle.hc_schedule.proofs.Going.{ongoing-none, ongoing-own, ongoing-made, ongoing-stopped, run_turn, run_ends, promised}
 use Rattle.hc_schedule.proofs.runs.run.Goals as goal
