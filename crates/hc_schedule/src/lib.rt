@@ -1,0 +1,16 @@
+//! Schedules: any list of steps of clients and workers on a new cache over any device, and the log that they leave.
+#![tactic(auto)]
+
+mod device;
+mod helpers;
+mod laws;
+mod results;
+mod runs;
+mod slots;
+mod stage;
+mod steps;
+
+pub use laws::{chains_are_runs, runs_keep_promise, runs_stand};
+pub use runs::{Ran, Stopped, run};
+pub use stage::Stage;
+pub use steps::{Answer, Outcome, Request, Step};
