@@ -13,7 +13,7 @@ use Rattle.hc_history.specs.Note as note
 use Rattle.hc_history.specs.Note.{Add}
 use Rattle.hc_history.proofs.Telling.{told-twice}
 use Rattle.hc_machine.specs.Nvm.{ToAdd}
-use Rattle.hc_machine.specs.Cache.{Cache, Moved, Answer, Refused, Opened, Discarded, Replied, Waits, Moment, Took, Reclaimed, answers, stays, and_then}
+use Rattle.hc_machine.specs.Cache.{Cache, Moved, Answer, Refused, Opened, Discarded, Replied, Waits, answers, stays, and_then}
 use Rattle.hc_machine.specs.Evicting.{allocate_by, allocate}
 use Rattle.hc_machine.specs.Waiting.{live}
 use Rattle.hc_machine.specs.Calls.{begin, store, wait_for, in_memory, must_wait, is_known, discard, insert_or_replace, insert}
@@ -23,7 +23,7 @@ use Rattle.hc_state.specs.Inserting.{inserted_answer}
 use Rattle.hc_state.specs.declared.answers.Inserted.{Inserted}
 use Rattle.hc_state.specs.declared.answers.Inserted.TheVariants.{Stored, Waiting}
 use Rattle.hc_cache.specs.Logged.{Logged, IsCall}
-use Rattle.hc_cache.specs.Plain.{set_step, add_step, give_up_step, MayRefuse}
+use Rattle.hc_cache.specs.Plain.{set_step, add_step, give_up_step, MayRefuse, MayRefuseNew}
 
 -- an item is allocated, and something is done with its handle
 pub then-call : (f : Handle → Cache → Moved) (opened : Moved) (handle : Handle) (answer : Answer) (old mid new : Logged) → IsCall opened (Opened handle) old mid
@@ -83,21 +83,6 @@ added-new handle (Waiting n) old new call = subst (λ (a : Answer). IsCall (give
 
 -- ---- why an item isn't allocated
 
--- the step that it would begin is refused as well
-pub refused-first : (f : Handle → Cache → Moved) (opened : Moved) (refusal : Refusal) → IsReason opened.answer refusal → MayRefuse (inserted f opened).answer refusal
-refused-first f opened refusal (inr h) = inr h.1
-refused-first f opened refusal (inl h) = inl (by opened.answer refl)
-  where
-    by : (a : Answer) → opened.answer ≡ a → refusal_in (then_inserted f a opened).answer ≡ Some refusal
-    by (Opened handle) e = let none : None ≡ Some refusal = sym (ap refusal_in e) ∙ h in absurd cc
-    by (Refused r) e = h
-    by Discarded e = h
-    by (Replied r) e = h
-    by (Waits n) e = h
-    by (Moment n) e = h
-    by (Took t) e = h
-    by (Reclaimed r) e = h
-
 abbrev reason_by : Bool → Bool → Bool → Option Refusal
 reason_by none long hopeless = if none then Some NoPool else (if long then Some ValueTooLong else (if hopeless then Some NoRoom else None))
 
@@ -148,10 +133,10 @@ module _ (pool : ℕ) (key bytes value : List ℕ) (ttl : ℕ) (handle : Handle)
   then-left-new (Err refusal) (inr h) = inr (inr (then-done discard Discarded h.0, h.1))
 
   pub then-why-new : {T : Type 0} (result : Result T Refusal) → key_refusal bytes ≡ None → IfErr result LeftNew
-      → IfErr result (λ refusal. (key_refusal bytes ≡ Some refusal) ⊎ ((key_refusal bytes ≡ None) × MayRefuse (add_step pool bytes value ttl old.cache).answer refusal))
+      → IfErr result (λ refusal. (key_refusal bytes ≡ Some refusal) ⊎ ((key_refusal bytes ≡ None) × MayRefuseNew (allocate pool bytes value ttl old.cache).answer refusal))
   then-why-new (Ok x) fits h = tt
-  then-why-new (Err refusal) fits (inl h) = inr (fits, inl (sym (ap refusal_in (then-done put_new (Refused Exists) h.0).answer_is) ∙ ap (λ r. Some r) (sym h.1)))
-  then-why-new (Err refusal) fits (inr h) = inr (fits, inr h.1)
+  then-why-new (Err refusal) fits (inl h) = inr (fits, inr (inl h.1))
+  then-why-new (Err refusal) fits (inr h) = inr (fits, inr (inr h.1))
 
 -- what fits a key is refused for want of memory
 pub memory-why : {T : Type 0} (bytes : List ℕ) (answer : Answer) (result : Result T Refusal) → key_refusal bytes ≡ None → IfErr result (λ refusal. refusal ≡ NoMemory)

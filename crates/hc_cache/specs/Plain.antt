@@ -1,7 +1,7 @@
 -- What the plain calls do: a value is stored under the bytes of a key, by client 0.
 use Rattle.std.specs.Prelude.{◌≡◌, ℕ, ◌⊎◌, List, Some}
 use Rattle.hc_types.specs.declared.refusal.Refusal.{Refusal}
-use Rattle.hc_types.specs.declared.refusal.Refusal.TheVariants.{NoMemory}
+use Rattle.hc_types.specs.declared.refusal.Refusal.TheVariants.{Exists, NoMemory}
 use Rattle.hc_machine.specs.Cache.{Cache, Moved, Answer}
 use Rattle.hc_machine.specs.World.{inserted, put_new}
 use Rattle.hc_machine.specs.Evicting.{allocate}
@@ -20,6 +20,10 @@ add_step pool key value ttl cache = inserted put_new (allocate pool key value tt
 abbrev pub give_up_step : ℕ → List ℕ → List ℕ → ℕ → Cache → Moved
 give_up_step pool key value ttl cache = inserted discard (allocate pool key value ttl cache)
 
--- the call is refused as the machine refuses it, or for want of memory
+-- the call is refused as the machine refuses to allocate the item, or for want of memory
 abbrev pub MayRefuse : Answer → Refusal → Type 0
 MayRefuse answer refusal = (refusal_in answer ≡ Some refusal) ⊎ (refusal ≡ NoMemory)
+
+-- the same of one that replaces nothing, which is refused also where the key has a value
+abbrev pub MayRefuseNew : Answer → Refusal → Type 0
+MayRefuseNew answer refusal = (refusal_in answer ≡ Some refusal) ⊎ ((refusal ≡ Exists) ⊎ (refusal ≡ NoMemory))

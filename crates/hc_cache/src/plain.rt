@@ -10,7 +10,7 @@ ghost use Rattle.hc_machine.specs.Calls.{is_known, discard as discard_step, inse
 ghost use Rattle.hc_machine.specs.World.{put_new};
 ghost use Rattle.hc_cache.specs.Answers.{IsReason, found_answer, inserted_answer, removed_answer};
 ghost use Rattle.hc_cache.specs.Logged.{IsCall};
-ghost use Rattle.hc_cache.specs.Plain.{set_step, add_step, give_up_step, MayRefuse};
+ghost use Rattle.hc_cache.specs.Plain.{set_step, add_step, give_up_step, MayRefuse, MayRefuseNew};
 
 use crate::cache::Core;
 use crate::giving_up::{give_up, give_up_blank};
@@ -107,7 +107,7 @@ impl<N: Notes<Note<A>>, A: Allocator + Clone + Copy> Core<N, A> {
         ensures ok { OnOk result (IsCall (set_step pool key.now value.now ttl self.old.cache) (Replied Stored) self.old self.new) }
         ensures fits { OnOk result (key_refusal key.now ≡ None) }
         ensures err { IfErr result (λ refusal. (self.new ≡ self.old) ⊎ (IsCall (give_up_step pool key.now value.now ttl self.old.cache) Discarded self.old self.new × (refusal ≡ Refusal.NoMemory))) }
-        ensures why { IfErr result (λ refusal. (key_refusal key.now ≡ Some refusal) ⊎ ((key_refusal key.now ≡ None) × MayRefuse (set_step pool key.now value.now ttl self.old.cache).answer refusal)) }
+        ensures why { IfErr result (λ refusal. (key_refusal key.now ≡ Some refusal) ⊎ ((key_refusal key.now ≡ None) × MayRefuse (allocate_step pool key.now value.now ttl self.old.cache).answer refusal)) }
     {
         self.set_with(pool, key, Fill::Copied(value), ttl)
     }
@@ -123,7 +123,7 @@ impl<N: Notes<Note<A>>, A: Allocator + Clone + Copy> Core<N, A> {
         ensures ok { OnOk result (IsCall (set_step pool key.now (filled fill.entry) ttl self.old.cache) (Replied Stored) self.old self.new) }
         ensures fits { OnOk result (key_refusal key.now ≡ None) }
         ensures err { IfErr result (λ refusal. (self.new ≡ self.old) ⊎ (IsCall (give_up_step pool key.now (filled fill.entry) ttl self.old.cache) Discarded self.old self.new × (refusal ≡ Refusal.NoMemory))) }
-        ensures why { IfErr result (λ refusal. (key_refusal key.now ≡ Some refusal) ⊎ ((key_refusal key.now ≡ None) × MayRefuse (set_step pool key.now (filled fill.entry) ttl self.old.cache).answer refusal)) }
+        ensures why { IfErr result (λ refusal. (key_refusal key.now ≡ Some refusal) ⊎ ((key_refusal key.now ≡ None) × MayRefuse (allocate_step pool key.now (filled fill.entry) ttl self.old.cache).answer refusal)) }
     {
         let key = key_of(self.config(), key)?;
         let sealed = open_with(self, pool, key, fill, ttl)?;
@@ -137,7 +137,7 @@ impl<N: Notes<Note<A>>, A: Allocator + Clone + Copy> Core<N, A> {
         ensures ok { IfOk result (λ inserted. IsCall (add_step pool key.now value.now ttl self.old.cache) (inserted_answer inserted) self.old self.new) }
         ensures fits { OnOk result (key_refusal key.now ≡ None) }
         ensures err { IfErr result (λ refusal. ((self.new ≡ self.old) × (refusal ≢ Refusal.Exists)) ⊎ ((IsCall (add_step pool key.now value.now ttl self.old.cache) (Refused Exists) self.old self.new × (refusal ≡ Refusal.Exists)) ⊎ (IsCall (give_up_step pool key.now value.now ttl self.old.cache) Discarded self.old self.new × (refusal ≡ Refusal.NoMemory)))) }
-        ensures why { IfErr result (λ refusal. (key_refusal key.now ≡ Some refusal) ⊎ ((key_refusal key.now ≡ None) × MayRefuse (add_step pool key.now value.now ttl self.old.cache).answer refusal)) }
+        ensures why { IfErr result (λ refusal. (key_refusal key.now ≡ Some refusal) ⊎ ((key_refusal key.now ≡ None) × MayRefuseNew (allocate_step pool key.now value.now ttl self.old.cache).answer refusal)) }
     {
         self.add_with(pool, key, Fill::Copied(value), ttl)
     }
@@ -153,7 +153,7 @@ impl<N: Notes<Note<A>>, A: Allocator + Clone + Copy> Core<N, A> {
         ensures ok { IfOk result (λ inserted. IsCall (add_step pool key.now (filled fill.entry) ttl self.old.cache) (inserted_answer inserted) self.old self.new) }
         ensures fits { OnOk result (key_refusal key.now ≡ None) }
         ensures err { IfErr result (λ refusal. ((self.new ≡ self.old) × (refusal ≢ Refusal.Exists)) ⊎ ((IsCall (add_step pool key.now (filled fill.entry) ttl self.old.cache) (Refused Exists) self.old self.new × (refusal ≡ Refusal.Exists)) ⊎ (IsCall (give_up_step pool key.now (filled fill.entry) ttl self.old.cache) Discarded self.old self.new × (refusal ≡ Refusal.NoMemory)))) }
-        ensures why { IfErr result (λ refusal. (key_refusal key.now ≡ Some refusal) ⊎ ((key_refusal key.now ≡ None) × MayRefuse (add_step pool key.now (filled fill.entry) ttl self.old.cache).answer refusal)) }
+        ensures why { IfErr result (λ refusal. (key_refusal key.now ≡ Some refusal) ⊎ ((key_refusal key.now ≡ None) × MayRefuseNew (allocate_step pool key.now (filled fill.entry) ttl self.old.cache).answer refusal)) }
     {
         let key = key_of(self.config(), key)?;
         let sealed = open_with(self, pool, key, fill, ttl)?;

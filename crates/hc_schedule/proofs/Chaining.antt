@@ -37,7 +37,7 @@ chains_are_runs config steps answers parts new c = let r = chained (new_scene co
 abbrev after : Ran → Step → Ran
 after r s = record { scene = (step s r.scene).scene; answers = r.answers ++ (step s r.scene).told ∷ []; parts = r.parts ++ (step s r.scene).part ∷ [] }
 
-run_more : (steps : List Step) (s : Step) (scene : Scene) → run_from (steps ++ s ∷ []) scene ≡ after (run_from steps scene) s
+pub run_more : (steps : List Step) (s : Step) (scene : Scene) → run_from (steps ++ s ∷ []) scene ≡ after (run_from steps scene) s
 run_more [] s scene = refl
 run_more (first ∷ steps) s scene =
     let done = step first scene in
@@ -46,7 +46,7 @@ run_more (first ∷ steps) s scene =
 pub IsRun-none : (config : Config) → IsRun config [] [] [] (new_scene config [])
 IsRun-none config = record { broke = []; ran = λ later. refl }
 
-pub IsRun-more : (config : Config) (steps : List Step) (answers : List Told) (parts : List (List Note)) (old new : Scene) (s : Step) (told : Told) (part : List Note) → IsRun config steps answers parts old → Goes old s told part new
+abbrev pub IsRun-more : (config : Config) (steps : List Step) (answers : List Told) (parts : List (List Note)) (old new : Scene) (s : Step) (told : Told) (part : List Note) → IsRun config steps answers parts old → Goes old s told part new
     → IsRun config (steps ++ s ∷ []) (answers ++ told ∷ []) (parts ++ part ∷ []) new
 IsRun-more config steps answers parts old new s told part r g = record {
   broke = r.broke ++ g.broke;

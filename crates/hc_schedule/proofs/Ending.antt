@@ -1,12 +1,12 @@
 -- What still fills the slots is given up, one after another.
-use Rattle.std.proofs.Common.{◌≡◌, true, ℕ, suc, ◌-◌, ◌≤◌, List, [], ◌∷◌, Option, Some, None, length, refl, ap, sym, ◌∙◌, arith}
+use Rattle.std.proofs.Common.{◌≡◌, true, ℕ, suc, ◌-◌, ◌≤◌, List, [], ◌∷◌, Option, Some, None, length, sym, arith}
 use Rattle.std.specs.Prelude.{IfSome}
 use Rattle.hc_memory.specs.Item.{Handle}
 use Rattle.hc_history.specs.Told.{Heard, told_more}
 use Rattle.hc_history.proofs.Telling.{told-twice, told-nothing}
 use Rattle.hc_machine.specs.Cache.{Cache}
 use Rattle.hc_machine.specs.Calls.{is_known, discard}
-use Rattle.hc_machine.specs.Schedule.{Slot, given_up}
+use Rattle.hc_machine.specs.Schedule.{given_up}
 use Rattle.hc_schedule.specs.Slots.{filled_from}
 use Rattle.hc_schedule.specs.Shows.{AreOwn}
 use Rattle.hc_schedule.specs.Ending.{after_give_up, part_of_give_up}

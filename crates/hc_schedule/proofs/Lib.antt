@@ -9,3 +9,6 @@ pub mod Owning
 pub mod Staging
 pub mod Resulting
 pub mod Ending
+pub mod Answering
+pub mod Slotted
+pub mod QuietGoing

@@ -1,7 +1,7 @@
 -- Slots that are filled and emptied.
-use Rattle.std.proofs.Common.{◌≡◌, sym, ℕ, zero, suc, ◌+◌, ◌<◌, ◌==◌, Bool, true, false, not, List, [], ◌∷◌, Option, Some, None, length, slice_set, refl, ap, subst, ◌∙◌, arith, zero-add}
-use Rattle.std.specs.Prelude.{if◌then◌else◌, nat_lt, option_map}
-use Rattle.std.proofs.lemmas.List.{set-set, set-get_or}
+use Rattle.std.proofs.Common.{◌≡◌, sym, ℕ, zero, suc, ◌+◌, ◌<◌, ◌==◌, Bool, true, false, not, List, [], ◌∷◌, Option, Some, None, length, get_or, slice_set, refl, ap, subst, ◌∙◌, arith, zero-add}
+use Rattle.std.specs.Prelude.{if◌then◌else◌, nat_lt, option_map, is_some}
+use Rattle.std.proofs.lemmas.List.{set-set, set-get_or, get_or_read}
 use Rattle.hc_memory.specs.Item.{Handle}
 use Rattle.hc_machine.specs.Schedule.{Slot, slot_at, without_slot, with_slot}
 use Rattle.hc_schedule.specs.Slots.{handle_in, filled_from}
@@ -101,3 +101,27 @@ put-back slots taken back slot handle same is out e in_place =
 -- an empty slot is emptied
 pub set-none : (slots : List (Option Handle)) (slot : ℕ) → handle_in slot slots ≡ None → slice_set slots slot None ≡ slots
 set-none slots slot is = ap (slice_set slots slot) (sym is) ∙ set-get_or slots slot None
+
+-- ---- what is read of a slot
+
+some-held : (held : Option Handle) → is_some held ≡ true → (handle : Handle) × (held ≡ Some handle)
+some-held None h = absurd cc
+some-held (Some handle) h = (handle, refl)
+
+pub none-held : (held : Option Handle) → is_some held ≡ false → held ≡ None
+none-held None h = refl
+none-held (Some handle) h = absurd cc
+
+-- what was read at the slot's place
+pub read-is : (slots : List (Option Handle)) (at slot : ℕ) (held : Option Handle) (b r : Bool) → at ≡ slot → slot < length slots → held ≡ get_or slots at held → r ≡ is_some held → r ≡ b → is_some (handle_in slot slots) ≡ b
+read-is slots at slot held b r same within read is known = ap is_some (sym (get_or_read slots slot held within (read ∙ ap (λ (n : ℕ). get_or slots n held) same) None)) ∙ sym is ∙ known
+
+-- a slot that is filled has a handle
+pub filled-has : (slots : List (Option Handle)) (slot : ℕ) → is_some (handle_in slot slots) ≡ true → (handle : Handle) × (handle_in slot slots ≡ Some handle)
+filled-has slots slot h = some-held (handle_in slot slots) h
+
+pub at-none : (slots : List (Option Handle)) (slot : ℕ) → handle_in slot slots ≡ None → slot_at slot (filled_from 0 slots) ≡ None
+at-none slots slot is = at-is slots slot ∙ ap (option_map (slot_of slot)) is
+
+pub at-some : (slots : List (Option Handle)) (slot : ℕ) (handle : Handle) → handle_in slot slots ≡ Some handle → slot_at slot (filled_from 0 slots) ≡ Some (slot_of slot handle)
+at-some slots slot handle is = at-is slots slot ∙ ap (option_map (slot_of slot)) is

@@ -20,12 +20,12 @@ use Rattle.hc_schedule.specs.Steps.{Goes, IsCalm, failed_more, operates}
 use Rattle.hc_schedule.specs.Shows.{Stage, Sight, IsWithin, Shows, IsReadable, Leads, Moves, Waits}
 use Rattle.hc_schedule.specs.Devices.{CanRead, Comes, IsSame}
 use Rattle.hc_schedule.proofs.Stepping.{goes_calmly, goes_by_io, goes_idly}
-use Rattle.hc_schedule.proofs.Refusing.{allocate_stays, reply_stays, insert_stays}
+use Rattle.hc_schedule.proofs.Refusing.{allocate_stays, reply_stays, insert_stays, finish_stays}
 
-abbrev slot_of : ℕ → Handle → Slot
+abbrev pub slot_of : ℕ → Handle → Slot
 slot_of number handle = record { number = number; handle = handle }
 
-abbrev by_client : ℕ → Deed → Step
+abbrev pub by_client : ℕ → Deed → Step
 by_client client deed = record { client = client; deed = deed }
 
 -- ---- results
@@ -88,6 +88,10 @@ module _ {Device : Type 0} (sight : Sight Device) where
 
   calmly : (old new : Stage Device) (s : Step) (told : Told) (part : List Note) → IsCalm s.deed → DeedSized s.deed → new.log ≡ told_more old.log part → ((scene : Scene) → Shows sight old scene → Ends scene s told part new) → Moves sight old s told new
   calmly old new s told part calm sized log ends = record { part = part; log = log; sized = sized; leads = λ scene sh reads. leads_by scene s told part new calm (ends scene sh) }
+
+  -- told the same
+  pub retold : (old new : Stage Device) (s : Step) (told same : Told) → told ≡ same → Moves sight old s same new → Moves sight old s told new
+  retold old new s told same is moves = subst (λ (t : Told). Moves sight old s t new) (sym is) moves
 
   -- ---- nothing happens
 
@@ -199,6 +203,19 @@ module _ {Device : Type 0} (sight : Sight Device) where
         shows = reshow old new scene _ sh c.device c.before refl refl (ap (λ (k : Cache). (f k).cache) sh.cache ∙ sym c.cache)
             (λ every. result-gone job every scene.world.results ∙ ap (λ (o : Option IoResult). if job == every then None else o) (sh.results every) ∙ sym (left every)) (sh.slots ∙ sym slots);
       })
+
+  pub finish-refused : (old new : Stage Device) (client job : ℕ) (result : IoResult) (refusal : Refusal) → result_at job old.results ≡ Some result → (workers.finish job result old.cache).answer ≡ Refused refusal → new.cache ≡ old.cache → new.log ≡ old.log
+      → new.device ≡ old.device → new.failed_before ≡ old.failed_before → ((every : ℕ) → result_at every new.results ≡ (if job == every then None else result_at every old.results)) → new.slots ≡ old.slots
+      → Moves sight old (by_client client (Finish job)) (Tells (Says (Refused refusal))) new
+  finish-refused old new client job result refusal at why cache log device before left slots =
+      let is = finish_stays job result old.cache refusal why in
+      finished old new client job result (Refused refusal) at (record {
+        cache = cache ∙ sym (ap (λ (m : Moved). m.cache) is);
+        answer_is = sym why;
+        log = log ∙ sym (told-nothing old.log) ∙ ap (λ (m : Moved). told_more old.log m.part) (sym is);
+        device = device;
+        before = before;
+      }) left slots
 
   -- ---- device operations
 

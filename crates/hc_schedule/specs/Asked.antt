@@ -12,6 +12,8 @@ use Rattle.hc_schedule.specs.declared.steps.Request.{Request}
 use Rattle.hc_schedule.specs.declared.steps.Request.TheVariants as requests
 use Rattle.hc_schedule.specs.declared.steps.Outcome.{Outcome}
 use Rattle.hc_schedule.specs.declared.steps.Outcome.TheVariants as outcomes
+use Rattle.hc_schedule.specs.declared.runs.Stopped.{Stopped}
+use Rattle.hc_schedule.specs.declared.runs.Stopped.TheVariants as stops
 use Rattle.hc_schedule.specs.declared.slots.Content.{Content}
 use Rattle.hc_schedule.specs.declared.slots.Content.TheVariants as contents
 
@@ -41,6 +43,12 @@ told_of (outcomes.Moment now) = Tells (Says (cache.Moment now))
 told_of (outcomes.Took take) = Tells (Says (cache.Took (take_of take)))
 told_of (outcomes.Reclaimed region) = Tells (Says (cache.Reclaimed region))
 told_of (outcomes.Made came failures) = Tells (Made (result_of came) failures)
+
+-- before which step a run stopped
+abbrev pub place_of : Option Stopped → Option ℕ
+place_of None = None
+place_of (Some (stops.NoMemory place)) = Some place
+place_of (Some (stops.NotQuiet place)) = Some place
 
 -- the handle that fills a slot
 abbrev pub handle_of : {A : Type 0} → Content A → Option Handle

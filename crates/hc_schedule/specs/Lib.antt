@@ -8,3 +8,4 @@ pub mod Runs
 pub mod Going
 pub mod Laws
 pub mod Ending
+pub mod QuietRuns

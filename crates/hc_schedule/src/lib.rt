@@ -2,10 +2,15 @@
 #![tactic(auto)]
 
 mod device;
+mod helpers;
 mod laws;
 mod results;
+mod runs;
 mod slots;
+mod stage;
 mod steps;
 
 pub use laws::{chains_are_runs, runs_keep_promise, runs_stand};
+pub use runs::{Ran, Stopped, run};
+pub use stage::Stage;
 pub use steps::{Answer, Outcome, Request, Step};

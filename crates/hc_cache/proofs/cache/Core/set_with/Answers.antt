@@ -1,5 +1,5 @@
 use Rattle.hc_memory.specs.Seen.{filled}
-use Rattle.hc_cache.specs.Plain.{set_step}
+use Rattle.hc_machine.specs.Evicting.{allocate}
 use Rattle.hc_cache.proofs.Joining.{then-set, then-left, memory-why, fits-so}
 use Rattle.hc_cache.proofs.cache.Core.set_with.Goals as goal
 
@@ -15,4 +15,4 @@ returns-clause-err g c =
     then-left c.args.pool c.in_ok-key.key c.args.key.now (filled c.args.fill) c.args.ttl c.in_ok-sealed.sealed c.args.self.now c.open_with.new.core c.link.new.core c.in_ok-key.ensures.ok c.in_ok-sealed.ensures.ok c.link.result c.link.ensures.err c.link.ensures.memory
 
 pub returns-clause-why : goal.returns-clause-why
-returns-clause-why g c = memory-why c.args.key.now (set_step c.args.pool c.args.key.now (filled c.args.fill) c.args.ttl c.args.self.now.cache).answer c.link.result c.in_ok-key.ensures.fits c.link.ensures.memory
+returns-clause-why g c = memory-why c.args.key.now (allocate c.args.pool c.args.key.now (filled c.args.fill) c.args.ttl c.args.self.now.cache).answer c.link.result c.in_ok-key.ensures.fits c.link.ensures.memory
