@@ -21,6 +21,7 @@ mod linking;
 mod marking;
 mod planning;
 mod preparing;
+mod reading;
 mod removing;
 mod replying;
 mod reserving;

@@ -1,0 +1,6 @@
+-- Lemmas.
+pub mod Short
+pub mod Guarding
+pub mod Keeping
+pub mod Opening
+pub mod Calling

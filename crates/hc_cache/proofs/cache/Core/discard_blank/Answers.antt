@@ -1,0 +1,20 @@
+use Rattle.hc_machine.specs.Cache.{Discarded}
+use Rattle.hc_proof_runs.specs.Events.{Discards}
+use Rattle.hc_cache.proofs.Keeping.{done-holds}
+use Rattle.hc_cache.proofs.Calling.{called-so, calm}
+use Rattle.hc_cache.proofs.cache.Core.discard_blank.Goals as goal
+
+pub discard_blank-requires : goal.discard_blank-requires
+discard_blank-requires g c = record { structured = c.self.invariant.structured; ready = c.self.invariant.ready }
+
+pub invariant_of-self : goal.invariant_of-self
+invariant_of-self g c = done-holds (Discards c.args.blank) c.self.inside.state c.discard_blank.new.self tt c.self.invariant Discarded c.discard_blank.result c.discard_blank.ensures.ok c.discard_blank.ensures.err
+
+pub returns-clause-ok : goal.returns-clause-ok
+returns-clause-ok g c = rw (← c.self.view_is) (called-so Discarded _ c.self.inside.state c.discard_blank.new.self c.discard_blank.result c.discard_blank.ensures.ok)
+
+pub returns-clause-foreign : goal.returns-clause-foreign
+returns-clause-foreign g c = rw (← c.self.view_is) c.discard_blank.ensures.foreign
+
+pub returns-clause-err : goal.returns-clause-err
+returns-clause-err g c = rw (← c.self.view_is) (calm c.self.inside.state c.discard_blank.new.self c.discard_blank.result c.discard_blank.ensures.err)

@@ -1,0 +1,18 @@
+use Rattle.hc_state.specs.Removing.{removed_answer}
+use Rattle.hc_proof_runs.specs.Events.{Removes}
+use Rattle.hc_cache.proofs.Keeping.{calm-holds}
+use Rattle.hc_cache.proofs.Calling.{called, calm}
+use Rattle.hc_cache.proofs.cache.Core.remove.Goals as goal
+
+pub remove-requires : goal.remove-requires
+remove-requires g c = record { structured = c.self.invariant.structured; ready = c.self.invariant.ready }
+
+pub invariant_of-self : goal.invariant_of-self
+invariant_of-self g c =
+    calm-holds (Removes c.args.client c.args.key.now) c.self.inside.state c.remove.new.self tt c.self.invariant removed_answer c.remove.result c.remove.ensures.ok c.remove.ensures.err
+
+pub returns-clause-ok : goal.returns-clause-ok
+returns-clause-ok g c = rw (← c.self.view_is) (called removed_answer _ c.self.inside.state c.remove.new.self c.remove.result c.remove.ensures.ok)
+
+pub returns-clause-err : goal.returns-clause-err
+returns-clause-err g c = rw (← c.self.view_is) (calm c.self.inside.state c.remove.new.self c.remove.result c.remove.ensures.err)

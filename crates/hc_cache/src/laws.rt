@@ -1,0 +1,11 @@
+// Laws of the machine's steps.
+ghost use Rattle.hc_proof_runs.specs.Lock.{CallsStayGuarded};
+ghost use Rattle.hc_theorem.specs.Headline.{NewStands};
+
+/// The law that the log of any steps is legal where it is honest, also where nobody keeps it: a new cache has the empty
+/// log, and each step of the machine leads to a cache whose log is the one before with the step's part behind it. So
+/// whoever counts the log of a core or hears nothing of it has the promise too. It does nothing when it runs.
+pub fn steps_are_legal()
+    ensures new { NewStands }
+    ensures calls { CallsStayGuarded }
+{}

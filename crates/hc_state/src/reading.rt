@@ -1,0 +1,98 @@
+// What a cache tells of itself between two calls, and what ends its log.
+ghost use Rattle.std.specs.Prelude.{◌≡◌, ◌≤◌, option_map};
+ghost use Rattle.std.specs.Option.{option_copied};
+ghost use Rattle.hc_history.specs.Told.{Log, losses_taken};
+ghost use Rattle.hc_machine.specs.World.{order_in};
+ghost use Rattle.hc_nvm.specs.Seen.{order_of};
+
+use crate::state::State;
+use hc_history::{Counting, Kept, Note, Notes};
+use hc_memory::Pools;
+use hc_nvm::Order;
+use hc_types::Config;
+use std::alloc::Allocator;
+
+impl<N: Notes<Note<A>>, A: Allocator> State<N, A> {
+    /// How many calls were begun: inserts, finds and removes that weren't refused.
+    #[must_use]
+    pub fn calls(&self) -> u64
+        ensures { result ≡ self.now.cache.calls }
+    {
+        self.calls
+    }
+
+    /// The moment that holds, in seconds.
+    #[must_use]
+    pub fn now(&self) -> u64
+        ensures { result ≡ self.now.cache.now }
+    {
+        self.clock
+    }
+
+    /// The configuration that it was made with.
+    #[must_use]
+    pub fn config(&self) -> &Config<A>
+        ensures { result.now ≡ self.now.cache.config }
+    {
+        &self.config
+    }
+
+    /// Its pools: what is charged to each, and what can be found.
+    #[must_use]
+    pub fn pools(&self) -> &Pools<A>
+        ensures { result.now ≡ self.now.cache.memory }
+    {
+        &self.pools
+    }
+
+    /// Who was told the notes.
+    #[must_use]
+    pub fn notes(&self) -> &N
+        ensures { N.told result.now ≡ self.now.log }
+    {
+        &self.notes
+    }
+}
+
+impl<N: Notes<Note<A>>, A: Allocator + Clone + Copy> State<N, A> {
+    /// The device operation for which the job with this number waits.
+    #[must_use]
+    pub fn order(&self, job: u64) -> Option<&Order<A>>
+        ensures { option_map order_of (option_copied result) ≡ order_in self.now.cache.nvm job }
+    {
+        match &self.nvm {
+            Some(nvm) => nvm.order(job),
+            None => None,
+        }
+    }
+}
+
+impl<A: Allocator> State<Counting<A>, A> {
+    /// The losses that the log counts are taken, and kept no longer.
+    pub fn forget_losses(&mut self)
+        ensures cache { self.new.cache ≡ self.old.cache }
+        ensures log { self.new.log ≡ losses_taken self.old.log }
+        ensures notes { self.old.notes ≤ self.new.notes }
+    {
+        self.notes.forget_losses();
+    }
+}
+
+impl<A: Allocator> State<Kept<A>, A> {
+    /// The log, which outlives the cache. The rest is dropped.
+    #[must_use]
+    pub fn into_notes(self) -> Kept<A>
+        ensures { Log result.notes.items ≡ self.log }
+    {
+        let State {
+            config: _,
+            pools: _,
+            clock: _,
+            calls: _,
+            replies: _,
+            nvm: _,
+            notes,
+        } = self;
+        notes
+    }
+}
