@@ -11,16 +11,16 @@ first_time="10 minutes and 45 seconds on four processors that did nothing else"
 
 usage="usage: ./replay.sh [TRACE | -]
 
-Replays a trace on a cache and prints its answers: that of the file TRACE, of standard input for -, of traces/first.trace where none is named.
-docs/FORMATS.md says what a trace is, what is answered, and what the status says. Where a line of the trace is at fault, or the configuration
-is refused, that line and its right form are shown on standard error. The status is 2 also where the trace can't be read or the command line
-is wrong, and 1 also where the program can't be built.
+Replays a trace on a cache and prints its answers: that of the file TRACE, of standard input for -, of traces/first-with-flash.trace
+where none is named. docs/FORMATS.md says what a trace is, what is answered, and what the status says. Where a line of the trace is at fault,
+or the configuration is refused, that line and its right form are shown on standard error. The status is 2 also where the trace can't be
+read or the command line is wrong, and 1 also where the program can't be built.
 
 The program is built first where it has to be, which proves what has changed of the crates that it stands on. The first time took
 $first_time."
 
 top="$(dirname -- "$(realpath -- "$0")")"
-default="$top/traces/first.trace"
+default="$top/traces/first-with-flash.trace"
 program="$top/crates/hc_replay/out/hc_replay"
 kept_bytes=16777216         # so much of a trace that comes through a pipe is kept until its end
 kept_lines="$program.lines" # the lines of crates.txt with which the program was built last
