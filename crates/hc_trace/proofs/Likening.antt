@@ -101,28 +101,32 @@ act_alike a b l action = subst (λ (w : World). LikeMoved (act action w) (act ac
 
 -- ---- all lines
 
-same_output : (n : ℕ) (lines : List (List ℕ)) (a b : World) (c d : Stats) → Alike a b → c ≡ d → output_from n (turns.Running a c) lines ≡ output_from n (turns.Running b d) lines
+-- the lines from here on come to the same
+abbrev Later : ℕ → List (List ℕ) → Type 0
+Later n lines = (a b : World) (c d : Stats) → Alike a b → c ≡ d → output_from n (turns.Running a c) lines ≡ output_from n (turns.Running b d) lines
 
-acted_same : (n : ℕ) (lines : List (List ℕ)) (a b : World) (c d : Stats) → Alike a b → c ≡ d → (action : Action)
+acted_same : (n : ℕ) (lines : List (List ℕ)) → Later (n + 1) lines → (a b : World) (c d : Stats) → Alike a b → c ≡ d → (action : Action)
     → onto (action_text (act action a)) (output_from (n + 1) (turns.Running (act action a).world (counts_more c (act action a).notes)) lines)
     ≡ onto (action_text (act action b)) (output_from (n + 1) (turns.Running (act action b).world (counts_more d (act action b).notes)) lines)
-acted_same n lines a b c d l e action =
+acted_same n lines rest a b c d l e action =
     let m = act_alike a b l action in
     let counts : counts_more c (act action a).notes ≡ counts_more d (act action b).notes = λ i. counts_more (e i) (m.notes i) in
-    let later = same_output (n + 1) lines (act action a).world (act action b).world (counts_more c (act action a).notes) (counts_more d (act action b).notes) m.world counts in
+    let later = rest (act action a).world (act action b).world (counts_more c (act action a).notes) (counts_more d (act action b).notes) m.world counts in
     λ i. onto (answered_text (m.answer i) ++ losses_text (m.notes i)) (later i)
 
-line_same : (n : ℕ) (lines : List (List ℕ)) (a b : World) (c d : Stats) → Alike a b → c ≡ d → (line : grammar.Line)
+line_same : (n : ℕ) (lines : List (List ℕ)) → Later (n + 1) lines → (a b : World) (c d : Stats) → Alike a b → c ≡ d → (line : grammar.Line)
     → after_turn (turned n (turns.Running a c) line) (output_from (n + 1) (turned n (turns.Running a c) line).state lines) ≡ after_turn (turned n (turns.Running b d) line) (output_from (n + 1) (turned n (turns.Running b d) line).state lines)
-line_same n lines a b c d l e Skipped = ap (onto []) (same_output (n + 1) lines a b c d l e)
-line_same n lines a b c d l e (Says (Pool bytes items)) = refl
-line_same n lines a b c d l e (Says NoFlash) = refl
-line_same n lines a b c d l e (Says (Flash flash)) = refl
-line_same n lines a b c d l e (Says (grammar.Do s)) = acted_same n lines a b c d l e (Do s)
-line_same n lines a b c d l e (Says (grammar.Serve work)) = acted_same n lines a b c d l e (Serve work)
-line_same n lines a b c d l e Fault = refl
+line_same n lines rest a b c d l e Skipped = ap (onto []) (rest a b c d l e)
+line_same n lines rest a b c d l e (Says (Pool bytes items)) = refl
+line_same n lines rest a b c d l e (Says NoFlash) = refl
+line_same n lines rest a b c d l e (Says (Flash flash)) = refl
+line_same n lines rest a b c d l e (Says (grammar.Do s)) = acted_same n lines rest a b c d l e (Do s)
+line_same n lines rest a b c d l e (Says (grammar.Serve work)) = acted_same n lines rest a b c d l e (Serve work)
+line_same n lines rest a b c d l e Fault = refl
+
+same_output : (n : ℕ) (lines : List (List ℕ)) → Later n lines
 same_output n [] a b c d l e = ap (λ (s : Stats). ending s None) e
-same_output n (line ∷ lines) a b c d l e = line_same n lines a b c d l e (line_of line)
+same_output n (line ∷ lines) a b c d l e = line_same n lines (same_output (n + 1) lines) a b c d l e (line_of line)
 
 -- where the replay stands is as good as the place
 pub at-same : (state : State) (place : turns.State) → IsAt state place → (n : ℕ) (lines : List (List ℕ)) → output_from n (place_of state) lines ≡ output_from n place lines
