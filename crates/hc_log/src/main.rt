@@ -4,7 +4,7 @@
 //! its configuration was refused; 4 says that reading, writing or memory failed. Then nothing is printed.
 #![tactic(auto)]
 
-mod configuring;
+mod steps;
 mod trace;
 
 use crate::trace::{Told, log_of};
