@@ -1,12 +1,8 @@
-pub mod Reordered
-pub mod Evicting
-pub mod Ends
-pub mod Between
-pub mod Answering
-pub mod Calls
-pub mod Keeps
-pub mod Made
-pub mod Standing
+-- Lemmas.
+pub mod Short
+pub mod Guarding
+pub mod Keeping
 pub mod Opening
-pub mod Refusing
-pub mod Leading
+pub mod Calling
+pub mod Joining
+mod Unread

@@ -1,23 +1,71 @@
--- A charge that is made is open.
-use Rattle.std.proofs.Common.{◌≡◌, ℕ, ◌+◌, ◌++◌, true, List, [], ◌∷◌, Some, None, find, length, refl, ap, ◌∙◌, arith, eq-eqb}
-use Rattle.std.specs.Option.{option_or}
-use Rattle.std.proofs.lemmas.List.Folds.{find-append}
-use mathlib.Core.Bool.{cond}
+-- A handle that was allocated is known, and one that is known is given up.
+use Rattle.std.proofs.Common.{◌≡◌, ℕ, ◌+◌, Bool, true, false, not, ◌&&◌, List, [], ◌∷◌, length, Option, Some, None, if◌then◌else◌, refl, ap, ◌∙◌, subst}
+use Rattle.std.specs.Prelude.{Result, Ok, Err, IfOk}
+use Rattle.std.specs.List.{list_any}
 use Rattle.hc_types.specs.Tally.{count}
-use Rattle.hc_types.proofs.Tallies.{find-none}
-use Rattle.hc_memory.specs.Item.{Open, charge_by}
-use Rattle.hc_memory.specs.Charges.{has_number, is_open}
-use Rattle.hc_memory.specs.Sound.{Sound}
-use Rattle.hc_memory.proofs.Books.{found-is_open}
-use Rattle.hc_core.specs.Cache.{Cache}
-use Rattle.hc_core.specs.Steps.{opened, after_allocate}
+use Rattle.hc_types.specs.declared.refusal.Refusal.TheVariants.{ForeignHandle}
+use Rattle.hc_memory.specs.Item.{Handle, charge_by}
+use Rattle.hc_memory.specs.Charges.{has_number}
+use Rattle.hc_memory.specs.Memory.{Memory, handle_for}
+use Rattle.hc_items.specs.Items.{items_of}
+use Rattle.hc_items.specs.Allocating.{expiry_of}
+use Rattle.hc_machine.specs.Nvm.{Nvm, Wish, ToFind, ToAdd, Waiter, Fill, adds}
+use Rattle.hc_machine.specs.Cache.{Cache, Refused, Discarded, answers, stays}
+use Rattle.hc_machine.specs.Waiting.{free}
+use Rattle.hc_machine.specs.Evicting.{make_charge}
+use Rattle.hc_machine.specs.Calls.{is_kept_in, is_known, discard}
+use Rattle.hc_invariant.specs.Jobs.{WishHolds, AllWish, AllWishes}
+use Rattle.hc_invariant.specs.Good.{fills_of}
+use Rattle.hc_invariant.specs.Structure.{Structured, queue_of}
+use Rattle.hc_proof_calls.proofs.evicting.LinkedClean.{not_it}
+use Rattle.hc_proof_structure.specs.Parts.{all_of}
+use Rattle.hc_proof_structure.proofs.Parts.{parts_of, next_open}
+use Rattle.hc_proof_structure.proofs.Rooms.{charge_stands}
+use Rattle.hc_state.specs.Allocating.{Opens}
+use Rattle.hc_state.specs.Whole.{Whole}
 
-pub pushed-open : (charge : Open) (charges : List Open) → count (has_number charge.number) charges ≡ 0 → is_open charge (charges ++ charge ∷ []) ≡ true
-pushed-open charge charges none =
-    let p = has_number charge.number in
-    let last : find p (charge ∷ []) ≡ Some charge = ap (λ b. cond b (Some charge) None) (eq-eqb charge.number charge.number refl) in
-    found-is_open charge (charges ++ charge ∷ [])
-    (find-append p charges (charge ∷ []) ∙ ap (λ o. option_or o (find p (charge ∷ []))) (find-none p charges none) ∙ last)
+-- ---- no add that waits keeps a charge that isn't open
 
-pub opened-mine : (cache : Cache) (pool : ℕ) (key value : List ℕ) (ttl : ℕ) → Sound cache.memory.pools cache.memory.charges cache.memory.made → is_open (charge_by (opened cache pool key value ttl)) (after_allocate cache pool key (length value)).memory.charges ≡ true
-opened-mine cache pool key value ttl sound = pushed-open (charge_by (opened cache pool key value ttl)) cache.memory.charges (sound.fresh (cache.memory.made + 1) (omega arith))
+module _ (memory : Memory) (n : ℕ) (none : count (has_number n) memory.charges ≡ 0) where
+  no_call : (key : List ℕ) (waiters : List Waiter) → AllWish memory key waiters → list_any (adds n) waiters ≡ false
+  no_call key [] wish = refl
+  no_call key (waiter ∷ waiters) wish = go waiter.wish refl wish.0 (no_call key waiters wish.1)
+    where
+      go : (w : Wish) → waiter.wish ≡ w → WishHolds memory key waiter.wish → list_any (adds n) waiters ≡ false → list_any (adds n) (waiter ∷ waiters) ≡ false
+      go ToFind e holds rest = rw e rest
+      go (ToAdd h) e holds rest = let held = subst (WishHolds memory key) e holds in rw (e, not_it memory.charges (charge_by h) n none held.1) rest
+
+  no_fill : (fills : List Fill) → AllWishes memory fills → list_any (λ (fill : Fill). list_any (adds n) fill.waiters) fills ≡ false
+  no_fill [] wish = refl
+  no_fill (fill ∷ fills) wish = rw (no_call fill.key fill.waiters wish.0) (no_fill fills wish.1)
+
+kept_by_fills : (n : ℕ) (nvm : Option Nvm) → is_kept_in nvm n ≡ list_any (λ (fill : Fill). list_any (adds n) fill.waiters) (fills_of nvm)
+kept_by_fills n None = refl
+kept_by_fills n (Some nvm) = refl
+
+-- ---- what was allocated
+
+-- no call keeps the charge that was opened last
+unkept : (pool : ℕ) (key : List ℕ) (size : ℕ) (cache : Cache) → Structured cache → is_kept_in (make_charge pool key size cache).cache.nvm (cache.memory.made + 1) ≡ false
+unkept pool key size cache structured =
+    let n : ℕ = cache.memory.made + 1 in
+    let parts = parts_of cache.memory cache.nvm structured in
+    let none = next_open cache.memory (items_of cache.memory.pools) (queue_of cache.nvm) (fills_of cache.nvm) (fills_of cache.nvm) parts.0 in
+    let after = charge_stands pool key size cache all_of [] parts in
+    kept_by_fills n (make_charge pool key size cache).cache.nvm
+    ∙ ap (λ fills. list_any (λ (fill : Fill). list_any (adds n) fill.waiters) fills) after.fills
+    ∙ no_fill cache.memory n none (fills_of cache.nvm) structured.wishes
+
+pub opened-known : {E : Type 0} (pool : ℕ) (key value : List ℕ) (ttl : ℕ) (old new : Whole) (result : Result Handle E) → Structured old.cache
+    → IfOk result (λ blank. Opens (make_charge pool key (length value) old.cache) blank old new) → IfOk result (λ blank. blank ≡ handle_for old.cache.memory pool key value (expiry_of old.cache.now ttl))
+    → IfOk result (λ blank. is_known new.cache blank ≡ true)
+opened-known pool key value ttl old new (Err e) structured opens is = tt
+opened-known pool key value ttl old new (Ok blank) structured opens is =
+    let free : is_kept_in new.cache.nvm blank.number ≡ false =
+    (λ i. is_kept_in (opens.cache i).nvm (is i).number) ∙ unkept pool key (length value) old.cache structured in
+    λ i. opens.is_open i && not (free i)
+
+-- ---- what is known
+
+pub known-discards : (cache : Cache) (handle : Handle) → is_known cache handle ≡ true → (discard handle cache).answer ≡ Discarded
+known-discards cache handle known = ap (λ (b : Bool). (if b then answers Discarded (free handle.number cache) else stays (Refused ForeignHandle) cache).answer) known

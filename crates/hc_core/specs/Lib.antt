@@ -1,9 +1,6 @@
--- What each call of the core does.
-pub mod Cache
-pub mod Mirrors
-pub mod Refused
+-- What each call of the cache does.
+pub mod Logged
 pub mod Answers
-pub mod Steps
+pub mod Events
+pub mod Holds
 pub mod Plain
-pub mod Legality
-pub mod World

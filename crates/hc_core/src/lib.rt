@@ -1,20 +1,24 @@
-//! The core of the cache: each call does one step, tells its notes, and answers.
+//! The cache with flash behind its pools: each call does one step of the machine, tells its notes, and answers.
 #![tactic(auto)]
 
-mod answers;
 mod cache;
 mod giving_up;
 mod laws;
 mod plain;
-mod plans;
-mod tells;
+mod reading;
+mod storing;
+mod workers;
 
-pub use answers::{Found, Removed, Unlinked};
 pub use cache::Core;
 pub use giving_up::{give_up, give_up_blank};
-pub use laws::steps_are_legal;
+pub use laws::{steps_are_legal, unread_logs_are_honest};
 
 // The types of the calls' signatures, so that a caller needs no other crate.
-pub use hc_history::{Counting, Kept, Kind, Note, Notes, Op, Reply, Said, Says, Silent, Stats};
+pub use hc_bighash::IoResult;
+pub use hc_history::{
+    Counting, Kept, Kind, Listener, Note, Notes, Op, Reply, Said, Says, Silent, Stats,
+};
 pub use hc_memory::{Blank, Fill, PoolUsage, Pools, ReadHandle, Sealed, Uncharged, Usage};
+pub use hc_nvm::{Order, Take, Unfinished};
+pub use hc_state::{Found, Inserted, Removed, Unlinked};
 pub use hc_types::{Cause, Config, FlashConfig, Key, PoolSize, Refusal, Scope, Why};

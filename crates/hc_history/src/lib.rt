@@ -12,7 +12,7 @@ ghost use Rattle.hc_history.specs.Note.{Note as Meaning};
 ghost use Rattle.hc_history.specs.Lawful.{ExtendsLegal};
 
 pub use note::{Note, Op, Reply, Said, Says};
-pub use notes::{Counting, Kept, Notes, Silent};
+pub use notes::{Counting, Kept, Listener, Notes, Silent};
 pub use stats::{Kind, Stats};
 
 /// The law by which a step extends a legal log: where its notes are lawful by the books of the log, and what holds

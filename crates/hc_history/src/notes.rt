@@ -8,8 +8,9 @@ use std::alloc::{AllocError, Allocator, Global};
 use std::fmt;
 use std::marker::PhantomData;
 
-/// Whom the core tells its notes. Room is made first; then telling a note can't fail.
-pub trait Notes<T: Says>: Drop {
+/// Who hears of a log: what is heard, and room for what is to come. A cache is generic in it, and needs no more to be dropped
+/// or read.
+pub trait Listener: Drop {
     /// What is heard of the log.
     ghost told: { Self → Heard };
 
@@ -27,17 +28,20 @@ pub trait Notes<T: Says>: Drop {
         ensures more { room self.old ≤ room self.new }
         ensures fails { OnErr result (Hears (told self.old)) };
 
-    /// Tells a note, for which there is room.
-    fn note(&mut self, note: T)
-        requires { 0 < room self.old }
-        ensures told { told self.new ≡ told_more (told self.old) (T.says note ∷ []) }
-        ensures room { room self.old ≤ room self.new + 1 };
-
     /// Counts one more of this kind, in place of a note that isn't made where notes aren't kept.
     fn count(&mut self, kind: Kind)
         requires { 0 < room self.old }
         ensures told { told self.new ≡ told_count (told self.old) kind }
         ensures room { room self.old ≤ room self.new + 1 };
+}
+
+/// Whom the core tells its notes. Room is made first; then telling a note can't fail.
+pub trait Notes<T: Says>: Listener {
+    /// Tells a note, for which there is room.
+    fn note(&mut self, note: T)
+        requires { 0 < Self.room self.old }
+        ensures told { Self.told self.new ≡ told_more (Self.told self.old) (T.says note ∷ []) }
+        ensures room { Self.room self.old ≤ Self.room self.new + 1 };
 }
 
 /// Keeps every note. A call takes some 480 bytes for its notes, and a find looks its value up twice, since its note
@@ -59,7 +63,7 @@ impl<A: Allocator> Kept<A> {
     }
 }
 
-impl<A: Allocator> Notes<Note<A>> for Kept<A> {
+impl<A: Allocator> Listener for Kept<A> {
     ghost told = { λ k. Log k.notes.items };
 
     ghost room = { λ k. vec_capacity k.notes - vec_len k.notes };
@@ -72,11 +76,13 @@ impl<A: Allocator> Notes<Note<A>> for Kept<A> {
         self.notes.reserve(n)
     }
 
+    fn count(&mut self, _kind: Kind) {}
+}
+
+impl<A: Allocator> Notes<Note<A>> for Kept<A> {
     fn note(&mut self, note: Note<A>) {
         self.notes.push_reserved(note);
     }
-
-    fn count(&mut self, _kind: Kind) {}
 }
 
 /// Keeps nothing, takes no memory and refuses nothing.
@@ -105,7 +111,7 @@ impl<A: Allocator> fmt::Debug for Silent<A> {
     }
 }
 
-impl<A: Allocator> Notes<Note<A>> for Silent<A> {
+impl<A: Allocator> Listener for Silent<A> {
     ghost told = { λ _. Nothing };
 
     ghost room = { λ _. 2 ^ 64 };
@@ -118,9 +124,11 @@ impl<A: Allocator> Notes<Note<A>> for Silent<A> {
         Ok(())
     }
 
-    fn note(&mut self, _note: Note<A>) {}
-
     fn count(&mut self, _kind: Kind) {}
+}
+
+impl<A: Allocator> Notes<Note<A>> for Silent<A> {
+    fn note(&mut self, _note: Note<A>) {}
 }
 
 /// Counts the notes, and keeps the losses until they are taken. Its memory doesn't grow with the log. Where 64 bits
@@ -154,7 +162,7 @@ impl<A: Allocator> Counting<A> {
     }
 }
 
-impl<A: Allocator> Notes<Note<A>> for Counting<A> {
+impl<A: Allocator> Listener for Counting<A> {
     ghost told = { λ c. Counts c.counts c.losses.items };
 
     ghost room = { λ c. min (vec_capacity c.losses - vec_len c.losses) (left_to_count c.counts) };
@@ -170,6 +178,12 @@ impl<A: Allocator> Notes<Note<A>> for Counting<A> {
         self.losses.reserve(n)
     }
 
+    fn count(&mut self, kind: Kind) {
+        self.counts.count(kind);
+    }
+}
+
+impl<A: Allocator> Notes<Note<A>> for Counting<A> {
     fn note(&mut self, note: Note<A>) {
         self.counts.heard(&note);
         if is_loss(&note) {
@@ -177,9 +191,5 @@ impl<A: Allocator> Notes<Note<A>> for Counting<A> {
         } else {
             drop(note);
         }
-    }
-
-    fn count(&mut self, kind: Kind) {
-        self.counts.count(kind);
     }
 }

@@ -26,7 +26,10 @@ fn set(core: &mut Core<Kept>, item: NewItem<'_>) -> Result<(), Refusal> {
 
 fn add(core: &mut Core<Kept>, item: NewItem<'_>) -> Result<(), Refusal> {
     let fill = fill_with(item.value);
-    core.add_with(item.pool, item.key, fill, item.ttl)
+    match core.add_with(item.pool, item.key, fill, item.ttl) {
+        Ok(_inserted) => Ok(()),
+        Err(refusal) => Err(refusal),
+    }
 }
 
 fn get(core: &mut Core<Kept>, key: &[u8]) -> Result<(), Refusal> {

@@ -19,8 +19,8 @@ use Rattle.hc_machine.specs.World as world
 use Rattle.hc_machine.specs.World.{World, Line, Result, by_call, inserted, step, refused, made, io_of, done_of, result_of, order_in, result_at, without_result}
 use Rattle.hc_replayed.specs.Actions as replayed
 use Rattle.hc_replayed.specs.Actions.{Action, Deed, Do, Serve, unless, deed_of, done, by_step, act, answer_of, io_answer}
-use Rattle.hc_cache.specs.Logged.{Logged, IsCall}
-use Rattle.hc_cache.specs.Answers.{refusal_in}
+use Rattle.hc_core.specs.Logged.{Logged, IsCall}
+use Rattle.hc_core.specs.Answers.{refusal_in}
 use Rattle.hc_player.specs.Alike.{Alike}
 use Rattle.hc_player.specs.Devices.{Comes}
 use Rattle.hc_player.specs.Playing.{Playing, world_of, Acts, Calls}

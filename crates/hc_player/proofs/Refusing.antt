@@ -13,7 +13,7 @@ use Rattle.hc_machine.specs.Cache.{Cache, Moved, Answer, Refused, Opened, Discar
 use Rattle.hc_machine.specs.Evicting.{allocate, allocate_by}
 use Rattle.hc_machine.specs.Calls as calls
 use Rattle.hc_machine.specs.Workers as workers
-use Rattle.hc_cache.specs.Answers.{refusal_in}
+use Rattle.hc_core.specs.Answers.{refusal_in}
 
 -- where the step is refused, nothing happens
 abbrev pub StaysRefused : Cache → Moved → Type 0

@@ -14,8 +14,8 @@ use Rattle.hc_machine.specs.Calls.{insert_or_replace, discard}
 use Rattle.hc_machine.specs.World as world
 use Rattle.hc_machine.specs.World.{Line, Result, inserted, put_new}
 use Rattle.hc_replayed.specs.Actions.{Do, answer_of}
-use Rattle.hc_cache.specs.Logged.{Logged, IsCall}
-use Rattle.hc_cache.specs.Answers.{refusal_in}
+use Rattle.hc_core.specs.Logged.{Logged, IsCall}
+use Rattle.hc_core.specs.Answers.{refusal_in}
 use Rattle.hc_player.specs.Playing.{world_of, Acts}
 use Rattle.hc_player.proofs.Refusing.{never-exists}
 use Rattle.hc_player.proofs.Acting.{playing, IsTold, acts-step, keyed, barred, unopened}

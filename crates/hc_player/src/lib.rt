@@ -5,7 +5,6 @@ mod answers;
 mod device;
 mod outcomes;
 mod player;
-mod results;
 mod steps;
 mod working;
 

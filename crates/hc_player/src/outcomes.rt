@@ -5,13 +5,13 @@ ghost use Rattle.hc_history.specs.Seen.{reply_of};
 ghost use Rattle.hc_bighash.specs.Seen.{result_of};
 ghost use Rattle.hc_nvm.specs.Seen.{take_of};
 ghost use Rattle.hc_machine.specs.Cache as machine;
-ghost use Rattle.hc_cache.specs.Answers.{found_answer, inserted_answer, removed_answer};
+ghost use Rattle.hc_core.specs.Answers.{found_answer, inserted_answer, removed_answer};
 ghost use Rattle.hc_replayed.specs.Actions.{answer_of, reply_answer, take_answer, reclaim_answer, io_answer};
 ghost use Rattle.hc_player.specs.Seen.{answer_seen};
 
 use crate::answers::Answer;
 use hc_bighash::IoResult;
-use hc_cache::{Found, Inserted, Removed};
+use hc_core::{Found, Inserted, Removed};
 use hc_history::Reply;
 use hc_nvm::{Order, Take};
 use hc_types::Refusal;

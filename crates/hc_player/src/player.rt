@@ -7,10 +7,10 @@ ghost use Rattle.hc_replayed.specs.Trace.{fresh};
 ghost use Rattle.hc_player.specs.Playing.{world_of};
 ghost use Rattle.hc_player.specs.Alike.{Alike};
 
-use crate::results::Results;
-use hc_cache::Core;
+use hc_core::Core;
 use hc_flash::MemFlash;
 use hc_history::{Counting, Note, Notes};
+use hc_results::Results;
 use hc_types::{Config, FlashConfig, Refusal};
 use std::alloc::{AllocError, Global};
 use std::marker::Model;

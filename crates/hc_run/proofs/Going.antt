@@ -1,81 +1,120 @@
 -- A run goes on by one step.
-use Rattle.std.proofs.Common.{◌≡◌, ℕ, ◌+◌, ◌++◌, List, [], ◌∷◌, length, refl, ap, sym, ◌∙◌, arith, subst, length-append, append_assoc, append-nil, zero-add, ◌<◌, take, get_or}
+use Rattle.std.proofs.Common.{Option, ◌≡◌, ℕ, ◌+◌, ◌<◌, Bool, List, [], ◌∷◌, ◌++◌, length, take, get_or, None, refl, ap, sym, subst, ◌∙◌, arith, append_assoc, append-nil, length-append, zero-add}
 use Rattle.std.proofs.lemmas.List.{take_more}
 use Rattle.hc_types.specs.Config.{Config}
+use Rattle.hc_types.specs.Limits.{first_wrong}
 use Rattle.hc_history.specs.Note.{Note}
-use Rattle.hc_history.specs.Told.{Log, told_more}
-use Rattle.hc_core.specs.World.{Step, Open, Put, PutNew, Discard, Find, Remove, Tick, Answer, Answered, Refused, NoSlot, Filled, Discarded, Moment, Stage, Idle, World, Run, joined, ends_from, log_length, new_stage, Goes, IsRun}
-use Rattle.hc_history.proofs.Telling.{told-nothing}
+use Rattle.hc_history.specs.Told.{Heard, Log, told_more}
+use Rattle.hc_machine.specs.Cache.{Cache, new_cache}
+use Rattle.hc_machine.specs.World.{result_at}
+use Rattle.hc_machine.specs.Schedule.{Step, Slot, Told, Ran, new_scene, run, all_of, given_up, log_of}
+use Rattle.hc_proof_runs.specs.Schedule.{DeedSized, AllStepSized}
+use Rattle.hc_run.specs.Steps.{breaking}
+use Rattle.hc_run.specs.Shows.{Stage, Sight, AreOwn, Moves, Waits}
+use Rattle.hc_run.specs.Runs.{ends_from, IsRunOf}
+use Rattle.hc_follows.specs.Follows.{StopsAt}
+use Rattle.hc_run.specs.Laws.{Promised}
+use Rattle.hc_run.specs.Going.{log_length, GoesOn, IsOngoing}
+use Rattle.hc_run.proofs.Chaining.{IsRun-none, IsRun-more}
+use Rattle.hc_run.proofs.Promising.{runs_stand, runs_keep_promise}
 
-run_more : (old : Stage) (steps : List Step) (answers : List Answer) (parts : List (List Note)) (mid : Stage) (step : Step) (answer : Answer) (part : List Note) (new : Stage)
-    → Run old steps answers parts mid → World mid step answer part new → Run old (steps ++ step ∷ []) (answers ++ answer ∷ []) (parts ++ part ∷ []) new
-run_more old [] [] [] mid step answer part new r w = (new, (subst (λ (s : Stage). World s step answer part new) r w, refl))
-run_more old [] [] (p ∷ parts) mid step answer part new r w = absurd r
-run_more old [] (a ∷ answers) parts mid step answer part new r w = absurd r
-run_more old (s ∷ steps) [] parts mid step answer part new r w = absurd r
-run_more old (s ∷ steps) (a ∷ answers) [] mid step answer part new r w = absurd r
-run_more old (s ∷ steps) (a ∷ answers) (p ∷ parts) mid step answer part new r w = (r.0, (r.1.0, run_more r.0 steps answers parts mid step answer part new r.1.1 w))
+-- ---- parts and ends
 
-joined_more : (parts : List (List Note)) (part : List Note) → joined (parts ++ part ∷ []) ≡ joined parts ++ part
-joined_more [] part = append-nil part
-joined_more (p ∷ parts) part = ap (λ ns. p ++ ns) (joined_more parts part) ∙ sym (append_assoc p (joined parts) part)
+pub all_more : (parts : List (List Note)) (part : List Note) → all_of (parts ++ part ∷ []) ≡ all_of parts ++ part
+all_more [] part = append-nil part
+all_more (p ∷ parts) part = ap (λ (notes : List Note). p ++ notes) (all_more parts part) ∙ sym (append_assoc p (all_of parts) part)
 
-ends_more : (at : ℕ) (parts : List (List Note)) (part : List Note) → ends_from at (parts ++ part ∷ []) ≡ ends_from at parts ++ (at + length (joined parts ++ part)) ∷ []
+pub ends_more : (at : ℕ) (parts : List (List Note)) (part : List Note) → ends_from at (parts ++ part ∷ []) ≡ ends_from at parts ++ (at + length (all_of parts ++ part)) ∷ []
 ends_more at [] part = refl
 ends_more at (p ∷ parts) part =
-    ap (λ es. (at + length p) ∷ es) (ends_more (at + length p) parts part
-    ∙ ap (λ n. ends_from (at + length p) parts ++ n ∷ []) (omega (arith, length-append p (joined parts), length-append (p ++ joined parts) part, length-append (joined parts) part)))
+    ap (λ (ends : List ℕ). (at + length p) ∷ ends) (ends_more (at + length p) parts part
+    ∙ ap (λ (n : ℕ). ends_from (at + length p) parts ++ n ∷ []) (omega (arith, length-append p (all_of parts), length-append (p ++ all_of parts) part, length-append (all_of parts) part)))
 
--- ---- what a step leaves
+pub sized_more : (steps : List Step) (s : Step) → AllStepSized steps → DeedSized s.deed → AllStepSized (steps ++ s ∷ [])
+sized_more [] s all sized = (sized, tt)
+sized_more (first ∷ steps) s all sized = (all.0, sized_more steps s all.1 sized)
 
--- the part is added to the log, and the configuration stays
-abbrev Leaves : Stage → List Note → Stage → Type 0
-Leaves old part new = (new.cache.log ≡ told_more old.cache.log part) × (new.cache.config ≡ old.cache.config)
+abbrev log_in : Heard → List Note
+log_in (Log log) = log
+log_in heard = []
 
-moved : (old : Stage) {part told : List Note} {new after : Stage} → part ≡ told → new ≡ after → Leaves old told after → Leaves old part new
-moved old p e left = (ap (λ (s : Stage). s.cache.log) e ∙ left.0 ∙ ap (told_more old.cache.log) (sym p), ap (λ (s : Stage). s.cache.config) e ∙ left.1)
+-- ---- one step more
 
-idle : (old : Stage) {part : List Note} {new : Stage} → Idle old part new → Leaves old part new
-idle old w = moved old w.0 w.1 (sym (told-nothing old.cache.log), refl)
+module _ {Device : Type 0} (sight : Sight Device) (config : Config) where
+  -- before the first step
+  pub ongoing-none : (stage : Stage Device) → stage.cache ≡ new_cache config → stage.log ≡ Log [] → stage.results ≡ [] → stage.slots ≡ [] → stage.failed_before ≡ sight.failed stage.device → IsOngoing sight config [] [] [] stage
+  ongoing-none stage cache log results slots before = record {
+    parts = [];
+    scene = new_scene config [];
+    run = IsRun-none config;
+    shows = record { cache = sym cache; results = λ job. ap (result_at job) (sym results); slots = sym slots; failures = zero-add stage.failed_before ∙ before; pages = λ page bytes is. absurd cc };
+    log = log;
+    ended = refl;
+    sized = tt;
+  }
 
-world_leaves : (old : Stage) (step : Step) (answer : Answer) (part : List Note) (new : Stage) → World old step answer part new → Leaves old part new
-world_leaves old (Open slot pool key value ttl) NoSlot part new w = idle old w.1
-world_leaves old (Open slot pool key value ttl) (Refused refusal) part new w = idle old w.2
-world_leaves old (Open slot pool key value ttl) Filled part new w = moved old w.2 w.3 (refl, refl)
-world_leaves old (Put client slot) NoSlot part new w = idle old w.1
-world_leaves old (Put client slot) (Answered reply) part new w = moved old w.1.2 w.1.3 (refl, refl)
-world_leaves old (PutNew client slot) NoSlot part new w = idle old w.1
-world_leaves old (PutNew client slot) (Refused refusal) part new w = idle old w.1.2
-world_leaves old (PutNew client slot) (Answered reply) part new w = moved old w.1.3 w.1.4 (refl, refl)
-world_leaves old (Discard slot) NoSlot part new w = idle old w.1
-world_leaves old (Discard slot) Discarded part new w = moved old w.1.1 w.1.2 (refl, refl)
-world_leaves old (Find client key) (Answered reply) part new w = moved old w.1 w.2 (refl, refl)
-world_leaves old (Remove client key) (Answered reply) part new w = moved old w.1 w.2 (refl, refl)
-world_leaves old (Tick moment) (Moment now) part new w = moved old w.1 w.2 (refl, refl)
-world_leaves old step answer part new w = absurd w
+  abbrev pub ongoing-more : (steps : List Step) (answers : List Told) (ends : List ℕ) (old new : Stage Device) (s : Step) (told : Told) → first_wrong config ≡ None → IsOngoing sight config steps answers ends old → Moves sight old s told new
+      → IsOngoing sight config (steps ++ s ∷ []) (answers ++ told ∷ []) (ends ++ log_length new.log ∷ []) new
+  ongoing-more steps answers ends old new s told right o m =
+      let stands = runs_stand config steps answers o.parts o.scene right o.sized o.run in
+      let l = m.leads o.scene o.shows stands.reads in
+      let log : new.log ≡ Log (all_of o.parts ++ m.part) = m.log ∙ ap (λ (heard : Heard). told_more heard m.part) o.log in
+      record {
+        parts = o.parts ++ m.part ∷ [];
+        scene = l.new;
+        run = IsRun-more config steps answers o.parts o.scene l.new s told m.part o.run l.goes;
+        shows = l.shows;
+        log = log ∙ ap (λ (notes : List Note). Log notes) (sym (all_more o.parts m.part));
+        ended = (λ i. o.ended i ++ log_length (log i) ∷ []) ∙ ap (λ (n : ℕ). ends_from 0 o.parts ++ n ∷ []) (sym (zero-add (length (all_of o.parts ++ m.part)))) ∙ sym (ends_more 0 o.parts m.part);
+        sized = sized_more steps s o.sized m.sized;
+      }
 
--- ---- runs
+  -- what fills the slots is the cache's own
+  pub ongoing-own : (steps : List Step) (answers : List Told) (ends : List ℕ) (stage : Stage Device) → first_wrong config ≡ None → IsOngoing sight config steps answers ends stage → AreOwn stage.slots stage.cache
+  ongoing-own steps answers ends stage right o =
+      let own = (runs_stand config steps answers o.parts o.scene right o.sized o.run).own in
+      subst (λ (slots : List Slot). AreOwn slots stage.cache) o.shows.slots (subst (λ (cache : Cache). AreOwn o.scene.slots cache) o.shows.cache own)
 
-pub IsRun-none : (config : Config) → IsRun config [] [] [] (new_stage config)
-IsRun-none config = record { parts = []; run = refl; log = refl; ended = refl }
+  -- a turn of the run's loop
+  pub run_turn : (steps : List Step) (s : Step) (i : ℕ) (answers answers' : List Told) (ends ends' : List ℕ) (old new : Stage Device) → i < length steps → s ≡ get_or steps i s → first_wrong config ≡ None
+      → IsOngoing sight config (take i steps) answers ends old → length answers ≡ i → GoesOn sight old answers ends s new answers' ends'
+      → IsOngoing sight config (take (i + 1) steps) answers' ends' new × (length answers' ≡ i + 1)
+  run_turn steps s i answers answers' ends ends' old new lt here right o made g =
+      let more : take (i + 1) steps ≡ take i steps ++ s ∷ [] = take_more steps i s lt ∙ ap (λ (s : Step). take i steps ++ s ∷ []) (sym here) in
+      let next = ongoing-more (take i steps) answers ends old new s g.told right o g.moves in (
+        subst (λ (all : List Step). IsOngoing sight config all answers' ends' new) (sym more)
+            (subst (λ (as' : List Told). IsOngoing sight config (take i steps ++ s ∷ []) as' ends' new) (sym g.answered)
+            (subst (λ (es : List ℕ). IsOngoing sight config (take i steps ++ s ∷ []) (answers ++ g.told ∷ []) es new) (sym g.ended) next)),
+        ap length g.answered ∙ length-append answers (g.told ∷ []) ∙ ap (λ (n : ℕ). n + 1) made,
+      )
 
-IsRun-more : (config : Config) (steps : List Step) (answers answers' : List Answer) (ends ends' : List ℕ) (old new : Stage) (step : Step) → IsRun config steps answers ends old → Goes old answers ends step new answers' ends' → IsRun config (steps ++ step ∷ []) answers' ends' new
-IsRun-more config steps answers answers' ends ends' old new step r g =
-    let log : new.cache.log ≡ Log (joined r.parts ++ g.part) = (world_leaves old step g.answer g.part new g.world).0 ∙ ap (λ l. told_more l g.part) r.log in
-    record {
-      parts = r.parts ++ g.part ∷ [];
-      run = subst (λ as'. Run (new_stage config) (steps ++ step ∷ []) as' (r.parts ++ g.part ∷ []) new) (sym g.answered) (run_more (new_stage config) steps answers r.parts old step g.answer g.part new r.run g.world);
-      log = log ∙ ap (λ ns. Log ns) (sym (joined_more r.parts g.part));
-      ended = g.ended ∙ ap (λ es. es ++ log_length new.cache.log ∷ []) r.ended ∙ ap (λ l. ends_from 0 r.parts ++ log_length l ∷ []) log ∙ ap (λ n. ends_from 0 r.parts ++ n ∷ []) (sym (zero-add (length (joined r.parts ++ g.part)))) ∙ sym (ends_more 0 r.parts g.part);
-    }
+  -- the stage waits: the run is as far
+  abbrev pub ongoing-waits : (steps : List Step) (answers : List Told) (ends : List ℕ) (old new : Stage Device) → IsOngoing sight config steps answers ends old → Waits sight old new → IsOngoing sight config steps answers ends new
+  ongoing-waits steps answers ends old new o w = record { parts = o.parts; scene = o.scene; run = o.run; shows = w.shows o.scene o.shows; log = w.log ∙ o.log; ended = o.ended; sized = o.sized }
 
--- a turn of the run's loop
-pub run_turn : (config : Config) (steps : List Step) (i : ℕ) (step : Step) (answers answers' : List Answer) (ends ends' : List ℕ) (old new : Stage) → i < length steps → step ≡ get_or steps i step
-    → old.cache.config ≡ config → IsRun config (take i steps) answers ends old → length answers ≡ i → Goes old answers ends step new answers' ends'
-    → (new.cache.config ≡ config) × IsRun config (take (i + 1) steps) answers' ends' new × (length answers' ≡ i + 1)
-run_turn config steps i step answers answers' ends ends' old new lt here same r made g =
-    let more : take (i + 1) steps ≡ take i steps ++ step ∷ [] = take_more steps i step lt ∙ ap (λ (s : Step). take i steps ++ s ∷ []) (sym here) in (
-      (world_leaves old step g.answer g.part new g.world).1 ∙ same,
-      subst (λ ss. IsRun config ss answers' ends' new) (sym more) (IsRun-more config (take i steps) answers answers' ends ends' old new step r g),
-      ap length g.answered ∙ length-append answers (g.answer ∷ []) ∙ ap (λ n. n + 1) made,
-    )
+  -- what still fills the slots is given up, and the run is over
+  abbrev pub run_ends : (steps : List Step) (answers : List Told) (ends : List ℕ) (stage : Stage Device) (log : List Note) → IsOngoing sight config steps answers ends stage → Log log ≡ told_more stage.log (given_up stage.slots stage.cache).part → IsRunOf config steps answers ends log
+  run_ends steps answers ends stage log o last =
+      let ran : run config o.run.broke steps ≡ record { scene = breaking [] o.scene; answers = answers; parts = o.parts } = subst (λ (breaks : List Bool). run config breaks steps ≡ record { scene = breaking [] o.scene; answers = answers; parts = o.parts }) (append-nil o.run.broke) (o.run.ran []) in
+      let end : Log log ≡ Log (all_of o.parts ++ (given_up o.scene.slots o.scene.world.cache).part) = last ∙ (λ i. told_more (o.log i) (given_up (sym o.shows.slots i) (sym o.shows.cache i)).part) in
+      record {
+        breaks = o.run.broke;
+        answered = ap (λ (r : Ran). r.answers) (sym ran);
+        ended = o.ended ∙ ap (λ (r : Ran). ends_from 0 r.parts) (sym ran);
+        told = ap log_in end ∙ ap log_of (sym ran);
+      }
+
+  pub promised : (steps : List Step) (answers : List Told) (ends : List ℕ) (stage : Stage Device) (log : List Note) (stopped : Option ℕ) → first_wrong config ≡ None → IsOngoing sight config (take (length answers) steps) answers ends stage
+      → StopsAt stopped (length answers) (length steps) → Log log ≡ told_more stage.log (given_up stage.slots stage.cache).part → Promised config steps answers ends log stopped
+  promised steps answers ends stage log stopped right o stops last = runs_keep_promise config steps answers ends log stopped right o.sized stops (run_ends (take (length answers) steps) answers ends stage log o last)
+
+  -- as many steps were made as were answered
+  pub ongoing-made : (steps : List Step) (i : ℕ) (answers : List Told) (ends : List ℕ) (stage : Stage Device) → IsOngoing sight config (take i steps) answers ends stage → length answers ≡ i → IsOngoing sight config (take (length answers) steps) answers ends stage
+  ongoing-made steps i answers ends stage o made = subst (λ (n : ℕ). IsOngoing sight config (take n steps) answers ends stage) (sym made) o
+
+  -- the run stops here
+  pub ongoing-stopped : (steps : List Step) (i : ℕ) (answers answers' : List Told) (ends ends' : List ℕ) (old new : Stage Device) → IsOngoing sight config (take i steps) answers ends old → length answers ≡ i → Waits sight old new → answers' ≡ answers → ends' ≡ ends
+      → IsOngoing sight config (take (length answers') steps) answers' ends' new
+  ongoing-stopped steps i answers answers' ends ends' old new o made w a e =
+      subst (λ (as' : List Told). IsOngoing sight config (take (length as') steps) as' ends' new) (sym a)
+      (subst (λ (es : List ℕ). IsOngoing sight config (take (length answers) steps) answers es new) (sym e) (ongoing-waits (take (length answers) steps) answers ends old new (ongoing-made steps i answers ends old o made) w))

@@ -1,3 +1,13 @@
-pub mod Filled
-pub mod Staging
+pub mod Stepping
+pub mod Chaining
+pub mod Promising
 pub mod Going
+pub mod Slotting
+pub mod Devices
+pub mod Refusing
+pub mod Owning
+pub mod Staging
+pub mod Ending
+pub mod Answering
+pub mod Slotted
+pub mod QuietGoing

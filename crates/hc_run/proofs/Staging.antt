@@ -1,196 +1,281 @@
--- What each step does to a cache and its slots.
-use Rattle.std.proofs.Common.{◌≡◌, ℕ, ◌+◌, ◌<◌, ◌≤◌, ◌⊎◌, Bool, true, false, List, [], ◌∷◌, Option, Some, None, length, get_or, slice_set, length-set, refl, ap, sym, ◌∙◌, arith, subst, ⊎_elim}
-use Rattle.std.specs.Prelude.{is_some, IfSome, IfOk, OnErr, Result, Ok, Err}
-use Rattle.std.proofs.lemmas.List.{get_or_read}
-use mathlib.Core.Bool.{cond}
-use Rattle.hc_types.specs.Tally.{tally, count}
+-- What each step does to a stage, from whatever scene it shows.
+use Rattle.std.proofs.Common.{◌≡◌, ◌⊎◌, ⊎_elim, inl, inr, ℕ, ◌+◌, ◌-◌, ◌==◌, Bool, true, false, List, [], ◌∷◌, Option, Some, None, refl, ap, sym, subst, ◌∙◌, arith}
+use Rattle.std.specs.Prelude.{if◌then◌else◌, not, is_some}
 use Rattle.hc_types.specs.declared.refusal.Refusal.{Refusal}
-use Rattle.hc_types.specs.declared.refusal.Refusal.TheVariants.{ForeignHandle, NoMemory}
-use Rattle.hc_memory.specs.Item.{Open, Handle, charge_by}
-use Rattle.hc_memory.specs.Charges.{has_number, is_open}
-use Rattle.hc_memory.specs.Memory.{linked_at}
-use Rattle.hc_history.specs.Note.{Note, Stored, Freed}
-use Rattle.hc_history.specs.Told.{Heard, told_more}
-use Rattle.hc_history.proofs.Telling.{told-twice, told-nothing}
-use Rattle.hc_core.specs.Cache.{Cache}
-use Rattle.hc_core.specs.Refused.{allocate_refusal, handle_refusal, insert_refusal}
-use Rattle.hc_core.specs.Steps.{opened, part_of_allocate, after_allocate, after_store, store_notes}
-use Rattle.hc_core.specs.World.{Step, Open as Opening, Put, PutNew, Discard, Answer, Answered, Refused, Filled, Discarded, Stage, handle_in, slot_sum, SlotsHold, May, after_give_up, left_notes}
-use Rattle.hc_run.specs.Asked.{answer_of}
-use Rattle.hc_run.specs.declared.steps.Outcome.{Outcome}
-use Rattle.hc_run.proofs.Filled.{set-none, filled-open, held-filled, held-emptied}
+use Rattle.hc_types.specs.declared.refusal.Refusal.TheVariants.{UnknownJob}
+use Rattle.hc_engines.specs.Engine.{Pages, Order, Read, Write, IoResult, pages_after}
+use Rattle.hc_memory.specs.Item.{Handle}
+use Rattle.hc_history.specs.Note.{Note}
+use Rattle.hc_history.specs.Told.{told_more}
+use Rattle.hc_history.proofs.Telling.{told-nothing}
+use Rattle.hc_machine.specs.Cache.{Cache, Moved, Answer, Refused, Opened}
+use Rattle.hc_machine.specs.Evicting.{allocate}
+use Rattle.hc_machine.specs.Calls as calls
+use Rattle.hc_machine.specs.Workers as workers
+use Rattle.hc_machine.specs.World.{Result, Says, Made, by_call, done_of, order_in, result_at, without_result}
+use Rattle.hc_machine.specs.Schedule.{Deed, Open, Put, PutNew, Discard, Reply, Io, Finish, Step, Slot, Scene, Told, Tells, NoSlot, Filled, Done, slot_at, without_slot, with_slot, left_after, in_world, fills, opens, puts, puts_new, discards, step}
+use Rattle.hc_invariant.specs.Good.{IsSized}
+use Rattle.hc_proof_runs.specs.Schedule.{DeedSized}
+use Rattle.hc_run.specs.Steps.{Goes, IsCalm, failed_more, operates}
+use Rattle.hc_run.specs.Shows.{Stage, Sight, IsWithin, Shows, IsReadable, Leads, Moves, Waits}
+use Rattle.hc_run.specs.Devices.{CanRead, Comes, IsSame}
+use Rattle.hc_run.proofs.Stepping.{goes_calmly, goes_by_io, goes_idly}
+use Rattle.hc_run.proofs.Refusing.{allocate_stays, reply_stays, insert_stays, finish_stays}
 
-some-held : (held : Option Handle) → is_some held ≡ true → (handle : Handle) × (held ≡ Some handle)
-some-held None h = absurd cc
-some-held (Some handle) h = (handle, refl)
+abbrev pub slot_of : ℕ → Handle → Slot
+slot_of number handle = record { number = number; handle = handle }
 
-none-held : (held : Option Handle) → is_some held ≡ false → held ≡ None
-none-held None h = refl
-none-held (Some handle) h = absurd cc
+abbrev pub by_client : ℕ → Deed → Step
+by_client client deed = record { client = client; deed = deed }
 
--- what was read at the slot's place
-pub read-is : (slots : List (Option Handle)) (at slot : ℕ) (held : Option Handle) (b r : Bool) → at ≡ slot → slot < length slots → held ≡ get_or slots at held → r ≡ is_some held → r ≡ b → is_some (handle_in slot slots) ≡ b
-read-is slots at slot held b r same within read is known = ap is_some (sym (get_or_read slots slot held within (read ∙ ap (λ n. get_or slots n held) same) None)) ∙ sym is ∙ known
+-- ---- results
 
--- a slot that is filled has a handle
-pub filled-has : (slots : List (Option Handle)) (slot : ℕ) → is_some (handle_in slot slots) ≡ true → (handle : Handle) × (handle_in slot slots ≡ Some handle)
-filled-has slots slot h = some-held (handle_in slot slots) h
+pub result-gone : (job every : ℕ) (results : List Result) → result_at every (without_result job results) ≡ (if job == every then None else result_at every results)
+result-gone job every [] = go (job == every)
+  where
+    go : (t : Bool) → ◌≡◌ {A = Option IoResult} None (if t then None else None)
+    go true = refl
+    go false = refl
+result-gone job every (r ∷ results) = go (r.job == job) (job == every) (r.job == every) refl refl refl (result-gone job every results)
+  where
+    go : (own asked here : Bool) → (r.job == job) ≡ own → (job == every) ≡ asked → (r.job == every) ≡ here → result_at every (without_result job results) ≡ (if asked then None else result_at every results)
+        → result_at every (if not own then r ∷ without_result job results else without_result job results) ≡ (if asked then None else (if here then Some r.result else result_at every results))
+    go true true here a b c rest = rest
+    go true false true a b c rest = absurd (let no : (job == every) ≡ true = grind (arith, a, c) in cc)
+    go true false false a b c rest = rest
+    go false true true a b c rest = absurd (let no : (r.job == job) ≡ true = grind (arith, b, c) in cc)
+    go false true false a b c rest = ap (λ (t : Bool). if t then Some r.result else result_at every (without_result job results)) c ∙ rest
+    go false false here a b c rest = (λ i. if c i then Some r.result else rest i)
 
--- the invariant of a stage
-abbrev pub Kept : List Open → List (Option Handle) → Type 0
-Kept charges slots = (length slots ≡ 256) × SlotsHold charges slots
+-- ---- stages
 
--- it is kept by what sets one slot
-kept-set : (charges charges' : List Open) (slots slots' : List (Option Handle)) (slot : ℕ) (held : Option Handle) → length slots ≡ 256 → SlotsHold charges' (slice_set slots slot held) → charges ≡ charges' → slots' ≡ slice_set slots slot held → Kept charges slots'
-kept-set charges charges' slots slots' slot held all holds same set = (ap length set ∙ length-set slots slot held ∙ all, λ f. ap (tally f) same ∙ holds f ∙ sym (ap (tally (slot_sum f)) set))
+module _ {Device : Type 0} (sight : Sight Device) where
+  -- a call of the cache: what it leaves, is answered, and tells
+  pub record Called (moved : Moved) (answer : Answer) (old new : Stage Device) : Type 0 where
+    pub cache : new.cache ≡ moved.cache
+    pub answer_is : answer ≡ moved.answer
+    pub log : new.log ≡ told_more old.log moved.part
+    pub device : new.device ≡ old.device
+    pub before : new.failed_before ≡ old.failed_before
 
--- ---- what is given up
+  -- a scene like another, with the same device
+  reshow : (old new : Stage Device) (scene next : Scene) → Shows sight old scene → new.device ≡ old.device → new.failed_before ≡ old.failed_before → next.world.pages ≡ scene.world.pages → next.world.failures ≡ scene.world.failures
+      → next.world.cache ≡ new.cache → ((job : ℕ) → result_at job next.world.results ≡ result_at job new.results) → next.slots ≡ new.slots → Shows sight new next
+  reshow old new scene next sh device before pages failures cache results slots = record {
+    cache = cache;
+    results = results;
+    slots = slots;
+    failures = (λ i. failures i + before i) ∙ sh.failures ∙ ap sight.failed (sym device);
+    pages = λ page bytes is. ap (λ (d : Device). sight.held d page) device ∙ sh.pages page bytes (sym (ap (λ (all : Pages). all page) pages) ∙ is);
+  }
 
-module _ (cache : Cache) (slots : List (Option Handle)) (slot : ℕ) (holds : SlotsHold cache.memory.charges slots) (unique : (n : ℕ) → count (has_number n) cache.memory.charges ≤ 1) (within : slot < length slots) where
-  pub given-open : (held : Option Handle) → handle_in slot slots ≡ held → IfSome held (λ handle. is_open (charge_by handle) cache.memory.charges ≡ true)
-  given-open None is = tt
-  given-open (Some handle) is = filled-open cache.memory.charges slots slot handle holds unique within is
+  -- what a step with no device operation comes to
+  record Ends (scene : Scene) (s : Step) (told : Told) (part : List Note) (new : Stage Device) : Type 0 where
+    done : Done
+    is : step s scene ≡ done
+    told_is : done.told ≡ told
+    part_is : done.part ≡ part
+    shows : Shows sight new done.scene
 
-  pub given-held : (held : Option Handle) → handle_in slot slots ≡ held → SlotsHold (after_give_up cache held).memory.charges (slice_set slots slot None)
-  given-held None is = subst (λ s. SlotsHold cache.memory.charges s) (sym (set-none slots slot is)) holds
-  given-held (Some handle) is = held-emptied cache.memory.charges slots slot handle holds within is (filled-open cache.memory.charges slots slot handle holds unique within is)
+  leads_by : (scene : Scene) (s : Step) (told : Told) (part : List Note) (new : Stage Device) → IsCalm s.deed → Ends scene s told part new → Leads sight scene s told part new
+  leads_by scene s told part new calm e =
+      let first = subst (λ (d : Done). Goes scene s d.told d.part d.scene) e.is (goes_calmly s scene calm) in
+      record {
+        new = e.done.scene;
+        goes = subst (λ (t : Told). Goes scene s t part e.done.scene) e.told_is (subst (λ (notes : List Note). Goes scene s e.done.told notes e.done.scene) e.part_is first);
+        shows = e.shows;
+      }
 
-pub given-kept : (cache new : Cache) (slots slots' : List (Option Handle)) (slot : ℕ) (held : Option Handle) → Kept cache.memory.charges slots → ((n : ℕ) → count (has_number n) cache.memory.charges ≤ 1) → slot < length slots → handle_in slot slots ≡ held
-    → new ≡ after_give_up cache held → slots' ≡ slice_set slots slot None → Kept new.memory.charges slots'
-given-kept cache new slots slots' slot held kept unique within is after set =
-    kept-set new.memory.charges (after_give_up cache held).memory.charges slots slots' slot None kept.0 (given-held cache slots slot kept.1 unique within held is) (ap (λ (c : Cache). c.memory.charges) after) set
+  calmly : (old new : Stage Device) (s : Step) (told : Told) (part : List Note) → IsCalm s.deed → DeedSized s.deed → new.log ≡ told_more old.log part → ((scene : Scene) → Shows sight old scene → Ends scene s told part new) → Moves sight old s told new
+  calmly old new s told part calm sized log ends = record { part = part; log = log; sized = sized; leads = λ scene sh reads. leads_by scene s told part new calm (ends scene sh) }
 
-discarded_step : (cache : Cache) (slots : List (Option Handle)) (slot : ℕ) (held : Option Handle) (new : Stage) → handle_in slot slots ≡ held → is_some held ≡ true → new ≡ record { cache = after_give_up cache held; slots = slice_set slots slot None }
-    → May (record { cache = cache; slots = slots }) (Discard slot) Discarded new
-discarded_step cache slots slot None new is some after = absurd cc
-discarded_step cache slots slot (Some handle) new is some after = (Freed handle.number ∷ [], (handle, (is, refl, after)))
+  -- told the same
+  pub retold : (old new : Stage Device) (s : Step) (told same : Told) → told ≡ same → Moves sight old s same new → Moves sight old s told new
+  retold old new s told same is moves = subst (λ (t : Told). Moves sight old s t new) (sym is) moves
 
-pub discarded : (old : Stage) (cache : Cache) (slots : List (Option Handle)) (slot : ℕ) (held : Option Handle) (new : Stage) → record { cache = cache; slots = slots } ≡ old → handle_in slot slots ≡ held → is_some (handle_in slot slots) ≡ true
-    → new ≡ record { cache = after_give_up cache held; slots = slice_set slots slot None } → May old (Discard slot) Discarded new
-discarded old cache slots slot held new view is some after = subst (λ s. May s (Discard slot) Discarded new) view (discarded_step cache slots slot held new is (ap is_some (sym is) ∙ some) after)
+  -- ---- nothing happens
 
--- ---- what is opened
+  pub unmoved : (old : Stage Device) (s : Step) (told : Told) → IsCalm s.deed → DeedSized s.deed → ((scene : Scene) → Shows sight old scene → step s scene ≡ record { scene = scene; told = told; part = [] }) → Moves sight old s told old
+  unmoved old s told calm sized is = calmly old old s told [] calm sized (sym (told-nothing old.log)) (λ scene sh. record { done = record { scene = scene; told = told; part = [] }; is = is scene sh; told_is = refl; part_is = refl; shows = sh })
 
-pub opened-kept : (cache new : Cache) (slots slots' : List (Option Handle)) (slot pool : ℕ) (key value : List ℕ) (ttl : ℕ) (handle : Handle) → Kept cache.memory.charges slots → slot < length slots → is_some (handle_in slot slots) ≡ false
-    → new ≡ after_allocate cache pool key (length value) → handle ≡ opened cache pool key value ttl → slots' ≡ slice_set slots slot (Some handle) → Kept new.memory.charges slots'
-opened-kept cache new slots slots' slot pool key value ttl handle kept within empty after is set =
-    kept-set new.memory.charges (after_allocate cache pool key (length value)).memory.charges slots slots' slot (Some (opened cache pool key value ttl)) kept.0
-    (held-filled cache.memory.charges slots slot (opened cache pool key value ttl) kept.1 within (none-held (handle_in slot slots) empty))
-    (ap (λ (c : Cache). c.memory.charges) after) (set ∙ ap (λ h. slice_set slots slot (Some h)) is)
+  -- ---- calls that leave the slots and the results
 
--- ---- what is inserted
+  pub simply : (f : Cache → Moved) (old new : Stage Device) (s : Step) (answer : Answer) → ((scene : Scene) → step s scene ≡ in_world scene.slots (by_call scene.world (f scene.world.cache))) → IsCalm s.deed → DeedSized s.deed
+      → Called (f old.cache) answer old new → new.results ≡ old.results → new.slots ≡ old.slots → Moves sight old s (Tells (Says answer)) new
+  simply f old new s answer is calm sized c results slots = calmly old new s (Tells (Says answer)) (f old.cache).part calm sized c.log (λ scene sh. record {
+    done = in_world scene.slots (by_call scene.world (f scene.world.cache));
+    is = is scene;
+    told_is = ap (λ (k : Cache). Tells (Says (f k).answer)) sh.cache ∙ ap (λ (a : Answer). Tells (Says a)) (sym c.answer_is);
+    part_is = ap (λ (k : Cache). (f k).part) sh.cache;
+    shows = reshow old new scene _ sh c.device c.before refl refl (ap (λ (k : Cache). (f k).cache) sh.cache ∙ sym c.cache) (λ job. sh.results job ∙ ap (result_at job) (sym results)) (sh.slots ∙ sym slots);
+  })
 
-pub stored-kept : (cache new : Cache) (slots slots' : List (Option Handle)) (client slot : ℕ) (adds : Bool) (handle : Handle) → Kept cache.memory.charges slots → slot < length slots → handle_in slot slots ≡ Some handle → is_open (charge_by handle) cache.memory.charges ≡ true
-    → new ≡ after_store cache client adds handle → slots' ≡ slice_set slots slot None → Kept new.memory.charges slots'
-stored-kept cache new slots slots' client slot adds handle kept within is known after set =
-    kept-set new.memory.charges (after_store cache client adds handle).memory.charges slots slots' slot None kept.0 (held-emptied cache.memory.charges slots slot handle kept.1 within is known) (ap (λ (c : Cache). c.memory.charges) after) set
+  -- ---- slots
 
--- nothing changed
-pub back-kept : (cache new : Cache) (slots slots' : List (Option Handle)) → Kept cache.memory.charges slots → new ≡ cache → slots' ≡ slots → Kept new.memory.charges slots'
-back-kept cache new slots slots' kept same back = (ap length back ∙ kept.0, λ f. ap (λ (c : Cache). tally f c.memory.charges) same ∙ kept.1 f ∙ sym (ap (tally (slot_sum f)) back))
+  pub no-slot-to-fill : (old : Stage Device) (client slot pool : ℕ) (key value : List ℕ) (ttl : ℕ) (handle : Handle) → slot_at slot old.slots ≡ Some (slot_of slot handle) → IsSized key [] 0 → Moves sight old (by_client client (Open slot pool key value ttl)) NoSlot old
+  no-slot-to-fill old client slot pool key value ttl handle at sized = unmoved old _ NoSlot tt sized (λ scene sh. ap (λ (o : Option Slot). opens o slot pool key value ttl scene) (ap (slot_at slot) sh.slots ∙ at))
 
-pub back-is : (old : Stage) (cache new : Cache) (slots slots' : List (Option Handle)) → record { cache = cache; slots = slots } ≡ old → new ≡ cache → slots' ≡ slots → record { cache = new; slots = slots' } ≡ old
-back-is old cache new slots slots' view same back = (λ i. record { cache = same i; slots = back i }) ∙ view
+  pub opened : (old new : Stage Device) (client slot pool : ℕ) (key value : List ℕ) (ttl : ℕ) (handle : Handle) → slot_at slot old.slots ≡ None → IsSized key [] 0 → Called (allocate pool key value ttl old.cache) (Opened handle) old new
+      → new.results ≡ old.results → new.slots ≡ with_slot (slot_of slot handle) old.slots → Moves sight old (by_client client (Open slot pool key value ttl)) Filled new
+  opened old new client slot pool key value ttl handle at sized c results slots = calmly old new (by_client client (Open slot pool key value ttl)) Filled (allocate pool key value ttl old.cache).part tt sized c.log (λ scene sh.
+      let moved = allocate pool key value ttl scene.world.cache in
+      let same : moved ≡ allocate pool key value ttl old.cache = ap (allocate pool key value ttl) sh.cache in
+      record {
+        done = fills slot (Opened handle) scene moved;
+        is = ap (λ (o : Option Slot). opens o slot pool key value ttl scene) (ap (slot_at slot) sh.slots ∙ at) ∙ ap (λ (a : Answer). fills slot a scene moved) (ap (λ (m : Moved). m.answer) same ∙ sym c.answer_is);
+        told_is = refl;
+        part_is = ap (λ (m : Moved). m.part) same;
+        shows = reshow old new scene _ sh c.device c.before refl refl (ap (λ (m : Moved). m.cache) same ∙ sym c.cache) (λ job. sh.results job ∙ ap (result_at job) (sym results)) (ap (with_slot (slot_of slot handle)) sh.slots ∙ sym slots);
+      })
 
-mine_step : (b : Bool) (refusal : Refusal) → cond b None (Some refusal) ≡ None → b ≡ true
-mine_step true refusal h = refl
-mine_step false refusal h = absurd cc
+  pub open-refused : (old : Stage Device) (client slot pool : ℕ) (key value : List ℕ) (ttl : ℕ) (refusal : Refusal) → slot_at slot old.slots ≡ None → IsSized key [] 0 → (allocate pool key value ttl old.cache).answer ≡ Refused refusal
+      → Moves sight old (by_client client (Open slot pool key value ttl)) (Tells (Says (Refused refusal))) old
+  open-refused old client slot pool key value ttl refusal at sized why = unmoved old _ _ tt sized (λ scene sh.
+      let moved = allocate pool key value ttl scene.world.cache in
+      let same : moved ≡ allocate pool key value ttl old.cache = ap (allocate pool key value ttl) sh.cache in
+      ap (λ (o : Option Slot). opens o slot pool key value ttl scene) (ap (slot_at slot) sh.slots ∙ at)
+      ∙ ap (λ (m : Moved). fills slot m.answer scene m) (allocate_stays pool key value ttl scene.world.cache refusal (ap (λ (m : Moved). m.answer) same ∙ why)))
 
--- the handle is not refused only where its charge is open
-pub taken-open : (cache : Cache) (handle : Handle) → handle_refusal cache handle ≡ None → is_open (charge_by handle) cache.memory.charges ≡ true
-taken-open cache handle h = mine_step (is_open (charge_by handle) cache.memory.charges) ForeignHandle h
+  pub no-slot-to-put : (old : Stage Device) (client slot : ℕ) → slot_at slot old.slots ≡ None → Moves sight old (by_client client (Put slot)) NoSlot old
+  no-slot-to-put old client slot at = unmoved old _ NoSlot tt tt (λ scene sh. ap (λ (o : Option Slot). puts o client scene) (ap (slot_at slot) sh.slots ∙ at))
 
-new_step : (b : Bool) (refusal : Refusal) (other : Option Refusal) → cond b (Some refusal) other ≡ None → other ≡ None
-new_step true refusal other h = absurd cc
-new_step false refusal other h = h
+  pub no-slot-to-put-new : (old : Stage Device) (client slot : ℕ) → slot_at slot old.slots ≡ None → Moves sight old (by_client client (PutNew slot)) NoSlot old
+  no-slot-to-put-new old client slot at = unmoved old _ NoSlot tt tt (λ scene sh. ap (λ (o : Option Slot). puts_new o client scene) (ap (slot_at slot) sh.slots ∙ at))
 
--- so it is where none may be replaced
-pub new-open : (cache : Cache) (handle : Handle) → insert_refusal cache handle ≡ None → is_open (charge_by handle) cache.memory.charges ≡ true
-new-open cache handle h = taken-open cache handle (new_step _ _ (handle_refusal cache handle) h)
+  pub no-slot-to-discard : (old : Stage Device) (client slot : ℕ) → slot_at slot old.slots ≡ None → Moves sight old (by_client client (Discard slot)) NoSlot old
+  no-slot-to-discard old client slot at = unmoved old _ NoSlot tt tt (λ scene sh. ap (λ (o : Option Slot). discards o scene) (ap (slot_at slot) sh.slots ∙ at))
 
-foreign_step : (b : Bool) (why refusal : Refusal) → b ≡ true → cond b None (Some why) ≡ Some refusal → ⊥
-foreign_step true why refusal known h = cc
-foreign_step false why refusal known h = cc
+  -- a call that empties the slot
+  spent : (f : Cache → Moved) (old new : Stage Device) (s : Step) (slot : ℕ) (answer : Answer) → IsCalm s.deed → DeedSized s.deed → ((scene : Scene) → Shows sight old scene → step s scene ≡ in_world (without_slot slot scene.slots) (by_call scene.world (f scene.world.cache)))
+      → Called (f old.cache) answer old new → new.results ≡ old.results → new.slots ≡ without_slot slot old.slots → Moves sight old s (Tells (Says answer)) new
+  spent f old new s slot answer calm sized is c results slots = calmly old new s (Tells (Says answer)) (f old.cache).part calm sized c.log (λ scene sh. record {
+    done = in_world (without_slot slot scene.slots) (by_call scene.world (f scene.world.cache));
+    is = is scene sh;
+    told_is = ap (λ (k : Cache). Tells (Says (f k).answer)) sh.cache ∙ ap (λ (a : Answer). Tells (Says a)) (sym c.answer_is);
+    part_is = ap (λ (k : Cache). (f k).part) sh.cache;
+    shows = reshow old new scene _ sh c.device c.before refl refl (ap (λ (k : Cache). (f k).cache) sh.cache ∙ sym c.cache) (λ job. sh.results job ∙ ap (result_at job) (sym results)) (ap (without_slot slot) sh.slots ∙ sym slots);
+  })
 
-not-foreign : (cache : Cache) (handle : Handle) (refusal : Refusal) → is_open (charge_by handle) cache.memory.charges ≡ true → handle_refusal cache handle ≡ Some refusal → ⊥
-not-foreign cache handle refusal known h = foreign_step (is_open (charge_by handle) cache.memory.charges) ForeignHandle refusal known h
+  pub put-stored : (old new : Stage Device) (client slot : ℕ) (handle : Handle) (answer : Answer) → slot_at slot old.slots ≡ Some (slot_of slot handle) → Called (calls.insert_or_replace client handle old.cache) answer old new
+      → new.results ≡ old.results → new.slots ≡ without_slot slot old.slots → Moves sight old (by_client client (Put slot)) (Tells (Says answer)) new
+  put-stored old new client slot handle answer at c results slots =
+      spent (calls.insert_or_replace client handle) old new (by_client client (Put slot)) slot answer tt tt (λ scene sh. ap (λ (o : Option Slot). puts o client scene) (ap (slot_at slot) sh.slots ∙ at)) c results slots
 
--- where its charge is open, it is refused for memory alone
-pub memory-only : (cache : Cache) (handle : Handle) (refusal : Refusal) → is_open (charge_by handle) cache.memory.charges ≡ true
-    → (handle_refusal cache handle ≡ Some refusal) ⊎ ((handle_refusal cache handle ≡ None) × (refusal ≡ NoMemory)) → refusal ≡ NoMemory
-memory-only cache handle refusal known why = ⊎_elim (λ foreign. absurd (not-foreign cache handle refusal known foreign)) (λ memory. memory.1) why
+  pub put-new-stored : (old new : Stage Device) (client slot : ℕ) (handle : Handle) (answer : Answer) → slot_at slot old.slots ≡ Some (slot_of slot handle) → ((slots : List Slot) → left_after answer slot slots ≡ without_slot slot slots)
+      → Called (calls.insert client handle old.cache) answer old new → new.results ≡ old.results → new.slots ≡ without_slot slot old.slots → Moves sight old (by_client client (PutNew slot)) (Tells (Says answer)) new
+  put-new-stored old new client slot handle answer at left c results slots =
+      spent (calls.insert client handle) old new (by_client client (PutNew slot)) slot answer tt tt (λ scene sh.
+      let moved = calls.insert client handle scene.world.cache in
+      ap (λ (o : Option Slot). puts_new o client scene) (ap (slot_at slot) sh.slots ∙ at)
+      ∙ ap (λ (slots : List Slot). in_world slots (by_call scene.world moved)) (ap (λ (a : Answer). left_after a slot scene.slots) (ap (λ (k : Cache). (calls.insert client handle k).answer) sh.cache ∙ sym c.answer_is) ∙ left scene.slots)) c results slots
 
--- a reason that isn't want of memory is the one that is stated
-pub but-memory : (why : Type 0) (none : Type 0) (refusal : Refusal) → (refusal ≡ NoMemory → ⊥) → why ⊎ (none × (refusal ≡ NoMemory)) → why
-but-memory why none refusal other reasons = ⊎_elim (λ reason. reason) (λ memory. absurd (other memory.1)) reasons
+  pub put-new-refused : (old : Stage Device) (client slot : ℕ) (handle : Handle) (refusal : Refusal) → slot_at slot old.slots ≡ Some (slot_of slot handle) → (calls.insert client handle old.cache).answer ≡ Refused refusal
+      → Moves sight old (by_client client (PutNew slot)) (Tells (Says (Refused refusal))) old
+  put-new-refused old client slot handle refusal at why = unmoved old _ _ tt tt (λ scene sh.
+      ap (λ (o : Option Slot). puts_new o client scene) (ap (slot_at slot) sh.slots ∙ at)
+      ∙ ap (λ (m : Moved). in_world (left_after m.answer slot scene.slots) (by_call scene.world m)) (insert_stays client handle scene.world.cache refusal (ap (λ (k : Cache). (calls.insert client handle k).answer) sh.cache ∙ why)))
 
-pub inserted : (old : Stage) (cache : Cache) (slots : List (Option Handle)) (client slot : ℕ) (handle : Handle) (new : Stage) → record { cache = cache; slots = slots } ≡ old → handle_in slot slots ≡ Some handle
-    → new ≡ record { cache = after_store cache client false handle; slots = slice_set slots slot None } → May old (Put client slot) (Answered Stored) new
-inserted old cache slots client slot handle new view is after =
-    subst (λ s. May s (Put client slot) (Answered Stored) new) view (store_notes (cache.calls + 1) client false handle (linked_at handle.key cache.memory.pools), (handle, (is, refl, refl, after)))
+  pub discarded : (old new : Stage Device) (client slot : ℕ) (handle : Handle) (answer : Answer) → slot_at slot old.slots ≡ Some (slot_of slot handle) → Called (calls.discard handle old.cache) answer old new
+      → new.results ≡ old.results → new.slots ≡ without_slot slot old.slots → Moves sight old (by_client client (Discard slot)) (Tells (Says answer)) new
+  discarded old new client slot handle answer at c results slots =
+      spent (calls.discard handle) old new (by_client client (Discard slot)) slot answer tt tt (λ scene sh. ap (λ (o : Option Slot). discards o scene) (ap (slot_at slot) sh.slots ∙ at)) c results slots
 
-pub inserted-new : (old : Stage) (cache : Cache) (slots : List (Option Handle)) (client slot : ℕ) (handle : Handle) (new : Stage) → record { cache = cache; slots = slots } ≡ old → handle_in slot slots ≡ Some handle
-    → insert_refusal cache handle ≡ None → new ≡ record { cache = after_store cache client true handle; slots = slice_set slots slot None } → May old (PutNew client slot) (Answered Stored) new
-inserted-new old cache slots client slot handle new view is fits after =
-    subst (λ s. May s (PutNew client slot) (Answered Stored) new) view (store_notes (cache.calls + 1) client true handle (linked_at handle.key cache.memory.pools), (handle, (is, fits, refl, refl, after)))
+  -- ---- replies
 
-pub refused-new : (old : Stage) (cache : Cache) (slots : List (Option Handle)) (client slot : ℕ) (handle : Handle) (refusal : Refusal) (new : Stage) → record { cache = cache; slots = slots } ≡ old → handle_in slot slots ≡ Some handle
-    → insert_refusal cache handle ≡ Some refusal → new ≡ old → May old (PutNew client slot) (Refused refusal) new
-refused-new old cache slots client slot handle refusal new view is why after =
-    subst (λ s. new ≡ s → May s (PutNew client slot) (Refused refusal) new) view (λ same. ([], (handle, (is, why, (refl, same))))) after
+  pub reply-refused : (old : Stage Device) (client call : ℕ) (refusal : Refusal) → (calls.take_reply call old.cache).answer ≡ Refused refusal → Moves sight old (by_client client (Reply call)) (Tells (Says (Refused refusal))) old
+  reply-refused old client call refusal why = unmoved old _ _ tt tt (λ scene sh.
+      ap (λ (m : Moved). in_world scene.slots (by_call scene.world m)) (reply_stays call scene.world.cache refusal (ap (λ (k : Cache). (calls.take_reply call k).answer) sh.cache ∙ why)))
 
--- ---- what is refused
+  -- ---- results are handed in
 
-pub on-err : {T E P : Type 0} (result : Result T E) → P → OnErr result P
-on-err (Ok x) p = tt
-on-err (Err e) p = p
+  pub no-result : (old : Stage Device) (client job : ℕ) → result_at job old.results ≡ None → Moves sight old (by_client client (Finish job)) (Tells (Says (Refused UnknownJob))) old
+  no-result old client job none = unmoved old _ _ tt tt (λ scene sh. ap (λ (o : Option IoResult). in_world scene.slots (done_of scene.world job o)) (sh.results job ∙ none))
 
--- a step that may be refused so, where it isn't for want of memory
-pub refused-may : {A E : Type 0} (result : Result (Outcome A) E) (old : Stage) (step : Step) (new : Stage) (refusal : Refusal) → IfOk result (λ outcome. (answer_of outcome ≡ Refused refusal) × (refusal ≡ NoMemory → ⊥))
-    → ((refusal ≡ NoMemory → ⊥) → May old step (Refused refusal) new) → IfOk result (λ outcome. May old step (answer_of outcome) new)
-refused-may (Ok outcome) old step new refusal is may = subst (λ a. May old step a new) (sym is.0) (may is.1)
-refused-may (Err e) old step new refusal is may = tt
+  pub finished : (old new : Stage Device) (client job : ℕ) (result : IoResult) (answer : Answer) → result_at job old.results ≡ Some result → Called (workers.finish job result old.cache) answer old new
+      → ((every : ℕ) → result_at every new.results ≡ (if job == every then None else result_at every old.results)) → new.slots ≡ old.slots → Moves sight old (by_client client (Finish job)) (Tells (Says answer)) new
+  finished old new client job result answer at c left slots = calmly old new (by_client client (Finish job)) (Tells (Says answer)) (workers.finish job result old.cache).part tt tt c.log (λ scene sh.
+      let f = workers.finish job result in
+      record {
+        done = in_world scene.slots (done_of scene.world job (Some result));
+        is = ap (λ (o : Option IoResult). in_world scene.slots (done_of scene.world job o)) (sh.results job ∙ at);
+        told_is = ap (λ (k : Cache). Tells (Says (f k).answer)) sh.cache ∙ ap (λ (a : Answer). Tells (Says a)) (sym c.answer_is);
+        part_is = ap (λ (k : Cache). (f k).part) sh.cache;
+        shows = reshow old new scene _ sh c.device c.before refl refl (ap (λ (k : Cache). (f k).cache) sh.cache ∙ sym c.cache)
+            (λ every. result-gone job every scene.world.results ∙ ap (λ (o : Option IoResult). if job == every then None else o) (sh.results every) ∙ sym (left every)) (sh.slots ∙ sym slots);
+      })
 
--- the step of an open, whose key and value are copies
-copied : (old : Stage) (slot pool : ℕ) (key key' value value' : List ℕ) (ttl : ℕ) (answer : Answer) (new : Stage) → key' ≡ key → value' ≡ value → May old (Opening slot pool key' value' ttl) answer new → May old (Opening slot pool key value ttl) answer new
-copied old slot pool key key' value value' ttl answer new k v may = subst (λ v. May old (Opening slot pool key v ttl) answer new) v (subst (λ k. May old (Opening slot pool k value' ttl) answer new) k may)
+  pub finish-refused : (old new : Stage Device) (client job : ℕ) (result : IoResult) (refusal : Refusal) → result_at job old.results ≡ Some result → (workers.finish job result old.cache).answer ≡ Refused refusal → new.cache ≡ old.cache → new.log ≡ old.log
+      → new.device ≡ old.device → new.failed_before ≡ old.failed_before → ((every : ℕ) → result_at every new.results ≡ (if job == every then None else result_at every old.results)) → new.slots ≡ old.slots
+      → Moves sight old (by_client client (Finish job)) (Tells (Says (Refused refusal))) new
+  finish-refused old new client job result refusal at why cache log device before left slots =
+      let is = finish_stays job result old.cache refusal why in
+      finished old new client job result (Refused refusal) at (record {
+        cache = cache ∙ sym (ap (λ (m : Moved). m.cache) is);
+        answer_is = sym why;
+        log = log ∙ sym (told-nothing old.log) ∙ ap (λ (m : Moved). told_more old.log m.part) (sym is);
+        device = device;
+        before = before;
+      }) left slots
 
-module _ (old : Stage) (cache : Cache) (slots : List (Option Handle)) (slot pool : ℕ) (key key' value value' : List ℕ) (ttl : ℕ) (view : record { cache = cache; slots = slots } ≡ old) (empty : is_some (handle_in slot slots) ≡ false)
-    (bytes_eq : key' ≡ key) (same_value : value' ≡ value) where
-  pub refused-open : (refusal : Refusal) (new : Stage) → allocate_refusal cache pool key' (length value') ≡ Some refusal → new ≡ old → May old (Opening slot pool key value ttl) (Refused refusal) new
-  refused-open refusal new why after =
-      copied old slot pool key key' value value' ttl (Refused refusal) new bytes_eq same_value
-      (subst (λ s. new ≡ s → May s (Opening slot pool key' value' ttl) (Refused refusal) new) view (λ same. ([], (none-held (handle_in slot slots) empty, why, (refl, same)))) after)
+  -- ---- device operations
 
-  pub opened-may : (new : Stage) → allocate_refusal cache pool key' (length value') ≡ None
-      → new ≡ record { cache = after_allocate cache pool key' (length value'); slots = slice_set slots slot (Some (opened cache pool key' value' ttl)) } → May old (Opening slot pool key value ttl) Filled new
-  opened-may new fits after =
-      copied old slot pool key key' value value' ttl Filled new bytes_eq same_value
-      (subst (λ s. May s (Opening slot pool key' value' ttl) Filled new) view (part_of_allocate cache.memory cache.now pool key' (length value'), (none-held (handle_in slot slots) empty, fits, refl, after)))
+  pub no-operation : (old : Stage Device) (client job : ℕ) (fails : Bool) → (order_in old.cache.nvm job ≡ None) ⊎ (is_some (result_at job old.results) ≡ true) → Moves sight old (by_client client (Io job fails)) (Tells (Says (Refused UnknownJob))) old
+  no-operation old client job fails why = record {
+    part = [];
+    log = sym (told-nothing old.log);
+    sized = tt;
+    leads = λ scene sh reads. record {
+      new = scene;
+      goes = goes_idly scene client job fails (⊎_elim (λ none. inl (ap (λ (k : Cache). order_in k.nvm job) sh.cache ∙ none)) (λ waits. inr (ap is_some (sh.results job) ∙ waits)) why);
+      shows = sh;
+    };
+  }
 
--- ---- what is left in the slots is given up, one after another
+  failures_more : (fails breaks : Bool) (n before : ℕ) → failed_more fails breaks n + before ≡ failed_more fails breaks (n + before)
+  failures_more true breaks n before = refl
+  failures_more false true n before = omega arith
+  failures_more false false n before = refl
 
-pub first-open : (cache : Cache) (held : Option Handle) (slots : List (Option Handle)) → SlotsHold cache.memory.charges (held ∷ slots) → ((n : ℕ) → count (has_number n) cache.memory.charges ≤ 1)
-    → IfSome held (λ handle. is_open (charge_by handle) cache.memory.charges ≡ true)
-first-open cache held slots holds unique = given-open cache (held ∷ slots) 0 holds unique (omega arith) held refl
+  readable : (scene : Scene) (job : ℕ) (order : Order) → IsReadable scene → order_in scene.world.cache.nvm job ≡ Some order → CanRead order scene.world.pages
+  readable scene job (Read page) reads at = reads job page at
+  readable scene job (Write page bytes) reads at = tt
 
-pub first-held : (cache : Cache) (held : Option Handle) (slots : List (Option Handle)) → SlotsHold cache.memory.charges (held ∷ slots) → ((n : ℕ) → count (has_number n) cache.memory.charges ≤ 1) → SlotsHold (after_give_up cache held).memory.charges slots
-first-held cache held slots holds unique f = omega (arith, given-held cache (held ∷ slots) 0 holds unique (omega arith) held refl f)
+  pub operated-so : (old new : Stage Device) (client job : ℕ) (fails : Bool) (order : Order) (result : IoResult) (failures : ℕ) → order_in old.cache.nvm job ≡ Some order → result_at job old.results ≡ None → Comes sight order fails old.device result new.device
+      → new.cache ≡ old.cache → new.log ≡ old.log → new.failed_before ≡ old.failed_before → new.slots ≡ old.slots → ((every : ℕ) → result_at every new.results ≡ (if job == every then Some result else result_at every old.results))
+      → failures ≡ sight.failed new.device - old.failed_before → Moves sight old (by_client client (Io job fails)) (Tells (Made result failures)) new
+  operated-so old new client job fails order result failures at none c cache log before slots results counted = record {
+    part = [];
+    log = log ∙ sym (told-nothing old.log);
+    sized = tt;
+    leads = λ scene sh reads.
+        let here : order_in scene.world.cache.nvm job ≡ Some order = ap (λ (k : Cache). order_in k.nvm job) sh.cache ∙ at in
+        let can = readable scene job order reads here in
+        let came = c.comes scene.world.pages sh.pages can in
+        let done = operates scene job order fails c.breaks in
+        let total : failed_more fails c.breaks scene.world.failures + old.failed_before ≡ sight.failed new.device = failures_more fails c.breaks scene.world.failures old.failed_before ∙ ap (failed_more fails c.breaks) sh.failures ∙ sym c.counted in
+        let number : failed_more fails c.breaks scene.world.failures ≡ failures = omega (arith, total, counted) in
+        record {
+          new = done.scene;
+          goes = subst (λ (t : Told). Goes scene (by_client client (Io job fails)) t [] done.scene) (λ i. Tells (Made (sym came i) (number i))) (goes_by_io scene client job fails c.breaks order here (sh.results job ∙ none));
+          shows = record {
+            cache = sh.cache ∙ sym cache;
+            results = λ every. (λ i. if job == every then Some (sym came i) else sh.results every i) ∙ sym (results every);
+            slots = sh.slots ∙ sym slots;
+            failures = ap (λ (b : ℕ). failed_more fails c.breaks scene.world.failures + b) before ∙ total;
+            pages = subst (λ (r : IoResult). IsWithin (pages_after order r scene.world.pages) (sight.held new.device)) came (c.within scene.world.pages sh.pages can);
+          };
+        };
+  }
 
-freed_more : (log : Heard) (number : ℕ) (notes : List Note) → told_more (told_more log (Freed number ∷ [])) notes ≡ told_more log (Freed number ∷ notes)
-freed_more heard number notes = told-twice heard (Freed number ∷ []) notes
-
-pub first-told : (cache : Cache) (held : Option Handle) (slots : List (Option Handle)) → told_more (after_give_up cache held).log (left_notes slots) ≡ told_more cache.log (left_notes (held ∷ slots))
-first-told cache None slots = refl
-first-told cache (Some handle) slots = freed_more cache.log handle.number (left_notes slots)
-
-pub given-config : (cache : Cache) (held : Option Handle) → (after_give_up cache held).config ≡ cache.config
-given-config cache None = refl
-given-config cache (Some handle) = refl
-
-none_told : (log : Heard) → log ≡ told_more log []
-none_told heard = sym (told-nothing heard)
-
-pub nothing-left : (cache : Cache) (slots : List (Option Handle)) → length slots ≡ 0 → cache.log ≡ told_more cache.log (left_notes slots)
-nothing-left cache [] none = none_told cache.log
-nothing-left cache (held ∷ slots) none = absurd (omega (arith, none))
+  -- the device has no memory for it, and nothing is known to have changed
+  pub waits-so : (old new : Stage Device) → new.cache ≡ old.cache → new.log ≡ old.log → new.failed_before ≡ old.failed_before → ((job : ℕ) → result_at job new.results ≡ result_at job old.results) → new.slots ≡ old.slots → IsSame sight old.device new.device → Waits sight old new
+  waits-so old new cache log before results slots same = record {
+    log = log;
+    shows = λ scene sh. record {
+      cache = sh.cache ∙ sym cache;
+      results = λ job. sh.results job ∙ sym (results job);
+      slots = sh.slots ∙ sym slots;
+      failures = ap (λ (b : ℕ). scene.world.failures + b) before ∙ sh.failures ∙ sym same.counted;
+      pages = λ page bytes is. same.held page ∙ sh.pages page bytes is;
+    };
+  }

@@ -1,11 +1,15 @@
-//! Runs of the core: any list of steps on a new cache, with write handles in numbered slots, and the log that they leave.
+//! Schedules: any list of steps of clients and workers on a new cache over any device, and the log that they leave.
 #![tactic(auto)]
 
+mod device;
+mod helpers;
+mod laws;
 mod runs;
 mod slots;
 mod stage;
 mod steps;
 
-pub use runs::{Ran, run};
+pub use laws::{chains_are_runs, runs_keep_promise, runs_stand};
+pub use runs::{Ran, Stopped, run, run_quiet};
 pub use stage::Stage;
 pub use steps::{Answer, Outcome, Request, Step};

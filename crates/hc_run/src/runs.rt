@@ -1,34 +1,54 @@
 // A list of steps, and the log that they leave.
-ghost use Rattle.std.specs.Prelude.{◌≡◌, ◌<◌, ◌⊎◌, None, Some, length, take, IfOk, IfErr, IfSome, OnOk, OnErr};
+ghost use Rattle.std.specs.Prelude.{◌≡◌, ◌⊎◌, None, Some, length, take, IfOk, IfErr, OnOk, OnErr};
 ghost use Rattle.hc_types.specs.Limits.{first_wrong};
+ghost use Rattle.hc_history.specs.Honest.{Honest};
 ghost use Rattle.hc_history.specs.Lawful.{Legal};
-ghost use Rattle.hc_core.specs.World.{Goes, IsRunOf};
+ghost use Rattle.hc_run.specs.Asked.{place_of};
+ghost use Rattle.hc_run.specs.Going.{GoesOn};
+ghost use Rattle.hc_run.specs.Laws.{FollowsBy};
+ghost use Rattle.hc_run.specs.QuietRuns.{IsQuietRunOf};
+ghost use Rattle.hc_run.specs.Runs.{IsRunOf};
+ghost use Rattle.hc_run.specs.Shows.{AreOwn, Waits};
 
 use crate::stage::Stage;
 use crate::steps::{Answer, Step};
+use hc_flash::Flash;
 use hc_history::Kept;
 use hc_types::{Config, Refusal};
 use std::alloc::{AllocError, Allocator, Global};
 
-/// A run: its log, where each step's part ends in it, and the answers. Where memory lacked for a step, the run stopped
-/// before it, and `stopped` is its place. At the end of the log, what still fills a slot is given up.
+/// Why a run stopped, and before which step, by its place in the list.
+#[derive(Clone, Copy, Debug, PartialEq, Eq)]
+pub enum Stopped {
+    /// Memory lacked for the step.
+    NoMemory(usize),
+    /// The step isn't quiet: a job is out, and the step isn't its own.
+    NotQuiet(usize),
+}
+
+/// A run: its log, where each step's part ends in it, the answers, and the device. Where the run stopped before a step,
+/// `stopped` tells which and why. At the end of the log, what still fills a slot is given up.
 #[derive(Drop)]
-pub struct Ran<A: Allocator = Global> {
+pub struct Ran<D: Flash<A>, A: Allocator = Global> {
     pub log: Kept<A>,
     pub ends: Vec<usize, A>,
     pub answers: Vec<Answer<A>, A>,
-    pub stopped: Option<usize>,
+    pub stopped: Option<Stopped>,
+    pub device: D,
 }
 
 /// One step more: its answer, and where it ends in the log. Where memory is wanted, all is as it was.
-fn go_on<A: Allocator + Clone>(
-    stage: &mut Stage<A>,
+fn go_on<D: Flash<A>, A: Allocator + Clone + Copy>(
+    stage: &mut Stage<D, A>,
     answers: &mut Vec<Answer<A>, A>,
     ends: &mut Vec<usize, A>,
     step: &Step<A>,
 ) -> Result<(), AllocError>
-    ensures ok { OnOk result (Goes stage.old answers.old.items ends.old.items step.now stage.new answers.new.items ends.new.items) }
-    ensures err { OnErr result ((stage.new ≡ stage.old) × (answers.new.items ≡ answers.old.items) × (ends.new.items ≡ ends.old.items)) }
+    requires own { AreOwn stage.old.slots stage.old.cache }
+    ensures ok { OnOk result (GoesOn (record { held = D.held; failed = D.failed }) stage.old answers.old.items ends.old.items step.now stage.new answers.new.items ends.new.items) }
+    ensures err { OnErr result (Waits (record { held = D.held; failed = D.failed }) stage.old stage.new) }
+    ensures answers { OnErr result (answers.new.items ≡ answers.old.items) }
+    ensures ends { OnErr result (ends.new.items ≡ ends.old.items) }
 {
     answers.reserve(1)?;
     ends.reserve(1)?;
@@ -42,42 +62,103 @@ fn go_on<A: Allocator + Clone>(
     }
 }
 
-/// The log of any list of steps on a new cache. It is legal, and it is that of a run of the steps, up to the one for which
-/// memory lacked. Refused for the first number of the configuration that is outside its limits, and with `NoMemory` where
-/// memory lacks for the cache or its slots.
-pub fn run<A: Allocator + Copy>(
+/// Makes any list of steps on a new cache over the device, of whose pages nothing is known yet. The log is legal, honest, and
+/// follows the steps, and answers and log are those of the machine's run of the steps, up to the one for which memory
+/// lacked; the device may fail whichever of its operations. Refused for the first number of the configuration that is outside
+/// its limits, and with `NoMemory` where memory lacks for the cache or its slots; then the device is dropped.
+pub fn run<D: Flash<A>, A: Allocator + Clone + Copy>(
     alloc: A,
     config: &Config<A>,
+    device: D,
     steps: &[Step<A>],
-) -> Result<Ran<A>, Refusal>
-    requires flash { config.now.flash ≡ None }
+) -> Result<Ran<D, A>, Refusal>
     ensures legal { IfOk result (λ ran. Legal config.now ran.log.notes.items) }
-    ensures follows { IfOk result (λ ran. IsRunOf config.now (take (length ran.answers.items) steps.now) ran.answers.items ran.ends.items ran.log.notes.items) }
+    ensures honest { IfOk result (λ ran. Honest ran.log.notes.items) }
+    ensures runs { IfOk result (λ ran. IsRunOf config.now (take (length ran.answers.items) steps.now) ran.answers.items ran.ends.items ran.log.notes.items) }
+    ensures follows { IfOk result (λ ran. FollowsBy config.now steps.now ran.answers.items ran.ends.items ran.log.notes.items (place_of ran.stopped)) }
     ensures all { IfOk result (λ ran. ran.stopped ≡ None → length ran.answers.items ≡ length steps.now) }
-    ensures stopped { IfOk result (λ ran. IfSome ran.stopped (λ place. (place < length steps.now) × (length ran.answers.items ≡ place))) }
     ensures fits { OnOk result (first_wrong config.now ≡ None) }
     ensures err { IfErr result (λ refusal. (first_wrong config.now ≡ Some refusal) ⊎ ((first_wrong config.now ≡ None) × (refusal ≡ Refusal.NoMemory))) }
 {
-    let mut stage = Stage::new(alloc, config)?;
+    let mut stage = Stage::new(alloc, config, device)?;
     let mut answers = Vec::new(alloc);
     let mut ends = Vec::new(alloc);
     for (i, step) in steps.iter().enumerate() {
         match go_on(&mut stage, &mut answers, &mut ends, step) {
             Ok(()) => {}
             Err(_) => {
+                let (log, device) = stage.end();
                 return Ok(Ran {
-                    log: stage.into_log(),
+                    log,
                     ends,
                     answers,
-                    stopped: Some(i),
+                    stopped: Some(Stopped::NoMemory(i)),
+                    device,
                 });
             }
         }
     }
+    let (log, device) = stage.end();
     Ok(Ran {
-        log: stage.into_log(),
+        log,
         ends,
         answers,
         stopped: None,
+        device,
+    })
+}
+
+/// The same, where the run also stops before the first step that isn't quiet: while a job is out, each step must be its own, an
+/// `Io` or a `Finish`. Refused for the first number of the configuration that is outside
+/// its limits, and with `NoMemory` where memory lacks for the cache or its slots; then the device is dropped.
+pub fn run_quiet<D: Flash<A>, A: Allocator + Clone + Copy>(
+    alloc: A,
+    config: &Config<A>,
+    device: D,
+    steps: &[Step<A>],
+) -> Result<Ran<D, A>, Refusal>
+    ensures legal { IfOk result (λ ran. Legal config.now ran.log.notes.items) }
+    ensures honest { IfOk result (λ ran. Honest ran.log.notes.items) }
+    ensures runs { IfOk result (λ ran. IsQuietRunOf config.now steps.now ran.answers.items ran.ends.items ran.log.notes.items ran.stopped) }
+    ensures follows { IfOk result (λ ran. FollowsBy config.now steps.now ran.answers.items ran.ends.items ran.log.notes.items (place_of ran.stopped)) }
+    ensures all { IfOk result (λ ran. ran.stopped ≡ None → length ran.answers.items ≡ length steps.now) }
+    ensures fits { OnOk result (first_wrong config.now ≡ None) }
+    ensures err { IfErr result (λ refusal. (first_wrong config.now ≡ Some refusal) ⊎ ((first_wrong config.now ≡ None) × (refusal ≡ Refusal.NoMemory))) }
+{
+    let mut stage = Stage::new(alloc, config, device)?;
+    let mut answers = Vec::new(alloc);
+    let mut ends = Vec::new(alloc);
+    for (i, step) in steps.iter().enumerate() {
+        if !stage.is_quiet(step) {
+            let (log, device) = stage.end();
+            return Ok(Ran {
+                log,
+                ends,
+                answers,
+                stopped: Some(Stopped::NotQuiet(i)),
+                device,
+            });
+        }
+        match go_on(&mut stage, &mut answers, &mut ends, step) {
+            Ok(()) => {}
+            Err(_) => {
+                let (log, device) = stage.end();
+                return Ok(Ran {
+                    log,
+                    ends,
+                    answers,
+                    stopped: Some(Stopped::NoMemory(i)),
+                    device,
+                });
+            }
+        }
+    }
+    let (log, device) = stage.end();
+    Ok(Ran {
+        log,
+        ends,
+        answers,
+        stopped: None,
+        device,
     })
 }

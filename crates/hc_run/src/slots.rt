@@ -1,7 +1,7 @@
 // Slots, in which write handles wait.
 ghost use Rattle.std.specs.Prelude.{◌≡◌, ◌≤◌, [], None, length, replicate, slice_set, is_some, vec_len, vec_capacity, IfOk, OnOk, OnErr};
 ghost use Rattle.hc_run.specs.Asked.{handle_of};
-ghost use Rattle.hc_core.specs.World.{handle_in};
+ghost use Rattle.hc_run.specs.Slots.{handle_in};
 
 use hc_memory::{Blank, Sealed};
 use std::alloc::{AllocError, Allocator, Global};

@@ -1,51 +1,62 @@
-// A core with slots for write handles, and its steps.
-ghost use Rattle.std.specs.Prelude.{◌≡◌, ◌≢◌, ◌⊎◌, true, None, Some, IfSome, IfOk, IfErr, OnOk, OnErr};
+// A cache over a device, with slots for write handles and the results that wait, and its steps.
+ghost use Rattle.std.specs.Prelude.{◌≡◌, ◌⊎◌, [], None, Some, IfOk, IfErr, OnOk, OnErr};
 ghost use Rattle.hc_types.specs.Limits.{first_wrong};
-ghost use Rattle.hc_types.specs.declared.refusal.Refusal.{Refusal};
-ghost use Rattle.hc_history.specs.Lawful.{Legal};
-ghost use Rattle.hc_history.specs.Seen.{reply_of};
 ghost use Rattle.hc_history.specs.Told.{Log, told_more};
-ghost use Rattle.hc_memory.specs.Item.{charge_by};
-ghost use Rattle.hc_memory.specs.Charges.{is_open};
-ghost use Rattle.hc_core.specs.Answers.{found_value, reply_of_removed};
-ghost use Rattle.hc_run.specs.Asked.{answer_of, handle_of, step_of};
-ghost use Rattle.hc_core.specs.Steps.{find_reply};
-ghost use Rattle.hc_core.specs.World.{Open, Put, PutNew, Discard, Find, Remove, Tick, Refused, May, SlotsHold, new_stage, after_give_up, left_notes, log_length};
+ghost use Rattle.hc_machine.specs.Cache.{new_cache};
+ghost use Rattle.hc_machine.specs.Schedule.{Open, Put, PutNew, Discard, Find, Remove, Reply as TakeReply, Tick, WriterTake, FillerTake, Reclaim, Io, Finish, given_up};
+ghost use Rattle.hc_run.specs.Asked.{deed_of, told_of};
+ghost use Rattle.hc_run.specs.Going.{log_length};
+ghost use Rattle.hc_run.specs.QuietRuns.{is_quiet_in};
+ghost use Rattle.hc_run.specs.Shows.{AreOwn, Moves, Waits};
 
+use crate::device::{Came, operate};
+use crate::helpers::{
+    found_outcome, give_up_all, give_up_content, job_of, refused, removed_outcome, without_memory,
+};
 use crate::slots::{Content, Slot, empty_slots, fill, take, take_sealed};
 use crate::steps::{Answer, Outcome, Request, Step};
 use bytes::Bytes;
-use hc_core::{Core, Found, Removed, Unlinked, give_up, give_up_blank};
+use hc_core::{Core, Inserted, Unfinished, Unlinked};
+use hc_flash::Flash;
 use hc_history::{Kept, Reply};
 use hc_memory::{Fill, Uncharged};
+use hc_results::{Results, copy};
 use hc_types::{Config, Key, Refusal};
 use std::alloc::{AllocError, Allocator, Global};
 use std::marker::Model;
 
-/// A cache that keeps its log, and 256 slots for its write handles. No other charge of it is open.
+/// A cache that keeps its log, over a device, with 256 slots for its write handles, and the results of device operations
+/// that aren't handed in yet.
 ///
 /// Each step that wants memory in vain leaves everything as it was.
-pub struct Stage<A: Allocator = Global> {
+pub struct Stage<D: Flash<A>, A: Allocator = Global> {
     core: Core<Kept<A>, A>,
+    device: D,
+    failed_before: u64,
+    results: Results<A>,
     slots: Vec<Slot<A>, A>,
 }
 
-impl<A: Allocator> Model for Stage<A> {
+impl<D: Flash<A>, A: Allocator> Model for Stage<D, A> {
     ghost use Rattle.std.specs.Prelude.{◌≡◌, length};
-    ghost use Rattle.hc_core.specs.World.{Stage as Meaning, SlotsHold};
+    ghost use Rattle.hc_run.specs.Shows.{Stage as Meaning};
+    ghost use Rattle.hc_run.specs.Slots.{filled_from};
 
-    ghost Value = { Meaning };
+    ghost Value = { Meaning D };
 
-    ghost view = { λ s. record { cache = s.core; slots = s.slots.items } };
+    ghost view = { λ s. record { cache = s.core.cache; log = s.core.log; device = s.device; failed_before = s.failed_before; results = s.results.results; slots = filled_from 0 s.slots.items } };
 
-    ghost invariant = { λ s. (length s.slots.items ≡ 256) × SlotsHold s.core.memory.charges s.slots.items };
+    ghost invariant = { λ s. length s.slots.items ≡ 256 };
 }
 
-impl<A: Allocator + Copy> Stage<A> {
-    /// An empty cache and empty slots. Refused as `Core::new` is.
-    pub fn new(alloc: A, config: &Config<A>) -> Result<Stage<A>, Refusal>
-        requires flash { config.now.flash ≡ None }
-        ensures ok { IfOk result (λ stage. stage ≡ new_stage config.now) }
+impl<D: Flash<A>, A: Allocator + Clone + Copy> Stage<D, A> {
+    /// An empty cache and empty slots. Refused as `Core::new` is; then the device is dropped.
+    pub fn new(alloc: A, config: &Config<A>, device: D) -> Result<Stage<D, A>, Refusal>
+        ensures cache { IfOk result (λ stage. stage.cache ≡ new_cache config.now) }
+        ensures log { IfOk result (λ stage. stage.log ≡ Log []) }
+        ensures results { IfOk result (λ stage. stage.results ≡ []) }
+        ensures slots { IfOk result (λ stage. stage.slots ≡ []) }
+        ensures before { IfOk result (λ stage. stage.failed_before ≡ D.failed stage.device) }
         ensures fits { OnOk result (first_wrong config.now ≡ None) }
         ensures err { IfErr result (λ refusal. (first_wrong config.now ≡ Some refusal) ⊎ ((first_wrong config.now ≡ None) × (refusal ≡ Refusal.NoMemory))) }
     {
@@ -55,7 +66,15 @@ impl<A: Allocator + Copy> Stage<A> {
         match Core::new(alloc, config, Kept::new(alloc)) {
             Ok(core) => {
                 empty_slots(&mut slots, 256);
-                Ok(Stage { core, slots })
+                let failed_before = device.failures();
+                let results = Results::new(alloc);
+                Ok(Stage {
+                    core,
+                    device,
+                    failed_before,
+                    results,
+                    slots,
+                })
             }
             Err(refusal) => {
                 slots.destroy_empty();
@@ -63,90 +82,21 @@ impl<A: Allocator + Copy> Stage<A> {
             }
         }
     }
-}
 
-impl<A: Allocator> Stage<A> {
-    /// How many notes the log has.
-    #[must_use]
-    pub fn log_len(&self) -> usize
-        ensures { result ≡ log_length self.now.cache.log }
-    {
-        self.core.notes().notes.len()
-    }
-
-    /// Gives up the item of the slot's handle.
-    fn discard(&mut self, slot: u8) -> Outcome<A>
-        ensures { May self.old (Discard slot) (answer_of result) self.new }
-    {
-        let _sound = self.core.pools().len();
-        if !self.slots[usize::from(slot)].is_filled() {
-            return Outcome::NoSlot;
-        }
-        let content = take(&mut self.slots, slot);
-        give_up_content(&mut self.core, content);
-        Outcome::Discarded
-    }
-
-    /// Finds the value under the key.
-    fn find(&mut self, client: u8, key: &Key<A>) -> Result<Outcome<A>, AllocError>
-        ensures ok { IfOk result (λ outcome. May self.old (Find client key.now) (answer_of outcome) self.new) }
-        ensures err { OnErr result (self.new ≡ self.old) }
-    {
-        match self.core.find(client, key) {
-            Ok(found) => Ok(Outcome::Replied(found_reply(found))),
-            Err(_) => Err(AllocError),
-        }
-    }
-
-    /// Takes the key's item out of the cache.
-    fn remove(&mut self, client: u8, key: &Key<A>) -> Result<Outcome<A>, AllocError>
-        ensures ok { IfOk result (λ outcome. May self.old (Remove client key.now) (answer_of outcome) self.new) }
-        ensures err { OnErr result (self.new ≡ self.old) }
-    {
-        match self.core.remove(client, key) {
-            Ok(removed) => Ok(Outcome::Replied(removed_reply(removed))),
-            Err(_) => Err(AllocError),
-        }
-    }
-
-    /// Moves the clock on.
-    fn tick(&mut self, moment: u64) -> Result<Outcome<A>, AllocError>
-        ensures ok { IfOk result (λ outcome. May self.old (Tick moment) (answer_of outcome) self.new) }
-        ensures err { OnErr result (self.new ≡ self.old) }
-    {
-        match self.core.tick(moment) {
-            Ok(now) => Ok(Outcome::Moment(now)),
-            Err(_) => Err(AllocError),
-        }
-    }
-
-    /// The log, after what still fills a slot was given up, in the order of the slots. The log is legal, and no charge
-    /// of another item is open.
-    #[must_use]
-    pub fn into_log(self) -> Kept<A>
-        ensures log { Log result.notes.items ≡ told_more self.cache.log (left_notes self.slots) }
-        ensures legal { Legal self.cache.config result.notes.items }
-        ensures held { SlotsHold self.cache.memory.charges self.slots }
-    {
-        let Stage { mut core, slots } = self;
-        give_up_all(&mut core, slots);
-        core.into_notes()
-    }
-}
-
-impl<A: Allocator + Clone> Stage<A> {
     /// Allocates an item, writes the value into it, and leaves its handle in the slot.
     fn open(
         &mut self,
+        client: u8,
         slot: u8,
         pool: u8,
         key: &Key<A>,
         value: &Bytes<A>,
         ttl: u32,
     ) -> Result<Outcome<A>, AllocError>
-        ensures ok { IfOk result (λ outcome. May self.old (Open slot pool key.now value.now ttl) (answer_of outcome) self.new) }
-        ensures err { OnErr result (self.new ≡ self.old) }
+        ensures ok { IfOk result (λ outcome. Moves (record { held = D.held; failed = D.failed }) self.old (record { client = client; deed = Open slot pool key.now value.now ttl }) (told_of outcome) self.new) }
+        ensures err { OnErr result (Waits (record { held = D.held; failed = D.failed }) self.old self.new) }
     {
+        let _sized = key.len();
         if self.slots[usize::from(slot)].is_filled() {
             return Ok(Outcome::NoSlot);
         }
@@ -166,10 +116,10 @@ impl<A: Allocator + Clone> Stage<A> {
 
     /// Inserts the item of the slot's handle.
     fn put(&mut self, client: u8, slot: u8) -> Result<Outcome<A>, AllocError>
-        ensures ok { IfOk result (λ outcome. May self.old (Put client slot) (answer_of outcome) self.new) }
-        ensures err { OnErr result (self.new ≡ self.old) }
+        requires own { AreOwn self.old.slots self.old.cache }
+        ensures ok { IfOk result (λ outcome. Moves (record { held = D.held; failed = D.failed }) self.old (record { client = client; deed = Put slot }) (told_of outcome) self.new) }
+        ensures err { OnErr result (Waits (record { held = D.held; failed = D.failed }) self.old self.new) }
     {
-        let _sound = self.core.pools().len();
         let Some(sealed) = take_sealed(&mut self.slots, slot)? else {
             return Ok(Outcome::NoSlot);
         };
@@ -185,16 +135,17 @@ impl<A: Allocator + Clone> Stage<A> {
         }
     }
 
-    /// Inserts the item of the slot's handle, where its key has no unexpired one.
+    /// Inserts the item of the slot's handle, where its key has no unexpired value.
     fn put_new(&mut self, client: u8, slot: u8) -> Result<Outcome<A>, AllocError>
-        ensures ok { IfOk result (λ outcome. May self.old (PutNew client slot) (answer_of outcome) self.new) }
-        ensures err { OnErr result (self.new ≡ self.old) }
+        ensures ok { IfOk result (λ outcome. Moves (record { held = D.held; failed = D.failed }) self.old (record { client = client; deed = PutNew slot }) (told_of outcome) self.new) }
+        ensures err { OnErr result (Waits (record { held = D.held; failed = D.failed }) self.old self.new) }
     {
         let Some(sealed) = take_sealed(&mut self.slots, slot)? else {
             return Ok(Outcome::NoSlot);
         };
         match self.core.insert(client, sealed) {
-            Ok(()) => Ok(Outcome::Replied(Reply::Stored)),
+            Ok(Inserted::Stored) => Ok(Outcome::Replied(Reply::Stored)),
+            Ok(Inserted::Waiting(call)) => Ok(Outcome::Waits(call)),
             Err(Unlinked { refusal, sealed }) => {
                 fill(&mut self.slots, slot, Content::Ready(sealed));
                 refused(refusal)
@@ -202,10 +153,146 @@ impl<A: Allocator + Clone> Stage<A> {
         }
     }
 
+    /// Gives up the item of the slot's handle.
+    fn discard(&mut self, client: u8, slot: u8) -> Outcome<A>
+        requires own { AreOwn self.old.slots self.old.cache }
+        ensures { Moves (record { held = D.held; failed = D.failed }) self.old (record { client = client; deed = Discard slot }) (told_of result) self.new }
+    {
+        if !self.slots[usize::from(slot)].is_filled() {
+            return Outcome::NoSlot;
+        }
+        let content = take(&mut self.slots, slot);
+        give_up_content(&mut self.core, content);
+        Outcome::Discarded
+    }
+
+    /// Finds the value under the key.
+    fn find(&mut self, client: u8, key: &Key<A>) -> Result<Outcome<A>, AllocError>
+        ensures ok { IfOk result (λ outcome. Moves (record { held = D.held; failed = D.failed }) self.old (record { client = client; deed = Find key.now }) (told_of outcome) self.new) }
+        ensures err { OnErr result (Waits (record { held = D.held; failed = D.failed }) self.old self.new) }
+    {
+        match self.core.find(client, key) {
+            Ok(found) => Ok(found_outcome(found)),
+            Err(_) => Err(AllocError),
+        }
+    }
+
+    /// Takes the key's item out of the cache.
+    fn remove(&mut self, client: u8, key: &Key<A>) -> Result<Outcome<A>, AllocError>
+        ensures ok { IfOk result (λ outcome. Moves (record { held = D.held; failed = D.failed }) self.old (record { client = client; deed = Remove key.now }) (told_of outcome) self.new) }
+        ensures err { OnErr result (Waits (record { held = D.held; failed = D.failed }) self.old self.new) }
+    {
+        match self.core.remove(client, key) {
+            Ok(removed) => Ok(removed_outcome(removed)),
+            Err(_) => Err(AllocError),
+        }
+    }
+
+    /// Takes the reply of the call that waited.
+    fn take_reply(&mut self, client: u8, call: u64) -> Result<Outcome<A>, AllocError>
+        ensures ok { IfOk result (λ outcome. Moves (record { held = D.held; failed = D.failed }) self.old (record { client = client; deed = TakeReply call }) (told_of outcome) self.new) }
+        ensures err { OnErr result (Waits (record { held = D.held; failed = D.failed }) self.old self.new) }
+    {
+        match self.core.take_reply(call) {
+            Ok(reply) => Ok(Outcome::Replied(reply)),
+            Err(refusal) => refused(refusal),
+        }
+    }
+
+    /// Moves the clock on.
+    fn tick(&mut self, client: u8, moment: u64) -> Result<Outcome<A>, AllocError>
+        ensures ok { IfOk result (λ outcome. Moves (record { held = D.held; failed = D.failed }) self.old (record { client = client; deed = Tick moment }) (told_of outcome) self.new) }
+        ensures err { OnErr result (Waits (record { held = D.held; failed = D.failed }) self.old self.new) }
+    {
+        match self.core.tick(moment) {
+            Ok(now) => Ok(Outcome::Moment(now)),
+            Err(_) => Err(AllocError),
+        }
+    }
+
+    /// The writer takes what is next.
+    fn writer_take(&mut self, client: u8) -> Result<Outcome<A>, AllocError>
+        ensures ok { IfOk result (λ outcome. Moves (record { held = D.held; failed = D.failed }) self.old (record { client = client; deed = WriterTake }) (told_of outcome) self.new) }
+        ensures err { OnErr result (Waits (record { held = D.held; failed = D.failed }) self.old self.new) }
+    {
+        match self.core.writer_take() {
+            Ok(take) => Ok(Outcome::Took(take)),
+            Err(_) => Err(AllocError),
+        }
+    }
+
+    /// The filler takes what is next.
+    fn filler_take(&mut self, client: u8) -> Result<Outcome<A>, AllocError>
+        ensures ok { IfOk result (λ outcome. Moves (record { held = D.held; failed = D.failed }) self.old (record { client = client; deed = FillerTake }) (told_of outcome) self.new) }
+        ensures err { OnErr result (Waits (record { held = D.held; failed = D.failed }) self.old self.new) }
+    {
+        match self.core.filler_take() {
+            Ok(take) => Ok(Outcome::Took(take)),
+            Err(_) => Err(AllocError),
+        }
+    }
+
+    /// Gives up the region that was written first, where too few are clean.
+    fn reclaim(&mut self, client: u8) -> Result<Outcome<A>, AllocError>
+        ensures ok { IfOk result (λ outcome. Moves (record { held = D.held; failed = D.failed }) self.old (record { client = client; deed = Reclaim }) (told_of outcome) self.new) }
+        ensures err { OnErr result (Waits (record { held = D.held; failed = D.failed }) self.old self.new) }
+    {
+        match self.core.reclaim() {
+            Ok(region) => Ok(Outcome::Reclaimed(region)),
+            Err(_) => Err(AllocError),
+        }
+    }
+
+    /// Makes the device operation for which the job waits, unless it was made. Its result waits.
+    fn io(&mut self, client: u8, job: u64, fails: bool) -> Result<Outcome<A>, AllocError>
+        ensures ok { IfOk result (λ outcome. Moves (record { held = D.held; failed = D.failed }) self.old (record { client = client; deed = Io job fails }) (told_of outcome) self.new) }
+        ensures err { OnErr result (Waits (record { held = D.held; failed = D.failed }) self.old self.new) }
+    {
+        let Some(order) = self.core.order(job) else {
+            return Ok(Outcome::Refused(Refusal::UnknownJob));
+        };
+        if self.results.get(job).is_some() {
+            return Ok(Outcome::Refused(Refusal::UnknownJob));
+        }
+        self.results.reserve()?;
+        let Came { kept, told } = operate(&mut self.device, order, fails)?;
+        self.results.put(job, kept);
+        let failures = self.device.failures().saturating_sub(self.failed_before);
+        Ok(Outcome::Made(told, failures))
+    }
+
+    /// Hands in the result of the job's operation.
+    fn finish(&mut self, client: u8, job: u64) -> Result<Outcome<A>, AllocError>
+        ensures ok { IfOk result (λ outcome. Moves (record { held = D.held; failed = D.failed }) self.old (record { client = client; deed = Finish job }) (told_of outcome) self.new) }
+        ensures err { OnErr result (Waits (record { held = D.held; failed = D.failed }) self.old self.new) }
+    {
+        let Some(waiting) = self.results.get(job) else {
+            return Ok(Outcome::Refused(Refusal::UnknownJob));
+        };
+        let came = copy(waiting)?;
+        match self.core.finish(job, came) {
+            Ok(take) => {
+                self.results.forget(job);
+                Ok(Outcome::Took(take))
+            }
+            Err(Unfinished { refusal, came }) => {
+                drop(came);
+                match refusal {
+                    Refusal::NoMemory => Err(AllocError),
+                    _ => {
+                        self.results.forget(job);
+                        Ok(Outcome::Refused(refusal))
+                    }
+                }
+            }
+        }
+    }
+
     /// What comes of a request. Where memory is wanted, everything is as it was.
-    fn serve(&mut self, request: &Request<A>) -> Result<Outcome<A>, AllocError>
-        ensures ok { IfOk result (λ outcome. May self.old (step_of request.now) (answer_of outcome) self.new) }
-        ensures err { OnErr result (self.new ≡ self.old) }
+    fn serve(&mut self, client: u8, request: &Request<A>) -> Result<Outcome<A>, AllocError>
+        requires own { AreOwn self.old.slots self.old.cache }
+        ensures ok { IfOk result (λ outcome. Moves (record { held = D.held; failed = D.failed }) self.old (record { client = client; deed = deed_of request.now }) (told_of outcome) self.new) }
+        ensures err { OnErr result (Waits (record { held = D.held; failed = D.failed }) self.old self.new) }
     {
         match request {
             Request::Open {
@@ -214,86 +301,68 @@ impl<A: Allocator + Clone> Stage<A> {
                 key,
                 value,
                 ttl,
-            } => self.open(*slot, *pool, key, value, *ttl),
-            Request::Put { client, slot } => self.put(*client, *slot),
-            Request::PutNew { client, slot } => self.put_new(*client, *slot),
-            Request::Discard { slot } => Ok(self.discard(*slot)),
-            Request::Find { client, key } => self.find(*client, key),
-            Request::Remove { client, key } => self.remove(*client, key),
-            Request::Tick { moment } => self.tick(*moment),
+            } => self.open(client, *slot, *pool, key, value, *ttl),
+            Request::Put { slot } => self.put(client, *slot),
+            Request::PutNew { slot } => self.put_new(client, *slot),
+            Request::Discard { slot } => Ok(self.discard(client, *slot)),
+            Request::Find { key } => self.find(client, key),
+            Request::Remove { key } => self.remove(client, key),
+            Request::Reply { call } => self.take_reply(client, *call),
+            Request::Tick { moment } => self.tick(client, *moment),
+            Request::WriterTake => self.writer_take(client),
+            Request::FillerTake => self.filler_take(client),
+            Request::Reclaim => self.reclaim(client),
+            Request::Io { job, fails } => self.io(client, *job, *fails),
+            Request::Finish { job } => self.finish(client, *job),
         }
     }
 
     /// One step. Where memory is wanted, everything is as it was.
     pub fn step(&mut self, step: &Step<A>) -> Result<Answer<A>, AllocError>
-        ensures ok { IfOk result (λ answer. May self.old step.now answer self.new) }
-        ensures err { OnErr result (self.new ≡ self.old) }
+        requires own { AreOwn self.old.slots self.old.cache }
+        ensures ok { IfOk result (λ answer. Moves (record { held = D.held; failed = D.failed }) self.old step.now answer self.new) }
+        ensures err { OnErr result (Waits (record { held = D.held; failed = D.failed }) self.old self.new) }
     {
-        let outcome = self.serve(&step.request)?;
+        let outcome = self.serve(step.client, &step.request)?;
         Ok(Answer { outcome })
     }
-}
 
-/// Why there is no stage of this configuration where memory lacks: a wrong number is named first.
-fn without_memory<A: Allocator>(config: &Config<A>) -> Refusal
-    ensures { (first_wrong config.now ≡ Some result) ⊎ ((first_wrong config.now ≡ None) × (result ≡ Refusal.NoMemory)) }
-{
-    match config.check() {
-        Ok(()) => Refusal::NoMemory,
-        Err(refusal) => refusal,
+    /// Whether the step is quiet: each job that is out is the step's own, whose operation it makes or whose result it hands in.
+    #[must_use]
+    pub fn is_quiet(&self, step: &Step<A>) -> bool
+        ensures { result ≡ is_quiet_in step.now self.now.cache }
+    {
+        match job_of(&step.request) {
+            Some(job) => self.core.is_alone(job),
+            None => self.core.is_idle(),
+        }
+    }
+
+    /// The log, after what still fills a slot was given up, in the order of the slots; and the device.
+    #[must_use]
+    pub fn end(self) -> (Kept<A>, D)
+        requires own { AreOwn self.slots self.cache }
+        ensures { Log result.0.notes.items ≡ told_more self.log (given_up self.slots self.cache).part }
+    {
+        let Stage {
+            mut core,
+            device,
+            failed_before: _,
+            results,
+            slots,
+        } = self;
+        drop(results);
+        give_up_all(&mut core, slots);
+        (core.into_notes(), device)
     }
 }
 
-/// A step is refused, where it isn't for want of memory.
-fn refused<A: Allocator>(refusal: Refusal) -> Result<Outcome<A>, AllocError>
-    ensures { IfOk result (λ outcome. (answer_of outcome ≡ Refused refusal) × (refusal ≢ Refusal.NoMemory)) }
-{
-    match refusal {
-        Refusal::NoMemory => Err(AllocError),
-        _ => Ok(Outcome::Refused(refusal)),
+impl<D: Flash<A>, A: Allocator> Stage<D, A> {
+    /// How many notes the log has.
+    #[must_use]
+    pub fn log_len(&self) -> usize
+        ensures { result ≡ log_length self.now.log }
+    {
+        self.core.notes().notes.len()
     }
-}
-
-fn found_reply<A: Allocator>(found: Found<A>) -> Reply<A>
-    ensures { reply_of result ≡ find_reply (found_value found) }
-{
-    match found {
-        Found::Hit(handle) => Reply::Hit(handle.into_bytes()),
-        Found::Miss => Reply::Miss,
-    }
-}
-
-fn removed_reply<A: Allocator>(removed: Removed) -> Reply<A>
-    ensures { reply_of result ≡ reply_of_removed removed }
-{
-    match removed {
-        Removed::FoundInMemory => Reply::FoundInMemory,
-        Removed::NotInMemory => Reply::NotInMemory,
-    }
-}
-
-/// Gives up the item of a handle, if there is one.
-fn give_up_content<A: Allocator>(core: &mut Core<Kept<A>, A>, content: Content<A>)
-    requires mine { IfSome (handle_of content) (λ handle. is_open (charge_by handle) core.old.memory.charges ≡ true) }
-    ensures { core.new ≡ after_give_up core.old (handle_of content) }
-{
-    match content {
-        Content::Empty => {}
-        Content::Written(blank) => give_up_blank(core, blank),
-        Content::Ready(sealed) => give_up(core, sealed),
-    }
-}
-
-/// Gives up the items of all handles, in the order of the slots.
-fn give_up_all<A: Allocator>(core: &mut Core<Kept<A>, A>, slots: Vec<Slot<A>, A>)
-    requires held { SlotsHold core.old.memory.charges slots.items }
-    ensures log { core.new.log ≡ told_more core.old.log (left_notes slots.items) }
-    ensures config { core.new.config ≡ core.old.config }
-{
-    let mut left = slots.into_iter();
-    while let Some(slot) = left.next() {
-        let _sound = core.pools().len();
-        give_up_content(core, slot.into_content());
-    }
-    left.destroy_empty();
 }

@@ -1,6 +1,6 @@
 -- A cache as contracts see it, and what a part of a step does to it.
-use Rattle.std.specs.Prelude.{◌≡◌, ℕ, ◌+◌, ◌^◌, ◌≤◌, Option, Some, None, option_map, length}
-use Rattle.hc_history.specs.Told.{Heard, told_more}
+use Rattle.std.specs.Prelude.{◌≡◌, ◌⊎◌, ℕ, ◌+◌, ◌^◌, ◌≤◌, Option, Some, None, IsSome, option_map, length}
+use Rattle.hc_history.specs.Told.{Heard, Hears, told_more}
 use Rattle.hc_machine.specs.Nvm.{Nvm}
 use Rattle.hc_machine.specs.Cache.{Cache, Told, Moved, Answer}
 use Rattle.hc_nvm.specs.Stock.{Stock}
@@ -70,6 +70,14 @@ pub record Stays (old new : Whole) : Type 0 where
   pub room : Takes (for_notes 0) old new
 
 -- ---- calls
+
+-- what may want memory: who hears of the log, or flash
+abbrev pub MayWant : Heard → Cache → Type 0
+MayWant log cache = Hears log ⊎ IsSome cache.nvm
+
+-- and a call also where the numbers ran out
+abbrev pub MayLack : Heard → Cache → Type 0
+MayLack log cache = MayWant log cache ⊎ (cache.calls + 1 ≡ 2 ^ 64)
 
 -- there is room for the note that gives up each open charge
 abbrev pub IsReady : Whole → Type 0

@@ -1,5 +1,5 @@
 // A key is inserted or removed: it leaves each place where it stood. What that needs of flash is made first.
-ghost use Rattle.std.specs.Prelude.{◌≡◌, ◌≤◌, ◌∷◌, [], IfOk};
+ghost use Rattle.std.specs.Prelude.{◌≡◌, ◌≤◌, ◌∷◌, [], IfOk, OnErr, IsSome};
 ghost use Rattle.hc_history.specs.Note.{Linked};
 ghost use Rattle.hc_history.specs.Told.{is_log};
 ghost use Rattle.hc_machine.specs.Cache.{tells, and_then, on_flash};
@@ -19,7 +19,8 @@ use std::alloc::{AllocError, Allocator};
 impl<N: Notes<Note<A>>, A: Allocator + Clone + Copy> State<N, A> {
     /// What the key's copies on flash need to be stale. Refused only where memory lacks.
     pub fn plan_to_outdate(&self, key: &Key<A>) -> Result<Outdating<A>, AllocError>
-        ensures { IfOk result (λ plan. ServesIn (is_log self.now.log) key.now self.now.cache.nvm plan) }
+        ensures serves { IfOk result (λ plan. ServesIn (is_log self.now.log) key.now self.now.cache.nvm plan) }
+        ensures silent { OnErr result (IsSome self.now.cache.nvm) }
     {
         match &self.nvm {
             Some(nvm) => nvm.plan_to_outdate(key, self.notes.keeps()),

@@ -1,5 +1,5 @@
 // What calls that wait for a key need, before anything changes.
-ghost use Rattle.std.specs.Prelude.{◌≡◌, Bool, List, ℕ, Option, Some, IfOk};
+ghost use Rattle.std.specs.Prelude.{◌≡◌, Bool, List, ℕ, Option, Some, IfOk, OnErr, IsSome};
 ghost use Rattle.hc_types.specs.FlashEntry.{FlashEntry, entry_of};
 ghost use Rattle.hc_memory.specs.Item.{Handle};
 ghost use Rattle.hc_history.specs.Seen.{reply_of};
@@ -230,7 +230,8 @@ impl<N: Notes<Note<A>>, A: Allocator + Clone + Copy> State<N, A> {
         key: &Key<A>,
         there: Option<There<A>>,
     ) -> Result<Vec<Course<A>, A>, AllocError>
-        ensures { IfOk result (λ courses. (entry : Option FlashEntry) → IsThere entry there → AreCourses (is_log self.now.log) key.now self.now.cache.now (waiters_at self.now.cache.nvm key.now) entry courses.items) }
+        ensures serves { IfOk result (λ courses. (entry : Option FlashEntry) → IsThere entry there → AreCourses (is_log self.now.log) key.now self.now.cache.now (waiters_at self.now.cache.nvm key.now) entry courses.items) }
+        ensures silent { OnErr result (IsSome self.now.cache.nvm) }
     {
         let alloc = alloc_of(&self.config);
         match &self.nvm {

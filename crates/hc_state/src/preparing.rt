@@ -1,16 +1,16 @@
 // What an insert or a remove needs is made before anything changes: its number and its first note, and what the key and the
 // calls that wait for it need.
-ghost use Rattle.std.specs.Prelude.{◌≡◌, ◌≤◌, ◌+◌, [], Option, Some, None, vec_len, vec_capacity, IfOk, OnOk, IfErr};
+ghost use Rattle.std.specs.Prelude.{◌≡◌, ◌≤◌, ◌+◌, ◌^◌, [], Option, Some, None, IsSome, vec_len, vec_capacity, IfOk, OnOk, OnErr, IfErr};
 ghost use Rattle.hc_types.specs.FlashEntry.{FlashEntry};
 ghost use Rattle.hc_memory.specs.Sound.{Sound};
 ghost use Rattle.hc_history.specs.Note.{Begin, Remove};
 ghost use Rattle.hc_history.specs.Seen.{op_of};
-ghost use Rattle.hc_history.specs.Told.{where_kept};
+ghost use Rattle.hc_history.specs.Told.{Hears, where_kept};
 ghost use Rattle.hc_machine.specs.Waiting.{entry_of_handle};
 ghost use Rattle.hc_state.specs.Inserting.{store_op as store_op_seen};
 ghost use Rattle.hc_state.specs.Planned.{IsThere};
 ghost use Rattle.hc_state.specs.Preparing.{Clears, Prepares, HasRoomFor};
-ghost use Rattle.hc_state.specs.Whole.{Stays};
+ghost use Rattle.hc_state.specs.Whole.{MayLack, Stays};
 
 use crate::beginning::number_after;
 use crate::planning::There;
@@ -75,7 +75,8 @@ fn begin_remove<A: Allocator, N: Notes<Note<A>>>(
     client: u8,
     key: &Key<A>,
 ) -> Result<Option<Note<A>>, AllocError>
-    ensures { IfOk result (λ note. note ≡ where_kept (N.told notes.now) (Begin call client (Remove key.now))) }
+    ensures note { IfOk result (λ note. note ≡ where_kept (N.told notes.now) (Begin call client (Remove key.now))) }
+    ensures silent { OnErr result (Hears (N.told notes.now)) }
 {
     if !notes.keeps() {
         return Ok(None);
@@ -110,6 +111,7 @@ impl<N: Notes<Note<A>>, A: Allocator + Clone + Copy> State<N, A> {
     pub(crate) fn next_call(&self) -> Result<u64, Refusal>
         ensures ok { IfOk result (λ call. call ≡ self.now.cache.calls + 1) }
         ensures memory { IfErr result (λ refusal. refusal ≡ Refusal.NoMemory) }
+        ensures ran_out { OnErr result (self.now.cache.calls + 1 ≡ 2 ^ 64) }
     {
         number_after(self.calls)
     }
@@ -134,7 +136,8 @@ impl<N: Notes<Note<A>>, A: Allocator + Clone + Copy> State<N, A> {
         client: u8,
         key: &Key<A>,
     ) -> Result<Option<Note<A>>, AllocError>
-        ensures { IfOk result (λ note. note ≡ where_kept self.now.log (Begin call client (Remove key.now))) }
+        ensures note { IfOk result (λ note. note ≡ where_kept self.now.log (Begin call client (Remove key.now))) }
+        ensures silent { OnErr result (Hears self.now.log) }
     {
         begin_remove(&self.notes, call, client, key)
     }
@@ -146,7 +149,8 @@ impl<N: Notes<Note<A>>, A: Allocator + Clone + Copy> State<N, A> {
         key: &Key<A>,
         there: Option<There<A>>,
     ) -> Result<Clearing<A>, AllocError>
-        ensures { IfOk result (λ plan. (entry : Option FlashEntry) → IsThere entry there → Clears key.now entry self.now plan) }
+        ensures clears { IfOk result (λ plan. (entry : Option FlashEntry) → IsThere entry there → Clears key.now entry self.now plan) }
+        ensures silent { OnErr result (IsSome self.now.cache.nvm) }
     {
         let courses = self.plan_to_serve(key, there)?;
         match self.plan_to_outdate(key) {
@@ -195,6 +199,7 @@ impl<N: Notes<Note<A>>, A: Allocator + Clone + Copy> State<N, A> {
     fn plan_to_remove(&self, client: u8, key: &Key<A>) -> Result<Prepared<A>, Refusal>
         ensures ok { IfOk result (λ plan. Prepares client (Remove key.now) key.now None self.now plan) }
         ensures memory { IfErr result (λ refusal. refusal ≡ Refusal.NoMemory) }
+        ensures silent { OnErr result (MayLack self.now.log self.now.cache) }
     {
         let call = self.next_call()?;
         let clearing = self.plan_to_clear(key, None)?;
@@ -238,6 +243,7 @@ impl<N: Notes<Note<A>>, A: Allocator + Clone + Copy> State<N, A> {
         ensures ok { IfOk result (λ plan. Prepares client (Remove key.now) key.now None self.new plan) }
         ensures room { OnOk result (HasRoomFor key.now self.new) }
         ensures memory { IfErr result (λ refusal. refusal ≡ Refusal.NoMemory) }
+        ensures silent { OnErr result (MayLack self.old.log self.old.cache) }
     {
         self.room_for(key)?;
         self.plan_to_remove(client, key)

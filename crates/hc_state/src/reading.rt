@@ -1,18 +1,21 @@
 // What a cache tells of itself between two calls, and what ends its log.
-ghost use Rattle.std.specs.Prelude.{◌≡◌, ◌≤◌, option_map};
+ghost use Rattle.std.specs.Prelude.{◌≡◌, ◌≤◌, ◌==◌, length, option_map};
+ghost use Rattle.std.specs.List.{list_all};
 ghost use Rattle.std.specs.Option.{option_copied};
 ghost use Rattle.hc_history.specs.Told.{Log, losses_taken};
+ghost use Rattle.hc_machine.specs.Nvm.{is_job};
+ghost use Rattle.hc_machine.specs.Quiet.{jobs_in};
 ghost use Rattle.hc_machine.specs.World.{order_in};
 ghost use Rattle.hc_nvm.specs.Seen.{order_of};
 
 use crate::state::State;
-use hc_history::{Counting, Kept, Note, Notes};
+use hc_history::{Counting, Kept, Listener};
 use hc_memory::Pools;
 use hc_nvm::Order;
 use hc_types::Config;
 use std::alloc::Allocator;
 
-impl<N: Notes<Note<A>>, A: Allocator> State<N, A> {
+impl<N: Listener, A: Allocator> State<N, A> {
     /// How many calls were begun: inserts, finds and removes that weren't refused.
     #[must_use]
     pub fn calls(&self) -> u64
@@ -54,7 +57,7 @@ impl<N: Notes<Note<A>>, A: Allocator> State<N, A> {
     }
 }
 
-impl<N: Notes<Note<A>>, A: Allocator + Clone + Copy> State<N, A> {
+impl<N: Listener, A: Allocator + Clone + Copy> State<N, A> {
     /// The device operation for which the job with this number waits.
     #[must_use]
     pub fn order(&self, job: u64) -> Option<&Order<A>>
@@ -63,6 +66,28 @@ impl<N: Notes<Note<A>>, A: Allocator + Clone + Copy> State<N, A> {
         match &self.nvm {
             Some(nvm) => nvm.order(job),
             None => None,
+        }
+    }
+
+    /// Whether no job is under way but the one with this number.
+    #[must_use]
+    pub fn is_alone(&self, job: u64) -> bool
+        ensures { result ≡ list_all (is_job job) (jobs_in self.now.cache.nvm) }
+    {
+        match &self.nvm {
+            Some(nvm) => nvm.is_alone(job),
+            None => true,
+        }
+    }
+
+    /// Whether no job is under way.
+    #[must_use]
+    pub fn is_idle(&self) -> bool
+        ensures { result ≡ (length (jobs_in self.now.cache.nvm) == 0) }
+    {
+        match &self.nvm {
+            Some(nvm) => nvm.is_idle(),
+            None => true,
         }
     }
 }

@@ -1,5 +1,5 @@
 // Items are removed.
-ghost use Rattle.std.specs.Prelude.{◌≡◌, ◌≤◌, ◌+◌, ◌*◌, length, IfOk, OnOk, OnErr, IfErr};
+ghost use Rattle.std.specs.Prelude.{◌≡◌, ◌<◌, ◌≤◌, ◌+◌, ◌*◌, length, IfOk, OnOk, OnErr, IfErr};
 ghost use Rattle.hc_history.specs.Seen.{reply_of};
 ghost use Rattle.hc_history.specs.Told.{is_log};
 ghost use Rattle.hc_invariant.specs.Jobs.{AllWish};
@@ -10,7 +10,7 @@ ghost use Rattle.hc_state.specs.Outdating.{ServesIn};
 ghost use Rattle.hc_state.specs.Removing.{removed_answer, removed_reply, removed_of as removed_seen};
 ghost use Rattle.hc_state.specs.Serving.{waiters_at};
 ghost use Rattle.hc_state.specs.Storing.{how_many, unstore_as, CanServe};
-ghost use Rattle.hc_state.specs.Whole.{Does, IsReady, IsStep, Stays, costs};
+ghost use Rattle.hc_state.specs.Whole.{Does, IsReady, IsStep, MayLack, Stays, costs};
 
 use crate::answers::Removed;
 use crate::evicting::alloc_of;
@@ -72,20 +72,26 @@ impl<N: Notes<Note<A>>, A: Allocator + Clone + Copy> State<N, A> {
         ensures ok { OnOk result (self.new ≡ record self.old { cache = linked_without key.now courses.now self.old.cache }) }
         ensures standing { IfOk result (λ standing. standing ≡ number_at key.now self.old.cache.memory) }
         ensures err { OnErr result (self.new ≡ self.old) }
+        ensures alone { OnErr result (0 < length courses.now) }
     {
+        // (most often none waits: then no memory is taken)
+        if courses.is_empty() {
+            return Ok(self.pools.unlink(key));
+        }
         let mut earlier = room_for_charges(alloc_of(&self.config), courses.len())?;
         self.unlink_stored(key, courses, &mut earlier)
     }
 
     /// Takes the key's item out of the cache, expired or not, and its waiting put; its copies on flash are stale from then
     /// on. The calls that wait for the key are served by what it has then. Refused with `NoMemory`, also where the call
-    /// numbers have run out.
+    /// numbers have run out; without flash, where nobody hears of the log, then alone.
     pub fn remove(&mut self, client: u8, key: &Key<A>) -> Result<Removed, Refusal>
         requires structured { Structured self.old.cache }
         requires ready { IsReady self.old }
         ensures ok { IfOk result (λ removed. IsStep (remove_step client key.now self.old.cache) (removed_answer removed) self.old self.new) }
         ensures err { OnErr result (Stays self.old self.new) }
         ensures memory { IfErr result (λ refusal. refusal ≡ Refusal.NoMemory) }
+        ensures silent { OnErr result (MayLack self.old.log self.old.cache) }
     {
         self.is_sound();
         let plan = self.prepare_to_remove(client, key)?;

@@ -1,6 +1,7 @@
 // The replies of calls that waited are taken.
 ghost use Rattle.std.specs.Prelude.{◌≡◌, IfOk, OnErr, IfErr};
 ghost use Rattle.hc_history.specs.Seen.{reply_of};
+ghost use Rattle.hc_history.specs.Told.{Hears};
 ghost use Rattle.hc_machine.specs.Cache.{Replied};
 ghost use Rattle.hc_machine.specs.Calls.{take_reply as take_step};
 ghost use Rattle.hc_state.specs.Answering.{IsReason};
@@ -15,12 +16,13 @@ use std::alloc::Allocator;
 
 impl<N: Notes<Note<A>>, A: Allocator + Clone + Copy> State<N, A> {
     /// Takes the reply of the call that waited. Refused with `UnknownCall` where none is owed to the call, with `NotReady`
-    /// where it still waits, and with `NoMemory`.
+    /// where it still waits, and with `NoMemory`, only where something is heard of the log.
     pub fn take_reply(&mut self, call: u64) -> Result<Reply<A>, Refusal>
         requires ready { IsReady self.old }
         ensures ok { IfOk result (λ reply. IsStep (take_step call self.old.cache) (Replied (reply_of reply)) self.old self.new) }
         ensures err { OnErr result (Stays self.old self.new) }
         ensures why { IfErr result (λ refusal. IsReason (take_step call self.old.cache).answer refusal) }
+        ensures silent { IfErr result (λ refusal. refusal ≡ Refusal.NoMemory → Hears self.old.log) }
     {
         match self.replies.is_ready(call) {
             None => return Err(Refusal::UnknownCall),

@@ -1,10 +1,10 @@
 // What a call needs before it changes anything: an insert, a remove, or the end of a fill.
-ghost use Rattle.std.specs.Prelude.{◌≡◌, ◌≤◌, ◌+◌, ◌*◌, length, IfSome, OnOk};
+ghost use Rattle.std.specs.Prelude.{◌≡◌, ◌<◌, ◌≤◌, ◌+◌, ◌*◌, ◌⊎◌, length, IsSome, IfSome, IfNone, OnOk, OnErr};
 ghost use Rattle.hc_state.specs.Ends.{HasRoomToEnd, losses_by};
 ghost use Rattle.hc_state.specs.FillEnds.{most_told_in};
 ghost use Rattle.hc_state.specs.Storing.{how_many};
 ghost use Rattle.hc_state.specs.Serving.{waiters_at};
-ghost use Rattle.hc_state.specs.Whole.{Stays, nvm_of, spare_of};
+ghost use Rattle.hc_state.specs.Whole.{MayWant, Stays, nvm_of, spare_of};
 
 use crate::state::State;
 use hc_history::{Note, Notes};
@@ -26,7 +26,8 @@ fn how_many_wait<A: Allocator + Clone + Copy>(nvm: &Option<Nvm<A>>, key: &Key<A>
 /// than can be counted.
 fn notes_for(waiting: usize, charges: usize) -> Option<usize>
     requires { charges ≤ 16777216 }
-    ensures { IfSome result (λ notes. notes ≡ 6 * waiting + 8 + charges) }
+    ensures notes { IfSome result (λ notes. notes ≡ 6 * waiting + 8 + charges) }
+    ensures none { IfNone result (0 < waiting) }
 {
     let each = waiting.checked_mul(6)?;
     each.checked_add(8 + charges)
@@ -110,6 +111,7 @@ impl<N: Notes<Note<A>>, A: Allocator + Clone + Copy> State<N, A> {
         ensures stays { Stays self.old self.new }
         ensures notes { self.old.notes ≤ self.new.notes }
         ensures stones { OnOk result (waiting + 1 ≤ self.new.spare.stones) }
+        ensures silent { OnErr result ((0 < waiting) ⊎ IsSome self.old.cache.nvm) }
     {
         let Some(stones) = waiting.checked_add(1) else {
             return Err(AllocError);
@@ -125,6 +127,7 @@ impl<N: Notes<Note<A>>, A: Allocator + Clone + Copy> State<N, A> {
         ensures stays { Stays self.old self.new }
         ensures notes { OnOk result (6 * how_many key.now self.old + 8 + length self.old.cache.memory.charges ≤ self.new.notes) }
         ensures stones { OnOk result (how_many key.now self.old + 1 ≤ self.new.spare.stones) }
+        ensures silent { OnErr result (MayWant self.old.log self.old.cache) }
     {
         let waiting = how_many_wait(&self.nvm, key);
         let Some(notes) = notes_for(waiting, self.pools.open_charges()) else {

@@ -5,7 +5,7 @@ ghost use Rattle.hc_machine.specs.Nvm.{new_nvm};
 ghost use Rattle.hc_machine.specs.Cache.{new_cache};
 ghost use Rattle.hc_state.specs.Whole.{nvm_of};
 
-use hc_history::{Note, Notes};
+use hc_history::{Listener, Note, Notes};
 use hc_memory::Pools;
 use hc_nvm::Nvm;
 use hc_replies::Replies;
@@ -20,7 +20,7 @@ use std::marker::Model;
 /// Contracts see the machine's cache, what is heard of its log, and for how many notes, puts, tombstones and fills there is
 /// room.
 #[derive(Drop)]
-pub struct State<N: Notes<Note<A>>, A: Allocator = Global> {
+pub struct State<N: Listener, A: Allocator = Global> {
     pub(crate) config: Config<A>,
     pub(crate) pools: Pools<A>,
     // seconds
@@ -31,7 +31,7 @@ pub struct State<N: Notes<Note<A>>, A: Allocator = Global> {
     pub(crate) notes: N,
 }
 
-impl<N: Notes<Note<A>>, A: Allocator> Model for State<N, A> {
+impl<N: Listener, A: Allocator> Model for State<N, A> {
     ghost use Rattle.hc_state.specs.Whole.{Whole, spare_of, nvm_of};
 
     ghost Value = { Whole };

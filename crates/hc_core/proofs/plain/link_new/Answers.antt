@@ -1,22 +1,16 @@
 use Rattle.std.proofs.Common.{◌∙◌}
-use Rattle.hc_memory.specs.Item.{charge_by}
-use Rattle.hc_memory.specs.Charges.{is_open}
-use Rattle.hc_core.specs.Refused.{is_taken}
-use Rattle.hc_core.specs.Steps.{after_discard}
-use Rattle.hc_core.proofs.Refusing.{free-of, taken-of}
+use Rattle.hc_machine.specs.Calls.{is_known}
+use Rattle.hc_core.proofs.Joining.{discarded-so, left-new, added-new}
 use Rattle.hc_core.proofs.plain.link_new.Goals as goal
 
 pub give_up-requires : goal.give_up-requires
-give_up-requires g c = record { mine = (λ i. is_open (charge_by (c.in-Err.ensures.sealed_returned i)) (c.in-Err.ensures.err i).memory.charges) ∙ c.requires.mine }
+give_up-requires g c = record { mine = (λ i. is_known (c.in-Err.ensures.err i).cache (c.in-Err.ensures.sealed_returned i)) ∙ c.requires.mine }
 
 pub returns-in-Err-clause-err : goal.returns-in-Err-clause-err
-returns-in-Err-clause-err g c = c.give_up.ensures ∙ (λ i. after_discard (c.in-Err.ensures.err i) (c.in-Err.ensures.sealed_returned i).number)
-
-pub returns-in-Err-clause-why : goal.returns-in-Err-clause-why
-returns-in-Err-clause-why g c = taken-of (is_taken c.args.sealed.key c.args.core.now) (is_open (charge_by c.args.sealed) c.args.core.now.memory.charges) c.in-Err.field-0.refusal c.requires.mine c.in-Err.ensures.why
+returns-in-Err-clause-err g c =
+    let e = c.in-Err.ensures in
+    let left = discarded-so c.args.sealed c.in-Err.field-0.sealed c.args.core.now c.insert.new.self c.give_up.new.core e.sealed_returned e.err c.give_up.ensures in
+    left-new c.args.sealed c.in-Err.field-0.refusal c.args.core.now c.give_up.new.core c.requires.mine e.why left
 
 pub returns-in-Ok-clause-ok : goal.returns-in-Ok-clause-ok
-returns-in-Ok-clause-ok g c = c.in-Ok.ensures.ok
-
-pub returns-in-Ok-clause-free : goal.returns-in-Ok-clause-free
-returns-in-Ok-clause-free g c = free-of (is_taken c.args.sealed.key c.args.core.now) (is_open (charge_by c.args.sealed) c.args.core.now.memory.charges) c.in-Ok.ensures.fits
+returns-in-Ok-clause-ok g c = added-new c.args.sealed c.in-Ok.inserted c.args.core.now c.insert.new.self c.in-Ok.ensures.ok

@@ -20,7 +20,7 @@ loop-key-smaller g c =
 pub loop-key-preserved : goal.loop-key-preserved
 loop-key-preserved g c =
     let kept = c.loop-key.invariant in
-    let log = g.N.Notes.told c.loop-key.notes in
+    let log = g.N.Listener.told c.loop-key.notes in
     let stones = c.loop-key.stones.stones in
     let test = is_of_bucket c.args.stones.now.flash c.args.bucket in
     let at : Some c.in-Some.key ≡ option_map key_in (find test stones) =
@@ -48,7 +48,7 @@ returns-clause-left g c =
 pub returns-clause-told : goal.returns-clause-told
 returns-clause-told g c =
     let kept = c.loop-key.invariant in
-    let log = g.N.Notes.told c.loop-key.notes in
+    let log = g.N.Listener.told c.loop-key.notes in
     let stones = c.loop-key.stones.stones in
     let test = is_of_bucket c.args.stones.now.flash c.args.bucket in
     let none : filter test stones ≡ [] =

@@ -9,9 +9,9 @@ abbrev pub invariant-loop-key : goal.invariant-loop-key
 invariant-loop-key g l = record {
   flash : l.stones.flash ≡ l.fn.stones.flash;
   left : standing (is_of_bucket l.fn.stones.flash l.bucket) l.stones.stones ≡ standing (is_of_bucket l.fn.stones.flash l.bucket) l.fn.stones.stones;
-  told : told_more (g.N.Notes.told l.notes) (raised (is_of_bucket l.fn.stones.flash l.bucket) l.stones.stones) ≡ told_more (g.N.Notes.told l.fn.notes) (raised (is_of_bucket l.fn.stones.flash l.bucket) l.fn.stones.stones);
+  told : told_more (g.N.Listener.told l.notes) (raised (is_of_bucket l.fn.stones.flash l.bucket) l.stones.stones) ≡ told_more (g.N.Listener.told l.fn.notes) (raised (is_of_bucket l.fn.stones.flash l.bucket) l.fn.stones.stones);
   line : l.fn.stones.room ≤ l.stones.room;
-  room : g.N.Notes.room l.fn.notes + length l.stones.stones ≤ g.N.Notes.room l.notes + length l.fn.stones.stones;
+  room : g.N.Listener.room l.fn.notes + length l.stones.stones ≤ g.N.Listener.room l.notes + length l.fn.stones.stones;
 }
 
 abbrev pub decreases-loop-key : goal.decreases-loop-key

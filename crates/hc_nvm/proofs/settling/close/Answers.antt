@@ -14,7 +14,7 @@ returns-in-Put-clause-left g c =
 
 pub returns-in-Put-clause-told : goal.returns-in-Put-clause-told
 returns-in-Put-clause-told g c =
-    let log = g.N.Notes.told c.args.notes.now in
+    let log = g.N.Listener.told c.args.notes.now in
     rw c.in-Put.is (c.written.ensures.told ∙ ap (λ (ended : List Tombstone). told_more log (map (λ (stone : Tombstone). Raised stone.key) ended ++ Written c.in-Put.key ∷ [])) (sym (nothing-passes c.args.stones.now.stones)))
 
 pub returns-in-Fill-clause-left : goal.returns-in-Fill-clause-left
@@ -24,7 +24,7 @@ returns-in-Fill-clause-left g c =
 
 pub returns-in-Fill-clause-told : goal.returns-in-Fill-clause-told
 returns-in-Fill-clause-told g c =
-    let log = g.N.Notes.told c.args.notes.now in
+    let log = g.N.Listener.told c.args.notes.now in
     rw c.in-Fill.is (sym (told-nothing log) ∙ ap (λ (ended : List Tombstone). told_more log (map (λ (stone : Tombstone). Raised stone.key) ended ++ [])) (sym (nothing-passes c.args.stones.now.stones)))
 
 pub returns-in-Flush-clause-left : goal.returns-in-Flush-clause-left
@@ -34,5 +34,5 @@ returns-in-Flush-clause-left g c =
 
 pub returns-in-Flush-clause-told : goal.returns-in-Flush-clause-told
 returns-in-Flush-clause-told g c =
-    let log = g.N.Notes.told c.args.notes.now in
+    let log = g.N.Listener.told c.args.notes.now in
     rw c.in-Flush.is (sym (told-nothing log) ∙ ap (λ (ended : List Tombstone). told_more log (map (λ (stone : Tombstone). Raised stone.key) ended ++ [])) (sym (nothing-passes c.args.stones.now.stones)))

@@ -15,5 +15,5 @@ returns-in_default-clause-left g c =
 pub returns-in_default-clause-told : goal.returns-in_default-clause-told
 returns-in_default-clause-told g c =
     let stones = c.args.stones.now in
-    let log = g.N.Notes.told c.args.notes.now in
+    let log = g.N.Listener.told c.args.notes.now in
     sym (told-nothing log) ∙ ap (λ (ended : List Tombstone). told_more log (map (λ (stone : Tombstone). Raised stone.key) ended)) (sym (none-given-up stones.flash c.args.bucket stones.stones c.in_default.is))

@@ -11,5 +11,5 @@ returns-clause-told g c =
     rw (← c.outcome.view_is, ← c.hold_parts.ensures.left)
     (told-settled (held_part stones.flash c.outcome.inside.opened c.outcome.inside.losses.items stones.stones) (raised (ends_with (task_of c.args.task)) c.hold_parts.new.stones.stones)
     (written_note (task_of c.args.task)) (region_note Flushed c.outcome.inside.flushed) (region_note Cleared c.outcome.inside.cleared)
-    (g.N.Notes.told c.args.notes.now) (g.N.Notes.told c.hold_parts.new.notes) (g.N.Notes.told c.close.new.notes) (g.N.Notes.told c.flushed.new.notes) (g.N.Notes.told c.cleared.new.notes)
+    (g.N.Listener.told c.args.notes.now) (g.N.Listener.told c.hold_parts.new.notes) (g.N.Listener.told c.close.new.notes) (g.N.Listener.told c.flushed.new.notes) (g.N.Listener.told c.cleared.new.notes)
     c.hold_parts.ensures.told c.close.ensures.told c.flushed.ensures.told c.cleared.ensures.told)

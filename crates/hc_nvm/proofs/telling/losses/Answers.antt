@@ -13,7 +13,7 @@ nothing_left (loss ∷ losses) h = absurd (omega arith)
 
 pub returns-clause-told : goal.returns-clause-told
 returns-clause-told g c =
-    let log = g.N.Notes.told c.loop-loss.notes in
+    let log = g.N.Listener.told c.loop-loss.notes in
     sym (told-nothing log)
     ∙ ap (λ (xs : List Loss). told_more log (loss_notes xs)) (sym (nothing_left (into_iter_items c.loop-loss.loss-iterator) (c.loop-loss.invariant.counted ∙ c.in-None.ensures.steps.0)))
     ∙ c.loop-loss.invariant.told
@@ -27,7 +27,7 @@ pub loop-loss-preserved : goal.loop-loss-preserved
 loop-loss-preserved g c =
     let kept = c.loop-loss.invariant in
     let steps = c.in-Some.ensures.steps in
-    let log = g.N.Notes.told c.loop-loss.notes in
+    let log = g.N.Listener.told c.loop-loss.notes in
     let rest = into_iter_items c.next.new.self in
     record {
       told = (λ i. told_more (c.lost.ensures.told i) (loss_notes rest)) ∙ told-twice log (loss_notes (c.in-Some.loss ∷ [])) (loss_notes rest) ∙ ap (λ (xs : List Loss). told_more log (loss_notes xs)) (sym steps.0) ∙ kept.told;

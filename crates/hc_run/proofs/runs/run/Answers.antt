@@ -1,54 +1,100 @@
-use Rattle.std.proofs.Common.{[], length, take, ap, sym, subst, ◌∙◌}
-use Rattle.hc_types.specs.Config.{Config}
-use Rattle.hc_history.specs.Lawful.{Legal}
-use Rattle.hc_core.specs.World.{Stage, IsRun}
-use Rattle.hc_run.proofs.Going.{IsRun-none, run_turn}
+use Rattle.std.proofs.Common.{Some, None, length, take, ap, ◌∙◌, arith}
+use Rattle.hc_follows.specs.Follows.{StopsAt}
+use Rattle.hc_run.proofs.Going.{ongoing-none, ongoing-own, ongoing-made, ongoing-stopped, run_turn, run_ends, promised}
 use Rattle.hc_run.proofs.runs.run.Goals as goal
 
 pub loop-i-init : goal.loop-i-init
 loop-i-init g c =
-    let config = c.args.config.now in
-    let none = subst (λ (s : Stage). IsRun config [] [] [] s) (sym c.in_ok-stage.ensures.ok) (IsRun-none config) in
+    let is = c.in_ok-stage.ensures in
     record {
-      config = ap (λ (s : Stage). s.cache.config) c.in_ok-stage.ensures.ok;
-      runs = rw (c.new-answers.ensures.items, c.new-ends.ensures.items) none;
+      ongoing = rw (c.new-answers.ensures.items, c.new-ends.ensures.items) (ongoing-none _ c.args.config.now c.in_ok-stage.stage is.cache is.log is.results is.slots is.before);
       made = ap length c.new-answers.ensures.items;
     }
 
+pub go_on-requires : goal.go_on-requires
+go_on-requires g c =
+    let l = c.loop-i in
+    record { own = ongoing-own _ c.args.config.now (take l.i c.args.steps.now) l.answers.items l.ends.items l.stage c.in_ok-stage.ensures.fits l.invariant.ongoing }
+
 pub loop-i-preserved : goal.loop-i-preserved
 loop-i-preserved g c =
-    let i = c.loop-i.invariant in
-    let turn = run_turn c.args.config.now c.args.steps.now c.loop-i.i c.index-steps-i.result c.loop-i.answers.items c.go_on.new.answers.items c.loop-i.ends.items c.go_on.new.ends.items c.loop-i.stage c.go_on.new.stage
-    c.loop-i-test.true c.index-steps-i.is i.config i.runs i.made c.in-Ok.ensures.ok in
-    record { config = turn.0; runs = turn.1; made = turn.2 }
+    let l = c.loop-i in
+    let turn = run_turn _ c.args.config.now c.args.steps.now c.index-steps-i.result l.i l.answers.items c.go_on.new.answers.items l.ends.items c.go_on.new.ends.items l.stage c.go_on.new.stage
+    c.loop-i-test.true c.index-steps-i.is c.in_ok-stage.ensures.fits l.invariant.ongoing l.invariant.made c.in-Ok.ensures.ok in
+    record { ongoing = turn.0; made = turn.1 }
 
-pub returns-clause-follows : goal.returns-clause-follows
-returns-clause-follows g c =
-    let kept = c.loop-i.invariant in
+-- ---- where memory lacks
+
+pub end-log-requires : goal.end-log-requires
+end-log-requires g c =
+    let l = c.loop-i in
+    let back = c.in-Err.ensures in
     record {
-      new = c.loop-i.stage;
-      runs = subst (λ n. IsRun c.args.config.now (take n c.args.steps.now) c.loop-i.answers.items c.loop-i.ends.items c.loop-i.stage) (sym kept.made) kept.runs;
-      held = c.into_log-2.ensures.held;
-      told = c.into_log-2.ensures.log;
+      own = ongoing-own _ c.args.config.now (take (length c.go_on.new.answers.items) c.args.steps.now) c.go_on.new.answers.items c.go_on.new.ends.items c.go_on.new.stage c.in_ok-stage.ensures.fits
+          (ongoing-stopped _ c.args.config.now c.args.steps.now l.i l.answers.items c.go_on.new.answers.items l.ends.items c.go_on.new.ends.items l.stage c.go_on.new.stage l.invariant.ongoing l.invariant.made back.err back.answers back.ends);
     }
 
-pub returns-clause-legal : goal.returns-clause-legal
-returns-clause-legal g c = subst (λ (k : Config). Legal k c.into_log-2.result.notes.items) c.loop-i.invariant.config c.into_log-2.ensures.legal
-
-pub returns-in-Err-clause-follows : goal.returns-in-Err-clause-follows
-returns-in-Err-clause-follows g c =
-    let kept = c.loop-i.invariant in
-    let back = c.in-Err.ensures.err in
-    record {
-      new = c.go_on.new.stage;
-      runs = rw (back.0, back.1, back.2, kept.made) kept.runs;
-      held = c.into_log.ensures.held;
-      told = c.into_log.ensures.log;
-    }
+pub returns-in-Err-clause-runs : goal.returns-in-Err-clause-runs
+returns-in-Err-clause-runs g c =
+    let l = c.loop-i in
+    let back = c.in-Err.ensures in
+    run_ends _ c.args.config.now (take (length c.go_on.new.answers.items) c.args.steps.now) c.go_on.new.answers.items c.go_on.new.ends.items c.go_on.new.stage c.end-log.result.0.notes.items
+    (ongoing-stopped _ c.args.config.now c.args.steps.now l.i l.answers.items c.go_on.new.answers.items l.ends.items c.go_on.new.ends.items l.stage c.go_on.new.stage l.invariant.ongoing l.invariant.made back.err back.answers back.ends) c.end-log.ensures
 
 pub returns-in-Err-clause-legal : goal.returns-in-Err-clause-legal
 returns-in-Err-clause-legal g c =
-    subst (λ (k : Config). Legal k c.into_log.result.notes.items) (ap (λ (s : Stage). s.cache.config) c.in-Err.ensures.err.0 ∙ c.loop-i.invariant.config) c.into_log.ensures.legal
+    let l = c.loop-i in
+    let back = c.in-Err.ensures in
+    (promised _ c.args.config.now c.args.steps.now c.go_on.new.answers.items c.go_on.new.ends.items c.go_on.new.stage c.end-log.result.0.notes.items (Some l.i) c.in_ok-stage.ensures.fits
+    (ongoing-stopped _ c.args.config.now c.args.steps.now l.i l.answers.items c.go_on.new.answers.items l.ends.items c.go_on.new.ends.items l.stage c.go_on.new.stage l.invariant.ongoing l.invariant.made back.err back.answers back.ends)
+    (ap length back.answers ∙ l.invariant.made, c.loop-i-test.true) c.end-log.ensures).legal
 
-pub returns-in-Err-clause-stopped : goal.returns-in-Err-clause-stopped
-returns-in-Err-clause-stopped g c = (c.loop-i-test.true, ap length c.in-Err.ensures.err.1 ∙ c.loop-i.invariant.made)
+pub returns-in-Err-clause-honest : goal.returns-in-Err-clause-honest
+returns-in-Err-clause-honest g c =
+    let l = c.loop-i in
+    let back = c.in-Err.ensures in
+    (promised _ c.args.config.now c.args.steps.now c.go_on.new.answers.items c.go_on.new.ends.items c.go_on.new.stage c.end-log.result.0.notes.items (Some l.i) c.in_ok-stage.ensures.fits
+    (ongoing-stopped _ c.args.config.now c.args.steps.now l.i l.answers.items c.go_on.new.answers.items l.ends.items c.go_on.new.ends.items l.stage c.go_on.new.stage l.invariant.ongoing l.invariant.made back.err back.answers back.ends)
+    (ap length back.answers ∙ l.invariant.made, c.loop-i-test.true) c.end-log.ensures).honest
+
+pub returns-in-Err-clause-follows : goal.returns-in-Err-clause-follows
+returns-in-Err-clause-follows g c =
+    let l = c.loop-i in
+    let back = c.in-Err.ensures in
+    (promised _ c.args.config.now c.args.steps.now c.go_on.new.answers.items c.go_on.new.ends.items c.go_on.new.stage c.end-log.result.0.notes.items (Some l.i) c.in_ok-stage.ensures.fits
+    (ongoing-stopped _ c.args.config.now c.args.steps.now l.i l.answers.items c.go_on.new.answers.items l.ends.items c.go_on.new.ends.items l.stage c.go_on.new.stage l.invariant.ongoing l.invariant.made back.err back.answers back.ends)
+    (ap length back.answers ∙ l.invariant.made, c.loop-i-test.true) c.end-log.ensures).follows
+
+-- ---- at the end of the steps
+
+pub end-log-requires-2 : goal.end-log-requires-2
+end-log-requires-2 g c =
+    let l = c.loop-i in
+    record { own = ongoing-own _ c.args.config.now (take l.i c.args.steps.now) l.answers.items l.ends.items l.stage c.in_ok-stage.ensures.fits l.invariant.ongoing }
+
+pub returns-clause-runs : goal.returns-clause-runs
+returns-clause-runs g c =
+    let l = c.loop-i in
+    run_ends _ c.args.config.now (take (length l.answers.items) c.args.steps.now) l.answers.items l.ends.items l.stage c.end-log-2.result.0.notes.items
+    (ongoing-made _ c.args.config.now c.args.steps.now l.i l.answers.items l.ends.items l.stage l.invariant.ongoing l.invariant.made) c.end-log-2.ensures
+
+pub returns-clause-legal : goal.returns-clause-legal
+returns-clause-legal g c =
+    let l = c.loop-i in
+    let stops : StopsAt None (length l.answers.items) (length c.args.steps.now) = omega (arith, l.invariant.made, l.auto.i-end, c.loop-i-test.false) in
+    (promised _ c.args.config.now c.args.steps.now l.answers.items l.ends.items l.stage c.end-log-2.result.0.notes.items None c.in_ok-stage.ensures.fits
+    (ongoing-made _ c.args.config.now c.args.steps.now l.i l.answers.items l.ends.items l.stage l.invariant.ongoing l.invariant.made) stops c.end-log-2.ensures).legal
+
+pub returns-clause-honest : goal.returns-clause-honest
+returns-clause-honest g c =
+    let l = c.loop-i in
+    let stops : StopsAt None (length l.answers.items) (length c.args.steps.now) = omega (arith, l.invariant.made, l.auto.i-end, c.loop-i-test.false) in
+    (promised _ c.args.config.now c.args.steps.now l.answers.items l.ends.items l.stage c.end-log-2.result.0.notes.items None c.in_ok-stage.ensures.fits
+    (ongoing-made _ c.args.config.now c.args.steps.now l.i l.answers.items l.ends.items l.stage l.invariant.ongoing l.invariant.made) stops c.end-log-2.ensures).honest
+
+pub returns-clause-follows : goal.returns-clause-follows
+returns-clause-follows g c =
+    let l = c.loop-i in
+    let stops : StopsAt None (length l.answers.items) (length c.args.steps.now) = omega (arith, l.invariant.made, l.auto.i-end, c.loop-i-test.false) in
+    (promised _ c.args.config.now c.args.steps.now l.answers.items l.ends.items l.stage c.end-log-2.result.0.notes.items None c.in_ok-stage.ensures.fits
+    (ongoing-made _ c.args.config.now c.args.steps.now l.i l.answers.items l.ends.items l.stage l.invariant.ongoing l.invariant.made) stops c.end-log-2.ensures).follows

@@ -1,5 +1,5 @@
 use Rattle.std.proofs.Common.{sym}
-use Rattle.hc_run.proofs.Filled.{put-back}
+use Rattle.hc_run.proofs.Slotting.{put-back}
 use Rattle.hc_run.proofs.slots.take_sealed.Goals as goal
 
 pub returns-in-Err-clause-err : goal.returns-in-Err-clause-err

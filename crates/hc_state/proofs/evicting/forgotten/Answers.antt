@@ -8,7 +8,7 @@ use Rattle.hc_state.proofs.evicting.forgotten.Goals as goal
 
 pub returns-clause-told : goal.returns-clause-told
 returns-clause-told g c =
-    let log = g.N.Notes.told c.args.notes.now in
+    let log = g.N.Listener.told c.args.notes.now in
     let is = c.item.inside in
     let cause = cause_for c.args.now c.args.pool c.args.want c.args.item in
     c.note.ensures.told

@@ -6,7 +6,7 @@ use Rattle.hc_state.proofs.evicting.plan_leaves.Given as goal
 -- what is made, and what is left to make, come to all
 abbrev pub invariant-loop-copy : goal.invariant-loop-copy
 invariant-loop-copy g l = record {
-  made : l.leaves.items ++ map (leave_of (g.N.Notes.told l.notes)) (into_iter_items l.copy-iterator) ≡ map (leave_of (g.N.Notes.told l.notes)) l.fn.keys.items;
+  made : l.leaves.items ++ map (leave_of (g.N.Listener.told l.notes)) (into_iter_items l.copy-iterator) ≡ map (leave_of (g.N.Listener.told l.notes)) l.fn.keys.items;
   counted : length (into_iter_items l.copy-iterator) ≡ into_iter_len l.copy-iterator;
   room : vec_len l.leaves + into_iter_len l.copy-iterator ≤ vec_capacity l.leaves;
 }

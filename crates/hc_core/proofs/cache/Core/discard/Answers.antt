@@ -1,23 +1,20 @@
-use Rattle.std.proofs.Common.{◌≡◌, [], ◌∷◌, refl, sym, ap, ◌∙◌, arith, subst}
-use Rattle.hc_memory.specs.Item.{charge_by}
-use Rattle.hc_memory.proofs.Books.{is_open-found}
-use Rattle.hc_history.specs.Note.{Note, Freed}
-use Rattle.hc_history.specs.Told.{told_more}
-use Rattle.hc_core.specs.Mirrors.{FitsConfig}
-use Rattle.hc_core.proofs.Keeps.{follows-as, follows-discard, fits-discard, length-as, length-closed}
-use Rattle.hc_memory.specs.Memory.{after_free}
+use Rattle.hc_machine.specs.Cache.{Discarded}
+use Rattle.hc_proof_runs.specs.Events.{Discards}
+use Rattle.hc_core.proofs.Keeping.{done-holds}
+use Rattle.hc_core.proofs.Calling.{called-so, calm}
 use Rattle.hc_core.proofs.cache.Core.discard.Goals as goal
 
-pub invariant_of-self-2 : goal.invariant_of-self-2
-invariant_of-self-2 g c =
-    let f = c.self.inside in
-    let number = c.args.sealed.number in
-    let ok = c.in_ok-charge.ensures.ok in
-    let found = is_open-found (charge_by c.args.sealed) f.pools.charges ok.0 in
-    let log : g.N.Notes.told c.note.new.self ≡ told_more (g.N.Notes.told f.notes) (Freed number ∷ []) =
-    c.note.ensures.told ∙ ap (λ (n : Note). told_more (g.N.Notes.told f.notes) (n ∷ [])) (c.new.ensures ∙ ap (λ k. Freed k) c.in_ok-charge.ensures.number) in (
-      subst (FitsConfig f.config) (sym ok.1) (fits-discard f.config f.pools number c.self.invariant.0),
-      follows-as f.config _ (g.N.Notes.told c.note.new.self) _ c.discard.new.self f.calls f.calls f.clock log ok.1 refl
-          (follows-discard f.config (g.N.Notes.told f.notes) f.pools (charge_by c.args.sealed) number f.calls f.clock found c.self.invariant.1),
-      omega (arith, length-as (after_free f.pools number) c.discard.new.self ok.1, length-closed number f.pools.charges (charge_by c.args.sealed) found, c.self.invariant.2, c.note.ensures.room),
-    )
+pub discard-requires : goal.discard-requires
+discard-requires g c = record { structured = c.self.invariant.structured; ready = c.self.invariant.ready }
+
+pub invariant_of-self : goal.invariant_of-self
+invariant_of-self g c = done-holds (Discards c.args.sealed) c.self.inside.state c.discard.new.self tt c.self.invariant Discarded c.discard.result c.discard.ensures.ok c.discard.ensures.err
+
+pub returns-clause-ok : goal.returns-clause-ok
+returns-clause-ok g c = rw (← c.self.view_is) (called-so Discarded _ c.self.inside.state c.discard.new.self c.discard.result c.discard.ensures.ok)
+
+pub returns-clause-foreign : goal.returns-clause-foreign
+returns-clause-foreign g c = rw (← c.self.view_is) c.discard.ensures.foreign
+
+pub returns-clause-err : goal.returns-clause-err
+returns-clause-err g c = rw (← c.self.view_is) (calm c.self.inside.state c.discard.new.self c.discard.result c.discard.ensures.err)

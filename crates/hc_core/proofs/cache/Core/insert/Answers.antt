@@ -1,25 +1,29 @@
-use Rattle.std.proofs.Common.{sym, ap, ◌∙◌}
-use Rattle.std.specs.Prelude.{is_some}
-use Rattle.hc_memory.specs.Pool.{unexpired}
-use Rattle.hc_memory.specs.Memory.{linked_at}
-use Rattle.hc_core.proofs.Standing.{exists-there, free-there, exists-else}
+use Rattle.std.proofs.Common.{length, ap, arith}
+use Rattle.hc_state.specs.Inserting.{inserted_answer}
+use Rattle.hc_proof_runs.specs.Events.{Adds}
+use Rattle.hc_core.proofs.Keeping.{call-holds}
+use Rattle.hc_core.proofs.Calling.{called, unchanged}
 use Rattle.hc_core.proofs.cache.Core.insert.Goals as goal
 
-pub returns-then-has_unexpired-clause-exists : goal.returns-then-has_unexpired-clause-exists
-returns-then-has_unexpired-clause-exists g c =
-    let f = c.self.inside in
-    let is = sym c.if-has_unexpired.true ∙ c.has_unexpired.ensures ∙ ap (λ k. is_some (unexpired f.clock (linked_at k f.pools.pools))) c.key.ensures in
-    rw (← c.self.view_is) (exists-there f.config (g.N.Notes.told f.notes) f.pools f.calls f.clock c.args.sealed.key c.self.invariant.1 is)
+pub insert-requires : goal.insert-requires
+insert-requires g c = record { structured = c.self.invariant.structured; begun = c.self.invariant.begun; ready = c.self.invariant.ready }
 
-pub returns-clause-free : goal.returns-clause-free
-returns-clause-free g c =
-    let f = c.self.inside in
-    let is = sym c.if-has_unexpired.false ∙ c.has_unexpired.ensures ∙ ap (λ k. is_some (unexpired f.clock (linked_at k f.pools.pools))) c.key.ensures in
-    rw (← c.self.view_is) (free-there c.store.result f.config (g.N.Notes.told f.notes) f.pools f.calls f.clock c.args.sealed.key c.self.invariant.1 is)
+pub invariant_of-self : goal.invariant_of-self
+invariant_of-self g c =
+    let key = ap length c.key.ensures in
+    let sized = c.len-sized.ensures in
+    call-holds (Adds c.args.client c.args.sealed) c.self.inside.state c.insert.new.self (record {
+      some_key = omega (arith, key, sized.value, sized.least);
+      short_key = omega (arith, key, sized.value, sized.most);
+      short_value = omega arith;
+      second = omega (arith, c.expiry-second.ensures);
+    }) c.self.invariant inserted_answer c.insert.result c.insert.ensures.ok c.insert.ensures.err
 
-pub returns-clause-exists : goal.returns-clause-exists
-returns-clause-exists g c =
-    let f = c.self.inside in
-    let is = sym c.if-has_unexpired.false ∙ c.has_unexpired.ensures ∙ ap (λ k. is_some (unexpired f.clock (linked_at k f.pools.pools))) c.key.ensures in
-    let why = rw (← c.self.view_is) at c.store.ensures.why in
-    rw (← c.self.view_is) (exists-else _ c.store.result f.config (g.N.Notes.told f.notes) f.pools f.calls f.clock c.args.sealed c.self.invariant.1 is why)
+pub returns-clause-ok : goal.returns-clause-ok
+returns-clause-ok g c = rw (← c.self.view_is) (called inserted_answer _ c.self.inside.state c.insert.new.self c.insert.result c.insert.ensures.ok)
+
+pub returns-clause-err : goal.returns-clause-err
+returns-clause-err g c = rw (← c.self.view_is) (unchanged c.self.inside.state c.insert.new.self c.insert.result c.insert.ensures.err)
+
+pub returns-clause-why : goal.returns-clause-why
+returns-clause-why g c = rw (← c.self.view_is) c.insert.ensures.why

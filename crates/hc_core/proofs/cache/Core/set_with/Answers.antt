@@ -1,23 +1,18 @@
-use Rattle.std.proofs.Common.{length, sym, ap, ◌∙◌}
-use Rattle.std.specs.Option.{option_or}
 use Rattle.hc_memory.specs.Seen.{filled}
-use Rattle.hc_core.specs.Plain.{after_set}
-use Rattle.hc_core.specs.Refused.{allocate_refusal}
-use Rattle.hc_core.specs.Steps.{after_insert}
+use Rattle.hc_machine.specs.Evicting.{allocate}
+use Rattle.hc_core.proofs.Joining.{then-set, then-left, memory-why, fits-so}
 use Rattle.hc_core.proofs.cache.Core.set_with.Goals as goal
-
-pub link-requires : goal.link-requires
-link-requires g c = record { mine = c.in_ok-sealed.ensures.mine }
 
 pub returns-clause-ok : goal.returns-clause-ok
 returns-clause-ok g c =
-    c.in_ok-link.ensures.ok
-    ∙ (λ i. after_insert (c.in_ok-sealed.ensures.ok i) 0 (c.in_ok-sealed.ensures.sealed i))
-    ∙ (λ i. after_set c.args.self.now c.args.pool (c.in_ok-key.ensures.ok i) (filled c.args.fill) c.args.ttl)
+    then-set c.args.pool c.in_ok-key.key c.args.key.now (filled c.args.fill) c.args.ttl c.in_ok-sealed.sealed c.args.self.now c.open_with.new.core c.link.new.core c.in_ok-key.ensures.ok c.in_ok-sealed.ensures.ok c.link.result c.link.ensures.ok
 
 pub returns-clause-fits : goal.returns-clause-fits
-returns-clause-fits g c =
-    let size = length (filled c.args.fill) in
-    ap (λ o. option_or o (allocate_refusal c.args.self.now c.args.pool c.args.key.now size)) c.in_ok-key.ensures.fits
-    ∙ (λ i. allocate_refusal c.args.self.now c.args.pool (sym c.in_ok-key.ensures.ok i) size)
-    ∙ c.in_ok-sealed.ensures.fits
+returns-clause-fits g c = fits-so c.link.result c.in_ok-key.ensures.fits
+
+pub returns-clause-err : goal.returns-clause-err
+returns-clause-err g c =
+    then-left c.args.pool c.in_ok-key.key c.args.key.now (filled c.args.fill) c.args.ttl c.in_ok-sealed.sealed c.args.self.now c.open_with.new.core c.link.new.core c.in_ok-key.ensures.ok c.in_ok-sealed.ensures.ok c.link.result c.link.ensures.err c.link.ensures.memory
+
+pub returns-clause-why : goal.returns-clause-why
+returns-clause-why g c = memory-why c.args.key.now (allocate c.args.pool c.args.key.now (filled c.args.fill) c.args.ttl c.args.self.now.cache).answer c.link.result c.in_ok-key.ensures.fits c.link.ensures.memory

@@ -40,11 +40,11 @@ returns-clause-taken g c =
     let keyed : (job : Job) → job_at c.args.number inside.jobs ≡ Some job → c.args.key ≡ brought_key c.args.number inside.fills job.task =
     subst (λ (s : Stock). (job : Job) → job_at c.args.number s.nvm.jobs ≡ Some job → c.args.key ≡ brought_key c.args.number s.nvm.fills job.task) (sym c.self.view_is) c.requires.key in
     let of : (job : Job) → job_at c.args.number inside.jobs ≡ Some job → IsTaken (told_before (result_note job.order (result_of c.args.came) ∷ []) (goes_on job (Done c.args.outcome) inside)) new Finished (option_map filled_of c.end_fill-filled.result)
-    (g.N.Notes.told c.args.notes.now) (g.N.Notes.told c.settle-found.new.notes) c.args.pools.now c.settle-found.new.pools =
+    (g.N.Listener.told c.args.notes.now) (g.N.Listener.told c.settle-found.new.notes) c.args.pools.now c.settle-found.new.pools =
     λ job there.
     let stood : slice_get c.self.inside.jobs.items c.args.at ≡ Some job = (stands 1 c.self.inside.made c.args.number c.args.at c.self.inside.jobs.items i.3.numbered here).here ∙ ap (λ (j : Job). Some j) (job_stands 1 c.self.inside.made c.args.number c.args.at c.self.inside.jobs.items job i.3.numbered here there) in
     ended inside c.args.number c.args.at job (result_of c.args.came) c.args.outcome c.self.inside.tombstones.flash (task_of c.take_job-task.result.0) c.args.key new (option_map filled_of c.end_fill-filled.result) (option_map entry_of c.settle-found.result)
-    (g.N.Notes.told c.args.notes.now) (g.N.Notes.told c.tell_result.new.notes) (g.N.Notes.told c.settle-found.new.notes) c.args.pools.now c.settle-found.new.pools (record {
+    (g.N.Listener.told c.args.notes.now) (g.N.Listener.told c.tell_result.new.notes) (g.N.Listener.told c.settle-found.new.notes) c.args.pools.now c.settle-found.new.pools (record {
       place_is = here;
       numbered = i.3.numbered;
       alone = alone;
@@ -55,9 +55,9 @@ returns-clause-taken g c =
       new_is = λ j. record { pair = c.self.inside.pair; queue = c.self.inside.queue.puts; tombstones = c.settle-found.ensures.left j; fills = c.end_fill-filled.ensures.left j; jobs = c.take_job-task.ensures.jobs j; made = c.self.inside.made };
       found_is = c.settle-found.ensures.found;
       filled_is = c.end_fill-filled.ensures.filled;
-      result_is = c.tell_result.ensures.told ∙ ap (λ (o : Order). told_more (g.N.Notes.told c.args.notes.now) (result_note o (result_of c.args.came) ∷ [])) (c.take_job-task.ensures.order job stood);
+      result_is = c.tell_result.ensures.told ∙ ap (λ (o : Order). told_more (g.N.Listener.told c.args.notes.now) (result_note o (result_of c.args.came) ∷ [])) (c.take_job-task.ensures.order job stood);
       told_is = c.settle-found.ensures.told;
       marks = c.settle-found.ensures.marks;
     }) in
     subst (λ (s : Stock). (job : Job) → job_at c.args.number s.nvm.jobs ≡ Some job → IsTaken (told_before (result_note job.order (result_of c.args.came) ∷ []) (goes_on job (Done c.args.outcome) s.nvm)) new Finished (option_map filled_of c.end_fill-filled.result)
-    (g.N.Notes.told c.args.notes.now) (g.N.Notes.told c.settle-found.new.notes) c.args.pools.now c.settle-found.new.pools) c.self.view_is of
+    (g.N.Listener.told c.args.notes.now) (g.N.Listener.told c.settle-found.new.notes) c.args.pools.now c.settle-found.new.pools) c.self.view_is of

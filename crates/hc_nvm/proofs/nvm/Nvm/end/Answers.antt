@@ -53,6 +53,6 @@ returns-clause-taken g c =
     let s = stands 1 inside.made c.args.number c.in-Some.at inside.jobs i.3.numbered here in
     let handed : IsHandedIn c.args.number came inside (record inside { pair = c.end-outcome.new.self }) (Done c.end-outcome.result) c.ending.inside.key =
     record { job = s.job; there = s.there; came = c.end-outcome.ensures.step came ends.ends; same = refl; key_is = ends.key_is s.job s.there } in
-    subst (λ (s : Stock). IsFinished (finish c.args.number came s.nvm) c.close_job.new.self.nvm (take_of c.close_job.result.take) (option_map filled_of c.close_job.result.filled) (g.N.Notes.told c.args.notes.now) (g.N.Notes.told c.close_job.new.notes) c.args.pools.now c.close_job.new.pools) c.self.view_is
+    subst (λ (s : Stock). IsFinished (finish c.args.number came s.nvm) c.close_job.new.self.nvm (take_of c.close_job.result.take) (option_map filled_of c.close_job.result.filled) (g.N.Listener.told c.args.notes.now) (g.N.Listener.told c.close_job.new.notes) c.args.pools.now c.close_job.new.pools) c.self.view_is
     (carried_out c.args.number came inside (record inside { pair = c.end-outcome.new.self }) (Done c.end-outcome.result) c.ending.inside.key handed (Done c.end-outcome.result) refl
-    c.close_job.new.self.nvm (take_of c.close_job.result.take) (option_map filled_of c.close_job.result.filled) (g.N.Notes.told c.args.notes.now) (g.N.Notes.told c.args.notes.now) (g.N.Notes.told c.close_job.new.notes) c.args.pools.now c.close_job.new.pools refl c.close_job.ensures.taken)
+    c.close_job.new.self.nvm (take_of c.close_job.result.take) (option_map filled_of c.close_job.result.filled) (g.N.Listener.told c.args.notes.now) (g.N.Listener.told c.args.notes.now) (g.N.Listener.told c.close_job.new.notes) c.args.pools.now c.close_job.new.pools refl c.close_job.ensures.taken)

@@ -36,8 +36,8 @@ returns-clause-taken g c =
     let ends : EndsAtOnce inside ending = subst (λ (s : Stock). EndsAtOnce s.nvm ending) (sym c.self.view_is) (subst (λ (e : Ending). EndsAtOnce c.args.self.now.nvm e) (sym c.ending.view_is) c.requires.ends) in
     let started = c.end_at_once-outcome.ensures.step (c.self.inside.made + 1) (next_is_free c.self.inside.made c.self.inside.pair i.3.below) in
     let kept = kept_at_once inside c.in-Some.key c.end_at_once-outcome.new.self c.end_at_once-outcome.result c.settle-found.new.stones.stones c.end_fill-filled.new.fills.fills c.is_sound.ensures.sound c.is_sound.ensures.apart i.3 started c.end_fill-filled.ensures.left in
-    subst (λ (s : Stock). IsTaken (filler_take s.nvm) new Finished (option_map filled_of c.end_fill-filled.result) (g.N.Notes.told c.args.notes.now) (g.N.Notes.told c.settle-found.new.notes) c.args.pools.now c.settle-found.new.pools) c.self.view_is
-    (taken_at_once inside c.in-Some.key c.end_at_once-outcome.new.self c.end_at_once-outcome.result c.self.inside.tombstones.flash new Finished (option_map filled_of c.end_fill-filled.result) (g.N.Notes.told c.args.notes.now) (g.N.Notes.told c.settle-found.new.notes) c.args.pools.now c.settle-found.new.pools
+    subst (λ (s : Stock). IsTaken (filler_take s.nvm) new Finished (option_map filled_of c.end_fill-filled.result) (g.N.Listener.told c.args.notes.now) (g.N.Listener.told c.settle-found.new.notes) c.args.pools.now c.settle-found.new.pools) c.self.view_is
+    (taken_at_once inside c.in-Some.key c.end_at_once-outcome.new.self c.end_at_once-outcome.result c.self.inside.tombstones.flash new Finished (option_map filled_of c.end_fill-filled.result) (g.N.Listener.told c.args.notes.now) (g.N.Listener.told c.settle-found.new.notes) c.args.pools.now c.settle-found.new.pools
     i.3.brought (ends_of_key inside c.in-Some.key ending ends c.in-Some.is).1 (record {
       started = started;
       same_flash = i.1 ∙ sym kept.0;

@@ -59,7 +59,7 @@ returns-clause-ok g c =
     let chosen : option_map (λ (fill : Fill). fill.key) (next_fill inside) ≡ Some c.args.key.now = subst (λ (s : Stock). option_map (λ (fill : Fill). fill.key) (next_fill s.nvm) ≡ Some c.args.key.now) (sym c.self.view_is) c.requires.next in
     let take = take_of c.launched-outset.result.take in
     let came : Came inside c.args.key.now c.start_in.new.pair (next_seen c.in_ok-next.next) c.self.inside.tombstones.flash (op_of c.in_ok-op.op) c.start_in.new.jobs.items c.bring.new.fills.fills c.filled_by-filled.new.fills.fills new (take_of c.launched-outset.result.take)
-    (option_map filled_of c.filled_by-filled.result) (g.N.Notes.told c.args.notes.now) (g.N.Notes.told c.start_in.new.notes) (g.N.Notes.told c.launched-outset.new.notes) c.args.pools.now c.launched-outset.new.pools = record {
+    (option_map filled_of c.filled_by-filled.result) (g.N.Listener.told c.args.notes.now) (g.N.Listener.told c.start_in.new.notes) (g.N.Listener.told c.launched-outset.new.notes) c.args.pools.now c.launched-outset.new.pools = record {
       same_op = c.in_ok-op.ensures;
       started = c.in_ok-next.ensures.ok;
       same_flash = i.1 ∙ sym c.in_ok-next.ensures.flash;
@@ -73,6 +73,6 @@ returns-clause-ok g c =
       told_is = c.launched-outset.ensures.told;
       marks = c.launched-outset.ensures.marks;
     } in
-    subst (λ (s : Stock). IsTaken (filler_take s.nvm) new (take_of c.launched-outset.result.take) (option_map filled_of c.filled_by-filled.result) (g.N.Notes.told c.args.notes.now) (g.N.Notes.told c.launched-outset.new.notes) c.args.pools.now c.launched-outset.new.pools) c.self.view_is
+    subst (λ (s : Stock). IsTaken (filler_take s.nvm) new (take_of c.launched-outset.result.take) (option_map filled_of c.filled_by-filled.result) (g.N.Listener.told c.args.notes.now) (g.N.Listener.told c.launched-outset.new.notes) c.args.pools.now c.launched-outset.new.pools) c.self.view_is
     (fill_is_taken inside c.args.key.now c.start_in.new.pair (next_seen c.in_ok-next.next) c.self.inside.tombstones.flash (op_of c.in_ok-op.op) c.start_in.new.jobs.items c.bring.new.fills.fills c.filled_by-filled.new.fills.fills new (take_of c.launched-outset.result.take)
-    (option_map filled_of c.filled_by-filled.result) (g.N.Notes.told c.args.notes.now) (g.N.Notes.told c.start_in.new.notes) (g.N.Notes.told c.launched-outset.new.notes) c.args.pools.now c.launched-outset.new.pools i.3.brought chosen came)
+    (option_map filled_of c.filled_by-filled.result) (g.N.Listener.told c.args.notes.now) (g.N.Listener.told c.start_in.new.notes) (g.N.Listener.told c.launched-outset.new.notes) c.args.pools.now c.launched-outset.new.pools i.3.brought chosen came)

@@ -56,8 +56,8 @@ returns-after-hand_in-clause-awaited g c =
 
 pub returns-after-hand_in-clause-room : goal.returns-after-hand_in-clause-room
 returns-after-hand_in-clause-room g c =
-    let room : (result_came : IoResult) (moved : Moved) → resume c.args.number result_came c.self.inside.pair ≡ Some moved → length (losses_of moved.next) + (length c.self.inside.tombstones.stones + (6 + c.args.spare)) ≤ g.N.Notes.room c.make_ready.new.notes =
-    subst (λ (s : Stock). (result_came : IoResult) (moved : Moved) → resume c.args.number result_came s.nvm.pair ≡ Some moved → length (losses_of moved.next) + (length s.nvm.tombstones + (6 + c.args.spare)) ≤ g.N.Notes.room c.make_ready.new.notes) (sym c.self.view_is) c.in-Ok.ensures.room in
+    let room : (result_came : IoResult) (moved : Moved) → resume c.args.number result_came c.self.inside.pair ≡ Some moved → length (losses_of moved.next) + (length c.self.inside.tombstones.stones + (6 + c.args.spare)) ≤ g.N.Listener.room c.make_ready.new.notes =
+    subst (λ (s : Stock). (result_came : IoResult) (moved : Moved) → resume c.args.number result_came s.nvm.pair ≡ Some moved → length (losses_of moved.next) + (length s.nvm.tombstones + (6 + c.args.spare)) ≤ g.N.Listener.room c.make_ready.new.notes) (sym c.self.view_is) c.in-Ok.ensures.room in
     elim c.match-hand_in.branch [
       | in-Ok-hand_in w ↦ rw w.result-is (room (result_of c.args.came.now) (record { pair = c.hand_in.new.self; next = next_seen w.in-Ok-hand_in.next }) w.in-Ok-hand_in.ensures.ok)
       | in-Err-hand_in w ↦ rw w.result-is tt

@@ -13,7 +13,7 @@ returns-clause-key g c = subst (λ (s : Stock). (job : Job) → slice_get s.nvm.
     (λ job there. c.in_ok-key.ensures ∙ ap (λ (j : Job). brought_key c.args.number c.self.inside.fills.fills j.task) (c.index.ensures ∙ get_or_from_slice_get c.self.inside.jobs.items c.args.at job c.index.result.now there))
 
 pub returns-clause-room : goal.returns-clause-room
-returns-clause-room g c = subst (λ (s : Stock). (result_came : IoResult) (moved : Moved) → resume c.args.number result_came s.nvm.pair ≡ Some moved → length (losses_of moved.next) + (length s.nvm.tombstones + (6 + c.args.spare)) ≤ g.N.Notes.room c.reserve.new.self) c.self.view_is
+returns-clause-room g c = subst (λ (s : Stock). (result_came : IoResult) (moved : Moved) → resume c.args.number result_came s.nvm.pair ≡ Some moved → length (losses_of moved.next) + (length s.nvm.tombstones + (6 + c.args.spare)) ≤ g.N.Listener.room c.reserve.new.self) c.self.view_is
     (λ result_came moved came.
     let most = c.most_losses.ensures result_came moved came in
     let stones = c.len.ensures in

@@ -10,4 +10,4 @@ returns-clause-told g c =
     let before = c.args.self.now.nvm in
     c.unindex_by.ensures.told
     ∙ (λ i. told_more (c.bury_by.ensures.told i) (unindex key (c.bury_by.ensures.nvm i)).part)
-    ∙ told-twice (g.N.Notes.told c.args.notes.now) (bury key before).part (unindex key (bury key before).nvm).part
+    ∙ told-twice (g.N.Listener.told c.args.notes.now) (bury key before).part (unindex key (bury key before).nvm).part

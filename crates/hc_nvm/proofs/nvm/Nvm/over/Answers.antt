@@ -37,10 +37,10 @@ returns-in-Ok-None-clause-ok g c =
 
 pub returns-in-Ok-Some-clause-room : goal.returns-in-Ok-Some-clause-room
 returns-in-Ok-Some-clause-room g c =
-    let most : (result_came : IoResult) (moved : Moved) → resume c.args.number result_came c.self.inside.pair ≡ Some moved → length (losses_of moved.next) + (length c.self.inside.tombstones.stones + (6 + c.args.spare)) ≤ g.N.Notes.room c.make_ready.new.notes =
-    subst (λ (s : Stock). (result_came : IoResult) (moved : Moved) → resume c.args.number result_came s.nvm.pair ≡ Some moved → length (losses_of moved.next) + (length s.nvm.tombstones + (6 + c.args.spare)) ≤ g.N.Notes.room c.make_ready.new.notes) (sym c.self.view_is) c.in-Ok.ensures.room in
+    let most : (result_came : IoResult) (moved : Moved) → resume c.args.number result_came c.self.inside.pair ≡ Some moved → length (losses_of moved.next) + (length c.self.inside.tombstones.stones + (6 + c.args.spare)) ≤ g.N.Listener.room c.make_ready.new.notes =
+    subst (λ (s : Stock). (result_came : IoResult) (moved : Moved) → resume c.args.number result_came s.nvm.pair ≡ Some moved → length (losses_of moved.next) + (length s.nvm.tombstones + (6 + c.args.spare)) ≤ g.N.Listener.room c.make_ready.new.notes) (sym c.self.view_is) c.in-Ok.ensures.room in
     let ends : Ends c.args.number (result_of c.args.came.now) c.self.inside.pair c.in-Ok-Some.over = subst (λ (o : Option Ending). IsEnding c.args.number (result_of c.args.came.now) c.self.inside.pair o) c.in-Ok-Some.field-0-is c.in-Ok-Some.ensures in
     let over = c.in-Ok-Some.over in
-    let room : length over.outcome.losses + (length c.self.inside.tombstones.stones + (6 + c.args.spare)) ≤ g.N.Notes.room c.make_ready.new.notes =
+    let room : length over.outcome.losses + (length c.self.inside.tombstones.stones + (6 + c.args.spare)) ≤ g.N.Listener.room c.make_ready.new.notes =
     most (result_of c.args.came.now) (record { pair = left_by c.args.number over.gives_up over.rest c.self.inside.pair; next = Done over.outcome }) ends.step in
     rw (← c.self.view_is) (omega (arith, room))

@@ -44,7 +44,7 @@ returns-clause-ok g c =
     let inside : Nvm = record { pair = c.self.inside.pair; queue = c.self.inside.queue.puts; tombstones = c.self.inside.tombstones.stones; fills = c.self.inside.fills.fills; jobs = c.self.inside.jobs.items; made = c.self.inside.made } in
     let new : Nvm = record { pair = c.start.new.self; queue = c.self.inside.queue.puts; tombstones = c.settle-found.new.stones.stones; fills = c.self.inside.fills.fills; jobs = c.self.inside.jobs.items; made = c.self.inside.made } in
     let started : start (c.self.inside.made + 1) Reclaim c.self.inside.pair ≡ record { pair = c.start.new.self; next = Done c.in-Done.outcome } = rw c.in-Done.is at c.in_ok-next.ensures.ok in
-    let came : Came inside (c.self.inside.made + 1) c.start.new.self c.in-Done.outcome c.self.inside.tombstones.flash new c.outcome.inside.reclaimed (g.N.Notes.told c.args.notes.now) (g.N.Notes.told c.reserve.new.self) (g.N.Notes.told c.settle-found.new.notes) c.args.pools.now c.settle-found.new.pools = record {
+    let came : Came inside (c.self.inside.made + 1) c.start.new.self c.in-Done.outcome c.self.inside.tombstones.flash new c.outcome.inside.reclaimed (g.N.Listener.told c.args.notes.now) (g.N.Listener.told c.reserve.new.self) (g.N.Listener.told c.settle-found.new.notes) c.args.pools.now c.settle-found.new.pools = record {
       started = started;
       same_flash = c.self.invariant.1 ∙ sym (started_flash c.self.inside.pair c.start.new.self (c.self.inside.made + 1) Reclaim (Done c.in-Done.outcome) started);
       region_is = ap (λ (o : Outcome). o.reclaimed) c.outcome.view_is;
@@ -53,5 +53,5 @@ returns-clause-ok g c =
       told_is = c.settle-found.ensures.told;
       marks = c.settle-found.ensures.marks;
     } in
-    subst (λ (s : Stock). IsReclaimed (reclaim s.nvm) new c.outcome.inside.reclaimed (g.N.Notes.told c.args.notes.now) (g.N.Notes.told c.settle-found.new.notes) c.args.pools.now c.settle-found.new.pools) c.self.view_is
-    (is_reclaimed inside (c.self.inside.made + 1) c.start.new.self c.in-Done.outcome c.self.inside.tombstones.flash new c.outcome.inside.reclaimed (g.N.Notes.told c.args.notes.now) (g.N.Notes.told c.reserve.new.self) (g.N.Notes.told c.settle-found.new.notes) c.args.pools.now c.settle-found.new.pools came)
+    subst (λ (s : Stock). IsReclaimed (reclaim s.nvm) new c.outcome.inside.reclaimed (g.N.Listener.told c.args.notes.now) (g.N.Listener.told c.settle-found.new.notes) c.args.pools.now c.settle-found.new.pools) c.self.view_is
+    (is_reclaimed inside (c.self.inside.made + 1) c.start.new.self c.in-Done.outcome c.self.inside.tombstones.flash new c.outcome.inside.reclaimed (g.N.Listener.told c.args.notes.now) (g.N.Listener.told c.reserve.new.self) (g.N.Listener.told c.settle-found.new.notes) c.args.pools.now c.settle-found.new.pools came)

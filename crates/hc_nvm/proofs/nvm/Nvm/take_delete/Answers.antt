@@ -33,7 +33,7 @@ returns-clause-ok g c =
     let marked : Nvm = record { pair = c.self.inside.pair; queue = c.self.inside.queue.puts; tombstones = taken_stone c.args.key.now c.self.inside.tombstones.stones; fills = c.self.inside.fills.fills; jobs = c.self.inside.jobs.items; made = c.self.inside.made } in
     let new : Nvm = record { pair = c.start_in.new.pair; queue = c.self.inside.queue.puts; tombstones = c.launched-outset.new.stones.stones; fills = c.self.inside.fills.fills; jobs = c.launched-outset.new.jobs.items; made = c.launched-outset.result.made } in
     let came : Came [] (Deleting c.args.key.now) (Delete c.args.key.now) marked c.start_in.new.pair (next_seen c.in_ok-next.next) c.mark.new.self.flash (task_of c.in_ok-task.task) (op_of c.in_ok-task.op) c.mark.new.self.stones c.start_in.new.jobs.items
-    new (take_of c.launched-outset.result.take) (g.N.Notes.told c.args.notes.now) (g.N.Notes.told c.start_in.new.notes) (g.N.Notes.told c.launched-outset.new.notes) c.args.pools.now c.launched-outset.new.pools = record {
+    new (take_of c.launched-outset.result.take) (g.N.Listener.told c.args.notes.now) (g.N.Listener.told c.start_in.new.notes) (g.N.Listener.told c.launched-outset.new.notes) c.args.pools.now c.launched-outset.new.pools = record {
       same_task = c.in_ok-task.ensures.task;
       same_op = c.in_ok-task.ensures.op;
       started = c.in_ok-next.ensures.ok;
@@ -42,10 +42,10 @@ returns-clause-ok g c =
       same_jobs = c.start_in.ensures.jobs;
       new_is = λ j. record { pair = c.start_in.new.pair; queue = c.self.inside.queue.puts; tombstones = c.launched-outset.ensures.left j; fills = c.self.inside.fills.fills; jobs = c.launched-outset.ensures.jobs j; made = c.launched-outset.ensures.made j };
       take_is = c.launched-outset.ensures.take;
-      told_before_is = c.start_in.ensures.told ∙ sym (told-nothing (g.N.Notes.told c.args.notes.now));
+      told_before_is = c.start_in.ensures.told ∙ sym (told-nothing (g.N.Listener.told c.args.notes.now));
       told_is = c.launched-outset.ensures.told;
       unmarks = λ m. refl;
       marks = c.launched-outset.ensures.marks;
     } in
     rw (← c.self.view_is) (came_is_taken [] (Deleting c.args.key.now) (Delete c.args.key.now) marked c.start_in.new.pair (next_seen c.in_ok-next.next) c.mark.new.self.flash (task_of c.in_ok-task.task) (op_of c.in_ok-task.op) c.mark.new.self.stones c.start_in.new.jobs.items
-    new (take_of c.launched-outset.result.take) (g.N.Notes.told c.args.notes.now) (g.N.Notes.told c.start_in.new.notes) (g.N.Notes.told c.launched-outset.new.notes) c.args.pools.now c.launched-outset.new.pools tt came)
+    new (take_of c.launched-outset.result.take) (g.N.Listener.told c.args.notes.now) (g.N.Listener.told c.start_in.new.notes) (g.N.Listener.told c.launched-outset.new.notes) c.args.pools.now c.launched-outset.new.pools tt came)

@@ -34,7 +34,7 @@ returns-clause-ok g c =
     let marked : Nvm = record { pair = c.self.inside.pair; queue = c.self.inside.queue.puts; tombstones = c.self.inside.tombstones.stones; fills = c.self.inside.fills.fills; jobs = c.self.inside.jobs.items; made = c.self.inside.made } in
     let new : Nvm = record { pair = c.start_in.new.pair; queue = c.self.inside.queue.puts; tombstones = c.launched-outset.new.stones.stones; fills = c.self.inside.fills.fills; jobs = c.launched-outset.new.jobs.items; made = c.launched-outset.result.made } in
     let came : Came [] Flushing Flush marked c.start_in.new.pair (next_seen c.in_ok-next.next) c.self.inside.tombstones.flash Flushing Flush c.self.inside.tombstones.stones c.start_in.new.jobs.items
-    new (take_of c.launched-outset.result.take) (g.N.Notes.told c.args.notes.now) (g.N.Notes.told c.start_in.new.notes) (g.N.Notes.told c.launched-outset.new.notes) c.args.pools.now c.launched-outset.new.pools = record {
+    new (take_of c.launched-outset.result.take) (g.N.Listener.told c.args.notes.now) (g.N.Listener.told c.start_in.new.notes) (g.N.Listener.told c.launched-outset.new.notes) c.args.pools.now c.launched-outset.new.pools = record {
       same_task = refl;
       same_op = refl;
       started = c.in_ok-next.ensures.ok;
@@ -43,11 +43,11 @@ returns-clause-ok g c =
       same_jobs = c.start_in.ensures.jobs;
       new_is = λ j. record { pair = c.start_in.new.pair; queue = c.self.inside.queue.puts; tombstones = c.launched-outset.ensures.left j; fills = c.self.inside.fills.fills; jobs = c.launched-outset.ensures.jobs j; made = c.launched-outset.ensures.made j };
       take_is = c.launched-outset.ensures.take;
-      told_before_is = c.start_in.ensures.told ∙ sym (told-nothing (g.N.Notes.told c.args.notes.now));
+      told_before_is = c.start_in.ensures.told ∙ sym (told-nothing (g.N.Listener.told c.args.notes.now));
       told_is = c.launched-outset.ensures.told;
       unmarks = λ m. refl;
       marks = c.launched-outset.ensures.marks;
     } in
-    subst (λ (s : Stock). IsTaken (flush_taken s.nvm) new (take_of c.launched-outset.result.take) None (g.N.Notes.told c.args.notes.now) (g.N.Notes.told c.launched-outset.new.notes) c.args.pools.now c.launched-outset.new.pools) c.self.view_is
+    subst (λ (s : Stock). IsTaken (flush_taken s.nvm) new (take_of c.launched-outset.result.take) None (g.N.Listener.told c.args.notes.now) (g.N.Listener.told c.launched-outset.new.notes) c.args.pools.now c.launched-outset.new.pools) c.self.view_is
     (came_is_taken [] Flushing Flush marked c.start_in.new.pair (next_seen c.in_ok-next.next) c.self.inside.tombstones.flash Flushing Flush c.self.inside.tombstones.stones c.start_in.new.jobs.items
-    new (take_of c.launched-outset.result.take) (g.N.Notes.told c.args.notes.now) (g.N.Notes.told c.start_in.new.notes) (g.N.Notes.told c.launched-outset.new.notes) c.args.pools.now c.launched-outset.new.pools tt came)
+    new (take_of c.launched-outset.result.take) (g.N.Listener.told c.args.notes.now) (g.N.Listener.told c.start_in.new.notes) (g.N.Listener.told c.launched-outset.new.notes) c.args.pools.now c.launched-outset.new.pools tt came)

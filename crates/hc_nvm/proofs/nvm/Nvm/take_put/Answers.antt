@@ -54,7 +54,7 @@ returns-clause-ok g c =
     let waiting : Nvm = record { pair = c.self.inside.pair; queue = without_put put.key c.self.inside.queue.puts; tombstones = c.self.inside.tombstones.stones; fills = c.self.inside.fills.fills; jobs = c.self.inside.jobs.items; made = c.self.inside.made } in
     let new : Nvm = record { pair = c.start_in.new.pair; queue = c.remove-removed.new.self.puts; tombstones = c.launched-outset.new.stones.stones; fills = c.self.inside.fills.fills; jobs = c.launched-outset.new.jobs.items; made = c.launched-outset.result.made } in
     let came : Came (put_notes put.key (writing_of small put.key)) (put_task small put.key) (Put put) waiting c.start_in.new.pair (next_seen c.in_ok-next.next) c.self.inside.tombstones.flash (task_of c.in_ok-plan.plan.task) (op_of c.in_ok-plan.plan.op) c.self.inside.tombstones.stones
-    c.start_in.new.jobs.items new (take_of c.launched-outset.result.take) (g.N.Notes.told c.args.notes.now) (g.N.Notes.told c.tell_put.new.notes) (g.N.Notes.told c.launched-outset.new.notes) c.args.pools.now c.launched-outset.new.pools = record {
+    c.start_in.new.jobs.items new (take_of c.launched-outset.result.take) (g.N.Listener.told c.args.notes.now) (g.N.Listener.told c.tell_put.new.notes) (g.N.Listener.told c.launched-outset.new.notes) c.args.pools.now c.launched-outset.new.pools = record {
       same_task = c.in_ok-plan.ensures.task ∙ ap (λ (b : Bool). put_task b put.key) is;
       same_op = c.in_ok-plan.ensures.op;
       started = c.in_ok-next.ensures.ok;
@@ -68,7 +68,7 @@ returns-clause-ok g c =
       unmarks = put_unmarks small put.key;
       marks = c.launched-outset.ensures.marks;
     } in
-    subst (λ (s : Stock). IsTaken (put_taken (is_small_by s.nvm.pair.small.flash c.args.entry.key (length c.args.entry.value)) put s.nvm) new (take_of c.launched-outset.result.take) None (g.N.Notes.told c.args.notes.now) (g.N.Notes.told c.launched-outset.new.notes) c.args.pools.now c.launched-outset.new.pools) c.self.view_is
-    (subst (λ (t : Taken). IsTaken t new (take_of c.launched-outset.result.take) None (g.N.Notes.told c.args.notes.now) (g.N.Notes.told c.launched-outset.new.notes) c.args.pools.now c.launched-outset.new.pools) (put_is small put waiting)
+    subst (λ (s : Stock). IsTaken (put_taken (is_small_by s.nvm.pair.small.flash c.args.entry.key (length c.args.entry.value)) put s.nvm) new (take_of c.launched-outset.result.take) None (g.N.Listener.told c.args.notes.now) (g.N.Listener.told c.launched-outset.new.notes) c.args.pools.now c.launched-outset.new.pools) c.self.view_is
+    (subst (λ (t : Taken). IsTaken t new (take_of c.launched-outset.result.take) None (g.N.Listener.told c.args.notes.now) (g.N.Listener.told c.launched-outset.new.notes) c.args.pools.now c.launched-outset.new.pools) (put_is small put waiting)
     (came_is_taken (put_notes put.key (writing_of small put.key)) (put_task small put.key) (Put put) waiting c.start_in.new.pair (next_seen c.in_ok-next.next) c.self.inside.tombstones.flash (task_of c.in_ok-plan.plan.task) (op_of c.in_ok-plan.plan.op) c.self.inside.tombstones.stones
-    c.start_in.new.jobs.items new (take_of c.launched-outset.result.take) (g.N.Notes.told c.args.notes.now) (g.N.Notes.told c.tell_put.new.notes) (g.N.Notes.told c.launched-outset.new.notes) c.args.pools.now c.launched-outset.new.pools (put_brings_nothing small put.key) came))
+    c.start_in.new.jobs.items new (take_of c.launched-outset.result.take) (g.N.Listener.told c.args.notes.now) (g.N.Listener.told c.tell_put.new.notes) (g.N.Listener.told c.launched-outset.new.notes) c.args.pools.now c.launched-outset.new.pools (put_brings_nothing small put.key) came))

@@ -18,4 +18,4 @@ returns-clause-nvm g c =
 pub returns-clause-told : goal.returns-clause-told
 returns-clause-told g c =
     let inside : Nvm = record { pair = c.self.inside.pair; queue = c.self.inside.queue.puts; tombstones = c.self.inside.tombstones.stones; fills = c.self.inside.fills.fills; jobs = c.self.inside.jobs.items; made = c.self.inside.made } in
-    rw (← c.self.view_is) (c.unqueued_note.ensures.told ∙ ap (λ part. told_more (g.N.Notes.told c.args.notes.now) part) (ap (λ put. unqueued put) c.remove-put.ensures.put ∙ sym (unqueue_part c.args.key.now inside)))
+    rw (← c.self.view_is) (c.unqueued_note.ensures.told ∙ ap (λ part. told_more (g.N.Listener.told c.args.notes.now) part) (ap (λ put. unqueued put) c.remove-put.ensures.put ∙ sym (unqueue_part c.args.key.now inside)))

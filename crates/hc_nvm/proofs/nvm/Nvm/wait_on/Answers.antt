@@ -33,20 +33,20 @@ returns-clause-taken g c =
     let new : Nvm = record { pair = c.self.inside.pair; queue = c.self.inside.queue.puts; tombstones = c.hold.new.stones.stones; fills = c.self.inside.fills.fills; jobs = c.put_order-was.new.jobs.items; made = c.self.inside.made } in
     let here : place c.args.number c.self.inside.jobs.items ≡ Some c.args.at = rw (← c.self.view_is) at c.requires.at in
     let of : (job : Job) → job_at c.args.number inside.jobs ≡ Some job → IsTaken (told_before (result_note job.order (result_of c.args.came) ∷ []) (goes_on job (Io (order_asked c.args.order) c.args.outcome) inside)) new (Work c.args.number (order_of c.twice-ours.result.0)) None
-    (g.N.Notes.told c.args.notes.now) (g.N.Notes.told c.hold.new.notes) c.args.pools.now c.hold.new.pools =
+    (g.N.Listener.told c.args.notes.now) (g.N.Listener.told c.hold.new.notes) c.args.pools.now c.hold.new.pools =
     λ job there.
     let stood : slice_get c.self.inside.jobs.items c.args.at ≡ Some job = (stands 1 c.self.inside.made c.args.number c.args.at c.self.inside.jobs.items i.3.numbered here).here ∙ ap (λ (j : Job). Some j) (job_stands 1 c.self.inside.made c.args.number c.args.at c.self.inside.jobs.items job i.3.numbered here there) in
     waits_on inside c.args.number c.args.at job (result_of c.args.came) (order_asked c.args.order) c.args.outcome c.self.inside.tombstones.flash new (Work c.args.number (order_of c.twice-ours.result.0))
-    (g.N.Notes.told c.args.notes.now) (g.N.Notes.told c.tell_result.new.notes) (g.N.Notes.told c.hold.new.notes) c.args.pools.now c.hold.new.pools (record {
+    (g.N.Listener.told c.args.notes.now) (g.N.Listener.told c.tell_result.new.notes) (g.N.Listener.told c.hold.new.notes) c.args.pools.now c.hold.new.pools (record {
       place_is = here;
       numbered = i.3.numbered;
       there = there;
       same_flash = i.1;
       new_is = λ j. record { pair = c.self.inside.pair; queue = c.self.inside.queue.puts; tombstones = c.hold.ensures.left j; fills = c.self.inside.fills.fills; jobs = (c.put_order-was.ensures.jobs job stood ∙ ap (λ (o : Order). set c.self.inside.jobs.items c.args.at (record job { order = o })) c.twice-ours.ensures.second) j; made = c.self.inside.made };
       take_is = ap (Work c.args.number) c.twice-ours.ensures.first;
-      result_is = c.tell_result.ensures.told ∙ ap (λ (o : Order). told_more (g.N.Notes.told c.args.notes.now) (result_note o (result_of c.args.came) ∷ [])) (c.put_order-was.ensures.old job stood);
+      result_is = c.tell_result.ensures.told ∙ ap (λ (o : Order). told_more (g.N.Listener.told c.args.notes.now) (result_note o (result_of c.args.came) ∷ [])) (c.put_order-was.ensures.old job stood);
       told_is = c.hold.ensures.told;
       marks = c.hold.ensures.marks;
     }) in
     subst (λ (s : Stock). (job : Job) → job_at c.args.number s.nvm.jobs ≡ Some job → IsTaken (told_before (result_note job.order (result_of c.args.came) ∷ []) (goes_on job (Io (order_asked c.args.order) c.args.outcome) s.nvm)) new (Work c.args.number (order_of c.twice-ours.result.0)) None
-    (g.N.Notes.told c.args.notes.now) (g.N.Notes.told c.hold.new.notes) c.args.pools.now c.hold.new.pools) c.self.view_is of
+    (g.N.Listener.told c.args.notes.now) (g.N.Listener.told c.hold.new.notes) c.args.pools.now c.hold.new.pools) c.self.view_is of

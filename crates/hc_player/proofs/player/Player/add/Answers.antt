@@ -1,5 +1,5 @@
 use Rattle.std.proofs.lemmas.Result.{IfOk-weaker}
-use Rattle.hc_cache.specs.Answers.{inserted_answer}
+use Rattle.hc_core.specs.Answers.{inserted_answer}
 use Rattle.hc_lines.specs.Seen.{item_seen}
 use Rattle.hc_player.specs.Seen.{answer_seen}
 use Rattle.hc_player.proofs.Storing.{add-done, add-refused}

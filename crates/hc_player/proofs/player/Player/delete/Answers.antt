@@ -1,6 +1,6 @@
 use Rattle.std.proofs.Common.{refl}
 use Rattle.std.proofs.lemmas.Result.{IfOk-weaker}
-use Rattle.hc_cache.specs.Answers.{removed_answer}
+use Rattle.hc_core.specs.Answers.{removed_answer}
 use Rattle.hc_lines.specs.Steps.{Del}
 use Rattle.hc_machine.specs.Calls as calls
 use Rattle.hc_machine.specs.World as world

@@ -1,27 +1,30 @@
-use Rattle.std.proofs.Common.{◌<◌, true, length, sym, arith}
+use Rattle.std.proofs.Common.{◌<◌, true, false, length, sym, subst, arith}
 use Rattle.hc_run.specs.Asked.{handle_of}
-use Rattle.hc_core.specs.World.{Stage}
-use Rattle.hc_run.proofs.Staging.{read-is, given-open, given-kept, discarded}
+use Rattle.hc_run.specs.Shows.{Stage, AreOwn}
+use Rattle.hc_run.proofs.Slotting.{read-is}
+use Rattle.hc_run.proofs.Slotted.{content-own, discard-none, discard-so}
 use Rattle.hc_run.proofs.stage.Stage.discard.Goals as goal
+
+pub returns-then-not-is_filled : goal.returns-then-not-is_filled
+returns-then-not-is_filled g c =
+    let f = c.self.inside in
+    let within : c.args.slot < length f.slots.items = omega (arith, c.self.invariant) in
+    let empty = read-is f.slots.items c.from.result c.args.slot c.index.result.now false c.is_filled.result c.from.ensures within c.index.ensures c.is_filled.ensures c.if-not-is_filled.true in
+    rw (← c.self.view_is) (discard-none _ f.device f.failed_before f.results.results f.core.cache f.core.cache f.core.log f.core.log f.slots.items f.slots.items c.args.client c.args.slot empty)
 
 pub give_up_content-requires : goal.give_up_content-requires
 give_up_content-requires g c =
     let f = c.self.inside in
-    let within : c.args.slot < length f.slots.items = omega (arith, c.self.invariant.0) in
-    let unique = (rw c.pools.ensures at c.len-sound.ensures.sound).unique in
-    record { mine = given-open f.core f.slots.items c.args.slot c.self.invariant.1 unique within (handle_of c.take-content.result) (sym c.take-content.ensures.content) }
-
-pub invariant_of-self : goal.invariant_of-self
-invariant_of-self g c =
-    let f = c.self.inside in
-    let within : c.args.slot < length f.slots.items = omega (arith, c.self.invariant.0) in
-    let unique = (rw c.pools.ensures at c.len-sound.ensures.sound).unique in
-    given-kept f.core c.give_up_content.new.core f.slots.items c.take-content.new.slots.items c.args.slot (handle_of c.take-content.result) c.self.invariant unique within (sym c.take-content.ensures.content) c.give_up_content.ensures c.take-content.ensures.slots
+    let own = subst (λ (s : Stage g.row.D.Denot). AreOwn s.slots s.cache) (sym c.self.view_is) c.requires.own in
+    record { mine = content-own f.core.cache f.slots.items c.args.slot (handle_of c.take-content.result) own c.take-content.ensures.content }
 
 pub returns : goal.returns
 returns g c =
     let f = c.self.inside in
-    let within : c.args.slot < length f.slots.items = omega (arith, c.self.invariant.0) in
-    let new : Stage = record { cache = c.give_up_content.new.core; slots = c.take-content.new.slots.items } in
-    let filled = read-is f.slots.items c.from.result c.args.slot c.index.result.now true c.is_filled.result c.from.ensures within c.index.ensures c.is_filled.ensures c.if-not-is_filled.false in
-    discarded c.args.self.now f.core f.slots.items c.args.slot (handle_of c.take-content.result) new c.self.view_is (sym c.take-content.ensures.content) filled (λ i. record { cache = c.give_up_content.ensures i; slots = c.take-content.ensures.slots i })
+    let own = subst (λ (s : Stage g.row.D.Denot). AreOwn s.slots s.cache) (sym c.self.view_is) c.requires.own in
+    let within : c.args.slot < length f.slots.items = omega (arith, c.self.invariant) in
+    let full = read-is f.slots.items c.from.result c.args.slot c.index.result.now true c.is_filled.result c.from.ensures within c.index.ensures c.is_filled.ensures c.if-not-is_filled.false in
+    let gone = c.give_up_content.new.core in
+    rw (← c.self.view_is)
+    (discard-so _ f.device f.failed_before f.results.results f.core.cache gone.cache f.core.log gone.log f.slots.items c.take-content.new.slots.items c.args.client c.args.slot (handle_of c.take-content.result)
+    c.take-content.ensures.content full own c.give_up_content.ensures.cache c.give_up_content.ensures.log c.take-content.ensures.slots)

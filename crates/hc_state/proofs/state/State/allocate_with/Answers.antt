@@ -46,7 +46,7 @@ leave_all-requires g c =
     let mid = c.plan_to_charge.new.self in
     let e = c.in-Ok.ensures in
     let ok = c.in-Ok-charge.ensures in
-    let full : Whole = record { cache = record { config = f.config; memory = c.charge.new.self; now = f.clock; calls = f.calls; owed = f.replies; nvm = nvm_of f.nvm }; log = g.N.Notes.told f.notes; notes = g.N.Notes.room f.notes; spare = spare_of f.nvm } in
+    let full : Whole = record { cache = record { config = f.config; memory = c.charge.new.self; now = f.clock; calls = f.calls; owed = f.replies; nvm = nvm_of f.nvm }; log = g.N.Listener.told f.notes; notes = g.N.Listener.room f.notes; spare = spare_of f.nvm } in
     let full_is : full ≡ filled_up pool key size mid =
     (λ i. record full { cache = record full.cache { memory = ok.pools i } })
     ∙ ap (filled_up pool key size) c.self.view_is in
@@ -76,8 +76,8 @@ returns-clause-ok g c =
     let e = c.in-Ok.ensures in
     let ok = c.in-Ok-charge.ensures in
     let made = c.in-Ok-charge.charged in
-    let full : Whole = record { cache = record { config = f.config; memory = c.charge.new.self; now = f.clock; calls = f.calls; owed = f.replies; nvm = nvm_of f.nvm }; log = g.N.Notes.told f.notes; notes = g.N.Notes.room f.notes; spare = spare_of f.nvm } in
-    let new : Whole = record { cache = record { config = after.config; memory = after.pools; now = after.clock; calls = after.calls; owed = after.replies; nvm = nvm_of after.nvm }; log = g.N.Notes.told c.charged.new.notes; notes = g.N.Notes.room c.charged.new.notes; spare = spare_of after.nvm } in
+    let full : Whole = record { cache = record { config = f.config; memory = c.charge.new.self; now = f.clock; calls = f.calls; owed = f.replies; nvm = nvm_of f.nvm }; log = g.N.Listener.told f.notes; notes = g.N.Listener.room f.notes; spare = spare_of f.nvm } in
+    let new : Whole = record { cache = record { config = after.config; memory = after.pools; now = after.clock; calls = after.calls; owed = after.replies; nvm = nvm_of after.nvm }; log = g.N.Listener.told c.charged.new.notes; notes = g.N.Listener.room c.charged.new.notes; spare = spare_of after.nvm } in
     let full_is : full ≡ filled_up pool key size mid =
     (λ i. record full { cache = record full.cache { memory = ok.pools i } })
     ∙ ap (filled_up pool key size) c.self.view_is in

@@ -22,7 +22,7 @@ returns-clause-ok g c =
     let structured = subst (λ (w : Whole). Structured w.cache) (sym c.self.view_is) c.requires.structured in
     let ready = subst IsReady (sym c.self.view_is) c.requires.ready in
     let ok = c.in_ok-charge.ensures.ok in
-    let told = c.freed.ensures.told ∙ ap (λ n. told_more (g.N.Notes.told f.notes) (Freed n ∷ [])) c.in_ok-charge.ensures.number in
+    let told = c.freed.ensures.told ∙ ap (λ n. told_more (g.N.Listener.told f.notes) (Freed n ∷ [])) c.in_ok-charge.ensures.number in
     rw (← c.self.view_is) (discard-step c.args.blank _ _ structured ready free ok.0 (λ i. record {
       config = f.config;
       memory = ok.1 i;

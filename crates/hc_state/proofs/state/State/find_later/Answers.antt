@@ -47,7 +47,7 @@ returns-clause-ok g c =
     let cache : Cache = record { config = f.config; memory = f.pools; now = f.clock; calls = f.calls; owed = f.replies; nvm = nvm_of f.nvm } in
     let number : c.args.call ≡ cache.calls + 1 = c.requires.call ∙ ap (λ (w : Whole). w.cache.calls + 1) (sym c.self.view_is) in
     let later : must_wait cache key ≡ true = subst (λ (w : Whole). must_wait w.cache key ≡ true) (sym c.self.view_is) c.requires.later in
-    let log = waits-log (g.N.Notes.told f.notes) (g.N.Notes.told c.room_for_notes.new.notes) (g.N.Notes.told c.tell.new.notes) c.in_ok-begin.begin c.args.call c.args.client key made.same c.in_ok-begin.ensures c.tell.ensures.told in
+    let log = waits-log (g.N.Listener.told f.notes) (g.N.Listener.told c.room_for_notes.new.notes) (g.N.Listener.told c.tell.new.notes) c.in_ok-begin.begin c.args.call c.args.client key made.same c.in_ok-begin.ensures c.tell.ensures.told in
     rw (← c.self.view_is) (later-step c.args.client c.args.call key _ _ number later (λ i. record {
       config = f.config;
       memory = f.pools;

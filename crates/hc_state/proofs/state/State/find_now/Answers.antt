@@ -20,9 +20,9 @@ returns-clause-ok g c =
     let pools = c.in-Ok.ensures.pools in
     let number : c.args.call ≡ cache.calls + 1 = c.requires.call ∙ ap (λ (w : Whole). w.cache.calls + 1) (sym c.self.view_is) in
     let here : must_wait cache key ≡ false = subst (λ (w : Whole). must_wait w.cache key ≡ false) (sym c.self.view_is) c.requires.now in
-    let log = found-log (g.N.Notes.told f.notes) (g.N.Notes.told c.room_for_notes.new.notes) (g.N.Notes.told c.tell_find.new.notes) plan.begin plan.did c.args.call c.args.client key (reply_now key cache) c.kind_by-kind.result
+    let log = found-log (g.N.Listener.told f.notes) (g.N.Listener.told c.room_for_notes.new.notes) (g.N.Listener.told c.tell_find.new.notes) plan.begin plan.did c.args.call c.args.client key (reply_now key cache) c.kind_by-kind.result
     c.in_ok-room_for_notes.ensures.same e.begin e.did (c.kind_by-kind.ensures ∙ ap kind_of c.in-Ok.ensures.value)
-    (c.tell_find.ensures.told ∙ ap (λ (n : ℕ). told_more (told_did (told_more (g.N.Notes.told c.room_for_notes.new.notes) (option_to_list plan.begin)) plan.did c.kind_by-kind.result) (End n ∷ [])) e.call) in
+    (c.tell_find.ensures.told ∙ ap (λ (n : ℕ). told_more (told_did (told_more (g.N.Listener.told c.room_for_notes.new.notes) (option_to_list plan.begin)) plan.did c.kind_by-kind.result) (End n ∷ [])) e.call) in
     rw (← c.self.view_is, c.found_by.ensures) (now-step c.args.client c.args.call key (reply_by c.in-Ok.found) _ _ number here c.in-Ok.ensures.value (λ i. record {
       config = f.config;
       memory = pools i;

@@ -27,8 +27,8 @@ returns-in-Ok-None-clause-ok g c =
     rw (← c.self.view_is) (on_ok_weaker c.link_after.result
     (λ pools. λ i. record {
       cache = record { config = f.config; memory = (pools ∙ same) i; now = f.clock; calls = f.calls; owed = f.replies; nvm = nvm_of f.nvm };
-      log = g.N.Notes.told f.notes;
-      notes = g.N.Notes.room f.notes;
+      log = g.N.Listener.told f.notes;
+      notes = g.N.Listener.room f.notes;
       spare = spare_of f.nvm;
     })
     c.link_after.ensures.pools)
@@ -46,8 +46,8 @@ returns-after-link_after-clause-ok g c =
     rw (← c.self.view_is) (elim c.match-link_after.branch [
       | in-Ok w ↦ rw w.result-is (λ i. record {
         cache = record { config = f.config; memory = (w.in-Ok.ensures.pools ∙ same) i; now = f.clock; calls = f.calls; owed = f.replies; nvm = nvm_of f.nvm };
-        log = g.N.Notes.told f.notes;
-        notes = g.N.Notes.room f.notes;
+        log = g.N.Listener.told f.notes;
+        notes = g.N.Listener.room f.notes;
         spare = spare_of f.nvm;
       })
       | in-Err-link_after w ↦ rw w.result-is tt

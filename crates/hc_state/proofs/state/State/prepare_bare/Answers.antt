@@ -15,7 +15,7 @@ link_last-requires g c =
     let there = subst (λ e. IsThere e c.in_ok-there.there) c.found.ensures c.in_ok-there.ensures in
     record {
       structured = c.requires.structured;
-      courses = ap (λ cs. length cs) c.as_slice.ensures.value ∙ courses-long (is_log old.log) key old.cache.now (waiters_at old.cache.nvm key) found c.in_ok-courses.courses.items (c.in_ok-courses.ensures found there);
+      courses = ap (λ cs. length cs) c.as_slice.ensures.value ∙ courses-long (is_log old.log) key old.cache.now (waiters_at old.cache.nvm key) found c.in_ok-courses.courses.items (c.in_ok-courses.ensures.serves found there);
     }
 
 pub returns-in-Ok-clause-ok : goal.returns-in-Ok-clause-ok
@@ -24,7 +24,7 @@ returns-in-Ok-clause-ok g c =
     let old = c.args.self.now in
     let found = found_by c.args.ending.now in
     let there = subst (λ e. IsThere e c.in_ok-there.there) c.found.ensures c.in_ok-there.ensures in
-    let plan = c.in_ok-courses.ensures found there in
+    let plan = c.in_ok-courses.ensures.serves found there in
     let count = ap (λ cs. length cs) c.as_slice.ensures.value ∙ courses-long (is_log old.log) key old.cache.now (waiters_at old.cache.nvm key) found c.in_ok-courses.courses.items plan in
     record {
       cannot = c.requires.cannot;

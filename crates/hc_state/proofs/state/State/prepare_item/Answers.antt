@@ -18,7 +18,7 @@ returns-in-Ok-clause-ok g c =
     let entry = entry_of c.args.entry.now in
     let flash = old.cache.memory.flash in
     let both = apart-both (bytes_eq entry.key key) (is_lost flash c.losses.result.now entry.key (length entry.value)) c.is_apart.result c.is_apart.ensures c.if-not-is_apart.false in
-    let plan = c.in_ok-courses.ensures (Some entry) c.in_ok-there.ensures in
+    let plan = c.in_ok-courses.ensures.serves (Some entry) c.in_ok-there.ensures in
     let long = courses-long (is_log old.log) key old.cache.now (waiters_at old.cache.nvm key) (Some entry) c.in_ok-courses.courses.items plan in
     record {
       entry = entry;

@@ -12,6 +12,6 @@ returns g c client op is =
     let note = rw (← c.self.view_is) at is in
     rw (← c.self.view_is) (record {
       cache = λ i. record { config = f.config; memory = f.pools; now = f.clock; calls = call i; owed = f.replies; nvm = nvm_of f.nvm };
-      log = begun-log (g.N.Notes.told f.notes) (g.N.Notes.told c.tell.new.notes) c.args.begin c.args.call client op note c.tell.ensures.told ∙ (λ i. told_more (g.N.Notes.told f.notes) (Begin (call i) client op ∷ []));
+      log = begun-log (g.N.Listener.told f.notes) (g.N.Listener.told c.tell.new.notes) c.args.begin c.args.call client op note c.tell.ensures.told ∙ (λ i. told_more (g.N.Listener.told f.notes) (Begin (call i) client op ∷ []));
       room = record { notes = omega (arith, c.tell.ensures.room); puts = omega arith; stones = omega arith; fills = omega arith };
     })

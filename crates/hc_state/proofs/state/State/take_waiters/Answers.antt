@@ -12,12 +12,12 @@ returns-clause-does g c =
     rw (← c.self.view_is) (elim c.match-self.branch [
       | in-Some w ↦ rw (w.self-inside-is, w.in-Some.is) (record {
         cache = λ i. record { config = f.config; memory = f.pools; now = f.clock; calls = f.calls; owed = f.replies; nvm = Some (w.end_fill.ensures.nvm i) };
-        log = sym (told-nothing (g.N.Notes.told f.notes));
+        log = sym (told-nothing (g.N.Listener.told f.notes));
         room = record { notes = omega arith; puts = omega (arith, w.end_fill.ensures.puts); stones = omega (arith, w.end_fill.ensures.stones); fills = omega (arith, w.end_fill.ensures.fills) };
       })
       | in-None w ↦ rw (w.self-inside-is, w.in-None.is) (record {
         cache = refl;
-        log = sym (told-nothing (g.N.Notes.told f.notes));
+        log = sym (told-nothing (g.N.Listener.told f.notes));
         room = record { notes = omega arith; puts = omega arith; stones = omega arith; fills = omega arith };
       })
     ])

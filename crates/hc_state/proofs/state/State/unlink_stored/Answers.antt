@@ -25,8 +25,8 @@ returns-in-None-clause-ok g c =
     let same = rw (← c.self.view_is) at linked in
     rw (← c.self.view_is) (λ i. record {
       cache = record { config = f.config; memory = (c.unlink.ensures.pools ∙ same) i; now = f.clock; calls = f.calls; owed = f.replies; nvm = nvm_of f.nvm };
-      log = g.N.Notes.told f.notes;
-      notes = g.N.Notes.room f.notes;
+      log = g.N.Listener.told f.notes;
+      notes = g.N.Listener.room f.notes;
       spare = spare_of f.nvm;
     })
 
@@ -43,8 +43,8 @@ returns-after-link_after-clause-ok g c =
     rw (← c.self.view_is) (elim c.match-link_after.branch [
       | in-Ok w ↦ rw w.result-is (λ i. record {
         cache = record { config = f.config; memory = (w.in-Ok.ensures.pools ∙ same) i; now = f.clock; calls = f.calls; owed = f.replies; nvm = nvm_of f.nvm };
-        log = g.N.Notes.told f.notes;
-        notes = g.N.Notes.room f.notes;
+        log = g.N.Listener.told f.notes;
+        notes = g.N.Listener.room f.notes;
         spare = spare_of f.nvm;
       })
       | in-Err w ↦ rw w.result-is tt

@@ -1,0 +1,86 @@
+// The worker of a cache: it takes jobs, does their operations on the device, and hands in what came of them.
+use hc_core::{Core, Counting, IoResult, Order, Refusal, Take, Unfinished};
+use hc_flash::{Flash, MemFlash};
+
+// The device does one operation. One that it can't do, for want of memory too, has failed: the cache does without it.
+fn operate(device: &mut MemFlash, order: &Order) -> IoResult {
+    match order {
+        Order::Read(page) => match device.read(*page) {
+            Ok(bytes) => IoResult::Page(bytes),
+            Err(_) => IoResult::Failed,
+        },
+        Order::Write(page, bytes) => match device.write(*page, bytes.as_slice()) {
+            Ok(()) => IoResult::Written,
+            Err(_) => IoResult::Failed,
+        },
+    }
+}
+
+/// The device, and the result, with its job, that couldn't be handed in yet for want of memory.
+#[derive(Drop)]
+pub struct Worker {
+    device: MemFlash,
+    owed: Option<(u64, IoResult)>,
+}
+
+impl Worker {
+    /// The worker of a cache that writes on this device.
+    pub fn new(device: MemFlash) -> Worker {
+        Worker { device, owed: None }
+    }
+
+    // Hands in what came of a job's operation: what is next of the job.
+    fn hand_in(
+        &mut self,
+        cache: &mut Core<Counting>,
+        job: u64,
+        came: IoResult,
+    ) -> Result<Take, Refusal> {
+        match cache.finish(job, came) {
+            Ok(take) => Ok(take),
+            Err(Unfinished { refusal, came }) => {
+                self.owed = Some((job, came));
+                Err(refusal)
+            }
+        }
+    }
+
+    // Does a job to its end. Answers whether there was one.
+    fn complete(&mut self, cache: &mut Core<Counting>, first: Take) -> Result<bool, Refusal> {
+        let mut take = first;
+        for _ in 0..u64::MAX {
+            let (job, came) = match &take {
+                Take::Idle => return Ok(false),
+                Take::Finished => return Ok(true),
+                Take::Work(job, order) => (*job, operate(&mut self.device, order)),
+            };
+            take = self.hand_in(cache, job, came)?;
+        }
+        Ok(true)
+    }
+
+    // Hands in what couldn't be handed in before, and does that job to its end.
+    fn settle(&mut self, cache: &mut Core<Counting>) -> Result<(), Refusal> {
+        if let Some((job, came)) = self.owed.take() {
+            let take = self.hand_in(cache, job, came)?;
+            self.complete(cache, take)?;
+        }
+        Ok(())
+    }
+
+    /// Does all that there is to do: regions are made clean, what left memory is written, and what calls wait for is read.
+    pub fn work(&mut self, cache: &mut Core<Counting>) -> Result<(), Refusal> {
+        self.settle(cache)?;
+        for _ in 0..u64::MAX {
+            cache.reclaim()?;
+            let write = cache.writer_take()?;
+            let wrote = self.complete(cache, write)?;
+            let fill = cache.filler_take()?;
+            let filled = self.complete(cache, fill)?;
+            if !wrote && !filled {
+                break;
+            }
+        }
+        Ok(())
+    }
+}

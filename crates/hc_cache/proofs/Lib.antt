@@ -1,7 +1,0 @@
--- Lemmas.
-pub mod Short
-pub mod Guarding
-pub mod Keeping
-pub mod Opening
-pub mod Calling
-pub mod Joining

@@ -1,4 +1,0 @@
-use Rattle.hc_cache.proofs.cache.Core.notes.Goals as goal
-
-pub returns-clause-guarded : goal.returns-clause-guarded
-returns-clause-guarded g c = rw (← c.self.view_is) c.self.invariant.guarded

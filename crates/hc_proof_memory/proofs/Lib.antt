@@ -1,3 +1,0 @@
--- That the machine without flash is the core.
-pub mod Unclean
-pub mod Landed

@@ -1,2 +1,0 @@
--- What it means that the machine without flash is the core.
-pub mod Bare

@@ -1,0 +1,2 @@
+-- Results, as a map has them.
+mod Resulting

@@ -1,5 +1,0 @@
-use Rattle.hc_schedule.proofs.Promising as by
-use Rattle.hc_schedule.proofs.laws.chains_are_runs.Goals as goal
-
-pub returns : goal.returns
-returns c = by.chains_are_runs

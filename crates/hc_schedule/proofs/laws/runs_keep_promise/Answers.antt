@@ -1,5 +1,0 @@
-use Rattle.hc_schedule.proofs.Promising as by
-use Rattle.hc_schedule.proofs.laws.runs_keep_promise.Goals as goal
-
-pub returns : goal.returns
-returns c = by.runs_keep_promise
