@@ -1,17 +1,9 @@
-//! Tests of a cache with flash behind it, over a device in memory: what leaves memory comes back, what is changed meanwhile
-//! isn't undone, a page that isn't read takes its bucket along, and each call is made again after any growth was refused.
+//! Tests of a cache with flash behind it, over a device in memory: each call is made again after any growth was refused, and
+//! handles and results that aren't the cache's come back. What a trace can say of such a cache is in `traces/`.
 #![tactic(auto)]
 
 #[cfg(test)]
-mod adds;
-#[cfg(test)]
-mod busy;
-#[cfg(test)]
-mod changes;
-#[cfg(test)]
 mod closing;
-#[cfg(test)]
-mod faults;
 #[cfg(test)]
 mod foreign;
 #[cfg(test)]
@@ -21,8 +13,6 @@ mod grown_takes;
 #[cfg(test)]
 mod growths;
 #[cfg(test)]
-mod regions;
+mod results;
 #[cfg(test)]
 mod stage;
-#[cfg(test)]
-mod trips;

@@ -1,7 +1,7 @@
 // A cache of one pool with flash behind it, and the device.
 use hc_core::{
-    Config, Core, Fill, FlashConfig, Found, IoResult, Kept, Key, Order, PoolSize, Refusal, Reply,
-    Sealed, Take,
+    Config, Core, Fill, FlashConfig, Found, IoResult, Kept, Key, Order, PoolSize, Reply, Sealed,
+    Take,
 };
 use hc_flash::{Flash, MemFlash};
 use std::alloc::{Allocator, Global};
@@ -125,7 +125,7 @@ impl<A: Allocator + Copy> Stage<A> {
     }
 
     /// What a find of the key answers.
-    pub fn find(&mut self, rt: &impl Abort, alloc: A, text: &[u8]) -> Found<A> {
+    fn find(&mut self, rt: &impl Abort, alloc: A, text: &[u8]) -> Found<A> {
         let key = key(rt, alloc, text);
         self.core.find(0, &key).expect(rt, "there is memory")
     }
@@ -140,11 +140,6 @@ impl<A: Allocator + Copy> Stage<A> {
         }
     }
 
-    /// Whether a find of the key misses.
-    pub fn misses(&mut self, rt: &impl Abort, alloc: A, text: &[u8]) -> bool {
-        matches!(self.find(rt, alloc, text), Found::Miss)
-    }
-
     /// The number of a find of the key, which waits.
     pub fn wait(&mut self, rt: &impl Abort, alloc: A, text: &[u8]) -> u64 {
         match self.find(rt, alloc, text) {
@@ -156,14 +151,6 @@ impl<A: Allocator + Copy> Stage<A> {
     /// The reply that is owed to the call.
     pub fn reply(&mut self, rt: &impl Abort, call: u64) -> Reply<A> {
         self.core.take_reply(call).expect(rt, "it is answered")
-    }
-
-    /// Whether the reply of the call isn't taken, for this reason.
-    pub fn owes(&mut self, call: u64, why: Refusal) -> bool {
-        match self.core.take_reply(call) {
-            Ok(_) => false,
-            Err(refusal) => refusal == why,
-        }
     }
 
     /// Does what was taken, up to the job's next device operation.
@@ -185,7 +172,7 @@ impl<A: Allocator + Copy> Stage<A> {
     }
 
     /// The writer takes what is next, and does it.
-    pub fn write(&mut self, rt: &impl Abort) {
+    fn write(&mut self, rt: &impl Abort) {
         let take = self.core.writer_take().expect(rt, "there is memory");
         self.do_all(rt, take);
     }
