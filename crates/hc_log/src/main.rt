@@ -4,10 +4,10 @@
 //! its configuration was refused; 4 says that reading, writing or memory failed. Then nothing is printed.
 #![tactic(auto)]
 
-mod steps;
-mod trace;
+mod text;
 
-use crate::trace::{Told, log_of};
+use crate::text::add_log;
+use hc_logged::{Logged, log_of};
 use std::io;
 use std::io::{Read, Write};
 use std::process::ExitCode;
@@ -16,17 +16,18 @@ use std::process::ExitCode;
 fn run(rt: &HostRuntime) -> io::Result<u8> {
     let mut bytes = Vec::new(rt.alloc());
     rt.reader().read_to_end(&mut bytes)?;
-    let mut out = Vec::new(rt.alloc());
-    match log_of(rt.alloc(), &mut out, &bytes)? {
-        Told::Whole => {
+    match log_of(rt.alloc(), &bytes)? {
+        Logged::Whole(config, player) => {
+            let mut out = Vec::new(rt.alloc());
+            add_log(rt.alloc(), &mut out, &config, &player.notes().notes)?;
             io::writer(rt).write_all(&out)?;
             Ok(0)
         }
-        Told::Fault(line) => {
+        Logged::Fault(line) => {
             eprintln!(rt; "fault line {line}")?;
             Ok(1)
         }
-        Told::Refused(refusal) => {
+        Logged::Refused(refusal) => {
             eprintln!(rt; "{refusal}")?;
             Ok(1)
         }

@@ -3,3 +3,4 @@ pub mod Resulting
 pub mod Acting
 pub mod Storing
 pub mod Refusing
+pub mod Likening

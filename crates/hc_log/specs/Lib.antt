@@ -1,0 +1,2 @@
+-- A log as text.
+pub mod Text

@@ -1,0 +1,3 @@
+-- Lines, and what comes of them.
+mod Splitting
+mod Hearing
