@@ -1,6 +1,8 @@
 -- What is heard of lines.
-use Rattle.std.proofs.Common.{◌≡◌, List, [], ◌∷◌, ◌++◌, refl, sym, ap, ◌∙◌}
-use Rattle.hc_history.specs.Told.{told_more}
+use Rattle.std.proofs.Common.{◌≡◌, List, [], ◌∷◌, ◌++◌, None, refl, sym, ap, ◌∙◌}
+use Rattle.hc_types.specs.Config.{Config}
+use Rattle.hc_types.specs.Limits.{first_wrong}
+use Rattle.hc_history.specs.Told.{Log, told_more}
 use Rattle.hc_history.proofs.Telling.{told-twice}
 use Rattle.hc_lines.specs.Grammar as grammar
 use Rattle.hc_lines.specs.Grammar.{Line, Says}
@@ -10,8 +12,9 @@ use Rattle.hc_player.specs.Alike.{Alike}
 use Rattle.hc_player.specs.Playing.{Playing, world_of, Acts}
 use Rattle.hc_player.proofs.Likening.{act-alike}
 use Rattle.hc_replayed.specs.Actions.{Action, Do, Serve, act}
-use Rattle.hc_replayed.specs.Trace.{Actions, before, action_line, notes_of}
-use Rattle.hc_logged.specs.Taken.{behind, GoesOn}
+use Rattle.hc_replayed.specs.Trace.{Actions, before, action_line, checked, ended, fresh, notes_of}
+use Rattle.hc_logged.specs.Outcome.{Whole, outcome_of}
+use Rattle.hc_logged.specs.Taken.{Behind, behind, GoesOn, IsHeard}
 
 -- worlds that are alike tell the same
 pub notes-alike : (a b : World) → Alike a b → (actions : List Action) → notes_of a actions ≡ notes_of b actions
@@ -37,3 +40,13 @@ goes-by-step {answer} {old} {new} line step is did = λ n later. acted-on (Do st
 -- so is one that has work done
 pub goes-by-work : {answer : Answer} {old new : Playing} (line : Line) (work : Work) → line ≡ Says (grammar.Serve work) → Acts (Serve work) answer old new → GoesOn line old new
 goes-by-work {answer} {old} {new} line work is did = λ n later. acted-on (Serve work) answer old new did later ∙ ap (λ (l : Line). behind old (action_line n l later)) (sym is)
+
+-- what is heard behind all lines is what the trace comes to
+pub heard-whole : (config : Config) (old new : Playing) (rest : Actions) → first_wrong config ≡ None → Alike (world_of old) (fresh config) → old.log ≡ Log [] → IsHeard rest None old new → Whole config new.log ≡ outcome_of (ended config rest)
+heard-whole config old new rest fits alike log heard =
+    let told : new.log ≡ Log (notes_of (fresh config) rest.actions) =
+    sym (ap (λ (b : Behind). b.log) heard) ∙ (λ i. told_more (log i) (notes-alike _ _ alike rest.actions i)) in
+    let none : rest.fault ≡ None = ap (λ (b : Behind). b.fault) heard in
+    let comes : outcome_of (ended config rest) ≡ Whole config (Log (notes_of (fresh config) rest.actions)) =
+    λ i. outcome_of (checked config (fits i) (record { actions = rest.actions; fault = none i })) in
+    ap (Whole config) told ∙ sym comes

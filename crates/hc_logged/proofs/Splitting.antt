@@ -1,7 +1,7 @@
 -- The first line of a text.
-use Rattle.std.proofs.Common.{◌≡◌, ℕ, ◌+◌, ◌<◌, ◌-◌, List, [], ◌∷◌, ◌++◌, length, take, drop, get_or, true, ◌==◌, refl, ap, ◌∙◌, arith}
+use Rattle.std.proofs.Common.{◌≡◌, ℕ, ◌+◌, ◌<◌, ◌-◌, List, [], ◌∷◌, length, take, drop, get_or, true, ◌==◌, refl, ap, ◌∙◌, arith}
 use Rattle.hc_lines.specs.Lines.{onto_first, lines_of, Lacks}
-use Rattle.hc_lines.proofs.Parts.{lacks-before, around, lines-ended}
+use Rattle.hc_lines.proofs.Parts.{around, lines-ended}
 
 lines_one : (b : ℕ) (line : List ℕ) → Lacks 10 (b ∷ line) → lines_of (b ∷ line) ≡ (b ∷ line) ∷ []
 lines_one b [] h = rw h.0 refl

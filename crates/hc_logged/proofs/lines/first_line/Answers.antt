@@ -1,5 +1,4 @@
-use Rattle.std.proofs.Common.{◌≡◌, ◌<◌, ◌+◌, ◌-◌, ◌∷◌, length, take, drop, arith, take_all, length-drop}
-use Rattle.hc_lines.specs.Lines.{lines_of}
+use Rattle.std.proofs.Common.{◌<◌, ◌+◌, ◌-◌, length, take, drop, arith, take_all, length-drop}
 use Rattle.hc_lines.proofs.Parts.{lacks-all, lacks-before}
 use Rattle.hc_logged.proofs.Splitting.{one-line, first-line}
 use Rattle.hc_logged.proofs.lines.first_line.Goals as goal
