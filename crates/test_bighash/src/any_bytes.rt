@@ -2,12 +2,23 @@
 ghost use Rattle.std.specs.Prelude.{◌≡◌, ◌<◌, []};
 
 use crate::driving::{fresh, get_of, key, put_of, run};
-use crate::rows::is_given_up;
 use bytes::Bytes;
-use hc_bighash::{BigHash, Op};
+use hc_bighash::{BigHash, Loss, Op};
 use hc_bucket::decode_page;
+use hc_types::{Cause, Scope};
 use std::alloc::Global;
 use std::process::Abort;
+
+// The bucket is lost as a whole, by a fault.
+fn is_given_up(losses: &[Loss]) -> bool {
+    match losses {
+        [loss] => match (&loss.scope, &loss.cause) {
+            (Scope::Bucket(bucket), Cause::Fault) => *bucket == 0,
+            _ => false,
+        },
+        _ => false,
+    }
+}
 
 /// An operation reads these bytes, and gives the bucket up exactly where they are no page. Then a put of `a` works.
 fn read(rt: &impl Abort, alloc: Global, engine: &mut BigHash, op: &Op, bytes: &[u8], is_page: bool)

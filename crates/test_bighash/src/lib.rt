@@ -1,5 +1,5 @@
-//! Tests of the engine for small objects: worked rows of one bucket, failures, pages of any bytes, what calls take of
-//! memory, and what is printed.
+//! Tests of the engine for small objects: pages of any bytes, what calls take of memory, and what is printed. The worked rows of
+//! one bucket, and its failures, are in `traces/`.
 #![tactic(auto)]
 
 #[cfg(test)]
@@ -8,7 +8,5 @@ mod any_bytes;
 mod driving;
 #[cfg(test)]
 mod memory;
-#[cfg(test)]
-mod rows;
 #[cfg(test)]
 mod shown;

@@ -1,8 +1,8 @@
 // Pages of any bytes: what a read brings that is no entry is forgotten, and the engine goes on.
 use crate::device::{Device, flush, get, hand_in, over, store};
 use crate::driving::Driver;
-use crate::ends::are_faults;
 use crate::entries::{came_of, sealed, worked, worked_page};
+use crate::losses::are_faults;
 use crate::making::{key, next_number};
 use hc_bighash::{Answer, Outcome};
 use hc_types::kept;

@@ -1,5 +1,5 @@
-//! Tests of the engine for large objects: the bytes of entries, regions that end, pages of any bytes, a run against a plain
-//! list, and what calls take of memory.
+//! Tests of the engine for large objects: the bytes of entries, pages of any bytes, a run against a plain list, and what calls
+//! take of memory. Regions that end are in `traces/`.
 #![tactic(auto)]
 
 #[cfg(test)]
@@ -9,14 +9,12 @@ mod device;
 #[cfg(test)]
 mod driving;
 #[cfg(test)]
-mod ends;
-#[cfg(test)]
 mod entries;
+#[cfg(test)]
+mod losses;
 #[cfg(test)]
 mod making;
 #[cfg(test)]
 mod memory;
 #[cfg(test)]
 mod plain_list;
-#[cfg(test)]
-mod unknown;

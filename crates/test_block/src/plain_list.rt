@@ -3,8 +3,8 @@ ghost use Rattle.std.specs.Prelude.{◌≤◌};
 
 use crate::device::{Device, flush, get, over, put, run};
 use crate::driving::Driver;
-use crate::ends::lost_hash;
 use crate::entries::is_found;
+use crate::losses::lost_hash;
 use crate::making::{flash, key, next_number};
 use hc_bighash::{Answer, Loss};
 use hc_types::{Cause, Scope, kept};

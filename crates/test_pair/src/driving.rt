@@ -66,20 +66,9 @@ impl<A: Allocator + Copy> Driver<A> {
         self.begin(rt, &get).expect(rt, "there is memory")
     }
 
-    /// Starts a delete.
-    pub fn delete(&mut self, rt: &impl Abort, alloc: A, text: &[u8]) -> Next<A> {
-        let delete = Op::Delete(key(rt, alloc, text));
-        self.begin(rt, &delete).expect(rt, "there is memory")
-    }
-
     /// Starts a flush.
     pub fn flush(&mut self, rt: &impl Abort) -> Next<A> {
         self.begin(rt, &Op::Flush).expect(rt, "there is memory")
-    }
-
-    /// Starts a reclaim.
-    pub fn reclaim(&mut self, rt: &impl Abort) -> Next<A> {
-        self.begin(rt, &Op::Reclaim).expect(rt, "there is memory")
     }
 
     /// The number of the operation that was started last.

@@ -1,4 +1,4 @@
-//! Tests of both engines on flash as one: who serves which size, a get that goes on, a get that ends in two steps, want of memory, and what is printed.
+//! Tests of both engines on flash as one: what is told of a call before it is made, and a get that goes on and wants memory.
 #![tactic(auto)]
 
 #[cfg(test)]
@@ -6,10 +6,6 @@ mod asking;
 #[cfg(test)]
 mod driving;
 #[cfg(test)]
-mod ending;
-#[cfg(test)]
 mod making;
 #[cfg(test)]
 mod memory;
-#[cfg(test)]
-mod rows;
