@@ -1,0 +1,4 @@
+pub mod Deciding
+pub mod Ending
+pub mod Owing
+pub mod Past

@@ -1,0 +1,146 @@
+// Whether records agree with a log.
+ghost use Rattle.std.specs.Prelude.{◌≡◌, [], ◌∷◌, IfSome, IfNone, map};
+ghost use Rattle.std.specs.List.{list_all};
+ghost use Rattle.std.specs.Bool.{Decides};
+ghost use Rattle.hc_history.specs.Lawful.{past};
+ghost use Rattle.hc_history.specs.Seen.{op_of, reply_of};
+ghost use Rattle.hc_records.specs.Judge as judge;
+ghost use Rattle.hc_records.specs.Judge.{Leaves, Differs};
+ghost use Rattle.hc_records.specs.Records.{Reconciled, finished_at};
+
+use crate::calls::{answered, asked};
+use crate::record::{Entry, Record, Recorded};
+use hc_history::{Note, Op, Reply, Said};
+
+/// Whether all records agree with the log, and no client of the log lacks one.
+#[must_use]
+pub fn reconcile<T: Recorded>(log: &[Note], records: &[T]) -> bool
+    ensures { Decides result (Reconciled log.now (map T.recorded records.now)) }
+{
+    agree(log, records) && cover(log, records)
+}
+
+fn agree<T: Recorded>(log: &[Note], records: &[T]) -> bool
+    ensures { result ≡ list_all (judge.agrees log.now) (map T.recorded records.now) }
+{
+    for who in records {
+        if !agrees(log, who.record()) {
+            return false;
+        }
+    }
+    true
+}
+
+/// Whether the record is the log's finished calls of its client, in the order of their ends.
+fn agrees(log: &[Note], answers: &Record) -> bool
+    ensures { result ≡ judge.agrees log.now answers.now }
+{
+    let mut left = answers.entries.as_slice();
+    for place in 0..log.len() {
+        match left_after(answers.client, &log[..place], &log[place], left) {
+            Some(rest) => left = rest,
+            None => return false,
+        }
+    }
+    left.is_empty()
+}
+
+/// What is left of the entries behind this note. Nothing is where it ends another call than the first of them.
+fn left_after<'a>(
+    client: u8,
+    before: &[Note],
+    note: &Note,
+    entries: &'a [Entry],
+) -> Option<&'a [Entry]>
+    ensures some { IfSome result (λ left. Leaves (finished_at client (past [] before.now) note.now) entries.now left.now) }
+    ensures none { IfNone result (Differs (finished_at client (past [] before.now) note.now) entries.now) }
+{
+    let Said::End { call } = &note.said else {
+        return Some(entries);
+    };
+    let Some(begun) = asked(before, *call) else {
+        return Some(entries);
+    };
+    if begun.client != client {
+        return Some(entries);
+    }
+    match answered(before, *call) {
+        Some(reply) => left_of(*call, begun.op, reply, entries),
+        None => Some(entries),
+    }
+}
+
+/// What is left of the entries behind this call, where it is the first of them.
+fn left_of<'a>(call: u64, op: &Op, reply: &Reply, entries: &'a [Entry]) -> Option<&'a [Entry]>
+    ensures some { IfSome result (λ left. Leaves (record { call = call; op = op_of op.now; reply = reply_of reply.now } ∷ []) entries.now left.now) }
+    ensures none { IfNone result (Differs (record { call = call; op = op_of op.now; reply = reply_of reply.now } ∷ []) entries.now) }
+{
+    match entries.split_first() {
+        Some((entry, rest)) if is_entry(call, op, reply, entry) => Some(rest),
+        _ => None,
+    }
+}
+
+fn is_entry(call: u64, op: &Op, reply: &Reply, entry: &Entry) -> bool
+    ensures { result ≡ judge.entry_eq (record { call = call; op = op_of op.now; reply = reply_of reply.now }) entry.now }
+{
+    call == entry.call && is_op(op, &entry.op) && is_reply(reply, &entry.reply)
+}
+
+fn is_op(a: &Op, b: &Op) -> bool
+    ensures { result ≡ judge.op_eq (op_of a.now) (op_of b.now) }
+{
+    match (a, b) {
+        (Op::Insert(k, v, e), Op::Insert(l, w, f)) | (Op::Add(k, v, e), Op::Add(l, w, f)) => {
+            k == l && v == w && *e == *f
+        }
+        (Op::Find(k), Op::Find(l)) | (Op::Remove(k), Op::Remove(l)) => k == l,
+        _ => false,
+    }
+}
+
+fn is_reply(a: &Reply, b: &Reply) -> bool
+    ensures { result ≡ judge.reply_eq (reply_of a.now) (reply_of b.now) }
+{
+    match (a, b) {
+        (Reply::Hit(v), Reply::Hit(w)) => v == w,
+        (Reply::Stored, Reply::Stored)
+        | (Reply::Exists, Reply::Exists)
+        | (Reply::Miss, Reply::Miss)
+        | (Reply::FoundInMemory, Reply::FoundInMemory)
+        | (Reply::NotInMemory, Reply::NotInMemory) => true,
+        _ => false,
+    }
+}
+
+fn cover<T: Recorded>(log: &[Note], records: &[T]) -> bool
+    ensures { result ≡ list_all (judge.is_covered (map T.recorded records.now)) log.now }
+{
+    for note in log {
+        if !is_covered(note, records) {
+            return false;
+        }
+    }
+    true
+}
+
+/// Whether the client has a record, if the note begins a call.
+fn is_covered<T: Recorded>(note: &Note, records: &[T]) -> bool
+    ensures { result ≡ judge.is_covered (map T.recorded records.now) note.now }
+{
+    match &note.said {
+        Said::Begin { client, .. } => has_record(*client, records),
+        _ => true,
+    }
+}
+
+fn has_record<T: Recorded>(client: u8, records: &[T]) -> bool
+    ensures { result ≡ judge.has_record (map T.recorded records.now) client }
+{
+    for who in records {
+        if who.record().client == client {
+            return true;
+        }
+    }
+    false
+}

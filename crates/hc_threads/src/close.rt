@@ -1,0 +1,91 @@
+// The end: what the log and the records come to.
+ghost use Rattle.std.specs.Prelude.{◌≡◌, ◌≢◌, ◌⊎◌, ◌<◌, ◌≤◌, [], None, IfOk, OnErr, map};
+ghost use Rattle.std.specs.Bool.{Decides};
+ghost use Rattle.hc_history.specs.Told.{Log, IfLog};
+ghost use Rattle.hc_history.specs.Stats.{counts_of};
+ghost use Rattle.hc_history.specs.Lawful.{Legal};
+ghost use Rattle.hc_judge_memory.specs.Lies.{IsFirstLie};
+ghost use Rattle.hc_records.specs.Records as records;
+ghost use Rattle.hc_records.specs.Records.{Reconciled};
+
+use crate::client::Client;
+use crate::shared::Shared;
+use hc_core::Core;
+use hc_history::{Kept, Note, Stats};
+use hc_judge_memory::first_lie;
+use hc_records::{Mismatch, Recorded, failures as failures_of, reconcile};
+use hc_types::Config;
+
+/// What is left in the end: the configuration by which the log is legal, the log, its counts, and the place of the first
+/// lie of the device in it, counted from 0.
+#[derive(Drop)]
+pub struct Report {
+    pub config: Config,
+    pub log: Vec<Note>,
+    pub stats: Stats,
+    pub lie: Option<usize>,
+}
+
+/// Judges a core by the configuration that was kept, by the clients' records, and by how often the device failed. The
+/// answer is `Mismatch` exactly where the configuration isn't the core's, where a record doesn't agree with the log or a
+/// client of the log lacks one, or where more results in the log failed than `failures`.
+pub fn settle<T: Recorded>(
+    core: Core<Kept>,
+    config: Config,
+    clients: &[T],
+    failures: u64,
+) -> Result<Report, Mismatch>
+    ensures config { IfOk result (λ r. r.config ≡ config) }
+    ensures log { IfOk result (λ r. Log r.log.items ≡ core.log) }
+    ensures stats { IfOk result (λ r. r.stats ≡ counts_of r.log.items) }
+    ensures lie { IfOk result (λ r. IsFirstLie [] r.log.items r.lie) }
+    ensures legal { IfOk result (λ r. r.lie ≡ None → Legal config r.log.items) }
+    ensures agrees { IfOk result (λ r. Reconciled r.log.items (map T.recorded clients.now)) }
+    ensures failed { IfOk result (λ r. records.failures r.log.items ≤ failures) }
+    ensures mismatch { OnErr result ((core.cache.config ≢ config) ⊎ IfLog core.log (λ log. ¬ Reconciled log (map T.recorded clients.now) ⊎ (failures < records.failures log))) }
+{
+    if !is_same(core.config(), &config) {
+        return Err(Mismatch);
+    }
+    let kept = core.into_notes();
+    let stats = kept.stats();
+    let Kept { notes: log } = kept;
+    let notes = log.as_slice();
+    if failures_of(notes) as u64 > failures {
+        return Err(Mismatch);
+    }
+    if !reconcile(notes, clients) {
+        return Err(Mismatch);
+    }
+    let lie = first_lie(notes);
+    Ok(Report {
+        config,
+        log,
+        stats,
+        lie,
+    })
+}
+
+impl Shared<Kept> {
+    /// Ends the cache, and judges it as `settle` does: by the configuration that was kept as `Shared` was made, by the
+    /// clients' records, and by how often the device failed, which is by how much its count rose. Where the answer is a
+    /// report without a lie, the log is legal.
+    pub fn close(self, clients: Vec<Client>, failures: u64) -> Result<Report, Mismatch>
+        ensures config { IfOk result (λ r. r.config ≡ self) }
+        ensures stats { IfOk result (λ r. r.stats ≡ counts_of r.log.items) }
+        ensures lie { IfOk result (λ r. IsFirstLie [] r.log.items r.lie) }
+        ensures legal { IfOk result (λ r. r.lie ≡ None → Legal self r.log.items) }
+        ensures agrees { IfOk result (λ r. Reconciled r.log.items clients.items) }
+        ensures failed { IfOk result (λ r. records.failures r.log.items ≤ failures) }
+    {
+        let (core, config) = self.into_parts();
+        settle(core, config, &clients, failures)
+    }
+}
+
+/// Whether two configurations are the same.
+fn is_same(a: &Config, b: &Config) -> bool
+    ensures { Decides result (a.now ≡ b.now) }
+{
+    a.flash == b.flash && a.pools == b.pools
+}

@@ -1,0 +1,22 @@
+//! A cache under one lock, for many clients, and workers in threads beside them.
+#![tactic(auto)]
+
+mod adding;
+mod client;
+mod close;
+mod gate;
+mod port;
+mod serving;
+mod shared;
+mod workers;
+
+pub use adding::{Added, Unadded};
+pub use client::Client;
+pub use close::{Report, settle};
+pub use gate::{Gate, NoGate, Point, Worker};
+pub use port::Port;
+pub use serving::serve;
+pub use shared::Shared;
+
+// The types of the calls' signatures, so that a caller needs no other crate but the core's.
+pub use hc_records::{Entry, Mismatch, Record, Recorded};

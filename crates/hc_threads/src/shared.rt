@@ -1,0 +1,213 @@
+// The core under one lock, as clients call it.
+ghost use Rattle.std.specs.Prelude.{◌≡◌, ◌<◌, IfOk, IfErr};
+
+use hc_core::Core;
+use hc_history::{Listener, Note, Notes, Reply};
+use hc_memory::{Blank, Fill, ReadHandle, Sealed, Uncharged};
+use hc_state::{Found, Removed, Unlinked};
+use hc_types::{Config, Key, Refusal};
+use std::marker::Model;
+use std::sync::{Condvar, Mutex, Wait};
+
+/// Where the workers stand.
+#[derive(Clone, Copy, Debug, PartialEq, Eq)]
+pub(crate) enum Stage {
+    /// None takes work yet.
+    Beginning,
+    Working,
+    Ending,
+}
+
+/// What lies under the lock. Whoever takes the lock finds a `Core`, and what is true of each core is all that is known.
+#[derive(Drop)]
+pub(crate) struct Guarded<N: Listener> {
+    pub(crate) core: Core<N>,
+    pub(crate) stage: Stage,
+    pub(crate) clients: u8,
+}
+
+/// A core that clients and workers share: each call of the core is one hold of the one lock. Contracts see the
+/// configuration of the core that it was made of, of which it keeps a copy beside the lock.
+#[derive(Drop)]
+pub struct Shared<N: Listener> {
+    pub(crate) guarded: Mutex<Guarded<N>>,
+    /// Wakes workers, for work and to end.
+    pub(crate) work: Condvar,
+    /// Wakes clients that wait for a reply.
+    pub(crate) replies: Condvar,
+    config: Config,
+}
+
+impl<N: Listener> Model for Shared<N> {
+    ghost use Rattle.hc_types.specs.Config.{Config as Settings};
+
+    ghost Value = { Settings };
+
+    ghost view = { λ shared. shared.config };
+}
+
+impl<N: Listener> Shared<N> {
+    /// Shares the core. Refused only where memory lacks for the copy of its configuration; then the core comes back.
+    pub fn new(core: Core<N>) -> Result<Shared<N>, Core<N>>
+        ensures config { IfOk result (λ shared. shared ≡ core.cache.config) }
+        ensures core_returned { IfErr result (λ back. back ≡ core) }
+    {
+        let Ok(config) = core.config().clone() else {
+            return Err(core);
+        };
+        Ok(Shared {
+            guarded: Mutex::new(Guarded {
+                core,
+                stage: Stage::Beginning,
+                clients: 0,
+            }),
+            work: Condvar::new(),
+            replies: Condvar::new(),
+            config,
+        })
+    }
+
+    /// The number of the next client. Refused with `TooManyClients` after the 64th.
+    pub(crate) fn next_client<R: Wait>(&self, rt: &R) -> Result<u8, Refusal>
+        ensures few { IfOk result (λ number. number < 64) }
+        ensures err { IfErr result (λ refusal. refusal ≡ Refusal.TooManyClients) }
+    {
+        let mut held = self.guarded.lock(rt);
+        let number = held.clients;
+        if number >= 64 {
+            return Err(Refusal::TooManyClients);
+        }
+        held.clients = number + 1;
+        Ok(number)
+    }
+
+    /// The core, and the configuration that was kept.
+    pub(crate) fn into_parts(self) -> (Core<N>, Config)
+        ensures { result.1 ≡ self }
+    {
+        let Shared {
+            guarded,
+            work: _,
+            replies: _,
+            config,
+        } = self;
+        let Guarded {
+            core,
+            stage: _,
+            clients: _,
+        } = guarded.into_inner();
+        (core, config)
+    }
+
+    /// The core, which isn't judged.
+    #[must_use]
+    pub fn into_core(self) -> Core<N> {
+        let (core, _config) = self.into_parts();
+        core
+    }
+
+    /// Wakes whoever waits for work or for a reply.
+    pub(crate) fn wake(&self) {
+        self.work.notify_all();
+        self.replies.notify_all();
+    }
+}
+
+impl<N: Notes<Note>> Shared<N> {
+    /// Moves the clock on, as `Core::tick` does.
+    pub fn tick<R: Wait>(&self, rt: &R, moment: u64) -> Result<u64, Refusal>
+        ensures { IfErr result (λ refusal. refusal ≡ Refusal.NoMemory) }
+    {
+        self.guarded.lock(rt).core.tick(moment)
+    }
+
+    pub(crate) fn allocate_with<R: Wait>(
+        &self,
+        rt: &R,
+        pool: u8,
+        key: Key,
+        fill: Fill<'_>,
+        ttl: u32,
+    ) -> Result<Blank, Uncharged>
+        ensures { IfErr result (λ e. e.key ≡ key) }
+    {
+        let blank = self
+            .guarded
+            .lock(rt)
+            .core
+            .allocate_with(pool, key, fill, ttl);
+        self.work.notify_all();
+        blank
+    }
+
+    pub(crate) fn discard<R: Wait>(&self, rt: &R, sealed: Sealed) -> Result<(), Sealed>
+        ensures { IfErr result (λ back. back ≡ sealed) }
+    {
+        let discarded = self.guarded.lock(rt).core.discard(sealed);
+        self.work.notify_all();
+        discarded
+    }
+
+    pub(crate) fn discard_blank<R: Wait>(&self, rt: &R, blank: Blank) -> Result<(), Blank>
+        ensures { IfErr result (λ back. back ≡ blank) }
+    {
+        let discarded = self.guarded.lock(rt).core.discard_blank(blank);
+        self.work.notify_all();
+        discarded
+    }
+
+    /// Answers the number of the call.
+    pub(crate) fn insert_or_replace<R: Wait>(
+        &self,
+        rt: &R,
+        client: u8,
+        sealed: Sealed,
+    ) -> Result<u64, Unlinked>
+        ensures { IfErr result (λ e. e.sealed ≡ sealed) }
+    {
+        let mut held = self.guarded.lock(rt);
+        held.core.insert_or_replace(client, sealed)?;
+        let call = held.core.calls();
+        self.wake();
+        Ok(call)
+    }
+
+    /// Answers the number of the call, and whether an item was in memory.
+    pub(crate) fn remove<R: Wait>(
+        &self,
+        rt: &R,
+        client: u8,
+        key: &Key,
+    ) -> Result<(u64, Removed), Refusal> {
+        let mut held = self.guarded.lock(rt);
+        let removed = held.core.remove(client, key)?;
+        let call = held.core.calls();
+        self.wake();
+        Ok((call, removed))
+    }
+
+    /// Answers the number of the call, and the value. A find that waits lets the lock go until its reply is there.
+    pub(crate) fn find<R: Wait>(
+        &self,
+        rt: &R,
+        client: u8,
+        key: &Key,
+    ) -> Result<(u64, Option<ReadHandle>), Refusal> {
+        let mut held = self.guarded.lock(rt);
+        let call = match held.core.find(client, key)? {
+            Found::Hit(value) => return Ok((held.core.calls(), Some(value))),
+            Found::Miss => return Ok((held.core.calls(), None)),
+            Found::Waiting(call) => call,
+        };
+        self.work.notify_all();
+        for _ in rt.forever() {
+            match held.core.take_reply(call) {
+                Ok(Reply::Hit(value)) => return Ok((call, Some(ReadHandle::new(value)))),
+                Ok(_) => return Ok((call, None)),
+                Err(Refusal::NotReady) => held = self.replies.wait(rt, held),
+                Err(refusal) => return Err(refusal),
+            }
+        }
+        unreachable!()
+    }
+}
