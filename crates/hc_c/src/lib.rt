@@ -25,9 +25,7 @@ pub use cache::Cache;
 pub use cache_handle::CacheHandle;
 pub use items::{kilambosetry_add, kilambosetry_delete, kilambosetry_get, kilambosetry_set};
 pub use jobs::Operation;
-pub use making::{
-    Flash, Pool, kilambosetry_free, kilambosetry_new, kilambosetry_new_with_flash,
-};
+pub use making::{Flash, Pool, kilambosetry_free, kilambosetry_new, kilambosetry_new_with_flash};
 pub use reading::Reading;
 pub use status::Status;
 pub use telling::{

@@ -107,11 +107,7 @@ pub extern "C" fn kilambosetry_finish_read(
 
 /// Says that the job's page was written, as `kilambosetry_finish_read` hands one in.
 #[unsafe(no_mangle)]
-pub extern "C" fn kilambosetry_finish_write(
-    alloc: Global,
-    handle: &mut CacheHandle,
-    job: u64,
-) -> u8
+pub extern "C" fn kilambosetry_finish_write(alloc: Global, handle: &mut CacheHandle, job: u64) -> u8
     ensures { OnCache handle.old.seat.cache handle.new.seat.cache result (Finishes job Written) }
 {
     let Some(mut cache) = handle.take(alloc) else {
