@@ -68,6 +68,20 @@ impl Usage {
     }
 }
 
+fn tell_calls(core: &Core<Counting>, calls: &mut u64) -> Status
+    ensures { Called calls.new result core.now core.now }
+{
+    *calls = core.calls();
+    Status::Done
+}
+
+fn tell_counts(core: &Core<Counting>, counts: &mut Counts) -> Status
+    ensures { Counted counts.new result core.now core.now }
+{
+    *counts = Counts::of(core.notes().counts);
+    Status::Done
+}
+
 fn tell_usage(core: &Core<Counting>, pool: u8, usage: &mut Usage) -> Status
     ensures { Used pool usage.old usage.new result core.now core.now }
 {
@@ -100,9 +114,9 @@ pub extern "C" fn kilambosetry_calls(alloc: Global, handle: &mut CacheHandle, ca
     let Some(cache) = handle.take(alloc) else {
         return Status::Empty.number();
     };
-    *calls = cache.core.calls();
+    let status = tell_calls(&cache.core, calls);
     *handle = CacheHandle::of(cache);
-    Status::Done.number()
+    status.number()
 }
 
 /// Tells the seven counts.
@@ -117,9 +131,9 @@ pub extern "C" fn kilambosetry_counts(
     let Some(cache) = handle.take(alloc) else {
         return Status::Empty.number();
     };
-    *counts = Counts::of(cache.core.notes().counts);
+    let status = tell_counts(&cache.core, counts);
     *handle = CacheHandle::of(cache);
-    Status::Done.number()
+    status.number()
 }
 
 /// Tells the usage of the pool with this number. Refused with `NoPool`.

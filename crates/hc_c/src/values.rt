@@ -85,6 +85,21 @@ fn piece(value: &[u8], from: usize, out: &mut [u8]) -> usize
     count
 }
 
+fn tell_length(bytes: &Bytes, len: &mut usize) -> Status
+    ensures { Lengths len.new result bytes.now }
+{
+    *len = bytes.len();
+    Status::Done
+}
+
+// Copies a piece, and tells how long it is.
+fn copy_piece(bytes: &Bytes, from: usize, out: &mut [u8], len: &mut usize) -> Status
+    ensures { Copied from len.new out.old out.new result bytes.now }
+{
+    *len = piece(bytes.as_slice(), from, out);
+    Status::Done
+}
+
 /// Finds the value under the key, and hands it out as it lies in the cache: it stays readable until it is freed, whatever
 /// becomes of its item and of the cache. A value that the handle has is freed first.
 #[unsafe(no_mangle)]
@@ -136,9 +151,9 @@ pub extern "C" fn kilambosetry_value_length(
     let Some(reading) = value.take(alloc) else {
         return Status::Empty.number();
     };
-    *len = reading.bytes.len();
+    let status = tell_length(&reading.bytes, len);
     *value = ValueHandle::of(reading);
-    Status::Done.number()
+    status.number()
 }
 
 /// Copies the value's bytes from place `from` on to the head of `out`, as many as there are and fit, and tells how many.
@@ -155,9 +170,9 @@ pub extern "C" fn kilambosetry_value_copy(
     let Some(reading) = value.take(alloc) else {
         return Status::Empty.number();
     };
-    *len = piece(reading.bytes.as_slice(), from, out);
+    let status = copy_piece(&reading.bytes, from, out, len);
     *value = ValueHandle::of(reading);
-    Status::Done.number()
+    status.number()
 }
 
 /// Frees the value, if there is one.
