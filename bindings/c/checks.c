@@ -228,7 +228,6 @@ static void check_flash(void) {
     CHECK(kilambosetry_take_reply(&cache, 9, &value) == KILAMBOSETRY_UNKNOWN_CALL && !value.full);
     CHECK(kilambosetry_filler_take(&cache, &job) == KILAMBOSETRY_DONE);
     CHECK(kilambosetry_finish_write(&cache, job) == KILAMBOSETRY_UNKNOWN_JOB); /* it waits for a page */
-    CHECK(kilambosetry_finish_read(&cache, job, out, sizeof out) == KILAMBOSETRY_UNKNOWN_JOB); /* of 512 bytes */
     CHECK(complete(&cache, KILAMBOSETRY_DONE, job));
     CHECK(kilambosetry_take_reply(&cache, call, &value) == KILAMBOSETRY_DONE && value.full);
     CHECK(kilambosetry_value_copy(&value, 0, out, sizeof out, &len) == KILAMBOSETRY_DONE && len == 3 && memcmp(out, "one", 3) == 0);

@@ -172,7 +172,8 @@ void kilambosetry_value_free(kilambosetry_value *value);
  * a page that is to be written (a page that is to be read isn't touched, and `len` neither). What came of it is handed in by one
  * of the three calls that finish it: DONE, where the job waits for its next operation, and FINISHED, where it is over. What is
  * refused with NO_MEMORY must be handed in again. An operation that the device can't do has failed: the cache forgets what was
- * there. Jobs may be out several at a time, and finish in any order. */
+ * there. A page that is handed in with other bytes than were written last, or of another length, is a lie: the calls stay safe,
+ * and no answer is promised. Jobs may be out several at a time, and finish in any order. */
 uint8_t kilambosetry_writer_take(kilambosetry_cache *cache, uint64_t *job);
 uint8_t kilambosetry_filler_take(kilambosetry_cache *cache, uint64_t *job);
 uint8_t kilambosetry_order(kilambosetry_cache *cache, uint64_t job, kilambosetry_operation *operation, uint8_t *out,

@@ -1,8 +1,8 @@
-//! Nanoseconds and allocations of an operation, one thread: this cache, the crate `lru`, and a HashMap with a ring of keys,
+//! A thread's own nanoseconds and allocations of an operation: this cache, the crate `lru`, and a HashMap with a ring of keys,
 //! out of which the oldest key goes (it keeps no order of use).
 //!
 //! Keys have 20 bytes and values 100. Each store is handed the key's bytes and copies the value out into a buffer.
-//! `speed hits KEYS` runs hits of this cache alone, for a profiler.
+//! `speed hits KEYS` and `speed replaces KEYS` run 200,000 of these of this cache alone, for a profiler.
 use kilambosetry::{Cache, Pool};
 use std::collections::HashMap;
 use std::env;
@@ -10,7 +10,6 @@ use std::ffi::c_void;
 use std::hint::black_box;
 use std::os::raw::c_int;
 use std::sync::atomic::{AtomicU64, Ordering};
-use std::time::Instant;
 
 static ALLOCATIONS: AtomicU64 = AtomicU64::new(0);
 
@@ -20,6 +19,7 @@ fn count() {
 }
 
 extern "C" {
+    fn clock_gettime(clock: c_int, time: *mut Time) -> c_int;
     fn __real_malloc(size: usize) -> *mut c_void;
     fn __real_realloc(block: *mut c_void, size: usize) -> *mut c_void;
     fn __real_calloc(count: usize, size: usize) -> *mut c_void;
@@ -123,14 +123,27 @@ fn next(random: &mut u64) -> u64 {
     *random
 }
 
+#[repr(C)]
+struct Time {
+    seconds: i64,
+    nanoseconds: i64,
+}
+
+// Nanoseconds that this thread has run, whatever else the machine does (CLOCK_THREAD_CPUTIME_ID of Linux).
+fn own_time() -> f64 {
+    let mut time = Time { seconds: 0, nanoseconds: 0 };
+    assert_eq!(unsafe { clock_gettime(3, &mut time) }, 0);
+    time.seconds as f64 * 1e9 + time.nanoseconds as f64
+}
+
 // Nanoseconds and allocations of each of so many operations.
 fn timed(operations: u64, mut operation: impl FnMut(u64)) -> (f64, f64) {
     let before = ALLOCATIONS.load(Ordering::Relaxed);
-    let start = Instant::now();
+    let start = own_time();
     for i in 0..operations {
         operation(i);
     }
-    let nanoseconds = start.elapsed().as_nanos() as f64;
+    let nanoseconds = own_time() - start;
     let allocations = (ALLOCATIONS.load(Ordering::Relaxed) - before) as f64;
     (nanoseconds / operations as f64, allocations / operations as f64)
 }
@@ -167,23 +180,27 @@ fn cache_for(keys: u64) -> Cache {
     Cache::new(&[Pool { bytes: 4_294_967_296, items: keys }]).unwrap()
 }
 
-fn hits(keys: u64) {
+// Hits, or replaced values, of this cache alone.
+fn alone(word: &str, keys: u64) {
     let mut cache = cache_for(keys);
     let mut out = [0; 128];
     let mut random = 88_172_645_463_325_252;
     for i in 0..keys {
         cache.set(0, &key(i), &[7; 100], 0).unwrap();
     }
-    for _ in 0..1_000_000 {
-        black_box(cache.get_into(&key(next(&mut random) % keys), &mut out).unwrap());
+    for _ in 0..200_000 {
+        let key = key(next(&mut random) % keys);
+        match word {
+            "hits" => assert_eq!(black_box(cache.get_into(&key, &mut out)), Ok(Some(100))),
+            _ => cache.set(0, &key, &[7; 100], 0).unwrap(),
+        }
     }
 }
 
 fn main() {
     let arguments: Vec<String> = env::args().collect();
     if let [_, word, keys] = arguments.as_slice() {
-        assert_eq!(word, "hits");
-        return hits(keys.parse().unwrap());
+        return alone(word, keys.parse().unwrap());
     }
     println!("ns an operation without the making of its key (allocations an operation)");
     for round in 1..=3 {

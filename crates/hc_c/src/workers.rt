@@ -83,8 +83,8 @@ pub extern "C" fn kilambosetry_order(
 }
 
 /// Hands in the bytes of the page that was read for the job. Where the status is `Done`, the job waits for its next
-/// operation; `Finished`, where it is over. Refused with `UnknownJob` where no job with this number waits for a page of so
-/// many bytes, and with `NoMemory`; then the page can be handed in again.
+/// operation; `Finished`, where it is over. Refused with `UnknownJob` where no job with this number waits for a page, and
+/// with `NoMemory`; then the page can be handed in again.
 #[unsafe(no_mangle)]
 pub extern "C" fn kilambosetry_finish_read(
     alloc: Global,
