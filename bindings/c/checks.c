@@ -1,0 +1,294 @@
+/* Checks of the cache from C: what the calls answer, and that nothing is lost. It exits with 1 where a check fails. */
+#include "kilambosetry.h"
+
+#include <stdio.h>
+#include <string.h>
+
+#define BYTES(text) (const uint8_t *)(text), strlen(text)
+
+static int failures = 0;
+static int checks = 0;
+
+static void check(bool holds, int line, const char *what) {
+    checks++;
+    if (holds) return;
+    failures++;
+    printf("line %d: not so: %s\n", line, what);
+}
+
+#define CHECK(what) check((what), __LINE__, #what)
+
+static const kilambosetry_pool wrong[] = {{1, 1}};
+static const kilambosetry_pool pools[] = {{200, 4}, {4096, 2}};
+
+/* Every call on a handle that has nothing. */
+static void check_empty(void) {
+    kilambosetry_cache cache = KILAMBOSETRY_NONE;
+    kilambosetry_value value = KILAMBOSETRY_NONE;
+    kilambosetry_counts_t counts;
+    kilambosetry_usage_t usage;
+    uint8_t out[4];
+    kilambosetry_operation operation = {7, false};
+    size_t len = 7;
+    uint64_t calls, job = 7;
+    CHECK(kilambosetry_set(&cache, 0, BYTES("a"), BYTES("b"), 0) == KILAMBOSETRY_EMPTY);
+    CHECK(kilambosetry_add(&cache, 0, BYTES("a"), BYTES("b"), 0) == KILAMBOSETRY_EMPTY);
+    CHECK(kilambosetry_get(&cache, BYTES("a"), out, sizeof out, &len) == KILAMBOSETRY_EMPTY);
+    CHECK(kilambosetry_delete(&cache, BYTES("a")) == KILAMBOSETRY_EMPTY);
+    CHECK(kilambosetry_read(&cache, BYTES("a"), &value) == KILAMBOSETRY_EMPTY);
+    CHECK(kilambosetry_tick(&cache, 1) == KILAMBOSETRY_EMPTY);
+    CHECK(kilambosetry_calls(&cache, &calls) == KILAMBOSETRY_EMPTY);
+    CHECK(kilambosetry_counts(&cache, &counts) == KILAMBOSETRY_EMPTY);
+    CHECK(kilambosetry_usage(&cache, 0, &usage) == KILAMBOSETRY_EMPTY);
+    CHECK(kilambosetry_value_length(&value, &len) == KILAMBOSETRY_EMPTY);
+    CHECK(kilambosetry_value_copy(&value, 0, out, sizeof out, &len) == KILAMBOSETRY_EMPTY);
+    CHECK(kilambosetry_take_reply(&cache, 1, &value) == KILAMBOSETRY_EMPTY);
+    CHECK(kilambosetry_writer_take(&cache, &job) == KILAMBOSETRY_EMPTY);
+    CHECK(kilambosetry_filler_take(&cache, &job) == KILAMBOSETRY_EMPTY);
+    CHECK(kilambosetry_order(&cache, 1, &operation, out, sizeof out, &len) == KILAMBOSETRY_EMPTY);
+    CHECK(kilambosetry_finish_read(&cache, 1, out, sizeof out) == KILAMBOSETRY_EMPTY);
+    CHECK(kilambosetry_finish_write(&cache, 1) == KILAMBOSETRY_EMPTY);
+    CHECK(kilambosetry_finish_failed(&cache, 1) == KILAMBOSETRY_EMPTY);
+    CHECK(kilambosetry_reclaim(&cache) == KILAMBOSETRY_EMPTY);
+    CHECK(len == 7 && job == 7 && operation.page == 7);
+    kilambosetry_free(&cache);
+    kilambosetry_value_free(&value);
+    CHECK(!cache.full && !value.full);
+}
+
+static void check_making(void) {
+    kilambosetry_cache cache = KILAMBOSETRY_NONE;
+    CHECK(kilambosetry_new(&cache, wrong, 1) == KILAMBOSETRY_BAD_POOL && !cache.full);
+    CHECK(kilambosetry_new(&cache, pools, 0) == KILAMBOSETRY_BAD_POOL && !cache.full);
+    CHECK(kilambosetry_new(&cache, pools, 2) == KILAMBOSETRY_DONE && cache.full);
+    CHECK(kilambosetry_set(&cache, 0, BYTES("a"), BYTES("b"), 0) == KILAMBOSETRY_DONE);
+    CHECK(kilambosetry_new(&cache, wrong, 1) == KILAMBOSETRY_BAD_POOL && cache.full); /* the old one stays */
+    CHECK(kilambosetry_delete(&cache, BYTES("a")) == KILAMBOSETRY_DONE);
+    CHECK(kilambosetry_new(&cache, pools, 2) == KILAMBOSETRY_DONE); /* the old one is freed */
+    CHECK(kilambosetry_delete(&cache, BYTES("a")) == KILAMBOSETRY_MISS);
+    kilambosetry_free(&cache);
+    CHECK(!cache.full);
+    kilambosetry_free(&cache);
+}
+
+static void check_items(void) {
+    kilambosetry_cache cache = KILAMBOSETRY_NONE;
+    uint8_t out[64] = {0}, long_key[256] = {0};
+    static uint8_t long_value[1048577];
+    size_t len = 0;
+    CHECK(kilambosetry_new(&cache, pools, 2) == KILAMBOSETRY_DONE);
+    CHECK(kilambosetry_tick(&cache, 1700000000) == KILAMBOSETRY_DONE);
+    CHECK(kilambosetry_set(&cache, 0, BYTES("user:1"), BYTES("Ada"), 30) == KILAMBOSETRY_DONE);
+    CHECK(kilambosetry_add(&cache, 0, BYTES("user:1"), BYTES("Eve"), 30) == KILAMBOSETRY_EXISTS);
+    CHECK(kilambosetry_get(&cache, BYTES("user:1"), out, sizeof out, &len) == KILAMBOSETRY_DONE);
+    CHECK(len == 3 && memcmp(out, "Ada\0", 4) == 0);
+    out[0] = 'x';
+    CHECK(kilambosetry_get(&cache, BYTES("user:1"), out, 2, &len) == KILAMBOSETRY_SHORT && len == 3 && out[0] == 'x');
+    CHECK(kilambosetry_get(&cache, BYTES("user:1"), out, 3, &len) == KILAMBOSETRY_DONE && len == 3 && out[0] == 'A');
+    CHECK(kilambosetry_get(&cache, BYTES("user:2"), out, sizeof out, &len) == KILAMBOSETRY_MISS);
+    CHECK(kilambosetry_set(&cache, 9, BYTES("k"), BYTES("v"), 0) == KILAMBOSETRY_NO_POOL);
+    CHECK(kilambosetry_set(&cache, 0, BYTES(""), BYTES("v"), 0) == KILAMBOSETRY_KEY_EMPTY);
+    CHECK(kilambosetry_get(&cache, long_key, 256, out, sizeof out, &len) == KILAMBOSETRY_KEY_TOO_LONG);
+    CHECK(kilambosetry_set(&cache, 0, BYTES("k"), long_value, sizeof long_value, 0) == KILAMBOSETRY_VALUE_TOO_LONG);
+    CHECK(kilambosetry_set(&cache, 0, BYTES("k"), long_value, 1000, 0) == KILAMBOSETRY_NO_ROOM);
+    CHECK(kilambosetry_tick(&cache, 1700000029) == KILAMBOSETRY_DONE);
+    CHECK(kilambosetry_get(&cache, BYTES("user:1"), out, sizeof out, &len) == KILAMBOSETRY_DONE);
+    CHECK(kilambosetry_tick(&cache, 1700000030) == KILAMBOSETRY_DONE);
+    CHECK(kilambosetry_get(&cache, BYTES("user:1"), out, sizeof out, &len) == KILAMBOSETRY_MISS);
+    CHECK(kilambosetry_delete(&cache, BYTES("user:1")) == KILAMBOSETRY_DONE); /* expired, and there */
+    CHECK(kilambosetry_delete(&cache, BYTES("user:1")) == KILAMBOSETRY_MISS);
+    CHECK(kilambosetry_add(&cache, 1, BYTES("user:1"), BYTES(""), 0) == KILAMBOSETRY_DONE);
+    CHECK(kilambosetry_get(&cache, BYTES("user:1"), out, 0, &len) == KILAMBOSETRY_DONE && len == 0);
+    kilambosetry_free(&cache);
+}
+
+/* Five items in a pool for four: the one that was used longest ago goes, and each count is told. */
+static void check_counts(void) {
+    kilambosetry_cache cache = KILAMBOSETRY_NONE;
+    kilambosetry_counts_t counts;
+    kilambosetry_usage_t usage;
+    const char *keys[] = {"a", "b", "c", "d", "e"};
+    uint8_t out[8];
+    size_t len;
+    uint64_t calls;
+    CHECK(kilambosetry_new(&cache, pools, 2) == KILAMBOSETRY_DONE);
+    for (int i = 0; i < 4; i++) CHECK(kilambosetry_set(&cache, 0, BYTES(keys[i]), BYTES("v"), 0) == KILAMBOSETRY_DONE);
+    CHECK(kilambosetry_get(&cache, BYTES("a"), out, sizeof out, &len) == KILAMBOSETRY_DONE);
+    CHECK(kilambosetry_set(&cache, 0, BYTES("e"), BYTES("v"), 0) == KILAMBOSETRY_DONE);
+    CHECK(kilambosetry_get(&cache, BYTES("b"), out, sizeof out, &len) == KILAMBOSETRY_MISS);
+    CHECK(kilambosetry_delete(&cache, BYTES("c")) == KILAMBOSETRY_DONE);
+    CHECK(kilambosetry_calls(&cache, &calls) == KILAMBOSETRY_DONE && calls == 8);
+    CHECK(kilambosetry_counts(&cache, &counts) == KILAMBOSETRY_DONE);
+    CHECK(counts.stored == 5 && counts.hits == 1 && counts.misses == 1 && counts.removes == 1);
+    CHECK(counts.losses == 1 && counts.reads == 0 && counts.writes == 0);
+    CHECK(kilambosetry_usage(&cache, 0, &usage) == KILAMBOSETRY_DONE);
+    CHECK(usage.limit_bytes == 200 && usage.limit_items == 4 && usage.bytes == 3 * 34 && usage.items == 3);
+    CHECK(usage.open_bytes == 0 && usage.open_items == 0);
+    CHECK(kilambosetry_usage(&cache, 2, &usage) == KILAMBOSETRY_NO_POOL && usage.items == 3);
+    kilambosetry_free(&cache);
+}
+
+/* A value that is read outlives its item and its cache. */
+static void check_values(void) {
+    kilambosetry_cache cache = KILAMBOSETRY_NONE;
+    kilambosetry_value value = KILAMBOSETRY_NONE;
+    uint8_t out[8] = "........";
+    size_t len = 0;
+    CHECK(kilambosetry_new(&cache, pools, 2) == KILAMBOSETRY_DONE);
+    CHECK(kilambosetry_set(&cache, 0, BYTES("a"), BYTES("once"), 0) == KILAMBOSETRY_DONE);
+    CHECK(kilambosetry_read(&cache, BYTES("a"), &value) == KILAMBOSETRY_DONE && value.full);
+    CHECK(kilambosetry_set(&cache, 0, BYTES("a"), BYTES("later"), 0) == KILAMBOSETRY_DONE);
+    CHECK(kilambosetry_read(&cache, BYTES("b"), &value) == KILAMBOSETRY_MISS && value.full); /* the value stays */
+    CHECK(kilambosetry_value_length(&value, &len) == KILAMBOSETRY_DONE && len == 4);
+    CHECK(kilambosetry_value_copy(&value, 1, out, 2, &len) == KILAMBOSETRY_DONE && len == 2 && memcmp(out, "nc.", 3) == 0);
+    CHECK(kilambosetry_value_copy(&value, 4, out, 8, &len) == KILAMBOSETRY_DONE && len == 0);
+    CHECK(kilambosetry_value_copy(&value, (size_t)-1, out, 8, &len) == KILAMBOSETRY_DONE && len == 0);
+    kilambosetry_free(&cache);
+    CHECK(kilambosetry_value_copy(&value, 0, out, 8, &len) == KILAMBOSETRY_DONE && len == 4 && memcmp(out, "once", 4) == 0);
+    CHECK(kilambosetry_new(&cache, pools, 2) == KILAMBOSETRY_DONE);
+    CHECK(kilambosetry_set(&cache, 0, BYTES("a"), BYTES("new"), 0) == KILAMBOSETRY_DONE);
+    CHECK(kilambosetry_read(&cache, BYTES("a"), &value) == KILAMBOSETRY_DONE); /* the old value is freed */
+    CHECK(kilambosetry_value_length(&value, &len) == KILAMBOSETRY_DONE && len == 3);
+    kilambosetry_value_free(&value);
+    CHECK(!value.full);
+    kilambosetry_value_free(&value);
+    kilambosetry_free(&cache);
+}
+
+/* ---- a device of sixteen pages, and a worker */
+
+static uint8_t device[16][512];
+static bool device_fails;
+
+static const kilambosetry_pool one_item[] = {{200, 1}};
+static const kilambosetry_flash flash = {512, 8, 4, 2, 1, 256, 16, 16, 1, 200};
+
+/* Does the operation for which the job waits, and hands in what came of it. */
+static uint8_t operate(kilambosetry_cache *cache, uint64_t job) {
+    kilambosetry_operation operation = {0, false};
+    uint8_t bytes[512];
+    size_t len = 0;
+    CHECK(kilambosetry_order(cache, job, &operation, bytes, sizeof bytes, &len) == KILAMBOSETRY_DONE);
+    CHECK(operation.page < 16 && (!operation.writes || len == 512));
+    if (device_fails) return kilambosetry_finish_failed(cache, job);
+    if (!operation.writes) return kilambosetry_finish_read(cache, job, device[operation.page], 512);
+    memcpy(device[operation.page], bytes, len);
+    return kilambosetry_finish_write(cache, job);
+}
+
+/* Does a job to its end. Answers whether there was one. */
+static bool complete(kilambosetry_cache *cache, uint8_t status, uint64_t job) {
+    while (status == KILAMBOSETRY_DONE) status = operate(cache, job);
+    CHECK(status == KILAMBOSETRY_IDLE || status == KILAMBOSETRY_FINISHED);
+    return status == KILAMBOSETRY_FINISHED;
+}
+
+/* Does all that there is to do. */
+static void work(kilambosetry_cache *cache) {
+    uint64_t job = 0;
+    bool wrote, filled;
+    do {
+        uint8_t status = kilambosetry_reclaim(cache);
+        CHECK(status == KILAMBOSETRY_DONE || status == KILAMBOSETRY_IDLE);
+        status = kilambosetry_writer_take(cache, &job);
+        wrote = complete(cache, status, job);
+        status = kilambosetry_filler_take(cache, &job);
+        filled = complete(cache, status, job);
+    } while (wrote || filled);
+}
+
+static void check_new_with_flash(void) {
+    kilambosetry_cache cache = KILAMBOSETRY_NONE;
+    kilambosetry_flash bad = flash;
+    bad.page = 500;
+    CHECK(kilambosetry_new_with_flash(&cache, one_item, 1, &bad) == KILAMBOSETRY_BAD_PAGE && !cache.full);
+    bad = flash;
+    bad.bits = 65;
+    CHECK(kilambosetry_new_with_flash(&cache, one_item, 1, &bad) == KILAMBOSETRY_BAD_BITS && !cache.full);
+    CHECK(kilambosetry_new_with_flash(&cache, wrong, 1, &flash) == KILAMBOSETRY_BAD_POOL && !cache.full);
+    CHECK(kilambosetry_new_with_flash(&cache, one_item, 1, &flash) == KILAMBOSETRY_DONE && cache.full);
+    work(&cache);
+    kilambosetry_free(&cache);
+}
+
+/* What left memory comes back from flash, and what was deleted doesn't. */
+static void check_flash(void) {
+    kilambosetry_cache cache = KILAMBOSETRY_NONE;
+    kilambosetry_value value = KILAMBOSETRY_NONE;
+    uint8_t out[8] = {0};
+    size_t len = 0;
+    uint64_t call = 0, job = 0;
+    CHECK(kilambosetry_new_with_flash(&cache, one_item, 1, &flash) == KILAMBOSETRY_DONE);
+    CHECK(kilambosetry_set(&cache, 0, BYTES("a"), BYTES("one"), 0) == KILAMBOSETRY_DONE);
+    CHECK(kilambosetry_set(&cache, 0, BYTES("b"), BYTES("two"), 0) == KILAMBOSETRY_DONE);
+    work(&cache);
+    CHECK(kilambosetry_get(&cache, BYTES("a"), out, sizeof out, &len) == KILAMBOSETRY_WAITS);
+    CHECK(kilambosetry_calls(&cache, &call) == KILAMBOSETRY_DONE && call == 3);
+    CHECK(kilambosetry_take_reply(&cache, call, &value) == KILAMBOSETRY_NOT_READY && !value.full);
+    CHECK(kilambosetry_take_reply(&cache, 9, &value) == KILAMBOSETRY_UNKNOWN_CALL && !value.full);
+    CHECK(kilambosetry_filler_take(&cache, &job) == KILAMBOSETRY_DONE);
+    CHECK(kilambosetry_finish_write(&cache, job) == KILAMBOSETRY_UNKNOWN_JOB); /* it waits for a page */
+    CHECK(complete(&cache, KILAMBOSETRY_DONE, job));
+    CHECK(kilambosetry_take_reply(&cache, call, &value) == KILAMBOSETRY_DONE && value.full);
+    CHECK(kilambosetry_value_copy(&value, 0, out, sizeof out, &len) == KILAMBOSETRY_DONE && len == 3 && memcmp(out, "one", 3) == 0);
+    CHECK(kilambosetry_take_reply(&cache, call, &value) == KILAMBOSETRY_UNKNOWN_CALL && value.full); /* once */
+    CHECK(kilambosetry_get(&cache, BYTES("a"), out, sizeof out, &len) == KILAMBOSETRY_DONE && len == 3);
+    CHECK(kilambosetry_delete(&cache, BYTES("a")) == KILAMBOSETRY_DONE);
+    work(&cache);
+    CHECK(kilambosetry_get(&cache, BYTES("a"), out, sizeof out, &len) == KILAMBOSETRY_MISS);
+    kilambosetry_free(&cache);
+    kilambosetry_value_free(&value);
+}
+
+/* An add that waits stores, or finds a value. A page that can't be read is a loss, and its items are misses. */
+static void check_adds_and_faults(void) {
+    kilambosetry_cache cache = KILAMBOSETRY_NONE;
+    kilambosetry_value value = KILAMBOSETRY_NONE;
+    kilambosetry_counts_t counts;
+    uint8_t out[8] = {0};
+    size_t len = 0;
+    uint64_t call = 0;
+    CHECK(kilambosetry_new_with_flash(&cache, one_item, 1, &flash) == KILAMBOSETRY_DONE);
+    CHECK(kilambosetry_set(&cache, 0, BYTES("a"), BYTES("one"), 0) == KILAMBOSETRY_DONE);
+    CHECK(kilambosetry_set(&cache, 0, BYTES("b"), BYTES("two"), 0) == KILAMBOSETRY_DONE);
+    work(&cache);
+    CHECK(kilambosetry_add(&cache, 0, BYTES("a"), BYTES("new"), 0) == KILAMBOSETRY_WAITS);
+    CHECK(kilambosetry_calls(&cache, &call) == KILAMBOSETRY_DONE);
+    work(&cache);
+    CHECK(kilambosetry_take_reply(&cache, call, &value) == KILAMBOSETRY_EXISTS && !value.full);
+    CHECK(kilambosetry_set(&cache, 0, BYTES("c"), BYTES("three"), 0) == KILAMBOSETRY_DONE);
+    work(&cache);
+    CHECK(kilambosetry_get(&cache, BYTES("a"), out, sizeof out, &len) == KILAMBOSETRY_WAITS);
+    CHECK(kilambosetry_calls(&cache, &call) == KILAMBOSETRY_DONE);
+    device_fails = true;
+    work(&cache);
+    device_fails = false;
+    CHECK(kilambosetry_take_reply(&cache, call, &value) == KILAMBOSETRY_MISS && !value.full);
+    CHECK(kilambosetry_counts(&cache, &counts) == KILAMBOSETRY_DONE);
+    CHECK(counts.losses >= 1 && counts.reads >= 1 && counts.writes >= 1);
+    kilambosetry_free(&cache);
+}
+
+static void check_words(void) {
+    CHECK(strcmp(kilambosetry_strerror(0), "Done") == 0);
+    CHECK(strcmp(kilambosetry_strerror(22), "NoMemory") == 0);
+    CHECK(strcmp(kilambosetry_strerror(23), "TooManyClients") == 0);
+    CHECK(strcmp(kilambosetry_strerror(24), "Unknown") == 0);
+    CHECK(strcmp(kilambosetry_strerror(103), "Waits") == 0);
+    CHECK(strcmp(kilambosetry_strerror(105), "Finished") == 0);
+    CHECK(strcmp(kilambosetry_strerror(106), "Unknown") == 0);
+}
+
+int main(void) {
+    check_empty();
+    check_making();
+    check_items();
+    check_counts();
+    check_values();
+    check_new_with_flash();
+    check_flash();
+    check_adds_and_faults();
+    check_words();
+    printf("%d checks, %d failed\n", checks, failures);
+    return failures == 0 ? 0 : 1;
+}

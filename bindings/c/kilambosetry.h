@@ -1,0 +1,215 @@
+/* Kilambosetry for C: a cache of up to 16 pools in memory, with flash behind them or without.
+ *
+ * Each call answers a status: 0 (done), the number of a refusal (1 to 23), or one of the other numbers below.
+ * `kilambosetry_strerror` has a word for each. A call that is refused leaves the cache as it was, but for what
+ * `kilambosetry_set` and `kilambosetry_add` say.
+ *
+ * What the caller owes, since nothing can check it:
+ *  - Each pointer is valid for its length, and not null, also where the length is 0.
+ *  - What a call writes (`out`, `len`, the handles) overlaps nothing else that is passed to it.
+ *  - A handle begins as all zeros (KILAMBOSETRY_NONE), is never copied, and is written by these calls alone.
+ *  - A handle is given to one call at a time, in whichever thread: put a lock round a cache that threads share. A value that
+ *    was read may be used in one thread while its cache is used in another.
+ *  - No call is made from a signal handler, nor in the forked child of a process that has threads.
+ *  - `malloc`, `realloc` and `free` are those of one allocator, which aligns a block to 16 bytes, or to the largest power of
+ *    two that divides its size, where that is less.
+ */
+#ifndef KILAMBOSETRY_H
+#define KILAMBOSETRY_H
+
+#include <stdbool.h>
+#include <stddef.h>
+#include <stdint.h>
+
+#ifdef __cplusplus
+extern "C" {
+#endif
+
+/* What holds a cache, and what holds a value that is read. */
+typedef struct {
+    void *at;
+    bool full;
+} kilambosetry_cache;
+
+typedef struct {
+    void *at;
+    bool full;
+} kilambosetry_value;
+
+#define KILAMBOSETRY_NONE {0, false}
+
+/* The limits of a pool: 64 to 4294967296 bytes, and 1 to 1048576 items. An item takes 32 bytes, and those of its key and of
+ * its value. */
+typedef struct {
+    uint64_t bytes;
+    uint64_t items;
+} kilambosetry_pool;
+
+/* The numbers of a flash. Its pages are numbered from 0: first the buckets of BigHash, for small items, and then the regions of
+ * BlockCache, for large ones. */
+typedef struct {
+    uint64_t page;         /* the bytes of a page: 512, 1024, 2048 or 4096 */
+    uint64_t buckets;      /* buckets, a page each: 1 to 1048576 */
+    uint64_t regions;      /* regions: 2 to 65536 */
+    uint64_t region_pages; /* pages of a region: 1 to 4096 */
+    uint64_t clean;        /* regions to be kept clean: 1 to regions - 1 */
+    uint64_t small_max;    /* the most bytes, of key and value, of a small item: 0 to page - 16 */
+    uint64_t queue;        /* the most items that wait for flash: 1 to 65535 */
+    uint64_t bits;         /* the bits of a kept hash: 1 to 64 */
+    uint64_t admit_min;    /* the fewest bytes, of key and value, of an item that is written to flash */
+    uint64_t admit_max;    /* the most: admit_min to 1048831 */
+} kilambosetry_flash;
+
+/* A device operation. */
+typedef struct {
+    uint32_t page;
+    bool writes; /* the page is to be written; else it is to be read */
+} kilambosetry_operation;
+
+/* What was done so far. Pages are those of flash. */
+typedef struct {
+    uint64_t stored;
+    uint64_t hits;
+    uint64_t misses;
+    uint64_t removes;
+    uint64_t losses;
+    uint64_t reads;
+    uint64_t writes;
+} kilambosetry_counts_t;
+
+/* The limits of a pool, what its items take, and what is taken by items that aren't in it yet: none, between two calls. */
+typedef struct {
+    uint64_t limit_bytes;
+    uint64_t limit_items;
+    uint64_t bytes;
+    uint64_t items;
+    uint64_t open_bytes;
+    uint64_t open_items;
+} kilambosetry_usage_t;
+
+enum {
+    KILAMBOSETRY_DONE = 0,
+    KILAMBOSETRY_KEY_EMPTY = 1,
+    KILAMBOSETRY_KEY_TOO_LONG = 2,    /* more than 255 bytes */
+    KILAMBOSETRY_BAD_POOL = 3,        /* no pool, more than 16, or one outside its limits */
+    KILAMBOSETRY_BAD_PAGE = 4,        /* the first number of the flash that is outside its limits: these six */
+    KILAMBOSETRY_BAD_BUCKETS = 5,
+    KILAMBOSETRY_BAD_REGIONS = 6,
+    KILAMBOSETRY_BAD_SMALL_MAX = 7,
+    KILAMBOSETRY_BAD_QUEUE = 8,
+    KILAMBOSETRY_BAD_BITS = 9,
+    KILAMBOSETRY_NO_POOL = 13,        /* no pool has this number; the first is 0 */
+    KILAMBOSETRY_VALUE_TOO_LONG = 14, /* more than 1048576 bytes */
+    KILAMBOSETRY_NO_ROOM = 15,        /* the item is larger than its pool */
+    KILAMBOSETRY_EXISTS = 17,         /* the key has an unexpired value */
+    KILAMBOSETRY_UNKNOWN_CALL = 19,   /* no reply is owed to a call with this number */
+    KILAMBOSETRY_NOT_READY = 20,      /* the call still waits */
+    KILAMBOSETRY_UNKNOWN_JOB = 21,    /* no job with this number waits, or not for such a result */
+    KILAMBOSETRY_NO_MEMORY = 22,
+    KILAMBOSETRY_MISS = 100,          /* the key has no unexpired value; to a delete: no item */
+    KILAMBOSETRY_EMPTY = 101,         /* the handle has no cache, or no value */
+    KILAMBOSETRY_SHORT = 102,         /* the buffer is shorter than the value */
+    KILAMBOSETRY_WAITS = 103,         /* the call waits for flash; a cache without flash doesn't answer it */
+    KILAMBOSETRY_IDLE = 104,          /* there is nothing for the worker to do */
+    KILAMBOSETRY_FINISHED = 105       /* the job is over */
+};
+
+/* Makes an empty cache of these pools, in place of the one that the handle has, which is freed. Where it is refused, the
+ * handle keeps what it has. */
+uint8_t kilambosetry_new(kilambosetry_cache *cache, const kilambosetry_pool *pools, size_t pools_len);
+
+/* The same with flash behind the pools. */
+uint8_t kilambosetry_new_with_flash(kilambosetry_cache *cache, const kilambosetry_pool *pools, size_t pools_len,
+                                    const kilambosetry_flash *flash);
+
+/* Frees the cache. A handle without one is left as it is. */
+void kilambosetry_free(kilambosetry_cache *cache);
+
+/* Moves the clock on to `moment`, in seconds; an earlier one is ignored. The clock begins at 0: tick to the day's seconds
+ * before the first item with a time to live is stored. */
+uint8_t kilambosetry_tick(kilambosetry_cache *cache, uint64_t moment);
+
+/* Stores a copy of the value under the key, in place of what the key has in whichever pool, for `ttl` seconds from now (0:
+ * for good). The items of the pool that were used longest ago go to make room. Where memory is wanted once room was made,
+ * what went to make it is gone, and the call is refused with NO_MEMORY. */
+uint8_t kilambosetry_set(kilambosetry_cache *cache, uint8_t pool, const uint8_t *key, size_t key_len,
+                         const uint8_t *value, size_t value_len, uint32_t ttl);
+
+/* The same where the key has no unexpired value once room is made; refused with EXISTS where it has one. Where flash may have
+ * one, the call waits. */
+uint8_t kilambosetry_add(kilambosetry_cache *cache, uint8_t pool, const uint8_t *key, size_t key_len,
+                         const uint8_t *value, size_t value_len, uint32_t ttl);
+
+/* Copies the value under the key to the head of `out`, and tells its length. Where `out` is shorter than the value it is
+ * left as it is, `len` tells how long it would have to be, and the status is SHORT. Where flash alone may have the value, the
+ * call waits: its number is what `kilambosetry_calls` tells next, and its reply is taken by `kilambosetry_take_reply`. */
+uint8_t kilambosetry_get(kilambosetry_cache *cache, const uint8_t *key, size_t key_len, uint8_t *out, size_t out_len,
+                         size_t *len);
+
+/* Takes the key's item out of the cache. The status is MISS where there was none. */
+uint8_t kilambosetry_delete(kilambosetry_cache *cache, const uint8_t *key, size_t key_len);
+
+/* Finds the value under the key and holds it, without copying it: it stays as it is until it is freed, whatever becomes of
+ * the cache. A value that the handle has is freed. Where flash alone may have the value, the call waits, as a get does. */
+uint8_t kilambosetry_read(kilambosetry_cache *cache, const uint8_t *key, size_t key_len, kilambosetry_value *value);
+
+/* Takes the reply of a call that waited, once: of a get or a read, the value is handed out, or the status is MISS; an add is
+ * done, or refused with EXISTS. Refused with NOT_READY while the call waits, and with UNKNOWN_CALL where no reply is owed to
+ * it. A reply is owed until it is taken, and takes memory until then. */
+uint8_t kilambosetry_take_reply(kilambosetry_cache *cache, uint64_t call, kilambosetry_value *value);
+
+/* Tells how many bytes the value has. */
+uint8_t kilambosetry_value_length(kilambosetry_value *value, size_t *len);
+
+/* Copies the value's bytes from place `from` on to the head of `out`, as many as there are and fit, and tells how many. */
+uint8_t kilambosetry_value_copy(kilambosetry_value *value, size_t from, uint8_t *out, size_t out_len, size_t *len);
+
+/* Frees the value. A handle without one is left as it is. */
+void kilambosetry_value_free(kilambosetry_value *value);
+
+/* Workers, for a cache with flash. A worker takes a job: DONE, where it waits for a device operation, and then its number is
+ * told; FINISHED, where it is over already; IDLE, where there is none. `kilambosetry_order` tells the operation, and the bytes of
+ * a page that is to be written (a page that is to be read isn't touched, and `len` neither). What came of it is handed in by one
+ * of the three calls that finish it: DONE, where the job waits for its next operation, and FINISHED, where it is over. What is
+ * refused with NO_MEMORY must be handed in again. An operation that the device can't do has failed: the cache forgets what was
+ * there. A page that is handed in with other bytes than were written last, or of another length, is a lie: the calls stay safe,
+ * and no answer is promised. Jobs may be out several at a time, and finish in any order. */
+uint8_t kilambosetry_writer_take(kilambosetry_cache *cache, uint64_t *job);
+uint8_t kilambosetry_filler_take(kilambosetry_cache *cache, uint64_t *job);
+uint8_t kilambosetry_order(kilambosetry_cache *cache, uint64_t job, kilambosetry_operation *operation, uint8_t *out,
+                           size_t out_len, size_t *len);
+uint8_t kilambosetry_finish_read(kilambosetry_cache *cache, uint64_t job, const uint8_t *page, size_t page_len);
+uint8_t kilambosetry_finish_write(kilambosetry_cache *cache, uint64_t job);
+uint8_t kilambosetry_finish_failed(kilambosetry_cache *cache, uint64_t job);
+
+/* Gives up the region that was written first, where fewer are clean than are wanted: DONE; else IDLE. To be called before each
+ * `kilambosetry_writer_take`. */
+uint8_t kilambosetry_reclaim(kilambosetry_cache *cache);
+
+/* Tells how many calls were begun: sets, adds, gets, reads and deletes that weren't refused. */
+uint8_t kilambosetry_calls(kilambosetry_cache *cache, uint64_t *calls);
+
+/* Tells the seven counts. */
+uint8_t kilambosetry_counts(kilambosetry_cache *cache, kilambosetry_counts_t *counts);
+
+/* Tells the usage of a pool. */
+uint8_t kilambosetry_usage(kilambosetry_cache *cache, uint8_t pool, kilambosetry_usage_t *usage);
+
+/* A word for a status. */
+static inline const char *kilambosetry_strerror(uint8_t status) {
+    static const char *const refusals[] = {
+        "Done", "KeyEmpty", "KeyTooLong", "BadPool", "BadPage", "BadBuckets", "BadRegions", "BadSmallMax",
+        "BadQueue", "BadBits", "NoCleanRegion", "TooLarge", "OutOfItem", "NoPool", "ValueTooLong", "NoRoom",
+        "ForeignHandle", "Exists", "FlashOn", "UnknownCall", "NotReady", "UnknownJob", "NoMemory", "TooManyClients",
+    };
+    static const char *const others[] = {"Miss", "Empty", "Short", "Waits", "Idle", "Finished"};
+    if (status < sizeof refusals / sizeof *refusals) return refusals[status];
+    if (status >= KILAMBOSETRY_MISS && status <= KILAMBOSETRY_FINISHED) return others[status - KILAMBOSETRY_MISS];
+    return "Unknown";
+}
+
+#ifdef __cplusplus
+}
+#endif
+
+#endif

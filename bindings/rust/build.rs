@@ -1,0 +1,17 @@
+//! Links the static library, which `bindings/build.sh` makes: from the folder that KILAMBOSETRY_LIB names, or else from
+//! `bindings/out/lib`.
+use std::env;
+use std::path::PathBuf;
+
+fn main() {
+    println!("cargo:rerun-if-env-changed=KILAMBOSETRY_LIB");
+    let folder = match env::var_os("KILAMBOSETRY_LIB") {
+        Some(folder) => PathBuf::from(folder),
+        None => {
+            PathBuf::from(env::var_os("CARGO_MANIFEST_DIR").expect("cargo names the crate's folder")).join("../out/lib")
+        }
+    };
+    println!("cargo:rerun-if-changed={}", folder.join("libkilambosetry.a").display());
+    println!("cargo:rustc-link-search=native={}", folder.display());
+    println!("cargo:rustc-link-lib=static=kilambosetry");
+}

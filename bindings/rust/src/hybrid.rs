@@ -1,0 +1,355 @@
+use crate::library::{self, Handle};
+use crate::{done, found, Cache, Counts, Pool, Refused, Usage, Value};
+use std::io;
+
+const WAITS: u8 = 103;
+const IDLE: u8 = 104;
+const FINISHED: u8 = 105;
+
+/// The numbers of a flash. Its pages are numbered from 0: first the buckets, for small items, and then the regions, for large
+/// ones.
+#[repr(C)]
+#[derive(Clone, Copy, Debug, PartialEq, Eq)]
+pub struct Flash {
+    /// The bytes of a page: 512, 1024, 2048 or 4096.
+    pub page: u64,
+    /// Buckets, a page each: 1 to 1,048,576.
+    pub buckets: u64,
+    /// Regions: 2 to 65,536.
+    pub regions: u64,
+    /// Pages of a region: 1 to 4,096.
+    pub region_pages: u64,
+    /// Regions to be kept clean: 1 to `regions` - 1.
+    pub clean: u64,
+    /// The most bytes, of key and value, of a small item: 0 to `page` - 16.
+    pub small_max: u64,
+    /// The most items that wait for flash: 1 to 65,535.
+    pub queue: u64,
+    /// The bits of a kept hash: 1 to 64.
+    pub bits: u64,
+    /// The fewest bytes, of key and value, of an item that is written to flash.
+    pub admit_min: u64,
+    /// The most: `admit_min` to 1,048,831.
+    pub admit_max: u64,
+}
+
+impl Flash {
+    /// How many pages its device has.
+    pub fn pages(&self) -> u64 {
+        self.buckets + self.regions * self.region_pages
+    }
+}
+
+/// A device of pages, as a service brings it. An error says that nothing was read, or that nothing is known any more of the
+/// page that was to be written: the cache forgets what was there.
+pub trait Device {
+    /// Reads the page into `out`, which has its length.
+    fn read(&mut self, page: u32, out: &mut [u8]) -> io::Result<()>;
+    /// Writes the page.
+    fn write(&mut self, page: u32, bytes: &[u8]) -> io::Result<()>;
+}
+
+/// What a get comes to.
+#[derive(Debug)]
+pub enum Found {
+    /// The value under the key.
+    Hit(Value),
+    /// There is none.
+    Miss,
+    /// The value may be on flash: the call with this number waits until a worker has looked.
+    Waits(u64),
+}
+
+/// What an add comes to.
+#[derive(Debug, PartialEq, Eq)]
+pub enum Added {
+    /// The value is stored.
+    Stored,
+    /// The key may have a value on flash: the call with this number waits until a worker has looked.
+    Waits(u64),
+}
+
+/// The reply of a call that waited.
+#[derive(Debug)]
+pub enum Reply {
+    /// A get found this value.
+    Hit(Value),
+    /// An add has stored its value.
+    Stored,
+    /// A get found none.
+    Miss,
+}
+
+/// A device operation.
+#[derive(Clone, Debug, PartialEq, Eq)]
+pub enum Operation {
+    /// This page is to be read.
+    Read(u32),
+    /// This page is to have these bytes.
+    Write(u32, Vec<u8>),
+}
+
+/// What came of a device operation.
+#[derive(Clone, Debug, PartialEq, Eq)]
+pub enum Came {
+    /// The page was read, and has these bytes.
+    Page(Vec<u8>),
+    /// The page was written.
+    Written,
+    /// The device failed.
+    Failed,
+}
+
+/// What a worker is to do.
+#[derive(Clone, Debug, PartialEq, Eq)]
+pub enum Take {
+    /// Nothing.
+    Idle,
+    /// What was taken is over.
+    Finished,
+    /// The job with this number waits for this operation.
+    Work(u64, Operation),
+}
+
+/// A cache with flash behind its pools.
+///
+/// What leaves memory is written to flash, and what a get misses is read from there, by workers. Here one worker does all that
+/// there is to do, over a device in memory:
+///
+/// ```
+/// use kilambosetry::{Device, Flash, Found, HybridCache, Pool, Reply};
+/// use std::io;
+///
+/// struct Pages(Vec<[u8; 512]>);
+///
+/// impl Device for Pages {
+///     fn read(&mut self, page: u32, out: &mut [u8]) -> io::Result<()> {
+///         out.copy_from_slice(&self.0[page as usize]);
+///         Ok(())
+///     }
+///
+///     fn write(&mut self, page: u32, bytes: &[u8]) -> io::Result<()> {
+///         self.0[page as usize].copy_from_slice(bytes);
+///         Ok(())
+///     }
+/// }
+///
+/// let flash = Flash {
+///     page: 512,
+///     buckets: 8,
+///     regions: 4,
+///     region_pages: 2,
+///     clean: 1,
+///     small_max: 256,
+///     queue: 16,
+///     bits: 16,
+///     admit_min: 1,
+///     admit_max: 200,
+/// };
+/// let mut device = Pages(vec![[0; 512]; flash.pages() as usize]);
+/// let mut cache = HybridCache::new(&[Pool { bytes: 200, items: 1 }], &flash)?;
+/// cache.set(0, b"a", b"one", 0)?;
+/// cache.set(0, b"b", b"two", 0)?; // a goes to flash
+/// cache.work(&mut device)?;
+/// let Found::Waits(call) = cache.get(b"a")? else { panic!("it is on flash alone") };
+/// cache.work(&mut device)?;
+/// let Reply::Hit(mut value) = cache.take_reply(call)? else { panic!("it was found") };
+/// assert_eq!(value.to_vec(), b"one");
+/// # Ok::<(), kilambosetry::Refused>(())
+/// ```
+#[derive(Debug)]
+pub struct HybridCache {
+    cache: Cache,
+    page: usize,
+    // what couldn't be handed in for want of memory
+    owed: Option<(u64, Came)>,
+}
+
+impl HybridCache {
+    /// An empty cache of these pools, with this flash behind them.
+    pub fn new(pools: &[Pool], flash: &Flash) -> Result<HybridCache, Refused> {
+        let mut handle = Handle::none();
+        // SAFETY: both are valid, and the handle is an empty one.
+        done(unsafe { library::kilambosetry_new_with_flash(&mut handle, pools.as_ptr(), pools.len(), flash) })?;
+        Ok(HybridCache { cache: Cache(handle), page: flash.page as usize, owed: None })
+    }
+
+    /// As [`Cache::tick`].
+    pub fn tick(&mut self, moment: u64) -> Result<(), Refused> {
+        self.cache.tick(moment)
+    }
+
+    /// As [`Cache::set`]. What the key has on flash is forgotten.
+    pub fn set(&mut self, pool: u8, key: &[u8], value: &[u8], ttl: u32) -> Result<(), Refused> {
+        self.cache.set(pool, key, value, ttl)
+    }
+
+    /// As [`Cache::delete`]. What the key has on flash is forgotten too; whether there was an item is said of memory alone.
+    pub fn delete(&mut self, key: &[u8]) -> Result<bool, Refused> {
+        self.cache.delete(key)
+    }
+
+    /// As [`Cache::add`], and it waits where flash alone may have a value.
+    pub fn add(&mut self, pool: u8, key: &[u8], value: &[u8], ttl: u32) -> Result<Added, Refused> {
+        match self.cache.add_status(pool, key, value, ttl) {
+            WAITS => Ok(Added::Waits(self.cache.calls())),
+            status => done(status).map(|()| Added::Stored),
+        }
+    }
+
+    /// Finds the value under the key, and holds it without copying it. It waits where flash alone may have one.
+    pub fn get(&mut self, key: &[u8]) -> Result<Found, Refused> {
+        let mut value = Value::none();
+        match self.cache.read_status(key, &mut value) {
+            WAITS => Ok(Found::Waits(self.cache.calls())),
+            status => Ok(if found(status)? { Found::Hit(value) } else { Found::Miss }),
+        }
+    }
+
+    /// Takes the reply of the call with this number, which waited, once. Refused with [`Refused::NOT_READY`] while it waits,
+    /// with [`Refused::UNKNOWN_CALL`] where no reply is owed to it, and with [`Refused::EXISTS`] where an add found a value. A
+    /// reply is owed until it is taken, and takes memory until then.
+    pub fn take_reply(&mut self, call: u64) -> Result<Reply, Refused> {
+        let mut value = Value::none();
+        // SAFETY: the cache's handle is its own, and the value's is an empty one.
+        let status = unsafe { library::kilambosetry_take_reply(&mut self.cache.0, call, &mut value.0) };
+        if !found(status)? {
+            return Ok(Reply::Miss);
+        }
+        Ok(if value.0.is_full() { Reply::Hit(value) } else { Reply::Stored })
+    }
+
+    /// What was done so far.
+    pub fn counts(&mut self) -> Counts {
+        self.cache.counts()
+    }
+
+    /// The usage of the pool with this number.
+    pub fn usage(&mut self, pool: u8) -> Result<Usage, Refused> {
+        self.cache.usage(pool)
+    }
+
+    /// What is to be written next: a page of a region, a deleted key's bucket, or an item that left memory. The job waits for
+    /// the operation until what came of it is handed in by [`finish`](HybridCache::finish).
+    pub fn writer_take(&mut self) -> Result<Take, Refused> {
+        let mut job = 0;
+        // SAFETY: both are valid for the call.
+        let status = unsafe { library::kilambosetry_writer_take(&mut self.cache.0, &mut job) };
+        self.taken(status, job)
+    }
+
+    /// What is to be read next for the calls that wait.
+    pub fn filler_take(&mut self) -> Result<Take, Refused> {
+        let mut job = 0;
+        // SAFETY: both are valid for the call.
+        let status = unsafe { library::kilambosetry_filler_take(&mut self.cache.0, &mut job) };
+        self.taken(status, job)
+    }
+
+    /// Gives up the region that was written first, where fewer are clean than are wanted, and answers whether it did.
+    pub fn reclaim(&mut self) -> Result<bool, Refused> {
+        // SAFETY: the handle is this cache's own.
+        match unsafe { library::kilambosetry_reclaim(&mut self.cache.0) } {
+            IDLE => Ok(false),
+            status => done(status).map(|()| true),
+        }
+    }
+
+    /// Hands in what came of the operation for which the job waits, and answers what is next of it. Refused with
+    /// [`Refused::UNKNOWN_JOB`] where no job with this number waits for such a result, and with [`Refused::NO_MEMORY`]; then
+    /// it must be handed in again, since the job waits for it.
+    pub fn finish(&mut self, job: u64, came: &Came) -> Result<Take, Refused> {
+        let handle = &mut self.cache.0;
+        // SAFETY: the page is valid for its length, and the handle is this cache's own.
+        let status = unsafe {
+            match came {
+                Came::Page(page) => library::kilambosetry_finish_read(handle, job, page.as_ptr(), page.len()),
+                Came::Written => library::kilambosetry_finish_write(handle, job),
+                Came::Failed => library::kilambosetry_finish_failed(handle, job),
+            }
+        };
+        self.taken(status, job)
+    }
+
+    /// Does all that there is to do on this device: regions are made clean, what left memory is written, and what calls wait
+    /// for is read. What couldn't be handed in for want of memory is kept, and is handed in by the next call of this.
+    pub fn work(&mut self, device: &mut impl Device) -> Result<(), Refused> {
+        if let Some((job, came)) = self.owed.take() {
+            let take = self.hand_in(job, came)?;
+            self.complete(device, take)?;
+        }
+        loop {
+            self.reclaim()?;
+            let write = self.writer_take()?;
+            let wrote = self.complete(device, write)?;
+            let fill = self.filler_take()?;
+            let filled = self.complete(device, fill)?;
+            if !wrote && !filled {
+                return Ok(());
+            }
+        }
+    }
+
+    // What a worker is told, with the operation of the job that goes on.
+    fn taken(&mut self, status: u8, job: u64) -> Result<Take, Refused> {
+        match status {
+            IDLE => Ok(Take::Idle),
+            FINISHED => Ok(Take::Finished),
+            status => done(status).and_then(|()| Ok(Take::Work(job, self.operation(job)?))),
+        }
+    }
+
+    // The operation for which the job waits.
+    fn operation(&mut self, job: u64) -> Result<Operation, Refused> {
+        let mut operation = library::Operation { page: 0, writes: false };
+        let mut page = vec![0; self.page];
+        let mut len = 0;
+        // SAFETY: `page` is valid for its length, and nothing that is written overlaps.
+        done(unsafe {
+            library::kilambosetry_order(&mut self.cache.0, job, &mut operation, page.as_mut_ptr(), page.len(), &mut len)
+        })?;
+        Ok(match operation.writes {
+            true => Operation::Write(operation.page, page),
+            false => Operation::Read(operation.page),
+        })
+    }
+
+    // Hands a result in, and keeps it where memory lacks.
+    fn hand_in(&mut self, job: u64, came: Came) -> Result<Take, Refused> {
+        let next = self.finish(job, &came);
+        if next == Err(Refused::NO_MEMORY) {
+            self.owed = Some((job, came));
+        }
+        next
+    }
+
+    // Does a job to its end, and answers whether there was one.
+    fn complete(&mut self, device: &mut impl Device, first: Take) -> Result<bool, Refused> {
+        let mut take = first;
+        loop {
+            let (job, came) = match take {
+                Take::Idle => return Ok(false),
+                Take::Finished => return Ok(true),
+                Take::Work(job, operation) => (job, operate(device, &operation, self.page)),
+            };
+            take = self.hand_in(job, came)?;
+        }
+    }
+}
+
+// The device does one operation.
+fn operate(device: &mut impl Device, operation: &Operation, page_bytes: usize) -> Came {
+    match operation {
+        Operation::Read(page) => {
+            let mut bytes = vec![0; page_bytes];
+            match device.read(*page, &mut bytes) {
+                Ok(()) => Came::Page(bytes),
+                Err(_) => Came::Failed,
+            }
+        }
+        Operation::Write(page, bytes) => match device.write(*page, bytes) {
+            Ok(()) => Came::Written,
+            Err(_) => Came::Failed,
+        },
+    }
+}

@@ -1,0 +1,273 @@
+//! Kilambosetry: a cache of up to 16 pools in memory ([`Cache`]), or with flash behind them ([`HybridCache`]), whose promises
+//! are proved in the library below this crate. This wrapper is plain Rust; it is tested, and not proved.
+//!
+//! ```
+//! use kilambosetry::{Cache, Pool};
+//!
+//! let mut cache = Cache::new(&[Pool { bytes: 64_000_000, items: 100_000 }])?;
+//! cache.tick(1_700_000_000)?;
+//! cache.set(0, b"user:7", b"Ada", 3600)?;
+//! assert_eq!(cache.get(b"user:7")?.as_deref(), Some(&b"Ada"[..]));
+//! assert!(cache.delete(b"user:7")?);
+//! assert_eq!(cache.get(b"user:7")?, None);
+//! # Ok::<(), kilambosetry::Refused>(())
+//! ```
+//!
+//! A cache has no lock. Threads share one as a `Mutex<Cache>`:
+//!
+//! ```
+//! use kilambosetry::{Cache, Pool};
+//! use std::sync::Mutex;
+//! use std::thread;
+//!
+//! let shared = Mutex::new(Cache::new(&[Pool { bytes: 1 << 20, items: 1000 }])?);
+//! thread::scope(|scope| {
+//!     for name in [b"a", b"b"] {
+//!         let shared = &shared;
+//!         scope.spawn(move || shared.lock().unwrap().set(0, name, b"here", 0).unwrap());
+//!     }
+//! });
+//! assert_eq!(shared.lock().unwrap().counts().stored, 2);
+//! # Ok::<(), kilambosetry::Refused>(())
+//! ```
+#![warn(missing_docs)]
+
+mod hybrid;
+mod library;
+mod refused;
+mod value;
+
+pub use hybrid::{Added, Came, Device, Flash, Found, HybridCache, Operation, Reply, Take};
+pub use refused::Refused;
+pub use value::Value;
+
+use library::Handle;
+
+const DONE: u8 = 0;
+const MISS: u8 = 100;
+const SHORT: u8 = 102;
+
+/// The limits of a pool: 64 to 4,294,967,296 bytes, and 1 to 1,048,576 items. An item takes 32 bytes, and those of its key
+/// and of its value.
+#[repr(C)]
+#[derive(Clone, Copy, Debug, PartialEq, Eq)]
+pub struct Pool {
+    /// The most bytes of its items together.
+    pub bytes: u64,
+    /// The most items.
+    pub items: u64,
+}
+
+/// What was done so far.
+#[repr(C)]
+#[derive(Clone, Copy, Debug, Default, PartialEq, Eq)]
+pub struct Counts {
+    /// Values that were stored.
+    pub stored: u64,
+    /// Finds that found a value.
+    pub hits: u64,
+    /// Finds that found none.
+    pub misses: u64,
+    /// Deletes.
+    pub removes: u64,
+    /// Items, or pages of them, that were forgotten: without flash, items that went to make room.
+    pub losses: u64,
+    /// Pages of flash that were read.
+    pub reads: u64,
+    /// Pages of flash that were written.
+    pub writes: u64,
+}
+
+/// The limits of a pool, what its items take, and what is taken by items that aren't in it yet: none, between two calls.
+#[repr(C)]
+#[derive(Clone, Copy, Debug, Default, PartialEq, Eq)]
+pub struct Usage {
+    /// The most bytes.
+    pub limit_bytes: u64,
+    /// The most items.
+    pub limit_items: u64,
+    /// The bytes of its items.
+    pub bytes: u64,
+    /// Its items.
+    pub items: u64,
+    /// The bytes of items that aren't in it yet.
+    pub open_bytes: u64,
+    /// Items that aren't in it yet.
+    pub open_items: u64,
+}
+
+fn done(status: u8) -> Result<(), Refused> {
+    match status {
+        DONE => Ok(()),
+        number => Err(Refused(number)),
+    }
+}
+
+// Whether it was done, where there may be nothing to do it to.
+fn found(status: u8) -> Result<bool, Refused> {
+    match status {
+        MISS => Ok(false),
+        status => done(status).map(|()| true),
+    }
+}
+
+/// A cache of up to 16 pools, which are numbered from 0. It is freed when it is dropped.
+#[derive(Debug)]
+pub struct Cache(Handle);
+
+// SAFETY: the library proves that what a handle holds may change threads; each call takes `&mut self`, and the values that
+// it hands out share nothing with it but what is counted atomically and never written.
+unsafe impl Send for Cache {}
+
+impl Cache {
+    /// An empty cache of these pools.
+    ///
+    /// ```
+    /// use kilambosetry::{Cache, Refused};
+    ///
+    /// let refused = Cache::new(&[]).unwrap_err();
+    /// assert_eq!(refused, Refused::BAD_POOL);
+    /// assert_eq!(refused.to_string(), "refused 3 BadPool");
+    /// ```
+    pub fn new(pools: &[Pool]) -> Result<Cache, Refused> {
+        let mut handle = Handle::none();
+        // SAFETY: `pools` is valid for its length; the handle is an empty one.
+        done(unsafe { library::kilambosetry_new(&mut handle, pools.as_ptr(), pools.len()) })?;
+        Ok(Cache(handle))
+    }
+
+    /// Moves the clock on to `moment`, in seconds; an earlier one is ignored. The clock begins at 0: tick to the day's
+    /// seconds before the first item with a time to live is stored.
+    pub fn tick(&mut self, moment: u64) -> Result<(), Refused> {
+        // SAFETY: the handle is this cache's own.
+        done(unsafe { library::kilambosetry_tick(&mut self.0, moment) })
+    }
+
+    /// Stores a copy of the value under the key, in place of what the key has in whichever pool, for `ttl` seconds from now
+    /// (0: for good). The items of the pool that were used longest ago go to make room. Where memory is wanted once room was
+    /// made, what went to make it is gone.
+    pub fn set(&mut self, pool: u8, key: &[u8], value: &[u8], ttl: u32) -> Result<(), Refused> {
+        // SAFETY: both slices are valid for their lengths, and the handle overlaps neither.
+        done(unsafe {
+            library::kilambosetry_set(&mut self.0, pool, key.as_ptr(), key.len(), value.as_ptr(), value.len(), ttl)
+        })
+    }
+
+    /// The same where the key has no unexpired value once room is made.
+    ///
+    /// ```
+    /// # use kilambosetry::{Cache, Pool, Refused};
+    /// # let mut cache = Cache::new(&[Pool { bytes: 1000, items: 10 }])?;
+    /// cache.add(0, b"key", b"first", 0)?;
+    /// assert_eq!(cache.add(0, b"key", b"second", 0), Err(Refused::EXISTS));
+    /// # Ok::<(), Refused>(())
+    /// ```
+    pub fn add(&mut self, pool: u8, key: &[u8], value: &[u8], ttl: u32) -> Result<(), Refused> {
+        done(self.add_status(pool, key, value, ttl))
+    }
+
+    fn add_status(&mut self, pool: u8, key: &[u8], value: &[u8], ttl: u32) -> u8 {
+        // SAFETY: as in `set`.
+        unsafe {
+            library::kilambosetry_add(&mut self.0, pool, key.as_ptr(), key.len(), value.as_ptr(), value.len(), ttl)
+        }
+    }
+
+    /// Copies the value under the key to the head of `out`, and answers its length. Where that is more than `out` has,
+    /// nothing is copied.
+    ///
+    /// ```
+    /// # use kilambosetry::{Cache, Pool, Refused};
+    /// # let mut cache = Cache::new(&[Pool { bytes: 1000, items: 10 }])?;
+    /// cache.set(0, b"key", b"value", 0)?;
+    /// let mut out = [0; 64];
+    /// assert_eq!(cache.get_into(b"key", &mut out)?, Some(5));
+    /// assert_eq!(&out[..5], b"value");
+    /// assert_eq!(cache.get_into(b"key", &mut out[..2])?, Some(5)); // too short: call again with five
+    /// # Ok::<(), Refused>(())
+    /// ```
+    pub fn get_into(&mut self, key: &[u8], out: &mut [u8]) -> Result<Option<usize>, Refused> {
+        let mut len = 0;
+        // SAFETY: each slice is valid for its length, and nothing that is written overlaps anything.
+        let status = unsafe {
+            library::kilambosetry_get(&mut self.0, key.as_ptr(), key.len(), out.as_mut_ptr(), out.len(), &mut len)
+        };
+        match status {
+            SHORT => Ok(Some(len)),
+            status => Ok(found(status)?.then_some(len)),
+        }
+    }
+
+    /// A copy of the value under the key.
+    pub fn get(&mut self, key: &[u8]) -> Result<Option<Vec<u8>>, Refused> {
+        Ok(self.read(key)?.map(|mut value| value.to_vec()))
+    }
+
+    /// Finds the value under the key and holds it, without copying it.
+    ///
+    /// ```
+    /// # use kilambosetry::{Cache, Pool, Refused};
+    /// # let mut cache = Cache::new(&[Pool { bytes: 1000, items: 10 }])?;
+    /// cache.set(0, b"key", b"value", 0)?;
+    /// let mut value = cache.read(b"key")?.unwrap();
+    /// drop(cache);
+    /// assert_eq!(value.to_vec(), b"value");
+    /// # Ok::<(), Refused>(())
+    /// ```
+    pub fn read(&mut self, key: &[u8]) -> Result<Option<Value>, Refused> {
+        let mut value = Value::none();
+        let status = self.read_status(key, &mut value);
+        Ok(found(status)?.then_some(value))
+    }
+
+    fn read_status(&mut self, key: &[u8], value: &mut Value) -> u8 {
+        // SAFETY: the key is valid for its length, and nothing that is written overlaps anything.
+        unsafe { library::kilambosetry_read(&mut self.0, key.as_ptr(), key.len(), &mut value.0) }
+    }
+
+    /// Takes the key's item out of the cache, and answers whether there was one.
+    pub fn delete(&mut self, key: &[u8]) -> Result<bool, Refused> {
+        // SAFETY: the key is valid for its length.
+        found(unsafe { library::kilambosetry_delete(&mut self.0, key.as_ptr(), key.len()) })
+    }
+
+    /// How many calls were begun: sets, adds, gets, reads and deletes that weren't refused.
+    pub fn calls(&mut self) -> u64 {
+        let mut calls = 0;
+        // SAFETY: both pointers are of places that live through the call.
+        unsafe { library::kilambosetry_calls(&mut self.0, &mut calls) };
+        calls
+    }
+
+    /// What was done so far.
+    pub fn counts(&mut self) -> Counts {
+        let mut counts = Counts::default();
+        // SAFETY: as in `calls`.
+        unsafe { library::kilambosetry_counts(&mut self.0, &mut counts) };
+        counts
+    }
+
+    /// The usage of the pool with this number.
+    ///
+    /// ```
+    /// # use kilambosetry::{Cache, Pool, Refused};
+    /// # let mut cache = Cache::new(&[Pool { bytes: 1000, items: 10 }])?;
+    /// cache.set(0, b"key", b"value", 0)?;
+    /// assert_eq!(cache.usage(0)?.bytes, 32 + 3 + 5);
+    /// assert_eq!(cache.usage(1), Err(Refused::NO_POOL));
+    /// # Ok::<(), Refused>(())
+    /// ```
+    pub fn usage(&mut self, pool: u8) -> Result<Usage, Refused> {
+        let mut usage = Usage::default();
+        // SAFETY: as in `calls`.
+        done(unsafe { library::kilambosetry_usage(&mut self.0, pool, &mut usage) })?;
+        Ok(usage)
+    }
+}
+
+impl Drop for Cache {
+    fn drop(&mut self) {
+        // SAFETY: the handle is this cache's own.
+        unsafe { library::kilambosetry_free(&mut self.0) }
+    }
+}

@@ -1,0 +1,79 @@
+use std::error::Error;
+use std::fmt;
+
+/// Why a call was refused, by its number. A call that is refused leaves the cache as it was, but for what
+/// [`Cache::set`](crate::Cache::set) and [`Cache::add`](crate::Cache::add) say.
+#[derive(Clone, Copy, Debug, PartialEq, Eq, Hash)]
+pub struct Refused(pub(crate) u8);
+
+const NAMES: [&str; 23] = [
+    "KeyEmpty",
+    "KeyTooLong",
+    "BadPool",
+    "BadPage",
+    "BadBuckets",
+    "BadRegions",
+    "BadSmallMax",
+    "BadQueue",
+    "BadBits",
+    "NoCleanRegion",
+    "TooLarge",
+    "OutOfItem",
+    "NoPool",
+    "ValueTooLong",
+    "NoRoom",
+    "ForeignHandle",
+    "Exists",
+    "FlashOn",
+    "UnknownCall",
+    "NotReady",
+    "UnknownJob",
+    "NoMemory",
+    "TooManyClients",
+];
+
+impl Refused {
+    /// A key of no byte.
+    pub const KEY_EMPTY: Refused = Refused(1);
+    /// A key of more than 255 bytes.
+    pub const KEY_TOO_LONG: Refused = Refused(2);
+    /// No pool, more than 16 of them, or a pool outside its limits.
+    pub const BAD_POOL: Refused = Refused(3);
+    /// No pool has this number.
+    pub const NO_POOL: Refused = Refused(13);
+    /// A value of more than 1,048,576 bytes.
+    pub const VALUE_TOO_LONG: Refused = Refused(14);
+    /// The item is larger than its pool.
+    pub const NO_ROOM: Refused = Refused(15);
+    /// The key has an unexpired value.
+    pub const EXISTS: Refused = Refused(17);
+    /// No reply is owed to a call with this number.
+    pub const UNKNOWN_CALL: Refused = Refused(19);
+    /// The call still waits.
+    pub const NOT_READY: Refused = Refused(20);
+    /// No job with this number waits, or not for such a result.
+    pub const UNKNOWN_JOB: Refused = Refused(21);
+    /// Memory was refused.
+    pub const NO_MEMORY: Refused = Refused(22);
+
+    /// The number that it is known by.
+    pub fn number(self) -> u8 {
+        self.0
+    }
+
+    /// Its name.
+    pub fn name(self) -> &'static str {
+        match NAMES.get(usize::from(self.0).wrapping_sub(1)) {
+            Some(name) => name,
+            None => "Unknown",
+        }
+    }
+}
+
+impl fmt::Display for Refused {
+    fn fmt(&self, f: &mut fmt::Formatter<'_>) -> fmt::Result {
+        write!(f, "refused {} {}", self.number(), self.name())
+    }
+}
+
+impl Error for Refused {}

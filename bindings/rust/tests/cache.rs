@@ -1,0 +1,214 @@
+//! What the wrapper answers.
+use kilambosetry::{Added, Cache, Came, Device, Flash, Found, HybridCache, Operation, Pool, Refused, Reply, Take};
+use std::error::Error;
+use std::io;
+use std::sync::{Arc, Mutex};
+use std::thread;
+
+fn small() -> Cache {
+    Cache::new(&[Pool { bytes: 200, items: 4 }, Pool { bytes: 4096, items: 2 }]).unwrap()
+}
+
+#[test]
+fn items_expire() {
+    let mut cache = small();
+    cache.tick(1_700_000_000).unwrap();
+    cache.set(0, b"user:1", b"Ada", 30).unwrap();
+    cache.tick(1_700_000_029).unwrap();
+    assert_eq!(cache.get(b"user:1").unwrap().as_deref(), Some(&b"Ada"[..]));
+    cache.tick(1_700_000_030).unwrap();
+    assert_eq!(cache.get(b"user:1").unwrap(), None);
+    assert!(cache.delete(b"user:1").unwrap());
+    assert!(!cache.delete(b"user:1").unwrap());
+}
+
+#[test]
+fn items_that_were_used_longest_ago_go() {
+    let mut cache = small();
+    for key in [b"a", b"b", b"c", b"d"] {
+        cache.set(0, key, b"v", 0).unwrap();
+    }
+    assert!(cache.get(b"a").unwrap().is_some());
+    cache.set(0, b"e", b"v", 0).unwrap();
+    assert!(cache.get(b"b").unwrap().is_none());
+    assert!(cache.get(b"a").unwrap().is_some());
+    let counts = cache.counts();
+    assert_eq!((counts.stored, counts.hits, counts.misses, counts.losses), (5, 2, 1, 1));
+    assert_eq!(cache.calls(), 8);
+}
+
+#[test]
+fn refusals_have_names() {
+    let mut cache = small();
+    assert_eq!(cache.set(0, b"", b"v", 0), Err(Refused::KEY_EMPTY));
+    assert_eq!(cache.get(&[0; 256]), Err(Refused::KEY_TOO_LONG));
+    assert_eq!(cache.set(7, b"k", b"v", 0), Err(Refused::NO_POOL));
+    assert_eq!(cache.set(0, b"k", &[0; 1000], 0), Err(Refused::NO_ROOM));
+    assert_eq!(cache.set(0, b"k", &vec![0; 1_048_577], 0), Err(Refused::VALUE_TOO_LONG));
+    let refused: Box<dyn Error> = Box::new(Refused::NO_MEMORY);
+    assert_eq!(refused.to_string(), "refused 22 NoMemory");
+    assert_eq!(Refused::NO_MEMORY.number(), 22);
+}
+
+#[test]
+fn long_values_are_copied_whole() {
+    let mut cache = Cache::new(&[Pool { bytes: 4_000_000, items: 4 }]).unwrap();
+    let long: Vec<u8> = (0..1_048_576u32).map(|i| i as u8).collect();
+    cache.set(0, b"long", &long, 0).unwrap();
+    assert_eq!(cache.get(b"long").unwrap().unwrap(), long);
+    let mut value = cache.read(b"long").unwrap().unwrap();
+    let mut piece = [0; 3];
+    assert_eq!(value.copy(1_048_574, &mut piece), 2);
+    assert_eq!(piece, [254, 255, 0]);
+}
+
+#[test]
+fn threads_share_a_cache_behind_a_mutex() {
+    let shared = Arc::new(Mutex::new(Cache::new(&[Pool { bytes: 1 << 20, items: 10_000 }]).unwrap()));
+    let threads: Vec<_> = (0..4u8)
+        .map(|thread| {
+            let shared = Arc::clone(&shared);
+            thread::spawn(move || {
+                for i in 0..1000u32 {
+                    let key = [&[thread][..], &i.to_le_bytes()].concat();
+                    shared.lock().unwrap().set(0, &key, b"v", 0).unwrap();
+                }
+            })
+        })
+        .collect();
+    for thread in threads {
+        thread.join().unwrap();
+    }
+    let mut cache = shared.lock().unwrap();
+    assert_eq!(cache.counts().stored, 4000);
+    let mut value = cache.read(&[3, 231, 3, 0, 0]).unwrap().unwrap();
+    thread::spawn(move || assert_eq!(value.to_vec(), b"v")).join().unwrap();
+}
+
+// Pages in memory. A device that fails does nothing.
+struct Pages {
+    pages: Vec<[u8; 512]>,
+    fails: bool,
+}
+
+impl Device for Pages {
+    fn read(&mut self, page: u32, out: &mut [u8]) -> io::Result<()> {
+        if self.fails {
+            return Err(io::Error::from(io::ErrorKind::Other));
+        }
+        out.copy_from_slice(&self.pages[page as usize]);
+        Ok(())
+    }
+
+    fn write(&mut self, page: u32, bytes: &[u8]) -> io::Result<()> {
+        if self.fails {
+            return Err(io::Error::from(io::ErrorKind::Other));
+        }
+        self.pages[page as usize].copy_from_slice(bytes);
+        Ok(())
+    }
+}
+
+const FLASH: Flash = Flash {
+    page: 512,
+    buckets: 8,
+    regions: 4,
+    region_pages: 2,
+    clean: 1,
+    small_max: 256,
+    queue: 16,
+    bits: 16,
+    admit_min: 1,
+    admit_max: 900,
+};
+
+// A cache for one item, and its device.
+fn hybrid() -> (HybridCache, Pages) {
+    let device = Pages { pages: vec![[0; 512]; FLASH.pages() as usize], fails: false };
+    (HybridCache::new(&[Pool { bytes: 1000, items: 1 }], &FLASH).unwrap(), device)
+}
+
+fn value_of(found: Reply) -> Vec<u8> {
+    match found {
+        Reply::Hit(mut value) => value.to_vec(),
+        other => panic!("{other:?}"),
+    }
+}
+
+fn waiting(found: Found) -> u64 {
+    match found {
+        Found::Waits(call) => call,
+        other => panic!("{other:?}"),
+    }
+}
+
+#[test]
+fn what_left_memory_comes_back_from_flash() {
+    let (mut cache, mut device) = hybrid();
+    let large = [7; 600];
+    cache.set(0, b"small", b"one", 0).unwrap();
+    cache.set(0, b"large", &large, 0).unwrap();
+    cache.set(0, b"other", b"two", 0).unwrap();
+    cache.work(&mut device).unwrap();
+    let (small, big) = (waiting(cache.get(b"small").unwrap()), waiting(cache.get(b"large").unwrap()));
+    assert_eq!(cache.take_reply(small).unwrap_err(), Refused::NOT_READY);
+    cache.work(&mut device).unwrap();
+    assert_eq!(value_of(cache.take_reply(small).unwrap()), b"one");
+    assert_eq!(value_of(cache.take_reply(big).unwrap()), large);
+    assert_eq!(cache.take_reply(big).unwrap_err(), Refused::UNKNOWN_CALL);
+    cache.delete(b"small").unwrap();
+    cache.work(&mut device).unwrap();
+    assert!(matches!(cache.get(b"small").unwrap(), Found::Miss));
+}
+
+#[test]
+fn an_add_waits_for_what_flash_may_have() {
+    let (mut cache, mut device) = hybrid();
+    cache.set(0, b"a", b"one", 0).unwrap();
+    cache.set(0, b"b", b"two", 0).unwrap();
+    cache.work(&mut device).unwrap();
+    let Added::Waits(call) = cache.add(0, b"a", b"new", 0).unwrap() else { panic!("flash has one") };
+    cache.work(&mut device).unwrap();
+    assert_eq!(cache.take_reply(call).unwrap_err(), Refused::EXISTS);
+}
+
+#[test]
+fn what_a_device_loses_is_a_miss_and_a_loss() {
+    let (mut cache, mut device) = hybrid();
+    cache.set(0, b"a", b"one", 0).unwrap();
+    cache.set(0, b"b", b"two", 0).unwrap();
+    cache.work(&mut device).unwrap();
+    let call = waiting(cache.get(b"a").unwrap());
+    device.fails = true;
+    cache.work(&mut device).unwrap();
+    assert!(matches!(cache.take_reply(call).unwrap(), Reply::Miss));
+    assert!(cache.counts().losses >= 1);
+}
+
+#[test]
+fn jobs_are_out_at_the_same_time() {
+    let (mut cache, mut device) = hybrid();
+    assert_eq!(cache.writer_take().unwrap(), Take::Idle);
+    cache.set(0, b"a", b"one", 0).unwrap();
+    cache.set(0, b"b", b"two", 0).unwrap();
+    let Take::Work(job, Operation::Write(page, bytes)) = cache.writer_take().unwrap() else {
+        panic!("a is to be written")
+    };
+    assert_eq!(cache.finish(job, &Came::Page(vec![0; 512])).unwrap_err(), Refused::UNKNOWN_JOB);
+    cache.set(0, b"c", b"three", 0).unwrap();
+    let second = cache.writer_take().unwrap();
+    assert_ne!(second, Take::Work(job, Operation::Write(page, bytes.clone())));
+    device.write(page, &bytes).unwrap();
+    assert_eq!(cache.finish(job, &Came::Written).unwrap(), Take::Finished);
+    assert_eq!(cache.finish(job, &Came::Written).unwrap_err(), Refused::UNKNOWN_JOB);
+    if let Take::Work(job, _) = second {
+        assert_eq!(cache.finish(job, &Came::Failed).unwrap(), Take::Finished);
+    }
+}
+
+#[test]
+fn a_wrong_number_of_the_flash_is_refused() {
+    let wrong = Flash { page: 500, ..FLASH };
+    let refused = HybridCache::new(&[Pool { bytes: 1000, items: 1 }], &wrong).unwrap_err();
+    assert_eq!(refused.to_string(), "refused 4 BadPage");
+}

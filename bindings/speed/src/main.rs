@@ -1,0 +1,215 @@
+//! A thread's own nanoseconds and allocations of an operation: this cache, the crate `lru`, and a HashMap with a ring of keys,
+//! out of which the oldest key goes (it keeps no order of use).
+//!
+//! Keys have 20 bytes and values 100. Each store is handed the key's bytes and copies the value out into a buffer.
+//! `speed hits KEYS` and `speed replaces KEYS` run 200,000 of these of this cache alone, for a profiler.
+use kilambosetry::{Cache, Pool};
+use std::collections::HashMap;
+use std::env;
+use std::ffi::c_void;
+use std::hint::black_box;
+use std::os::raw::c_int;
+use std::sync::atomic::{AtomicU64, Ordering};
+
+static ALLOCATIONS: AtomicU64 = AtomicU64::new(0);
+
+// one thread alone runs, so that a load and a store count right, and cost next to nothing
+fn count() {
+    ALLOCATIONS.store(ALLOCATIONS.load(Ordering::Relaxed) + 1, Ordering::Relaxed);
+}
+
+extern "C" {
+    fn clock_gettime(clock: c_int, time: *mut Time) -> c_int;
+    fn __real_malloc(size: usize) -> *mut c_void;
+    fn __real_realloc(block: *mut c_void, size: usize) -> *mut c_void;
+    fn __real_calloc(count: usize, size: usize) -> *mut c_void;
+    fn __real_posix_memalign(block: *mut *mut c_void, align: usize, size: usize) -> c_int;
+}
+
+#[no_mangle]
+unsafe extern "C" fn __wrap_malloc(size: usize) -> *mut c_void {
+    count();
+    __real_malloc(size)
+}
+
+#[no_mangle]
+unsafe extern "C" fn __wrap_realloc(block: *mut c_void, size: usize) -> *mut c_void {
+    count();
+    __real_realloc(block, size)
+}
+
+#[no_mangle]
+unsafe extern "C" fn __wrap_calloc(items: usize, size: usize) -> *mut c_void {
+    count();
+    __real_calloc(items, size)
+}
+
+#[no_mangle]
+unsafe extern "C" fn __wrap_posix_memalign(block: *mut *mut c_void, align: usize, size: usize) -> c_int {
+    count();
+    __real_posix_memalign(block, align, size)
+}
+
+trait Store {
+    fn set(&mut self, key: &[u8], value: &[u8]);
+    fn get(&mut self, key: &[u8], out: &mut [u8]) -> Option<usize>;
+}
+
+fn copy(value: &[u8], out: &mut [u8]) -> usize {
+    out[..value.len()].copy_from_slice(value);
+    value.len()
+}
+
+impl Store for Cache {
+    fn set(&mut self, key: &[u8], value: &[u8]) {
+        Cache::set(self, 0, key, value, 0).unwrap()
+    }
+
+    fn get(&mut self, key: &[u8], out: &mut [u8]) -> Option<usize> {
+        self.get_into(key, out).unwrap()
+    }
+}
+
+impl Store for lru::LruCache<Vec<u8>, Vec<u8>> {
+    fn set(&mut self, key: &[u8], value: &[u8]) {
+        self.put(key.to_vec(), value.to_vec());
+    }
+
+    fn get(&mut self, key: &[u8], out: &mut [u8]) -> Option<usize> {
+        lru::LruCache::get(self, key).map(|value| copy(value, out))
+    }
+}
+
+struct Ring {
+    map: HashMap<Vec<u8>, Vec<u8>>,
+    keys: Vec<Vec<u8>>,
+    oldest: usize,
+    most: usize,
+}
+
+impl Store for Ring {
+    fn set(&mut self, key: &[u8], value: &[u8]) {
+        if self.map.insert(key.to_vec(), value.to_vec()).is_some() {
+            return;
+        }
+        if self.keys.len() < self.most {
+            self.keys.push(key.to_vec());
+            return;
+        }
+        let old = std::mem::replace(&mut self.keys[self.oldest], key.to_vec());
+        self.map.remove(&old);
+        self.oldest = (self.oldest + 1) % self.most;
+    }
+
+    fn get(&mut self, key: &[u8], out: &mut [u8]) -> Option<usize> {
+        self.map.get(key).map(|value| copy(value, out))
+    }
+}
+
+fn key(number: u64) -> [u8; 20] {
+    let mut key = *b"key:0000000000000000";
+    let mut rest = number;
+    for digit in key[4..].iter_mut().rev() {
+        *digit = b'0' + (rest % 10) as u8;
+        rest /= 10;
+    }
+    key
+}
+
+fn next(random: &mut u64) -> u64 {
+    *random ^= *random << 13;
+    *random ^= *random >> 7;
+    *random ^= *random << 17;
+    *random
+}
+
+#[repr(C)]
+struct Time {
+    seconds: i64,
+    nanoseconds: i64,
+}
+
+// Nanoseconds that this thread has run, whatever else the machine does (CLOCK_THREAD_CPUTIME_ID of Linux).
+fn own_time() -> f64 {
+    let mut time = Time { seconds: 0, nanoseconds: 0 };
+    assert_eq!(unsafe { clock_gettime(3, &mut time) }, 0);
+    time.seconds as f64 * 1e9 + time.nanoseconds as f64
+}
+
+// Nanoseconds and allocations of each of so many operations.
+fn timed(operations: u64, mut operation: impl FnMut(u64)) -> (f64, f64) {
+    let before = ALLOCATIONS.load(Ordering::Relaxed);
+    let start = own_time();
+    for i in 0..operations {
+        operation(i);
+    }
+    let nanoseconds = own_time() - start;
+    let allocations = (ALLOCATIONS.load(Ordering::Relaxed) - before) as f64;
+    (nanoseconds / operations as f64, allocations / operations as f64)
+}
+
+fn measure(name: &str, store: &mut dyn Store, keys: u64) {
+    let value = [7; 100];
+    let mut out = [0; 128];
+    let mut random = 88_172_645_463_325_252;
+    let operations = 2_000_000;
+    for i in 0..keys {
+        store.set(&key(i), &value);
+    }
+    let own = timed(operations, |_| {
+        black_box(key(next(&mut random) % keys));
+    });
+    let hit = timed(operations, |_| {
+        let found = store.get(&key(next(&mut random) % keys), &mut out);
+        assert_eq!(black_box(found), Some(100));
+    });
+    let miss = timed(operations, |_| {
+        let found = store.get(&key(keys * 1000 + next(&mut random) % keys), &mut out);
+        assert_eq!(black_box(found), None);
+    });
+    let replace = timed(operations, |_| store.set(&key(next(&mut random) % keys), &value));
+    let evict = timed(operations, |i| store.set(&key(keys + i), &value));
+    print!("{name:14} {keys:>8}");
+    for (label, (nanoseconds, allocations)) in [("hit", hit), ("miss", miss), ("replace", replace), ("new", evict)] {
+        print!("  {label} {:5.0} ({allocations:.1})", nanoseconds - own.0);
+    }
+    println!();
+}
+
+fn cache_for(keys: u64) -> Cache {
+    Cache::new(&[Pool { bytes: 4_294_967_296, items: keys }]).unwrap()
+}
+
+// Hits, or replaced values, of this cache alone.
+fn alone(word: &str, keys: u64) {
+    let mut cache = cache_for(keys);
+    let mut out = [0; 128];
+    let mut random = 88_172_645_463_325_252;
+    for i in 0..keys {
+        cache.set(0, &key(i), &[7; 100], 0).unwrap();
+    }
+    for _ in 0..200_000 {
+        let key = key(next(&mut random) % keys);
+        match word {
+            "hits" => assert_eq!(black_box(cache.get_into(&key, &mut out)), Ok(Some(100))),
+            _ => cache.set(0, &key, &[7; 100], 0).unwrap(),
+        }
+    }
+}
+
+fn main() {
+    let arguments: Vec<String> = env::args().collect();
+    if let [_, word, keys] = arguments.as_slice() {
+        return alone(word, keys.parse().unwrap());
+    }
+    println!("ns an operation without the making of its key (allocations an operation)");
+    for round in 1..=3 {
+        println!("round {round}");
+        for keys in [1000, 1_000_000] {
+            measure("this cache", &mut cache_for(keys), keys);
+            measure("lru", &mut lru::LruCache::<Vec<u8>, Vec<u8>>::new(keys as usize), keys);
+            let ring = &mut Ring { map: HashMap::new(), keys: Vec::new(), oldest: 0, most: keys as usize };
+            measure("HashMap, ring", ring, keys);
+        }
+    }
+}

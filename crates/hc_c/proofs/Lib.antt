@@ -1,0 +1,2 @@
+pub mod CacheAsBox
+pub mod ValueAsBox

@@ -1,0 +1,114 @@
+-- What each call on a cache does, by the status that it answers. The losses that it tells are counted, and kept no longer.
+use Rattle.std.specs.Prelude.{◌≡◌, ◌≢◌, ◌⊎◌, ◌<◌, ℕ, List, [], ◌++◌, length, drop, Option, Some, None}
+use Rattle.hc_types.specs.Limits.{key_refusal}
+use Rattle.hc_types.specs.declared.refusal.Refusal.{Refusal}
+use Rattle.hc_types.specs.declared.refusal.Refusal.TheVariants.{Exists, NoMemory, NoPool}
+use Rattle.hc_history.specs.Note as note
+use Rattle.hc_history.specs.Told.{told_more, losses_taken}
+use Rattle.hc_machine.specs.Cache.{Cache, Moved, Answer, Replied, Refused as RefusedBy, Waits as WaitsFor, Moment, Discarded}
+use Rattle.hc_machine.specs.Evicting.{allocate}
+use Rattle.hc_machine.specs.Calls.{find, remove, tick}
+use Rattle.hc_core.specs.Logged.{Logged, IsCall}
+use Rattle.hc_core.specs.Plain.{set_step, add_step, give_up_step, MayRefuse, MayRefuseNew}
+use Rattle.hc_c.specs.declared.status.Status.{Status}
+use Rattle.hc_c.specs.declared.status.Status.TheVariants.{Done, Refused, Miss, Short, Waits}
+
+-- the losses were taken
+abbrev pub forgotten : Logged → Logged
+forgotten logged = record logged { log = losses_taken logged.log }
+
+-- a call is the machine's step, and the losses that it told were taken
+pub record Forgets (moved : Moved) (answer : Answer) (old new : Logged) : Type 0 where
+  pub cache : new.cache ≡ moved.cache
+  pub answer_is : answer ≡ moved.answer
+  pub log : new.log ≡ losses_taken (told_more old.log moved.part)
+
+-- why a call by a key is refused that needs nothing else
+abbrev pub WhyKey : List ℕ → Refusal → Type 0
+WhyKey key refusal = (key_refusal key ≡ Some refusal) ⊎ ((key_refusal key ≡ None) × (refusal ≡ NoMemory))
+
+-- ---- set and add
+
+abbrev pub SetRefused : ℕ → List ℕ → List ℕ → ℕ → Refusal → Logged → Logged → Type 0
+SetRefused pool key value ttl refusal old new =
+    (new ≡ forgotten old) ⊎ (Forgets (give_up_step pool key value ttl old.cache) Discarded old new × (refusal ≡ NoMemory))
+
+abbrev pub Sets : ℕ → List ℕ → List ℕ → ℕ → Status → Logged → Logged → Type 0
+Sets pool key value ttl Done old new = Forgets (set_step pool key value ttl old.cache) (Replied note.Stored) old new × (key_refusal key ≡ None)
+Sets pool key value ttl (Refused refusal) old new =
+    SetRefused pool key value ttl refusal old new
+    × ((key_refusal key ≡ Some refusal) ⊎ ((key_refusal key ≡ None) × MayRefuse (allocate pool key value ttl old.cache).answer refusal))
+Sets pool key value ttl status old new = ⊥
+
+-- a call of an add that waits
+pub record AddWaits (moved : Moved) (old new : Logged) : Type 0 where
+  pub call : ℕ
+  pub waits : Forgets moved (WaitsFor call) old new
+
+abbrev pub AddRefused : ℕ → List ℕ → List ℕ → ℕ → Refusal → Logged → Logged → Type 0
+AddRefused pool key value ttl refusal old new =
+    ((new ≡ forgotten old) × (refusal ≢ Exists))
+    ⊎ ((Forgets (add_step pool key value ttl old.cache) (RefusedBy Exists) old new × (refusal ≡ Exists))
+    ⊎ (Forgets (give_up_step pool key value ttl old.cache) Discarded old new × (refusal ≡ NoMemory)))
+
+abbrev pub Adds : ℕ → List ℕ → List ℕ → ℕ → Status → Logged → Logged → Type 0
+Adds pool key value ttl Done old new = Forgets (add_step pool key value ttl old.cache) (Replied note.Stored) old new × (key_refusal key ≡ None)
+Adds pool key value ttl Waits old new = AddWaits (add_step pool key value ttl old.cache) old new × (key_refusal key ≡ None)
+Adds pool key value ttl (Refused refusal) old new =
+    AddRefused pool key value ttl refusal old new
+    × ((key_refusal key ≡ Some refusal) ⊎ ((key_refusal key ≡ None) × MayRefuseNew (allocate pool key value ttl old.cache).answer refusal))
+Adds pool key value ttl status old new = ⊥
+
+-- ---- get
+
+-- a buffer, and the length that is told beside it
+pub record Buffer : Type 0 where
+  pub bytes : List ℕ
+  pub len : ℕ
+
+-- the value stands at the buffer's head, or is longer than it
+abbrev pub Copies : List ℕ → Status → Buffer → Buffer → Type 0
+Copies value Done old new = (new.len ≡ length value) × (new.bytes ≡ value ++ drop (length value) old.bytes)
+Copies value Short old new = (new.len ≡ length value) × ((length old.bytes < length value) × (new.bytes ≡ old.bytes))
+Copies value status old new = ⊥
+
+-- the machine finds a value, of which this holds
+pub record Finds (key : List ℕ) (old new : Logged) (held : List ℕ → Type 0) : Type 0 where
+  pub value : List ℕ
+  pub call : IsCall (find 0 key old.cache) (Replied (note.Hit value)) old new
+  pub is_held : held value
+
+pub record FindWaits (key : List ℕ) (old new : Logged) : Type 0 where
+  pub call : ℕ
+  pub waits : IsCall (find 0 key old.cache) (WaitsFor call) old new
+
+-- what a find does that brings no value
+abbrev pub FindsNone : List ℕ → Status → Logged → Logged → Type 0
+FindsNone key Miss old new = IsCall (find 0 key old.cache) (Replied note.Miss) old new
+FindsNone key Waits old new = FindWaits key old new
+FindsNone key (Refused refusal) old new = (new ≡ old) × WhyKey key refusal
+FindsNone key status old new = ⊥
+
+abbrev pub Gets : List ℕ → Buffer → Buffer → Status → Logged → Logged → Type 0
+Gets key was is Done old new = Finds key old new (λ value. Copies value Done was is)
+Gets key was is Short old new = Finds key old new (λ value. Copies value Short was is)
+Gets key was is status old new = FindsNone key status old new × (is ≡ was)
+
+-- ---- delete
+
+abbrev pub Deletes : List ℕ → Status → Logged → Logged → Type 0
+Deletes key Done old new = Forgets (remove 0 key old.cache) (Replied note.FoundInMemory) old new
+Deletes key Miss old new = Forgets (remove 0 key old.cache) (Replied note.NotInMemory) old new
+Deletes key (Refused refusal) old new = (new ≡ forgotten old) × WhyKey key refusal
+Deletes key status old new = ⊥
+
+-- ---- the clock
+
+pub record Ticks (moment : ℕ) (old new : Logged) : Type 0 where
+  pub now : ℕ
+  pub call : IsCall (tick moment old.cache) (Moment now) old new
+
+abbrev pub MovesTo : ℕ → Status → Logged → Logged → Type 0
+MovesTo moment Done old new = Ticks moment old new
+MovesTo moment (Refused refusal) old new = (new ≡ old) × (refusal ≡ NoMemory)
+MovesTo moment status old new = ⊥

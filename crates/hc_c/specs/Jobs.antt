@@ -1,0 +1,73 @@
+-- What each call of a worker does, by the status that it answers.
+use Rattle.std.specs.Prelude.{◌≡◌, ◌⊎◌, ℕ, true, false, Option, Some, None}
+use Rattle.hc_types.specs.declared.refusal.Refusal.{Refusal}
+use Rattle.hc_types.specs.declared.refusal.Refusal.TheVariants.{NoMemory, UnknownJob}
+use Rattle.hc_engines.specs.Engine.{IoResult, Order, Read, Write}
+use Rattle.hc_machine.specs.Cache.{Cache, Moved, Took, Reclaimed}
+use Rattle.hc_machine.specs.Takes as takes
+use Rattle.hc_machine.specs.Takes.{Take, Work}
+use Rattle.hc_machine.specs.Workers.{reclaim, finish}
+use Rattle.hc_machine.specs.World.{order_in}
+use Rattle.hc_core.specs.Logged.{Logged}
+use Rattle.hc_core.specs.Plain.{MayRefuse}
+use Rattle.hc_c.specs.Calls.{Forgets, Buffer, Copies}
+use Rattle.hc_c.specs.declared.jobs.Operation.{Operation}
+use Rattle.hc_c.specs.declared.status.Status.{Status}
+use Rattle.hc_c.specs.declared.status.Status.TheVariants.{Done, Refused, Idle, Finished}
+
+-- a take is told, with the number of the job that goes on
+abbrev pub TellsTake : Take → ℕ → ℕ → Status → Type 0
+TellsTake takes.Idle was is status = (status ≡ Idle) × (is ≡ was)
+TellsTake takes.Finished was is status = (status ≡ Finished) × (is ≡ was)
+TellsTake (Work job order) was is status = (status ≡ Done) × (is ≡ job)
+
+-- a job waits for an order
+pub record Works (moved : Moved) (job : ℕ) (old new : Logged) : Type 0 where
+  pub order : Order
+  pub call : Forgets moved (Took (Work job order)) old new
+
+-- what a worker takes: the number of the job that goes on is told
+abbrev pub Takes : (Cache → Moved) → ℕ → ℕ → Status → Logged → Logged → Type 0
+Takes step was is Done old new = Works (step old.cache) is old new
+Takes step was is Idle old new = Forgets (step old.cache) (Took takes.Idle) old new × (is ≡ was)
+Takes step was is Finished old new = Forgets (step old.cache) (Took takes.Finished) old new × (is ≡ was)
+Takes step was is (Refused refusal) old new = (new ≡ old) × ((refusal ≡ NoMemory) × (is ≡ was))
+Takes step was is status old new = ⊥
+
+pub record GivesUp (old new : Logged) : Type 0 where
+  pub region : ℕ
+  pub call : Forgets (reclaim old.cache) (Reclaimed (Some region)) old new
+
+abbrev pub Reclaims : Status → Logged → Logged → Type 0
+Reclaims Done old new = GivesUp old new
+Reclaims Idle old new = Forgets (reclaim old.cache) (Reclaimed None) old new
+Reclaims (Refused refusal) old new = (new ≡ old) × (refusal ≡ NoMemory)
+Reclaims status old new = ⊥
+
+-- a job goes on, under whichever number the machine names
+pub record GoesOn (moved : Moved) (old new : Logged) : Type 0 where
+  pub job : ℕ
+  pub works : Works moved job old new
+
+-- what comes of a result that is handed in
+abbrev pub Finishes : ℕ → IoResult → Status → Logged → Logged → Type 0
+Finishes job came Done old new = GoesOn (finish job came old.cache) old new
+Finishes job came Idle old new = Forgets (finish job came old.cache) (Took takes.Idle) old new
+Finishes job came Finished old new = Forgets (finish job came old.cache) (Took takes.Finished) old new
+Finishes job came (Refused refusal) old new = (new ≡ old) × MayRefuse (finish job came old.cache).answer refusal
+Finishes job came status old new = ⊥
+
+-- ---- the device operation for which a job waits
+
+abbrev pub TellsOrder : Order → Operation → Buffer → Buffer → Status → Type 0
+TellsOrder (Read page) told was is status = (status ≡ Done) × ((told ≡ record { page = page; writes = false }) × (is ≡ was))
+TellsOrder (Write page bytes) told was is status = (told ≡ record { page = page; writes = true }) × Copies bytes status was is
+
+-- the operation is told, if the job waits for one
+abbrev pub IsOrdered : Option Order → Operation → Operation → Buffer → Buffer → Status → Type 0
+IsOrdered None before told was is status = (status ≡ Refused UnknownJob) × ((told ≡ before) × (is ≡ was))
+IsOrdered (Some order) before told was is status = TellsOrder order told was is status
+
+-- and nothing changes
+abbrev pub Orders : ℕ → Operation → Operation → Buffer → Buffer → Status → Logged → Logged → Type 0
+Orders job before told was is status old new = (new ≡ old) × IsOrdered (order_in old.cache.nvm job) before told was is status

@@ -1,0 +1,50 @@
+-- What a new cache is.
+use Rattle.std.specs.Prelude.{◌≡◌, ◌⊎◌, ℕ, List, [], map, Option, Some, None}
+use Rattle.hc_types.specs.Config.{Config}
+use Rattle.hc_types.specs.Limits.{first_wrong}
+use Rattle.hc_types.specs.declared.config.FlashConfig.{FlashConfig}
+use Rattle.hc_types.specs.declared.config.PoolSize.{PoolSize}
+use Rattle.hc_types.specs.declared.refusal.Refusal.{Refusal}
+use Rattle.hc_types.specs.declared.refusal.Refusal.TheVariants.{NoMemory}
+use Rattle.hc_history.specs.Told.{Counts, no_counts}
+use Rattle.hc_machine.specs.Cache.{new_cache}
+use Rattle.hc_c.specs.declared.cache.Cache.{Cache}
+use Rattle.hc_c.specs.declared.making.Flash.{Flash}
+use Rattle.hc_c.specs.declared.making.Pool.{Pool}
+use Rattle.hc_c.specs.declared.status.Status.{Status}
+use Rattle.hc_c.specs.declared.status.Status.TheVariants.{Done, Refused}
+
+abbrev pub size_of : Pool → PoolSize
+size_of pool = record { bytes = pool.bytes; items = pool.items }
+
+abbrev pub numbers_of : Flash → FlashConfig
+numbers_of flash = record {
+  page = flash.page;
+  buckets = flash.buckets;
+  regions = flash.regions;
+  region_pages = flash.region_pages;
+  clean = flash.clean;
+  small_max = flash.small_max;
+  queue = flash.queue;
+  bits = flash.bits;
+  admit_min = flash.admit_min;
+  admit_max = flash.admit_max;
+}
+
+-- these pools, and this flash or none
+abbrev pub config_of : List Pool → Option FlashConfig → Config
+config_of pools flash = record { pools = map size_of pools; flash = flash }
+
+-- an empty cache, of whose log nothing was told
+abbrev pub fresh : Config → Cache
+fresh config = record { core = record { cache = new_cache config; log = Counts no_counts [] } }
+
+-- why none is made: for the first number that is wrong, or for want of memory
+abbrev pub MayNotMake : Config → Refusal → Type 0
+MayNotMake config refusal = (first_wrong config ≡ Some refusal) ⊎ (refusal ≡ NoMemory)
+
+-- a cache was made in place of the old one, or what was there stays
+abbrev pub Makes : Config → Status → Option Cache → Option Cache → Type 0
+Makes config Done old new = (new ≡ Some (fresh config)) × (first_wrong config ≡ None)
+Makes config (Refused refusal) old new = (new ≡ old) × MayNotMake config refusal
+Makes config status old new = ⊥

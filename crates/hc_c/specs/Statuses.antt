@@ -1,0 +1,36 @@
+-- The numbers that C is told.
+use Rattle.std.specs.Prelude.{◌≡◌, ℕ, List, Option, Some, None}
+use Rattle.hc_types.specs.Refusals.{number_of}
+use Rattle.hc_core.specs.Logged.{Logged}
+use Rattle.hc_c.specs.declared.cache.Cache.{Cache}
+use Rattle.hc_c.specs.declared.reading.Reading.{Reading}
+use Rattle.hc_c.specs.declared.status.Status.{Status}
+use Rattle.hc_c.specs.declared.status.Status.TheVariants.{Done, Refused, Miss, Empty, Short, Waits, Idle, Finished}
+
+abbrev pub status_number : Status → ℕ
+status_number Done = 0
+status_number (Refused refusal) = number_of refusal
+status_number Miss = 100
+status_number Empty = 101
+status_number Short = 102
+status_number Waits = 103
+status_number Idle = 104
+status_number Finished = 105
+
+-- the number is that of a status of which this holds
+pub record Says (number : ℕ) (holds : Status → Type 0) : Type 0 where
+  pub status : Status
+  pub number_is : number ≡ status_number status
+  pub held : holds status
+
+-- a call on what C holds: where there is no cache, it says so and there is none; else there is still one, of which the table
+-- of the call holds
+abbrev pub OnCache : Option Cache → Option Cache → ℕ → (Status → Logged → Logged → Type 0) → Type 0
+OnCache None new number table = (number ≡ status_number Empty) × (new ≡ None)
+OnCache (Some old) None number table = ⊥
+OnCache (Some old) (Some new) number table = Says number (λ status. table status old.core new.core)
+
+-- the same of a value, which stays as it is
+abbrev pub OnValue : Option Reading → Option Reading → ℕ → (Status → List ℕ → Type 0) → Type 0
+OnValue None new number table = (number ≡ status_number Empty) × (new ≡ None)
+OnValue (Some old) new number table = (new ≡ Some old) × Says number (λ status. table status old.bytes)

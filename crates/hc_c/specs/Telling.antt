@@ -1,0 +1,53 @@
+-- What a cache tells of itself.
+use Rattle.std.specs.Prelude.{◌≡◌, ℕ, List, Option, Some, None}
+use Rattle.hc_types.specs.declared.refusal.Refusal.TheVariants.{NoPool}
+use Rattle.hc_history.specs.Told.{Heard, Counts as HeardCounts}
+use Rattle.hc_history.specs.declared.stats.Stats.{Stats}
+use Rattle.hc_memory.specs.declared.usage.PoolUsage.{PoolUsage}
+use Rattle.hc_memory.specs.Memory.{pool_usage}
+use Rattle.hc_core.specs.Logged.{Logged}
+use Rattle.hc_c.specs.declared.telling.Counts.{Counts}
+use Rattle.hc_c.specs.declared.telling.Usage.{Usage}
+use Rattle.hc_c.specs.declared.status.Status.{Status}
+use Rattle.hc_c.specs.declared.status.Status.TheVariants.{Done, Refused}
+
+abbrev pub counts_of : Counts → Stats
+counts_of counts = record {
+  stored = counts.stored;
+  hits = counts.hits;
+  misses = counts.misses;
+  removes = counts.removes;
+  losses = counts.losses;
+  reads = counts.reads;
+  writes = counts.writes;
+}
+
+-- the log was counted so
+abbrev pub AreCounts : Heard → Stats → Type 0
+AreCounts (HeardCounts counts losses) stats = stats ≡ counts
+AreCounts heard stats = ⊥
+
+abbrev pub Counted : Counts → Status → Logged → Logged → Type 0
+Counted counts Done old new = (new ≡ old) × AreCounts old.log (counts_of counts)
+Counted counts status old new = ⊥
+
+abbrev pub Called : ℕ → Status → Logged → Logged → Type 0
+Called calls Done old new = (new ≡ old) × (calls ≡ old.cache.calls)
+Called calls status old new = ⊥
+
+pub record IsUsage (usage : PoolUsage) (told : Usage) : Type 0 where
+  pub limit_bytes : told.limit_bytes ≡ usage.limits.bytes
+  pub limit_items : told.limit_items ≡ usage.limits.items
+  pub bytes : told.bytes ≡ usage.linked.bytes
+  pub items : told.items ≡ usage.linked.number
+  pub open_bytes : told.open_bytes ≡ usage.open_charges.bytes
+  pub open_items : told.open_items ≡ usage.open_charges.number
+
+abbrev pub Uses : Option PoolUsage → Usage → Type 0
+Uses None told = ⊥
+Uses (Some usage) told = IsUsage usage told
+
+abbrev pub Used : ℕ → Usage → Usage → Status → Logged → Logged → Type 0
+Used pool was is Done old new = (new ≡ old) × Uses (pool_usage old.cache.memory pool) is
+Used pool was is (Refused refusal) old new = (new ≡ old) × ((refusal ≡ NoPool) × ((pool_usage old.cache.memory pool ≡ None) × (is ≡ was)))
+Used pool was is status old new = ⊥

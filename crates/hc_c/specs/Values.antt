@@ -1,0 +1,68 @@
+-- What is done with values that are read where they lie.
+use Rattle.std.specs.Prelude.{◌≡◌, ◌⊎◌, ℕ, List, ◌++◌, length, drop, take, min, Option, Some}
+use Rattle.hc_types.specs.Limits.{key_refusal}
+use Rattle.hc_types.specs.declared.refusal.Refusal.{Refusal}
+use Rattle.hc_types.specs.declared.refusal.Refusal.TheVariants.{Exists, NoMemory}
+use Rattle.hc_history.specs.Note as note
+use Rattle.hc_history.specs.Note.{Reply}
+use Rattle.hc_machine.specs.Cache.{Replied}
+use Rattle.hc_machine.specs.Calls.{take_reply}
+use Rattle.hc_core.specs.Logged.{Logged, IsCall}
+use Rattle.hc_core.specs.Plain.{MayRefuse}
+use Rattle.hc_c.specs.declared.reading.Reading.{Reading}
+use Rattle.hc_c.specs.declared.status.Status.{Status}
+use Rattle.hc_c.specs.declared.status.Status.TheVariants.{Done, Refused, Miss, Waits}
+use Rattle.hc_c.specs.Calls.{Finds, FindsNone}
+
+-- a handle to this value, which shares it
+abbrev pub holding : List ℕ → Option Reading
+holding value = Some (record { bytes = value })
+
+-- the value is handed out
+abbrev pub Reads : List ℕ → Option Reading → Option Reading → Status → Logged → Logged → Type 0
+Reads key was is Done old new = Finds key old new (λ value. is ≡ holding value)
+Reads key was is (Refused refusal) old new = (is ≡ was) × ((new ≡ old) × ((key_refusal key ≡ Some refusal) ⊎ (refusal ≡ NoMemory)))
+Reads key was is status old new = FindsNone key status old new × (is ≡ was)
+
+-- ---- replies that were owed
+
+-- what a reply is told as
+abbrev pub told_as : Reply → Status
+told_as note.Stored = Done
+told_as note.Exists = Refused Exists
+told_as (note.Hit value) = Done
+told_as note.Miss = Miss
+told_as note.FoundInMemory = Done
+told_as note.NotInMemory = Miss
+
+-- the value that a reply brings is handed out
+abbrev pub handed : Reply → Option Reading → Option Reading
+handed (note.Hit value) was = holding value
+handed reply was = was
+
+pub record TakesReply (call : ℕ) (was is : Option Reading) (status : Status) (old new : Logged) : Type 0 where
+  pub reply : Reply
+  pub taken : IsCall (take_reply call old.cache) (Replied reply) old new
+  pub told : status ≡ told_as reply
+  pub value : is ≡ handed reply was
+
+abbrev pub Replies : ℕ → Option Reading → Option Reading → Status → Logged → Logged → Type 0
+Replies call was is (Refused refusal) old new =
+    TakesReply call was is (Refused refusal) old new
+    ⊎ ((new ≡ old) × ((is ≡ was) × MayRefuse (take_reply call old.cache).answer refusal))
+Replies call was is status old new = TakesReply call was is status old new
+
+-- ---- values that were handed out
+
+-- so many bytes from this place on stand at the buffer's head: all, or as many as fit
+abbrev pub Pieces : List ℕ → ℕ → ℕ → List ℕ → List ℕ → Type 0
+Pieces value from count old new =
+    (count ≡ min (length (drop from value)) (length old)) × (new ≡ take count (drop from value) ++ drop count old)
+
+abbrev pub Copied : ℕ → ℕ → List ℕ → List ℕ → Status → List ℕ → Type 0
+Copied from count old new Done value = Pieces value from count old new
+Copied from count old new status value = ⊥
+
+abbrev pub Lengths : ℕ → Status → List ℕ → Type 0
+Lengths count Done value = count ≡ length value
+Lengths count status value = ⊥

@@ -1,0 +1,78 @@
+// Each call on a cache, and the status that it answers.
+ghost use Rattle.std.specs.Prelude.{◌≡◌};
+ghost use Rattle.hc_c.specs.Calls.{Sets, Adds, Gets, Copies, Deletes, MovesTo};
+
+use crate::status::Status;
+use hc_core::{Core, Counting, Found, Inserted, Removed};
+
+/// Stores a value in place of the key's.
+pub fn set(core: &mut Core<Counting>, pool: u8, key: &[u8], value: &[u8], ttl: u32) -> Status
+    ensures { Sets pool key.now value.now ttl result core.old core.new }
+{
+    let done = core.set(pool, key, value, ttl);
+    core.forget_losses();
+    match done {
+        Ok(()) => Status::Done,
+        Err(refusal) => Status::Refused(refusal),
+    }
+}
+
+/// Stores a value where the key has none.
+pub fn add(core: &mut Core<Counting>, pool: u8, key: &[u8], value: &[u8], ttl: u32) -> Status
+    ensures { Adds pool key.now value.now ttl result core.old core.new }
+{
+    let done = core.add(pool, key, value, ttl);
+    core.forget_losses();
+    match done {
+        Ok(Inserted::Stored) => Status::Done,
+        Ok(Inserted::Waiting(_)) => Status::Waits,
+        Err(refusal) => Status::Refused(refusal),
+    }
+}
+
+/// Copies a value to the head of a buffer, and tells its length.
+pub fn copy(value: &[u8], out: &mut [u8], len: &mut usize) -> Status
+    ensures { Copies value.now result (record { bytes = out.old; len = len.old }) (record { bytes = out.new; len = len.new }) }
+{
+    *len = value.len();
+    if value.len() > out.len() {
+        return Status::Short;
+    }
+    out[..value.len()].copy_from_slice(value);
+    Status::Done
+}
+
+/// Copies the value under the key to the head of a buffer, and tells its length.
+pub fn get(core: &mut Core<Counting>, key: &[u8], out: &mut [u8], len: &mut usize) -> Status
+    ensures { Gets key.now (record { bytes = out.old; len = len.old }) (record { bytes = out.new; len = len.new }) result core.old core.new }
+{
+    match core.get(key) {
+        Ok(Found::Hit(value)) => copy(value.bytes(), out, len),
+        Ok(Found::Miss) => Status::Miss,
+        Ok(Found::Waiting(_)) => Status::Waits,
+        Err(refusal) => Status::Refused(refusal),
+    }
+}
+
+/// Takes the key's item out of the cache, and says whether there was one.
+pub fn delete(core: &mut Core<Counting>, key: &[u8]) -> Status
+    ensures { Deletes key.now result core.old core.new }
+{
+    let done = core.delete(key);
+    core.forget_losses();
+    match done {
+        Ok(Removed::FoundInMemory) => Status::Done,
+        Ok(Removed::NotInMemory) => Status::Miss,
+        Err(refusal) => Status::Refused(refusal),
+    }
+}
+
+/// Moves the clock on to the moment.
+pub fn tick(core: &mut Core<Counting>, moment: u64) -> Status
+    ensures { MovesTo moment result core.old core.new }
+{
+    match core.tick(moment) {
+        Ok(_) => Status::Done,
+        Err(refusal) => Status::Refused(refusal),
+    }
+}

@@ -1,0 +1,45 @@
+// What a call answers.
+ghost use Rattle.std.specs.Prelude.{◌≡◌};
+ghost use Rattle.hc_c.specs.Statuses.{status_number};
+
+use hc_types::Refusal;
+
+/// What a call answers. C is told its number.
+#[derive(Clone, Copy)]
+pub enum Status {
+    /// What was asked for is done.
+    Done,
+    /// It was refused.
+    Refused(Refusal),
+    /// The key has no unexpired value; to a delete, no item.
+    Miss,
+    /// What C holds has no cache, or no value.
+    Empty,
+    /// The buffer is shorter than the value.
+    Short,
+    /// The call waits for flash.
+    Waits,
+    /// There is nothing to do.
+    Idle,
+    /// The job is over.
+    Finished,
+}
+
+impl Status {
+    /// The number that C is told: that of the refusal, which is 1 to 23, or one of no refusal.
+    #[must_use]
+    pub fn number(self) -> u8
+        ensures { result ≡ status_number self }
+    {
+        match self {
+            Status::Done => 0,
+            Status::Refused(refusal) => refusal.number(),
+            Status::Miss => 100,
+            Status::Empty => 101,
+            Status::Short => 102,
+            Status::Waits => 103,
+            Status::Idle => 104,
+            Status::Finished => 105,
+        }
+    }
+}

@@ -1,0 +1,155 @@
+// What a cache tells of itself, and its clock.
+ghost use Rattle.std.specs.Prelude.{◌≡◌};
+ghost use Rattle.hc_c.specs.Calls.{MovesTo};
+ghost use Rattle.hc_c.specs.Telling.{Counted, Called, Used, counts_of, IsUsage};
+ghost use Rattle.hc_c.specs.Statuses.{OnCache};
+
+use crate::cache_handle::CacheHandle;
+use crate::calls;
+use crate::status::Status;
+use hc_core::{Core, Counting, PoolUsage, Stats};
+use hc_types::Refusal;
+use std::alloc::Global;
+
+/// What was done so far: values that were stored, finds that hit and that missed, removes, losses, and pages that were read
+/// and written.
+#[repr(C)]
+#[derive(Clone, Copy)]
+pub struct Counts {
+    pub stored: u64,
+    pub hits: u64,
+    pub misses: u64,
+    pub removes: u64,
+    pub losses: u64,
+    pub reads: u64,
+    pub writes: u64,
+}
+
+impl Counts {
+    fn of(stats: Stats) -> Counts
+        ensures { counts_of result ≡ stats }
+    {
+        Counts {
+            stored: stats.stored,
+            hits: stats.hits,
+            misses: stats.misses,
+            removes: stats.removes,
+            losses: stats.losses,
+            reads: stats.reads,
+            writes: stats.writes,
+        }
+    }
+}
+
+/// The limits of a pool, what its items are charged, and what is charged for items that aren't in it yet.
+#[repr(C)]
+#[derive(Clone, Copy)]
+pub struct Usage {
+    pub limit_bytes: u64,
+    pub limit_items: u64,
+    pub bytes: u64,
+    pub items: u64,
+    pub open_bytes: u64,
+    pub open_items: u64,
+}
+
+impl Usage {
+    fn of(usage: PoolUsage) -> Usage
+        ensures { IsUsage usage result }
+    {
+        Usage {
+            limit_bytes: usage.limits.bytes,
+            limit_items: usage.limits.items,
+            bytes: usage.linked.bytes,
+            items: usage.linked.number,
+            open_bytes: usage.open_charges.bytes,
+            open_items: usage.open_charges.number,
+        }
+    }
+}
+
+fn tell_calls(core: &Core<Counting>, calls: &mut u64) -> Status
+    ensures { Called calls.new result core.now core.now }
+{
+    *calls = core.calls();
+    Status::Done
+}
+
+fn tell_counts(core: &Core<Counting>, counts: &mut Counts) -> Status
+    ensures { Counted counts.new result core.now core.now }
+{
+    *counts = Counts::of(core.notes().counts);
+    Status::Done
+}
+
+fn tell_usage(core: &Core<Counting>, pool: u8, usage: &mut Usage) -> Status
+    ensures { Used pool usage.old usage.new result core.now core.now }
+{
+    let pools = core.pools();
+    if usize::from(pool) >= pools.len() {
+        return Status::Refused(Refusal::NoPool);
+    }
+    *usage = Usage::of(pools.usage(pool));
+    Status::Done
+}
+
+/// Moves the clock on to `moment`, in seconds; an earlier one is ignored.
+#[unsafe(no_mangle)]
+pub extern "C" fn kilambosetry_tick(alloc: Global, handle: &mut CacheHandle, moment: u64) -> u8
+    ensures { OnCache handle.old.seat.cache handle.new.seat.cache result (MovesTo moment) }
+{
+    let Some(mut cache) = handle.take(alloc) else {
+        return Status::Empty.number();
+    };
+    let status = calls::tick(&mut cache.core, moment);
+    *handle = CacheHandle::of(cache);
+    status.number()
+}
+
+/// Tells how many calls were begun: sets, adds, finds and deletes that weren't refused.
+#[unsafe(no_mangle)]
+pub extern "C" fn kilambosetry_calls(alloc: Global, handle: &mut CacheHandle, calls: &mut u64) -> u8
+    ensures { OnCache handle.old.seat.cache handle.new.seat.cache result (Called calls.new) }
+{
+    let Some(cache) = handle.take(alloc) else {
+        return Status::Empty.number();
+    };
+    let status = tell_calls(&cache.core, calls);
+    *handle = CacheHandle::of(cache);
+    status.number()
+}
+
+/// Tells the seven counts.
+#[unsafe(no_mangle)]
+pub extern "C" fn kilambosetry_counts(
+    alloc: Global,
+    handle: &mut CacheHandle,
+    counts: &mut Counts,
+) -> u8
+    ensures { OnCache handle.old.seat.cache handle.new.seat.cache result (Counted counts.new) }
+{
+    let Some(cache) = handle.take(alloc) else {
+        return Status::Empty.number();
+    };
+    let status = tell_counts(&cache.core, counts);
+    *handle = CacheHandle::of(cache);
+    status.number()
+}
+
+/// Tells the usage of the pool with this number. Refused with `NoPool`.
+#[unsafe(no_mangle)]
+pub extern "C" fn kilambosetry_usage(
+    alloc: Global,
+    handle: &mut CacheHandle,
+    pool: u8,
+    used: &mut Usage,
+) -> u8
+    ensures { OnCache handle.old.seat.cache handle.new.seat.cache result (Used pool used.old used.new) }
+{
+    let Some(cache) = handle.take(alloc) else {
+        return Status::Empty.number();
+    };
+    let status = tell_usage(&cache.core, pool, used);
+    *handle = CacheHandle::of(cache);
+    status.number()
+}
