@@ -17,7 +17,6 @@ use std::marker::Model;
 
 /// A cache, its device in memory, and the results of device operations that weren't handed in. Contracts see the machine's
 /// cache over its device, and what is heard of the log.
-#[derive(Drop)]
 pub struct Player<N: Notes<Note>> {
     pub(crate) core: Core<N>,
     pub(crate) device: MemFlash,
@@ -30,6 +29,17 @@ impl<N: Notes<Note>> Model for Player<N> {
     ghost Value = { Playing };
 
     ghost view = { λ p. record { cache = p.core.cache; log = p.core.log; flash = p.device; results = p.results.results } };
+}
+
+// (written out, so that who drops a player calls this one function, whatever stands in it)
+impl<N: Notes<Note>> Drop for Player<N> {
+    fn drop(self) {
+        let Player {
+            core: _,
+            device: _,
+            results: _,
+        } = self;
+    }
 }
 
 /// How many pages the flash has.
