@@ -1,3 +1,2 @@
--- Where two texts differ, and what is said of the log of a trace.
+-- Where two texts differ.
 pub mod Difference
-pub mod Judged
