@@ -17,6 +17,7 @@ pub mod Finds
 pub mod Finishes
 pub mod Freeing
 pub mod Frees
+pub mod Hits
 pub mod Inserts
 pub mod ItemEnds
 pub mod Joining

@@ -15,9 +15,9 @@ use Rattle.hc_machine.specs.Calls.{waiting_at}
 use Rattle.hc_machine.specs.Waiting.{live, find_reply}
 use Rattle.hc_state.specs.Finding.{reply_by, stands_in, told_did}
 
-item_reply : (now : ℕ) (item : Item) (b : Bool) → is_expired now item ≡ b → reply_by (option_map (λ (item : Item). item.value) (unexpired now (Some item))) ≡ find_reply (live now (Some (entry_of_item item)))
-item_reply now item true p = rw p refl
-item_reply now item false p = rw p refl
+pub item-reply : (now : ℕ) (item : Item) (b : Bool) → is_expired now item ≡ b → reply_by (option_map (λ (item : Item). item.value) (unexpired now (Some item))) ≡ find_reply (live now (Some (entry_of_item item)))
+item-reply now item true p = rw p refl
+item-reply now item false p = rw p refl
 
 -- the item under the key answers
 pub linked-reply : (now : ℕ) (key : List ℕ) (pools : List Pool) (nvm : Option Nvm) → is_some (linked_at key pools) ≡ true → reply_by (value_at now key pools) ≡ find_reply (live now (stands_in pools nvm key))
@@ -25,7 +25,7 @@ linked-reply now key pools nvm there = go (linked_at key pools) there
   where
     go : (found : Option Item) → is_some found ≡ true → reply_by (option_map (λ (item : Item). item.value) (unexpired now found)) ≡ find_reply (live now (option_map_or (λ item. Some (entry_of_item item)) found (waiting_at nvm key)))
     go None there = absurd (cc)
-    go (Some item) there = item_reply now item (is_expired now item) refl
+    go (Some item) there = item-reply now item (is_expired now item) refl
 
 -- where there is none, the put that waits answers
 pub unlinked-stands : (key : List ℕ) (pools : List Pool) (nvm : Option Nvm) → is_some (linked_at key pools) ≡ false → stands_in pools nvm key ≡ waiting_at nvm key

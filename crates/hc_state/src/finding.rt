@@ -1,12 +1,12 @@
 // Finds.
-ghost use Rattle.std.specs.Prelude.{◌≡◌, ◌+◌, ◌≤◌, [], ◌∷◌, true, false, Some, length, option_map, option_to_list, IfOk, OnOk, OnErr, IfErr};
+ghost use Rattle.std.specs.Prelude.{◌≡◌, ℕ, ◌+◌, ◌≤◌, List, [], ◌∷◌, true, false, None, Some, is_some, length, option_map, option_to_list, IfOk, OnOk, OnErr, IfErr};
 ghost use Rattle.hc_types.specs.FlashEntry.{entry_of};
-ghost use Rattle.hc_memory.specs.Memory.{after_find};
+ghost use Rattle.hc_memory.specs.Memory.{after_find, value_at};
 ghost use Rattle.hc_history.specs.Note.{Begin, Did, End, Find};
 ghost use Rattle.hc_history.specs.Seen.{reply_of};
-ghost use Rattle.hc_history.specs.Told.{where_kept, told_more, kind_of};
+ghost use Rattle.hc_history.specs.Told.{where_kept, told_more, kind_of, is_log};
 ghost use Rattle.hc_machine.specs.Cache.{Replied};
-ghost use Rattle.hc_machine.specs.Calls.{waiting_at, must_wait as must_wait_seen, find as find_step};
+ghost use Rattle.hc_machine.specs.Calls.{waiting_at, must_wait as must_wait_seen, used, find as find_step};
 ghost use Rattle.hc_machine.specs.Waiting.{live, find_reply};
 ghost use Rattle.hc_state.specs.Finding.{found_answer, reply_by, stands_in, told_did};
 ghost use Rattle.hc_state.specs.Owing.{OwesBegun};
@@ -258,6 +258,98 @@ impl<N: Notes<Note<A>>, A: Allocator + Clone + Copy> State<N, A> {
         Ok(Found::Waiting(call))
     }
 
+    /// A find that is answered at once, or waits for flash.
+    fn find_or_wait(&mut self, call: u64, client: u8, key: &Key<A>) -> Result<Found<A>, Refusal>
+        requires ready { IsReady self.old }
+        requires begun { OwesBegun self.old.cache }
+        requires call { call ≡ self.old.cache.calls + 1 }
+        ensures ok { IfOk result (λ found. IsStep (find_step client key.now self.old.cache) (found_answer found) self.old self.new) }
+        ensures err { OnErr result (IsUnchanged self.old self.new) }
+        ensures memory { IfErr result (λ refusal. refusal ≡ Refusal.NoMemory) }
+    {
+        if self.must_wait(key) {
+            self.find_later(call, client, key)
+        } else {
+            self.find_now(call, client, key)
+        }
+    }
+
+    /// Whether notes are kept.
+    fn keeps_notes(&self) -> bool
+        ensures { result ≡ is_log self.now.log }
+    {
+        self.notes.keeps()
+    }
+
+    /// Whether there is flash.
+    fn has_flash(&self) -> bool
+        ensures { result ≡ is_some self.now.cache.nvm }
+    {
+        self.nvm.is_some()
+    }
+
+    /// A handle to the value of the key's item, unless it is expired. An item that is found is now the one that was used last
+    /// in its pool, and there is room to count the find.
+    fn use_item(&mut self, key: &Key<A>) -> Result<Option<ReadHandle<A>>, AllocError>
+        ensures value { IfOk result (λ found. found ≡ value_at self.old.cache.now key.now self.old.cache.memory.pools) }
+        ensures cache { OnOk result (self.new.cache ≡ used key.now self.old.cache) }
+        ensures log { self.new.log ≡ self.old.log }
+        ensures room { OnOk result (1 + length self.new.cache.memory.charges ≤ self.new.notes) }
+        ensures more { self.old.notes ≤ self.new.notes }
+        ensures err { OnErr result (self.new.cache ≡ self.old.cache) }
+    {
+        room_for_notes(&mut self.notes, &self.pools, 1)?;
+        self.pools.find(key, self.clock)
+    }
+
+    /// The newest find is answered by what was found. It is counted, since notes aren't kept.
+    fn count_find(&mut self, call: u64, found: Option<ReadHandle<A>>) -> Found<A>
+        requires counted { is_log self.old.log ≡ false }
+        requires room { 1 + length self.old.cache.memory.charges ≤ self.old.notes }
+        ensures answer { found_answer result ≡ Replied (reply_by found) }
+        ensures cache { self.new.cache ≡ record self.old.cache { calls = call } }
+        ensures log { (client : ℕ) (key : List ℕ) → self.new.log ≡ told_more self.old.log (Begin call client (Find key) ∷ Did call (reply_by found) ∷ End call ∷ []) }
+        ensures ready { IsReady self.new }
+    {
+        self.calls = call;
+        self.notes.count(kind_by(&found));
+        found_by(found)
+    }
+
+    /// A find of a key without an unexpired item, where notes aren't kept. With no flash it is a miss.
+    fn find_beside(&mut self, call: u64, client: u8, key: &Key<A>) -> Result<Found<A>, Refusal>
+        requires room { 1 + length self.old.cache.memory.charges ≤ self.old.notes }
+        requires begun { OwesBegun self.old.cache }
+        requires call { call ≡ self.old.cache.calls + 1 }
+        requires counted { is_log self.old.log ≡ false }
+        requires absent { None ≡ value_at self.old.cache.now key.now self.old.cache.memory.pools }
+        ensures ok { IfOk result (λ found. IsStep (find_step client key.now self.old.cache) (found_answer found) self.old self.new) }
+        ensures err { OnErr result (IsUnchanged self.old self.new) }
+        ensures memory { IfErr result (λ refusal. refusal ≡ Refusal.NoMemory) }
+    {
+        if self.has_flash() {
+            self.find_or_wait(call, client, key)
+        } else {
+            Ok(self.count_find(call, None))
+        }
+    }
+
+    /// A find where notes aren't kept: the pools are asked at once, since no note must be made before. So a hit looks its key
+    /// up twice in the item's pool, and a miss without flash once in each.
+    fn find_counted(&mut self, call: u64, client: u8, key: &Key<A>) -> Result<Found<A>, Refusal>
+        requires begun { OwesBegun self.old.cache }
+        requires call { call ≡ self.old.cache.calls + 1 }
+        requires counted { is_log self.old.log ≡ false }
+        ensures ok { IfOk result (λ found. IsStep (find_step client key.now self.old.cache) (found_answer found) self.old self.new) }
+        ensures err { OnErr result (IsUnchanged self.old self.new) }
+        ensures memory { IfErr result (λ refusal. refusal ≡ Refusal.NoMemory) }
+    {
+        match self.use_item(key)? {
+            Some(handle) => Ok(self.count_find(call, Some(handle))),
+            None => self.find_beside(call, client, key),
+        }
+    }
+
     /// Finds the value under the key: of its item, which becomes the one of its pool that was used last, or else of its put
     /// that waits for flash. An expired one is a miss, and stays where it is. Where memory has neither and flash may have the
     /// key, the call waits, and its reply is taken later. Refused with `NoMemory`, also where the call numbers have run out.
@@ -270,10 +362,10 @@ impl<N: Notes<Note<A>>, A: Allocator + Clone + Copy> State<N, A> {
         ensures begun { OwesBegun self.new.cache }
     {
         let call = number_after(self.calls)?;
-        if self.must_wait(key) {
-            self.find_later(call, client, key)
+        if self.keeps_notes() {
+            self.find_or_wait(call, client, key)
         } else {
-            self.find_now(call, client, key)
+            self.find_counted(call, client, key)
         }
     }
 }
