@@ -1,0 +1,120 @@
+// What clients do.
+
+use crate::calls::{get, holds, is_removed, set};
+use crate::handles::use_handles;
+use crate::stage::Scene;
+use crate::watch::{add, comes};
+use hc_threads::Client;
+use std::process::Abort;
+use std::sync::Wait;
+use std::sync::atomic::Ordering;
+use std::thread;
+
+/// What the clients of a run do.
+#[derive(Clone, Copy, PartialEq, Eq)]
+pub enum Script {
+    /// Each sets and finds a key of its own, 50 times.
+    Rounds,
+    /// Four have a key each: three set and find it, one of them removes it then, and one finds nothing.
+    Keys,
+    /// The first has an item read from flash, and the second finds one in memory while the read is held.
+    Held,
+    /// An item leaves memory, and is written to flash.
+    Spill,
+    /// So does another, and the first comes back.
+    Trip,
+    /// Handles are taken and given up.
+    Handles,
+}
+
+/// Does what the script has for the client.
+pub fn play<R: Abort + Wait>(rt: &R, scene: &Scene<'_>, client: &mut Client) {
+    match scene.script {
+        Script::Rounds => go_round(rt, scene, client),
+        Script::Keys => use_key(rt, scene, client),
+        Script::Held => meet(rt, scene, client),
+        Script::Spill => spill(rt, scene, client),
+        Script::Trip => bring_back(rt, scene, client),
+        Script::Handles => use_handles(rt, scene, client),
+    }
+}
+
+// Sets the key, and finds it.
+fn set_and_find<R: Abort + Wait>(
+    rt: &R,
+    scene: &Scene<'_>,
+    client: &mut Client,
+    name: &[u8],
+    value: &[u8],
+) {
+    set(rt, scene, client, name, value);
+    assert!(rt; holds(rt, scene, client, name, value));
+}
+
+// Sets and finds a key of the client's own, 50 times.
+fn go_round<R: Abort + Wait>(rt: &R, scene: &Scene<'_>, client: &mut Client) {
+    let name = [b'k', client.number()];
+    for round in 0..50_u8 {
+        set_and_find(rt, scene, client, name.as_slice(), [round].as_slice());
+    }
+}
+
+// What each of four clients does with a key of its own.
+fn use_key<R: Abort + Wait>(rt: &R, scene: &Scene<'_>, client: &mut Client) {
+    let number = client.number();
+    let name = [number];
+    if number == 3 {
+        assert!(rt; get(rt, scene, client, name.as_slice()).is_none());
+        return;
+    }
+    set_and_find(rt, scene, client, name.as_slice(), b"1");
+    if number == 2 {
+        assert!(rt; is_removed(rt, scene, client, name.as_slice()));
+    }
+}
+
+// The first client has an item read, and the other comes beside it.
+fn meet<R: Abort + Wait>(rt: &R, scene: &Scene<'_>, client: &mut Client) {
+    match client.number() {
+        0 => {
+            set(rt, scene, client, b"a", b"one");
+            set(rt, scene, client, b"b", b"two");
+            read_back(rt, scene, client);
+        }
+        _ => find_beside(rt, scene, client),
+    }
+}
+
+// Looks for what left memory until it is read from flash.
+fn read_back<R: Abort + Wait>(rt: &R, scene: &Scene<'_>, client: &mut Client) {
+    for _ in 0..1_000_000 {
+        assert!(rt; holds(rt, scene, client, b"a", b"one"));
+        if scene.watch.reached.load(Ordering::SeqCst) > 0 {
+            return;
+        }
+        thread::yield_now();
+    }
+    panic!(rt; "it is read");
+}
+
+// Once a read is held, finds what is in memory, and lets the read go on.
+fn find_beside<R: Abort + Wait>(rt: &R, scene: &Scene<'_>, client: &mut Client) {
+    assert!(rt; comes(&scene.watch.reached, 1));
+    assert!(rt; holds(rt, scene, client, b"b", b"two"));
+    add(&scene.watch.opened);
+}
+
+// The first item leaves memory for the second, and is written.
+fn spill<R: Abort + Wait>(rt: &R, scene: &Scene<'_>, client: &mut Client) {
+    set(rt, scene, client, b"a", b"one");
+    set(rt, scene, client, b"b", b"two");
+    assert!(rt; comes(&scene.watch.operations, 1));
+}
+
+// The second leaves for a third, and the first comes back.
+fn bring_back<R: Abort + Wait>(rt: &R, scene: &Scene<'_>, client: &mut Client) {
+    spill(rt, scene, client);
+    set(rt, scene, client, b"c", b"three");
+    assert!(rt; comes(&scene.watch.operations, 3));
+    assert!(rt; holds(rt, scene, client, b"a", b"one"));
+}
