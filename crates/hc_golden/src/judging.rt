@@ -20,7 +20,7 @@ pub enum Verdict {
 pub fn judge(alloc: Global, trace: &[u8], answers: &[u8], status: u8) -> Verdict {
     let mut reader = trace;
     let mut printed = Vec::new(alloc);
-    let ended = replay(alloc, &mut reader, &mut printed, None);
+    let ended = replay(alloc, &mut reader, &mut printed);
     match first_difference(&printed, answers) {
         Some(line) => Verdict::Line(line),
         None if ended == status => Verdict::Same,

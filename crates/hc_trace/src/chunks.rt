@@ -1,5 +1,5 @@
 // The loop: it reads by chunks, and writes what was gathered.
-ghost use Rattle.std.specs.Prelude.{◌≡◌, ◌≢◌, ◌<◌, ◌≤◌, ◌+◌, ◌++◌, ◌∷◌, ◌^◌, ◌==◌, [], length, take, vec_len, None, IfOk, OnOk, IfSome, OnSome, MatchOption, if◌then◌else◌};
+ghost use Rattle.std.specs.Prelude.{◌≡◌, ◌≢◌, ◌<◌, ◌≤◌, ◌+◌, ◌++◌, ◌∷◌, ◌^◌, ◌==◌, [], length, take, vec_len, IfOk, OnOk, IfSome, OnSome, MatchOption, if◌then◌else◌};
 ghost use Rattle.std.specs.Io.KnownBytes.{Appends, Consumes, IsAtEnd, append_known};
 ghost use Rattle.hc_lines.specs.Lines.{Lacks};
 ghost use Rattle.hc_replayed.specs.Promise.{LogsAreRight};
@@ -257,15 +257,7 @@ fn run<R: Read, W: Write>(
 /// Replays the trace that the reader has, and writes its answers. Status 0 says that it was done, and 1 that it has a
 /// fault or that its configuration was refused. Status 4 says that reading, writing or memory failed, or that there were
 /// more than 4,294,967,296 bytes: answers of lines before that are written where that can be done.
-///
-/// `clients` is for replays by more than one client, which there are none of yet.
-pub fn replay<R: Read, W: Write>(
-    alloc: Global,
-    reader: &mut R,
-    writer: &mut W,
-    clients: Option<u8>,
-) -> u8
-    requires { clients ≡ None }
+pub fn replay<R: Read, W: Write>(alloc: Global, reader: &mut R, writer: &mut W) -> u8
     ensures answers { result ≢ 4 → Answers (R.remaining reader.old) (W.contents writer.old) (W.contents writer.new) result }
     ensures log { LogsAreRight }
     ensures runs { TracesAreRuns }

@@ -66,7 +66,7 @@ fn answers_within(alloc: Global, trace: &[u8], reads: usize, writes: usize) -> (
         written: Vec::new(alloc),
         left: writes,
     };
-    let status = replay(alloc, &mut reader, &mut writer, None);
+    let status = replay(alloc, &mut reader, &mut writer);
     let Limited { written, left: _ } = writer;
     (status, written)
 }

@@ -26,7 +26,7 @@ fn answers(
     trace.extend_from_slice(end)?;
     let mut reader = trace.as_slice();
     let mut writer = Vec::new(alloc);
-    let status = replay(alloc, &mut reader, &mut writer, None);
+    let status = replay(alloc, &mut reader, &mut writer);
     Ok((status, writer))
 }
 
