@@ -1,2 +1,3 @@
--- Where two texts differ.
+-- Where two texts differ, and what is said of the log of a trace.
 pub mod Difference
+pub mod Judged

@@ -1,14 +1,18 @@
 //! Replays the traces of each folder that it is given, judges its logs, and compares what is printed with the answers and
-//! the verdicts that stand beside them. A line for each says `ok`, or in which line they differ first. The status is 0
-//! where all are as wanted, 1 where one isn't, and 2 where a folder or a file can't be read.
+//! the verdicts that stand beside them. A line for each says `ok`, or in which line they differ first. Then the log that
+//! each trace leaves is judged, note by note: a line says how many were, and one for each that isn't legal and honest what is
+//! wrong with it. The status is 0 where all are as wanted, 1 where one isn't, and 2 where a folder or a file can't be read.
 #![tactic(auto)]
 
 mod difference;
 mod folder;
 mod judging;
+mod left;
 
 use crate::folder::{answers_of, log_names, log_of, status_of, trace_names, trace_of, verdict_of};
 use crate::judging::{Verdict, judge, judge_log};
+use crate::left::judge_left;
+use hc_verdict::Verdict as Said;
 use std::process::ExitCode;
 use std::{env, io};
 
@@ -77,15 +81,51 @@ fn check_logs(rt: &HostRuntime, folder: &str) -> io::Result<bool> {
     Ok(all)
 }
 
-// Replays the traces of a folder, and judges its logs. Whether all are as wanted.
-fn check_folder(rt: &HostRuntime, folder: &str) -> io::Result<bool> {
-    let status = status_of(rt, folder)?;
+// Judges the log that a trace leaves, and prints a line where something is wrong with it. Whether it is legal and honest;
+// None where there is no log.
+fn check_left(rt: &HostRuntime, folder: &str, name: &str) -> io::Result<Option<bool>> {
+    let trace = trace_of(rt, folder, name)?;
+    match judge_left(rt.alloc(), &trace)? {
+        None => Ok(None),
+        Some(Said::Legal) => Ok(Some(true)),
+        Some(said) => {
+            println!(rt; "{folder}/{name}: its log is {said}")?;
+            Ok(Some(false))
+        }
+    }
+}
+
+// Judges the logs that these traces leave, and says how many they are. Whether all are legal and honest.
+fn check_all_left(rt: &HostRuntime, folder: &str, names: &[String]) -> io::Result<bool> {
     let mut all = true;
-    for name in trace_names(rt, folder)?.iter() {
+    let mut judged = 0u64;
+    for name in names {
+        if let Some(is_right) = check_left(rt, folder, name)? {
+            judged = judged.saturating_add(1);
+            all &= is_right;
+        }
+    }
+    println!(rt; "{folder}: the logs of {judged} traces are judged")?;
+    Ok(all)
+}
+
+// Replays the traces of a folder, and judges the logs that they leave. Whether all are as wanted.
+fn check_traces(rt: &HostRuntime, folder: &str) -> io::Result<bool> {
+    let status = status_of(rt, folder)?;
+    let names = trace_names(rt, folder)?;
+    let mut all = true;
+    for name in names.iter() {
         all &= check_trace(rt, folder, name, status)?;
     }
-    all &= check_logs(rt, folder)?;
+    all &= check_all_left(rt, folder, &names)?;
     Ok(all)
+}
+
+// Replays the traces of a folder, and judges its logs. Whether all are as wanted.
+fn check_folder(rt: &HostRuntime, folder: &str) -> io::Result<bool> {
+    let all = check_traces(rt, folder)?;
+    let are_legal = check_logs(rt, folder)?;
+    Ok(all && are_legal)
 }
 
 // Replays the traces of each folder, and judges its logs. Whether all are as wanted.
