@@ -177,7 +177,7 @@ impl Client {
         Ok(added)
     }
 
-    /// Takes what the key has out of the cache, as `Core::remove` does, and records that.
+    /// Takes what the key has out of the cache, as `Core::remove` does, and records that. Refused with `NoMemory`.
     pub fn remove<R: Wait, N: Notes<Note>>(
         &mut self,
         rt: &R,
@@ -186,6 +186,7 @@ impl Client {
     ) -> Result<Removed, Refusal>
         ensures recorded { IfOk result (λ removed. IsRecorded self.old (Remove key.now) (removed_as removed) self.new) }
         ensures err { OnErr result (self.new ≡ self.old) }
+        ensures memory { IfErr result (λ refusal. refusal ≡ Refusal.NoMemory) }
     {
         let op = Op::Remove(key.clone()?);
         self.record.entries.reserve(1)?;
@@ -198,7 +199,7 @@ impl Client {
 
     /// Finds the value under the key, as `Core::find` does, waits for it where it may be on flash, and records what came.
     /// Where memory lacks for another owner of the value, the call is answered and recorded all the same. Where it lacks
-    /// for the reply of a call that waited, the call stays open.
+    /// for the reply of a call that waited, the call stays open. Refused with `NoMemory`.
     pub fn find<R: Wait, N: Notes<Note>>(
         &mut self,
         rt: &R,
@@ -207,6 +208,7 @@ impl Client {
     ) -> Result<Option<ReadHandle>, Refusal>
         ensures recorded { IfOk result (λ found. IsRecorded self.old (Find key.now) (found_as found) self.new) }
         ensures err { OnErr result ((self.new ≡ self.old) ⊎ ((value : List ℕ) × IsRecorded self.old (Find key.now) (Hit value) self.new)) }
+        ensures memory { IfErr result (λ refusal. refusal ≡ Refusal.NoMemory) }
     {
         let op = Op::Find(key.clone()?);
         self.record.entries.reserve(1)?;

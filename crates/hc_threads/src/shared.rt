@@ -1,5 +1,5 @@
 // The core under one lock, as clients call it.
-ghost use Rattle.std.specs.Prelude.{◌≡◌, ◌<◌, IfOk, IfErr};
+ghost use Rattle.std.specs.Prelude.{◌≡◌, ◌<◌, ◌≤◌, IfOk, IfErr};
 
 use hc_core::Core;
 use hc_history::{Listener, Note, Notes, Reply};
@@ -114,9 +114,10 @@ impl<N: Listener> Shared<N> {
 }
 
 impl<N: Notes<Note>> Shared<N> {
-    /// Moves the clock on, as `Core::tick` does.
+    /// Moves the clock on, as `Core::tick` does, and answers the moment that holds then.
     pub fn tick<R: Wait>(&self, rt: &R, moment: u64) -> Result<u64, Refusal>
-        ensures { IfErr result (λ refusal. refusal ≡ Refusal.NoMemory) }
+        ensures later { IfOk result (λ now. moment ≤ now) }
+        ensures memory { IfErr result (λ refusal. refusal ≡ Refusal.NoMemory) }
     {
         self.guarded.lock(rt).core.tick(moment)
     }
@@ -178,7 +179,9 @@ impl<N: Notes<Note>> Shared<N> {
         rt: &R,
         client: u8,
         key: &Key,
-    ) -> Result<(u64, Removed), Refusal> {
+    ) -> Result<(u64, Removed), Refusal>
+        ensures { IfErr result (λ refusal. refusal ≡ Refusal.NoMemory) }
+    {
         let mut held = self.guarded.lock(rt);
         let removed = held.core.remove(client, key)?;
         let call = held.core.calls();
@@ -192,7 +195,9 @@ impl<N: Notes<Note>> Shared<N> {
         rt: &R,
         client: u8,
         key: &Key,
-    ) -> Result<(u64, Option<ReadHandle>), Refusal> {
+    ) -> Result<(u64, Option<ReadHandle>), Refusal>
+        ensures { IfErr result (λ refusal. refusal ≡ Refusal.NoMemory) }
+    {
         let mut held = self.guarded.lock(rt);
         let call = match held.core.find(client, key)? {
             Found::Hit(value) => return Ok((held.core.calls(), Some(value))),
@@ -205,7 +210,7 @@ impl<N: Notes<Note>> Shared<N> {
                 Ok(Reply::Hit(value)) => return Ok((call, Some(ReadHandle::new(value)))),
                 Ok(_) => return Ok((call, None)),
                 Err(Refusal::NotReady) => held = self.replies.wait(rt, held),
-                Err(refusal) => return Err(refusal),
+                Err(_) => return Err(Refusal::NoMemory),
             }
         }
         unreachable!()
