@@ -6,8 +6,8 @@
 set -euo pipefail
 shopt -s globstar nullglob dotglob lastpipe
 
-# What a first build took, as measured.
-first_time="10 minutes and 45 seconds on four processors that did nothing else"
+# What a first build took: the minutes of its crates, as the gate measured them.
+first_time="some 50 minutes on four processors that had other work too"
 
 usage="usage: ./replay.sh [TRACE | -]
 
