@@ -1,11 +1,11 @@
 -- Keys and their hash, charges, configurations and their limits, refusals, and what is forgotten.
 pub mod Tally
 pub mod Fnv
-pub mod KeyHash
 pub mod Charge
 pub mod Config
 pub mod Limits
 pub mod Places
+pub mod Digest
 pub mod FlashEntry
 pub mod Refusals
 pub mod Loss

@@ -4,7 +4,7 @@ ghost use Rattle.std.specs.Hash as fed;
 ghost use Rattle.std.specs.Cmp.Lexicographic.{pointwise, nat_list_eq_equiv};
 ghost use Rattle.std.specs.Cmp.{partial_equiv_from_equiv};
 ghost use Rattle.hc_types.specs.Fnv.{fnv_1a};
-ghost use Rattle.hc_types.specs.KeyHash.{fnv_respects_eq};
+ghost use Rattle.hc_types.specs.Digest.{digest_of, digest_respects_eq};
 ghost use Rattle.hc_types.specs.Places.{kept_of, bucket_at};
 
 use crate::config::FlashConfig;
@@ -12,7 +12,7 @@ use crate::key_bytes::KeyBytes;
 use crate::refusal::Refusal;
 use bytes::Bytes;
 use std::alloc::{AllocError, Allocator, Global};
-use std::hash::{Hash, Hasher};
+use std::hash::{FoldHasher, Hash, Hasher};
 use std::marker::Model;
 
 /// The most bytes of a key.
@@ -21,22 +21,22 @@ pub const KEY_MAX: usize = 255;
 /// The key of an item: 1 to 255 bytes. Contracts see it as its bytes.
 ///
 /// Up to 46 bytes stand in the key itself, so that it and its copies take no memory. More are shared by its copies. It
-/// keeps its hash, so that no map that holds it feeds the bytes to a hasher.
+/// keeps the number that a map which holds it is fed, so that no look-up goes over its bytes again.
 #[derive(Drop)]
 pub struct Key<A: Allocator = Global> {
     bytes: KeyBytes<A>,
-    hash: u64,
+    digest: u64,
 }
 
 impl<A: Allocator> Model for Key<A> {
     ghost use Rattle.std.specs.Prelude.{◌≡◌, ◌≤◌, List, ℕ, length};
-    ghost use Rattle.hc_types.specs.Fnv.{fnv_1a};
+    ghost use Rattle.hc_types.specs.Digest.{digest_of};
 
     ghost Value = { List ℕ };
 
     ghost view = { λ k. k.bytes };
 
-    ghost invariant = { λ k. (1 ≤ length k.bytes) × (length k.bytes ≤ 255) × (k.hash ≡ fnv_1a k.bytes) };
+    ghost invariant = { λ k. (1 ≤ length k.bytes) × (length k.bytes ≤ 255) × (k.digest ≡ digest_of k.bytes) };
 }
 
 impl<A: Allocator + Clone> Key<A> {
@@ -56,9 +56,9 @@ impl<A: Allocator + Clone> Key<A> {
         if bytes.len() > KEY_MAX {
             return Err(Refusal::KeyTooLong);
         }
-        let hash = hash_of(bytes);
+        let digest = digest_of(bytes);
         match KeyBytes::copy_of(alloc, bytes) {
-            Ok(bytes) => Ok(Key { bytes, hash }),
+            Ok(bytes) => Ok(Key { bytes, digest }),
             Err(_) => Err(Refusal::NoMemory),
         }
     }
@@ -78,9 +78,9 @@ impl<A: Allocator> Key<A> {
             0 => Err(Refusal::KeyEmpty),
             len if len > KEY_MAX => Err(Refusal::KeyTooLong),
             _ => {
-                let hash = hash_of(bytes.as_slice());
+                let digest = digest_of(bytes.as_slice());
                 let bytes = KeyBytes::from_bytes(bytes);
-                Ok(Key { bytes, hash })
+                Ok(Key { bytes, digest })
             }
         }
     }
@@ -92,7 +92,7 @@ impl<A: Allocator> Key<A> {
         ensures least { 1 ≤ result }
         ensures most { result ≤ 255 }
     {
-        let _hash = self.hash;
+        let _digest = self.digest;
         self.bytes.as_slice().len()
     }
 
@@ -104,12 +104,12 @@ impl<A: Allocator> Key<A> {
     }
 }
 
-/// The full hash of the key: FNV-1a in 64 bits, which the key keeps.
+/// The full hash of the key: FNV-1a in 64 bits, by which flash tells keys apart. It costs a step for each byte.
 #[must_use]
 pub fn hash<A: Allocator>(key: &Key<A>) -> u64
     ensures { result ≡ fnv_1a key.now }
 {
-    key.hash
+    hash_of(key.as_slice())
 }
 
 /// The kept hash of the key: the lowest `bits` bits of its hash.
@@ -132,6 +132,15 @@ pub fn bucket_of<A: Allocator>(key: &Key<A>, flash: &FlashConfig) -> u64
     kept(key, flash.bits) % flash.buckets
 }
 
+/// What a map is fed of a key of these bytes: the kit's fast hash of them, which takes 16 at a time.
+fn digest_of(bytes: &[u8]) -> u64
+    ensures { result ≡ digest_of bytes.now }
+{
+    let mut hasher = FoldHasher::default();
+    hasher.write(bytes);
+    hasher.finish()
+}
+
 /// FNV-1a in 64 bits (Fowler, Noll and Vo).
 fn hash_of(bytes: &[u8]) -> u64
     ensures { result ≡ fnv_1a bytes.now }
@@ -151,7 +160,7 @@ impl<A: Allocator> Clone for Key<A> {
     fn clone(&self) -> Result<Key<A>, AllocError> {
         Ok(Key {
             bytes: self.bytes.clone()?,
-            hash: self.hash,
+            digest: self.digest,
         })
     }
 }
@@ -171,11 +180,11 @@ impl<A: Allocator> Eq for Key<A> {
 }
 
 impl<A: Allocator> Hash for Key<A> {
-    ghost hash_input = { λ key. fed.u64 (fnv_1a key) };
+    ghost hash_input = { λ key. fed.u64 (digest_of key) };
 
-    ghost respects_eq = { fnv_respects_eq };
+    ghost respects_eq = { digest_respects_eq };
 
     fn hash<H: Hasher>(&self, state: &mut H) {
-        state.write_u64(self.hash);
+        state.write_u64(self.digest);
     }
 }
