@@ -1,5 +1,5 @@
 -- What a find does to the pools.
-use Rattle.std.proofs.Common.{◌≡◌, ℕ, List, Option, Some, None, refl, ap, sym, subst, ◌∙◌, is_some, slice_set, get_or}
+use Rattle.std.proofs.Common.{◌≡◌, ℕ, true, List, Option, Some, None, refl, ap, sym, subst, ◌∙◌, is_some, slice_set, get_or}
 use Rattle.std.specs.Prelude.{option_map, IfSome}
 use Rattle.hc_memory.specs.Item.{Item, Open}
 use Rattle.hc_memory.specs.Pool.{Pool, item_at, used, unexpired}
@@ -34,11 +34,11 @@ pub record Found (key : List ℕ) (now : ℕ) (old after : List Pool) (charges :
   pub pools : after ≡ change_home key (uses key now) old
   pub sound : Sound after charges made
 
-pub found : (key : List ℕ) (now : ℕ) (pools : List Pool) (charges : List Open) (made i : ℕ) (there new : Pool) (value : List ℕ) → Sound pools charges made → home_of key pools ≡ Some i → Some value ≡ value_at now key pools → there ≡ get_or pools i there
+pub found : (key : List ℕ) (now : ℕ) (pools : List Pool) (charges : List Open) (made i : ℕ) (there new : Pool) → Sound pools charges made → home_of key pools ≡ Some i → is_some (value_at now key pools) ≡ true → there ≡ get_or pools i there
     → new ≡ record { size = there.size; items = used key (item_at key there.items) there.items } → Found key now pools (slice_set pools i new) charges made
-found key now pools charges made i there new value s place hit read is =
+found key now pools charges made i there new s place hit read is =
     let item = (at-home key pools i there there (λ p. p) place read refl).item in
-    let fresh : unexpired now (item_at key there.items) ≡ item_at key there.items = unexpired-some now (item_at key there.items) (ap (λ o. is_some (option_map (λ (i : Item). i.value) (unexpired now o))) item ∙ sym (ap is_some hit)) in
+    let fresh : unexpired now (item_at key there.items) ≡ item_at key there.items = unexpired-some now (item_at key there.items) (ap (λ o. is_some (option_map (λ (i : Item). i.value) (unexpired now o))) item ∙ hit) in
     let after = (at-home key pools i there new (uses key now) place read (is ∙ (λ j. record { size = there.size; items = used key (sym fresh j) there.items }))).set in
     record { pools = after; sound = rw after (sound-home key (uses key now) pools charges made (λ p. shrinks-used key now p) s) }
 

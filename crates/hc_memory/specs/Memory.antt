@@ -1,5 +1,5 @@
 -- All pools, with what is open in them, and what each call does to them.
-use Rattle.std.specs.Prelude.{ℕ, ◌+◌, ◌==◌, Bool, true, false, List, [], ◌∷◌, ◌++◌, length, replicate, Option, Some, None, is_some, slice_get, slice_set, if◌then◌else◌, option_map, map, take, suc}
+use Rattle.std.specs.Prelude.{ℕ, ◌+◌, ◌==◌, Bool, true, false, List, [], ◌∷◌, ◌++◌, length, replicate, Option, Some, None, is_some, slice_get, slice_set, if◌then◌else◌, option_map, map, take, drop, nat_le, suc}
 use Rattle.std.specs.Option.{option_map_or}
 use Rattle.hc_types.specs.Charge.{charge_of}
 use Rattle.hc_types.specs.Loss as loss
@@ -128,6 +128,11 @@ early (handle ∷ next ∷ handles) memory = early (next ∷ handles) (after_fre
 -- the value that a find answers
 abbrev pub value_at : ℕ → List ℕ → List Pool → Option (List ℕ)
 value_at now key pools = option_map (λ (item : Item). item.value) (unexpired now (linked_at key pools))
+
+-- a buffer to whose head a value was copied, where there is one and it fits
+abbrev pub copied : Option (List ℕ) → List ℕ → List ℕ
+copied None buffer = buffer
+copied (Some value) buffer = if nat_le (length value) (length buffer) then value ++ drop (length value) buffer else buffer
 
 -- an unexpired item that is found is the one that was used last
 abbrev pub after_find : Memory → ℕ → List ℕ → Memory

@@ -1,11 +1,12 @@
 // Write handles, each of which must be spent, and read handles.
-ghost use Rattle.std.specs.Prelude.{◌≡◌, ◌==◌, ◌+◌, ◌≤◌, ◌↔◌, ℕ, List, length, IsOk, IfOk, IfErr, OnOk, OnErr};
+ghost use Rattle.std.specs.Prelude.{◌≡◌, ◌==◌, ◌+◌, ◌≤◌, ◌↔◌, ℕ, List, length, Some, IsOk, IfOk, IfErr, OnOk, OnErr};
+ghost use Rattle.hc_memory.specs.Memory.{copied};
 ghost use Rattle.hc_memory.specs.Item.{item_by, charge_by};
 ghost use Rattle.hc_memory.specs.Seen.{item_of};
 ghost use Rattle.hc_memory.specs.Writes.{written, EachByte};
 
 use crate::item::Held;
-use crate::value::ItemValue;
+use crate::value::{ItemValue, copy};
 use bytes::Bytes;
 use hc_types::{Key, Refusal};
 use std::alloc::{AllocError, Allocator, Global};
@@ -303,6 +304,14 @@ impl<A: Allocator> ReadHandle<A> {
         ensures { result ≡ length self.now }
     {
         self.bytes().len()
+    }
+
+    /// Copies the value to the head of the buffer, and answers how long it is. Into a shorter one nothing is copied.
+    pub fn copy_to(&self, buffer: &mut [u8]) -> usize
+        ensures value { result ≡ length self.now }
+        ensures buffer { buffer.new ≡ copied (Some self.now) buffer.old }
+    {
+        copy(self.bytes(), buffer)
     }
 
     /// Whether the value has no byte.

@@ -6,7 +6,7 @@ ghost use Rattle.hc_memory.specs.Planned.{IsPlanned};
 ghost use Rattle.hc_memory.specs.Pool.{is_full, kept, dropped};
 ghost use Rattle.hc_memory.specs.Sound.{Sound, FlashFits, IsWithin};
 ghost use Rattle.hc_memory.specs.Seen.{item_of, filled, glance_of};
-ghost use Rattle.hc_memory.specs.Memory.{empty_pool, pool_usage, home_of, linked_at, value_at, is_hopeless, victims_of, oldest_keys, handle_for, unlinked, after_room, after_charge, after_unlink, after_find};
+ghost use Rattle.hc_memory.specs.Memory.{empty_pool, pool_usage, home_of, linked_at, value_at, copied, is_hopeless, victims_of, oldest_keys, handle_for, unlinked, after_room, after_charge, after_unlink, after_find};
 
 use crate::answers::{Charged, Uncharged};
 use crate::clean::{CleanIndex, forget_items};
@@ -150,6 +150,24 @@ impl<A: Allocator> Pools<A> {
     }
 }
 
+impl<A: Allocator> Pools<A> {
+    /// Finds the value under this key as `find` does, and copies it to the head of the buffer. Answers how long it is; into a
+    /// shorter buffer nothing is copied. It takes no memory.
+    pub fn find_into(&mut self, key: &Key<A>, now: u64, buffer: &mut [u8]) -> Option<usize>
+        ensures value { result ≡ option_map length (value_at now key.now self.old.pools) }
+        ensures buffer { buffer.new ≡ copied (value_at now key.now self.old.pools) buffer.old }
+        ensures pools { self.new ≡ after_find self.old now key.now }
+    {
+        match copied_from(self.pools.as_slice(), key, now, buffer) {
+            Some((home, len)) => {
+                self.pools[home].promote(key);
+                Some(len)
+            }
+            None => None,
+        }
+    }
+}
+
 impl<A: Allocator + Copy> Pools<A> {
     /// The pools of a configuration that was checked, without items.
     pub fn new(alloc: A, config: &Config<A>) -> Result<Pools<A>, AllocError>
@@ -198,6 +216,27 @@ fn fresh_in<A: Allocator>(
         return Ok(None);
     }
     Ok(Some((at, held.value.to_bytes()?)))
+}
+
+/// Copies the value under this key to the head of the buffer, where its item isn't expired at `now` (seconds) and the value
+/// fits. Answers the number of the item's pool, and how long the value is.
+fn copied_from<A: Allocator>(
+    pools: &[Pool<A>],
+    key: &Key<A>,
+    now: u64,
+    buffer: &mut [u8],
+) -> Option<(usize, usize)>
+    ensures value { option_map (λ there. there.1) result ≡ option_map length (value_at now key.now pools.now) }
+    ensures buffer { buffer.new ≡ copied (value_at now key.now pools.now) buffer.old }
+    ensures place { IfSome result (λ there. home_of key.now pools.now ≡ Some there.0) }
+{
+    let Some((at, held)) = held_in(pools, key) else {
+        return None;
+    };
+    if expired(now, held.expiry) {
+        return None;
+    }
+    Some((at, held.value.copy_to(buffer)))
 }
 
 /// Takes the item under this key out of the pool that has it, and answers its number.

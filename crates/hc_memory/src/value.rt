@@ -1,5 +1,6 @@
 // The value of an item, of which it is known how long it may be.
-ghost use Rattle.std.specs.Prelude.{◌≡◌, ◌≤◌, length, IfOk};
+ghost use Rattle.std.specs.Prelude.{◌≡◌, ◌≤◌, length, Some, IfOk};
+ghost use Rattle.hc_memory.specs.Memory.{copied};
 
 use bytes::Bytes;
 use std::alloc::{AllocError, Allocator, Global};
@@ -46,6 +47,14 @@ impl<A: Allocator> ItemValue<A> {
         self.bytes.clone()
     }
 
+    /// Copies the bytes to the head of the buffer, and answers how many they are. Into a shorter one none is copied.
+    pub fn copy_to(&self, buffer: &mut [u8]) -> usize
+        ensures value { result ≡ length self.now }
+        ensures buffer { buffer.new ≡ copied (Some self.now) buffer.old }
+    {
+        copy(self.bytes.as_slice(), buffer)
+    }
+
     /// The bytes, of which none is copied.
     pub fn into_bytes(self) -> Bytes<A>
         ensures value { result ≡ self }
@@ -54,6 +63,18 @@ impl<A: Allocator> ItemValue<A> {
         let ItemValue { bytes } = self;
         bytes
     }
+}
+
+/// Copies the value to the head of the buffer, where it fits, and answers how long it is.
+pub(crate) fn copy(value: &[u8], buffer: &mut [u8]) -> usize
+    ensures value { result ≡ length value.now }
+    ensures buffer { buffer.new ≡ copied (Some value.now) buffer.old }
+{
+    let len = value.len();
+    if len <= buffer.len() {
+        buffer[..len].copy_from_slice(value);
+    }
+    len
 }
 
 // Shares the bytes.

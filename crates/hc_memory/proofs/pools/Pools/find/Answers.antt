@@ -1,4 +1,4 @@
-use Rattle.std.proofs.Common.{Some, refl, sym, ◌∙◌, ap, arith, length, length-set}
+use Rattle.std.proofs.Common.{Some, is_some, refl, sym, ◌∙◌, ap, arith, length, length-set}
 use Rattle.hc_memory.specs.Memory.{home_of, value_at}
 use Rattle.hc_memory.proofs.Making.{home-within}
 use Rattle.hc_memory.proofs.Finding.{hit-value, miss-value, hit-place, found, missed}
@@ -17,8 +17,8 @@ invariant_of-self g c =
     let i = c.self.invariant in
     let place = hit-place (home_of c.args.key.now c.as_slice.result.now) c.in-Ok-Some.field-0 c.in-Ok-Some.at c.in-Ok-Some.value c.in-Ok-Some.field-0-is c.in-Ok-Some.ensures.place in
     let value = hit-value c.in-Ok-Some.field-0 c.in-Ok-Some.at c.in-Ok-Some.value _ c.in-Ok-Some.field-0-is c.in-Ok-Some.ensures.value in
-    let f = found c.args.key.now c.args.now c.self.inside.pools.items c.self.inside.charges.charges c.self.inside.made c.in-Ok-Some.at c.index_mut.result.now c.promote.new.self c.in-Ok-Some.value i.0
-    (sym (ap (home_of c.args.key.now) c.as_slice.ensures.value) ∙ place) (value ∙ ap (value_at c.args.now c.args.key.now) c.as_slice.ensures.value) c.index_mut.ensures.value c.promote.ensures in
+    let f = found c.args.key.now c.args.now c.self.inside.pools.items c.self.inside.charges.charges c.self.inside.made c.in-Ok-Some.at c.index_mut.result.now c.promote.new.self i.0
+    (sym (ap (home_of c.args.key.now) c.as_slice.ensures.value) ∙ place) (ap is_some (sym (value ∙ ap (value_at c.args.now c.args.key.now) c.as_slice.ensures.value))) c.index_mut.ensures.value c.promote.ensures in
     (f.sound, i.1 ∙ sym (length-set c.self.inside.pools.items c.in-Ok-Some.at c.promote.new.self), i.2, listed-used c.self.inside.flash c.self.inside.clean c.args.key.now c.self.inside.pools.items c.in-Ok-Some.at c.index_mut.result.now c.promote.new.self i.3 (read-there c.self.inside.pools.items c.in-Ok-Some.at c.index_mut.result.now (home-within c.args.key.now c.self.inside.pools.items c.in-Ok-Some.at (sym (ap (home_of c.args.key.now) c.as_slice.ensures.value) ∙ place)) c.index_mut.ensures.value) c.promote.ensures)
 
 pub returns-in-Ok-Some-clause-value : goal.returns-in-Ok-Some-clause-value
@@ -30,8 +30,8 @@ pub returns-in-Ok-Some-clause-pools : goal.returns-in-Ok-Some-clause-pools
 returns-in-Ok-Some-clause-pools g c =
     let place = hit-place (home_of c.args.key.now c.as_slice.result.now) c.in-Ok-Some.field-0 c.in-Ok-Some.at c.in-Ok-Some.value c.in-Ok-Some.field-0-is c.in-Ok-Some.ensures.place in
     let value = hit-value c.in-Ok-Some.field-0 c.in-Ok-Some.at c.in-Ok-Some.value _ c.in-Ok-Some.field-0-is c.in-Ok-Some.ensures.value in
-    let f = found c.args.key.now c.args.now c.self.inside.pools.items c.self.inside.charges.charges c.self.inside.made c.in-Ok-Some.at c.index_mut.result.now c.promote.new.self c.in-Ok-Some.value c.self.invariant.0
-    (sym (ap (home_of c.args.key.now) c.as_slice.ensures.value) ∙ place) (value ∙ ap (value_at c.args.now c.args.key.now) c.as_slice.ensures.value) c.index_mut.ensures.value c.promote.ensures in
+    let f = found c.args.key.now c.args.now c.self.inside.pools.items c.self.inside.charges.charges c.self.inside.made c.in-Ok-Some.at c.index_mut.result.now c.promote.new.self c.self.invariant.0
+    (sym (ap (home_of c.args.key.now) c.as_slice.ensures.value) ∙ place) (ap is_some (sym (value ∙ ap (value_at c.args.now c.args.key.now) c.as_slice.ensures.value))) c.index_mut.ensures.value c.promote.ensures in
     rw (← c.self.view_is) (λ i. record { flash = c.self.inside.flash; pools = f.pools i; charges = c.self.inside.charges.charges; made = c.self.inside.made })
 
 pub returns-in-Ok-None-clause-value : goal.returns-in-Ok-None-clause-value
