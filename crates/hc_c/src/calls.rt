@@ -1,9 +1,9 @@
 // Each call on a cache, and the status that it answers.
-ghost use Rattle.std.specs.Prelude.{◌≡◌};
+ghost use Rattle.std.specs.Prelude.{◌≡◌, ◌<◌, ◌≤◌};
 ghost use Rattle.hc_c.specs.Calls.{Sets, Adds, Gets, Copies, Deletes, MovesTo};
 
 use crate::status::Status;
-use hc_core::{Core, Counting, Found, Inserted, Removed};
+use hc_core::{Copied, Core, Counting, Inserted, Removed};
 
 /// Stores a value in place of the key's.
 pub fn set(core: &mut Core<Counting>, pool: u8, key: &[u8], value: &[u8], ttl: u32) -> Status
@@ -42,14 +42,28 @@ pub fn copy(value: &[u8], out: &mut [u8], len: &mut usize) -> Status
     Status::Done
 }
 
+/// Tells the length of a value that was copied to a buffer of `room` bytes, where it fits.
+fn tell(value: usize, room: usize, len: &mut usize) -> Status
+    ensures done { value ≤ room → result ≡ Status.Done }
+    ensures short { room < value → result ≡ Status.Short }
+    ensures len { len.new ≡ value }
+{
+    *len = value;
+    if value <= room {
+        Status::Done
+    } else {
+        Status::Short
+    }
+}
+
 /// Copies the value under the key to the head of a buffer, and tells its length.
 pub fn get(core: &mut Core<Counting>, key: &[u8], out: &mut [u8], len: &mut usize) -> Status
     ensures { Gets key.now (record { bytes = out.old; len = len.old }) (record { bytes = out.new; len = len.new }) result core.old core.new }
 {
-    match core.get(key) {
-        Ok(Found::Hit(value)) => copy(value.bytes(), out, len),
-        Ok(Found::Miss) => Status::Miss,
-        Ok(Found::Waiting(_)) => Status::Waits,
+    match core.get_into(key, out) {
+        Ok(Copied::Hit(found)) => tell(found, out.len(), len),
+        Ok(Copied::Miss) => Status::Miss,
+        Ok(Copied::Waiting(_)) => Status::Waits,
         Err(refusal) => Status::Refused(refusal),
     }
 }

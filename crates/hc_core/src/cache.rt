@@ -9,13 +9,14 @@ ghost use Rattle.hc_machine.specs.Cache.{new_cache, Opened, Discarded, Replied, 
 ghost use Rattle.hc_machine.specs.Evicting.{allocate as allocate_step};
 ghost use Rattle.hc_machine.specs.Calls.{is_known, discard as discard_step, find as find_step, take_reply as reply_step, tick as tick_step};
 ghost use Rattle.hc_state.specs.Answering.{IsReason};
+ghost use Rattle.hc_state.specs.Copying.{copied_by, left_by};
 ghost use Rattle.hc_state.specs.Finding.{found_answer};
 ghost use Rattle.hc_core.specs.Holds.{Holds};
 ghost use Rattle.hc_core.specs.Logged.{IsCall, logged_of};
 
 use hc_history::{Listener, Note, Notes, Reply};
 use hc_memory::{Blank, Fill, Sealed, Uncharged};
-use hc_state::{Found, State};
+use hc_state::{Copied, Found, State};
 use hc_types::{Config, Key, Refusal};
 use std::alloc::{Allocator, Global};
 use std::marker::Model;
@@ -103,6 +104,25 @@ impl<N: Notes<Note<A>>, A: Allocator + Clone + Copy> Core<N, A> {
         ensures memory { IfErr result (λ refusal. refusal ≡ Refusal.NoMemory) }
     {
         self.state.find(client, key)
+    }
+
+    /// Finds the value under the key as `find` does, and copies it to the head of the buffer (of bytes), so that a hit in
+    /// memory takes no share of the value. Where the value is longer than the buffer, its length alone is told. Refused as
+    /// `find` is; then the buffer is as it was.
+    pub fn find_into(
+        &mut self,
+        client: u8,
+        key: &Key<A>,
+        buffer: &mut [u8],
+    ) -> Result<Copied, Refusal>
+        ensures ok { IfOk result (λ copied. IsCall (find_step client key.now self.old.cache) (find_step client key.now self.old.cache).answer self.old self.new) }
+        ensures answer { IfOk result (λ copied. Some copied ≡ copied_by (find_step client key.now self.old.cache).answer) }
+        ensures buffer { OnOk result (buffer.new ≡ left_by (find_step client key.now self.old.cache).answer buffer.old) }
+        ensures err { OnErr result (self.new ≡ self.old) }
+        ensures same { OnErr result (buffer.new ≡ buffer.old) }
+        ensures memory { IfErr result (λ refusal. refusal ≡ Refusal.NoMemory) }
+    {
+        self.state.find_into(client, key, buffer)
     }
 
     /// Takes the reply of the call that waited. Refused with `UnknownCall` where none is owed to the call, with `NotReady`

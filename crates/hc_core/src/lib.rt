@@ -20,5 +20,5 @@ pub use hc_history::{
 };
 pub use hc_memory::{Blank, Fill, PoolUsage, Pools, ReadHandle, Sealed, Uncharged, Usage};
 pub use hc_nvm::{Order, Take, Unfinished};
-pub use hc_state::{Found, Inserted, Removed, Unlinked};
+pub use hc_state::{Copied, Found, Inserted, Removed, Unlinked};
 pub use hc_types::{Cause, Config, FlashConfig, Key, PoolSize, Refusal, Scope, Why};

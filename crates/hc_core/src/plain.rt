@@ -8,7 +8,7 @@ ghost use Rattle.hc_machine.specs.Cache.{Discarded, Opened, Replied, Refused};
 ghost use Rattle.hc_machine.specs.Evicting.{allocate as allocate_step};
 ghost use Rattle.hc_machine.specs.Calls.{is_known, discard as discard_step, insert_or_replace as insert_or_replace_step, find as find_step, remove as remove_step};
 ghost use Rattle.hc_machine.specs.World.{put_new};
-ghost use Rattle.hc_core.specs.Answers.{IsReason, found_answer, inserted_answer, removed_answer};
+ghost use Rattle.hc_core.specs.Answers.{IsReason, found_answer, copied_by, left_by, inserted_answer, removed_answer};
 ghost use Rattle.hc_core.specs.Logged.{IsCall};
 ghost use Rattle.hc_core.specs.Plain.{set_step, add_step, give_up_step, MayRefuse, MayRefuseNew};
 
@@ -16,7 +16,7 @@ use crate::cache::Core;
 use crate::giving_up::{give_up, give_up_blank};
 use hc_history::{Note, Notes};
 use hc_memory::{Fill, Sealed, Uncharged};
-use hc_state::{Found, Inserted, Removed, Unlinked};
+use hc_state::{Copied, Found, Inserted, Removed, Unlinked};
 use hc_types::{Config, Key, Refusal};
 use std::alloc::Allocator;
 
@@ -174,6 +174,21 @@ impl<N: Notes<Note<A>>, A: Allocator + Clone + Copy> Core<N, A> {
             Ok(found) => Ok(found),
             Err(_) => Err(Refusal::NoMemory),
         }
+    }
+
+    /// Finds the value under the key, and copies it to the head of the buffer (of bytes), as `find_into` does. Refused as `get`
+    /// is; then the buffer is as it was.
+    pub fn get_into(&mut self, key: &[u8], buffer: &mut [u8]) -> Result<Copied, Refusal>
+        ensures ok { IfOk result (λ copied. IsCall (find_step 0 key.now self.old.cache) (find_step 0 key.now self.old.cache).answer self.old self.new) }
+        ensures answer { IfOk result (λ copied. Some copied ≡ copied_by (find_step 0 key.now self.old.cache).answer) }
+        ensures buffer { OnOk result (buffer.new ≡ left_by (find_step 0 key.now self.old.cache).answer buffer.old) }
+        ensures fits { OnOk result (key_refusal key.now ≡ None) }
+        ensures err { OnErr result (self.new ≡ self.old) }
+        ensures same { OnErr result (buffer.new ≡ buffer.old) }
+        ensures why { IfErr result (λ refusal. (key_refusal key.now ≡ Some refusal) ⊎ ((key_refusal key.now ≡ None) × (refusal ≡ Refusal.NoMemory))) }
+    {
+        let key = key_of(self.config(), key)?;
+        self.find_into(0, &key, buffer)
     }
 
     /// Takes what the key has out of the cache, expired or not, as `remove` does. Refused as `get` is.

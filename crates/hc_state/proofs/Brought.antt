@@ -1,16 +1,15 @@
 -- What is told of an item that comes from flash, part by part.
-use Rattle.std.proofs.Common.{◌≡◌, ℕ, ◌+◌, ◌*◌, ◌++◌, List, [], ◌∷◌, Option, Some, None, length, refl, sym, ap, ◌∙◌, append-nil, arith, subst}
+use Rattle.std.proofs.Common.{◌≡◌, ℕ, ◌+◌, ◌*◌, List, [], ◌∷◌, Option, Some, length, refl, sym, ap, ◌∙◌, append-nil, arith, subst}
 use Rattle.std.specs.Prelude.{option_map, option_to_list}
-use Rattle.hc_history.specs.Note.{Note, Charged, Linked}
-use Rattle.hc_history.specs.declared.stats.Stats.{Stats}
-use Rattle.hc_history.specs.Told.{is_log, Heard, Nothing, Log, Counts, told_more, where_kept, counts_more, losses_of}
-use Rattle.hc_history.proofs.Telling.{told-twice, told-nothing, counts-charged}
+use Rattle.hc_history.specs.Note.{Charged, Linked}
+use Rattle.hc_history.specs.Told.{is_log, Heard, Nothing, Log, Counts, told_more, where_kept}
+use Rattle.hc_history.proofs.Telling.{told-nothing, counts-charged}
 use Rattle.hc_memory.specs.Item.{Item}
 use Rattle.hc_memory.specs.Memory.{Memory}
 use Rattle.hc_machine.specs.Nvm.{Waiter}
-use Rattle.hc_machine.specs.Cache.{Cache, Told, tells, and_then}
+use Rattle.hc_machine.specs.Cache.{Cache, tells, and_then}
 use Rattle.hc_machine.specs.Evicting.{all_leave}
-use Rattle.hc_state.specs.Whole.{Whole, Costs, Does, costs, for_notes, both}
+use Rattle.hc_state.specs.Whole.{Whole, Does, costs, for_notes, both}
 use Rattle.hc_state.specs.Courses.{AllFit, AllMayFree, all_served_as}
 use Rattle.hc_state.specs.declared.serving.Course.{Course}
 use Rattle.hc_state.specs.Filling.{brought_by}

@@ -1,6 +1,6 @@
 -- Room is made, and an item is charged: the machine makes room, tells who left, and then charges, where the code does both changes
 -- of the memory at once.
-use Rattle.std.proofs.Common.{◌≡◌, ℕ, ◌+◌, ◌*◌, ◌++◌, ◌≤◌, true, List, [], ◌∷◌, Option, Some, None, find, length, length-append, map, refl, sym, ap, ◌∙◌, append-nil, arith, subst, eq-eqb}
+use Rattle.std.proofs.Common.{◌≡◌, ℕ, ◌+◌, ◌*◌, ◌++◌, ◌≤◌, true, List, [], ◌∷◌, Option, Some, None, find, length, length-append, map, refl, sym, ap, ◌∙◌, append-nil, arith, eq-eqb}
 use Rattle.std.specs.Prelude.{slice_get, take, is_some, option_map, option_to_list}
 use Rattle.std.specs.Option.{option_or, option_map_or}
 use Rattle.std.proofs.lemmas.List.Folds.{find-append}

@@ -1,24 +1,20 @@
 -- A key's fill ends, and a key is inserted or removed, by a plan.
-use Rattle.std.proofs.Common.{◌≡◌, ℕ, ◌+◌, ◌*◌, ◌≤◌, ◌++◌, Bool, List, [], ◌∷◌, length, Option, Some, None, refl, sym, ap, ◌∙◌, subst, arith, append_assoc}
+use Rattle.std.proofs.Common.{◌≡◌, ℕ, ◌+◌, ◌*◌, ◌≤◌, List, [], ◌∷◌, length, Option, Some, None, refl, sym, ap, ◌∙◌, subst, arith}
 use Rattle.std.specs.Prelude.{option_map}
 use Rattle.std.specs.Option.{option_map_or}
-use Rattle.hc_types.specs.FlashEntry.{FlashEntry}
-use Rattle.hc_memory.specs.Memory.{Memory, after_unmark}
-use Rattle.hc_history.specs.Note.{Note, Reply, Stored, Linked, Lose, Did, End}
+use Rattle.hc_memory.specs.Memory.{Memory}
+use Rattle.hc_history.specs.Note.{Reply, Did, End}
 use Rattle.hc_history.specs.Told.{is_log}
 use Rattle.hc_machine.specs.Nvm.{Nvm, Waiter, Fill, fill_at}
-use Rattle.hc_machine.specs.Leaving.{Changed, unqueue, outdate, bury}
-use Rattle.hc_machine.specs.Cache.{Cache, Told, tells, and_then, behind, on_flash, on_flash_of, unmarked_by}
+use Rattle.hc_machine.specs.Cache.{Cache, Told, tells, and_then, behind}
 use Rattle.hc_machine.specs.Calls.{replies_then}
-use Rattle.hc_state.specs.Serving.{clear_by, waiters_at, without_calls, ended_by, all_served}
-use Rattle.hc_state.specs.Courses.{AllFit, AllMayFree, AreCourses, all_served_as}
-use Rattle.hc_state.specs.Storing.{fill_in, ended_as, how_many, CanServe, store_as, unstore_as}
+use Rattle.hc_state.specs.Serving.{waiters_at, without_calls}
+use Rattle.hc_state.specs.Courses.{AllFit, AllMayFree, all_served_as}
+use Rattle.hc_state.specs.Storing.{fill_in, ended_as, how_many, CanServe}
 use Rattle.hc_state.specs.Whole.{Whole, Costs, costs, for_notes, both, Does}
 use Rattle.hc_state.specs.declared.serving.Course.{Course}
 use Rattle.hc_state.proofs.Unqueued.{does-log}
 use Rattle.hc_state.proofs.Joining.{does-both}
-use Rattle.hc_state.proofs.Courses.{served-there}
-use Rattle.hc_state.proofs.Stored.{waiters-of, unqueue-fills, bury-fills, unindex-fills}
 
 -- more room than that wasn't taken either
 pub does-at-most : (told : Told) (a b : Costs) (old new : Whole) → a.notes ≤ b.notes → a.puts ≤ b.puts → a.stones ≤ b.stones → a.fills ≤ b.fills → Does told a old new → Does told b old new

@@ -1,13 +1,13 @@
 -- No more charges are open after a key was inserted or removed.
-use Rattle.std.proofs.Common.{◌≡◌, ℕ, ◌≤◌, List, [], ◌∷◌, length, Option, Some, None, ap, arith}
+use Rattle.std.proofs.Common.{ℕ, ◌≤◌, List, [], ◌∷◌, length, Option, Some, None, ap, arith}
 use Rattle.hc_memory.specs.Item.{Open, Handle}
 use Rattle.hc_memory.specs.Charges.{closed}
 use Rattle.hc_memory.specs.Memory.{Memory, after_free, early}
 use Rattle.hc_memory.proofs.Linking.{ones}
 use Rattle.hc_memory.proofs.Making.{closed-less}
-use Rattle.hc_history.specs.Note.{Reply, Stored, Linked}
-use Rattle.hc_machine.specs.Nvm.{Nvm, Waiter, Wish, ToFind, ToAdd}
-use Rattle.hc_machine.specs.Cache.{Cache, Told, tells, and_then}
+use Rattle.hc_history.specs.Note.{Reply}
+use Rattle.hc_machine.specs.Nvm.{Waiter, Wish, ToFind, ToAdd}
+use Rattle.hc_machine.specs.Cache.{Cache}
 use Rattle.hc_state.specs.Chosen.{all_stored_as}
 use Rattle.hc_state.specs.Courses.{served_as, standing_as, all_served_as}
 use Rattle.hc_state.specs.Linked.{linked_with, linked_without, removed_early}

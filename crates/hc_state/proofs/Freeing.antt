@@ -1,11 +1,11 @@
 -- Each charge that a call frees is open by then: it was, no two calls have one, and none of those that end before is its own.
-use Rattle.std.proofs.Common.{◌≡◌, ℕ, ◌+◌, ◌==◌, ◌≤◌, Bool, true, false, List, [], ◌∷◌, ◌++◌, Option, Some, None, refl, ap, ◌∙◌, arith, cond}
+use Rattle.std.proofs.Common.{◌≡◌, ℕ, ◌+◌, ◌==◌, ◌≤◌, Bool, true, false, List, [], ◌∷◌, Option, Some, None, refl, ap, arith, cond}
 use Rattle.std.specs.Prelude.{⊤}
-use Rattle.hc_types.specs.Tally.{tally, count}
+use Rattle.hc_types.specs.Tally.{count}
 use Rattle.hc_types.specs.FlashEntry.{FlashEntry}
 use Rattle.hc_types.proofs.Tallies.{tally-append}
 use Rattle.hc_memory.specs.Item.{Open, Handle, charge_by}
-use Rattle.hc_memory.specs.Charges.{has_number, closed, is_open}
+use Rattle.hc_memory.specs.Charges.{has_number, closed}
 use Rattle.hc_memory.specs.Memory.{Memory}
 use Rattle.hc_memory.proofs.Making.{closed-less}
 use Rattle.hc_machine.specs.Nvm.{Waiter, Wish, ToFind, ToAdd, adds}

@@ -1,7 +1,7 @@
 -- A charge ends.
-use Rattle.std.proofs.Common.{◌≡◌, ℕ, ◌+◌, ◌≤◌, Bool, true, false, List, [], ◌∷◌, length, Option, Some, None, refl, sym, ap, ◌∙◌, arith}
-use Rattle.hc_memory.specs.Item.{Open, Handle, charge_by}
-use Rattle.hc_memory.specs.Charges.{has_number, charge_at, closed, is_open}
+use Rattle.std.proofs.Common.{◌≡◌, ◌+◌, true, List, length, arith}
+use Rattle.hc_memory.specs.Item.{Open}
+use Rattle.hc_memory.specs.Charges.{closed, is_open}
 use Rattle.hc_memory.proofs.Books.{is_open-found, tally-closed}
 use Rattle.hc_memory.proofs.Linking.{ones}
 

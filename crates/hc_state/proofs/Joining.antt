@@ -1,9 +1,9 @@
 -- One part of a step after another.
-use Rattle.std.proofs.Common.{◌≡◌, ℕ, ◌+◌, ◌∙◌, sym, ap, arith}
+use Rattle.std.proofs.Common.{◌∙◌, ap, arith}
 use Rattle.hc_history.specs.Told.{told_more}
-use Rattle.hc_history.proofs.Telling.{told-twice, told-nothing}
+use Rattle.hc_history.proofs.Telling.{told-twice}
 use Rattle.hc_machine.specs.Cache.{Cache, Told, and_then}
-use Rattle.hc_state.specs.Whole.{Whole, Costs, both, Takes, Does, Stays}
+use Rattle.hc_state.specs.Whole.{Whole, Costs, both, Takes, Does}
 
 pub takes-both : (a b : Costs) (old mid new : Whole) → Takes a old mid → Takes b mid new → Takes (both a b) old new
 takes-both a b old mid new first second = record {

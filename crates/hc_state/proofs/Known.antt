@@ -1,5 +1,5 @@
 -- Which add keeps a charge is told by the fill of the handle's key.
-use Rattle.std.proofs.Common.{◌≡◌, ℕ, ◌+◌, ◌≤◌, ◌==◌, Bool, true, false, not, ◌&&◌, ◌||◌, List, [], ◌∷◌, Option, Some, None, refl, sym, ap, ◌∙◌, subst, arith}
+use Rattle.std.proofs.Common.{◌≡◌, ℕ, ◌≤◌, ◌==◌, Bool, true, false, List, [], ◌∷◌, Option, Some, None, refl, sym, ap, ◌∙◌, subst, arith}
 use Rattle.std.specs.List.{list_any}
 use Rattle.std.specs.Str.{bytes_eq}
 use Rattle.std.proofs.lemmas.Bool.{eqb-true}
@@ -9,9 +9,9 @@ use Rattle.hc_memory.specs.Item.{Open, Handle, charge_by}
 use Rattle.hc_memory.specs.Charges.{is_open, charge_at}
 use Rattle.hc_memory.specs.Memory.{Memory}
 use Rattle.hc_memory.proofs.Books.{is_open-found}
-use Rattle.hc_machine.specs.Nvm.{Nvm, Wish, ToFind, ToAdd, Waiter, Fill, is_fill_of, fill_at, adds, is_kept}
+use Rattle.hc_machine.specs.Nvm.{Nvm, Wish, ToFind, ToAdd, Waiter, Fill, is_fill_of, fill_at, adds}
 use Rattle.hc_machine.specs.Cache.{Cache}
-use Rattle.hc_machine.specs.Calls.{is_kept_in, is_known}
+use Rattle.hc_machine.specs.Calls.{is_kept_in}
 use Rattle.hc_invariant.specs.Jobs.{WishHolds, AllWish, AllWishes}
 use Rattle.hc_invariant.specs.Good.{fills_of}
 use Rattle.hc_invariant.specs.Structure.{Structured}

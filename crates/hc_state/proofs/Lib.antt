@@ -1,9 +1,11 @@
 -- Lemmas.
+pub mod Bare
 pub mod BareEnds
 pub mod Begun
 pub mod Brought
 pub mod Charging
 pub mod Configured
+pub mod Copies
 pub mod Courses
 pub mod Ended
 pub mod Fewer

@@ -1,11 +1,10 @@
 -- The last of the items that calls store is linked for all of them.
-use Rattle.std.proofs.Common.{◌≡◌, ℕ, ◌≤◌, ◌++◌, Bool, true, false, List, [], ◌∷◌, length, Option, Some, None, refl, sym, ap, ◌∙◌, subst, suc}
-use Rattle.std.specs.Prelude.{option_map, option_to_list, ⊤}
-use Rattle.std.specs.List.{AllByRecursion}
+use Rattle.std.proofs.Common.{◌≡◌, ℕ, ◌++◌, Bool, true, false, List, [], ◌∷◌, length, Option, Some, None, refl, sym, ap, ◌∙◌, subst, suc}
+use Rattle.std.specs.Prelude.{option_to_list, ⊤}
 use Rattle.hc_types.specs.FlashEntry.{FlashEntry}
-use Rattle.hc_memory.specs.Item.{Item, Open, Handle, charge_by}
+use Rattle.hc_memory.specs.Item.{Open, Handle, charge_by}
 use Rattle.hc_memory.specs.Charges.{is_open, closed, all_closed}
-use Rattle.hc_memory.specs.Memory.{Memory, linked_at, after_free, after_frees, after_link, after_unlink, early}
+use Rattle.hc_memory.specs.Memory.{Memory, after_frees, after_link, after_unlink, early}
 use Rattle.hc_machine.specs.Nvm.{Waiter, Wish, ToFind, ToAdd}
 use Rattle.hc_machine.specs.Waiting.{live, there_after}
 use Rattle.hc_invariant.specs.Jobs.{WishHolds, AllWish}

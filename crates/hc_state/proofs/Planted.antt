@@ -1,16 +1,15 @@
 -- By a plan a key is inserted or removed as the machine does it, in a cache that is as the machine keeps it.
-use Rattle.std.proofs.Common.{◌≡◌, ℕ, ◌+◌, ◌*◌, ◌≤◌, ◌<◌, ◌++◌, Bool, true, false, List, [], ◌∷◌, length, Option, Some, None, refl, sym, ap, ◌∙◌, subst, suc, arith, cond}
-use Rattle.std.specs.Prelude.{option_map, option_to_list, ⊤}
+use Rattle.std.proofs.Common.{◌≡◌, ℕ, ◌+◌, ◌*◌, ◌≤◌, ◌++◌, Bool, true, false, List, [], ◌∷◌, length, Option, Some, None, refl, sym, ap, ◌∙◌, subst, arith, cond}
+use Rattle.std.specs.Prelude.{option_to_list}
 use Rattle.std.specs.Option.{option_map_or}
 use Rattle.hc_types.specs.FlashEntry.{FlashEntry}
-use Rattle.hc_types.specs.Tally.{tally, count}
+use Rattle.hc_types.specs.Tally.{count}
 use Rattle.hc_types.proofs.Tallies.{tally-append}
-use Rattle.hc_memory.specs.Item.{Item, Open, Handle, charge_by}
+use Rattle.hc_memory.specs.Item.{Open, Handle, charge_by}
 use Rattle.hc_memory.specs.Charges.{has_number, closed, is_open}
 use Rattle.hc_memory.specs.Sound.{Sound}
-use Rattle.hc_memory.specs.Memory.{Memory, linked_at, after_free, after_unmark, after_unlink, early}
+use Rattle.hc_memory.specs.Memory.{Memory, after_free, after_unmark, early}
 use Rattle.hc_memory.proofs.Handing.{known-place}
-use Rattle.hc_memory.proofs.Linking.{ones}
 use Rattle.hc_memory.proofs.Making.{closed-less}
 use Rattle.hc_history.specs.Note.{Note, Op, Reply, Stored, Linked, Did, End, Begin, Lose}
 use Rattle.hc_history.specs.Told.{Heard, told_more, is_log, where_kept}
@@ -19,7 +18,7 @@ use Rattle.hc_machine.specs.Nvm.{Nvm, Waiter, Wish, ToFind, ToAdd, Fill, is_fill
 use Rattle.hc_machine.specs.Leaving.{Changed, unqueue, outdate, bury}
 use Rattle.hc_machine.specs.Cache.{Cache, Told, tells, and_then, behind, with_memory, on_flash, on_flash_of, unmarked_by}
 use Rattle.hc_machine.specs.Calls.{begin, replies_then, store, is_kept_in, is_known}
-use Rattle.hc_machine.specs.Waiting.{entry_of_handle, uproot, end_fill, live, there_after}
+use Rattle.hc_machine.specs.Waiting.{entry_of_handle, uproot, end_fill}
 use Rattle.hc_invariant.specs.Jobs.{WishHolds, AllWish, AllWishes}
 use Rattle.hc_invariant.specs.Good.{fills_of}
 use Rattle.hc_invariant.specs.Structure.{Structured}
@@ -28,11 +27,11 @@ use Rattle.hc_proof_frames.proofs.frames.Fills.{wishes_at}
 use Rattle.hc_proof_frames.proofs.frames.OpenCharges.{wishes_stay}
 use Rattle.hc_proof_calls.proofs.calls.Adds.{unkept_none, and_both}
 use Rattle.hc_state.specs.Chosen.{all_stored_as}
-use Rattle.hc_state.specs.Courses.{AreCourses, AllFit, AllMayFree, ended, all_served_as}
-use Rattle.hc_state.specs.Serving.{all_stored, clear_by, planted_by, ended_by, store_by, unstore_by, stored_with, stored_without, waiters_at, without_calls}
+use Rattle.hc_state.specs.Courses.{AreCourses, AllFit, AllMayFree, ended}
+use Rattle.hc_state.specs.Serving.{all_stored, clear_by, planted_by, ended_by, store_by, unstore_by, waiters_at, without_calls}
 use Rattle.hc_state.specs.Linked.{linked_with, linked_without, removed_early}
 use Rattle.hc_state.specs.Storing.{ended_as, store_as, unstore_as, how_many, CanServe}
-use Rattle.hc_state.specs.Whole.{Whole, Costs, costs, for_notes, both, Does}
+use Rattle.hc_state.specs.Whole.{Whole, costs, both, Does}
 use Rattle.hc_state.specs.declared.serving.Course.{Course}
 use Rattle.hc_state.proofs.Courses.{courses-fit, served-there}
 use Rattle.hc_state.proofs.Ended.{does-at-most, many-then, without-now}

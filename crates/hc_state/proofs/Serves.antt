@@ -1,5 +1,5 @@
 -- Calls that wait are served one after the other: what is left to serve, and what was done, come to all.
-use Rattle.std.proofs.Common.{◌≡◌, ℕ, ◌+◌, ◌*◌, ◌≤◌, Bool, true, List, [], ◌∷◌, length, Option, Some, None, refl, sym, ap, ◌∙◌, subst, arith}
+use Rattle.std.proofs.Common.{◌≡◌, ℕ, ◌+◌, ◌*◌, ◌≤◌, Bool, List, [], ◌∷◌, length, Option, Some, None, refl, sym, ap, ◌∙◌, subst, arith}
 use Rattle.hc_memory.specs.Item.{Handle}
 use Rattle.hc_memory.specs.Memory.{Memory, after_unmark}
 use Rattle.hc_history.specs.Note.{Note, Lose, Linked}

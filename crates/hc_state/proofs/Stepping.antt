@@ -1,29 +1,28 @@
 -- Small calls are the machine's steps.
-use Rattle.std.proofs.Common.{◌≡◌, ◌⊎◌, inl, inr, ℕ, ◌+◌, ◌<◌, ◌≤◌, nat_lt, max, Bool, true, false, not, ◌&&◌, ◌||◌, List, [], ◌∷◌, length, Option, Some, None, if◌then◌else◌, refl, sym, ap, ◌∙◌, subst, arith}
+use Rattle.std.proofs.Common.{◌≡◌, inl, inr, ℕ, ◌+◌, ◌<◌, ◌≤◌, nat_lt, max, Bool, true, false, not, ◌&&◌, List, [], ◌∷◌, length, Option, Some, None, if◌then◌else◌, refl, sym, ap, ◌∙◌, subst, arith}
 use Rattle.std.specs.Prelude.{option_map, is_some, position}
 use Rattle.std.specs.List.{list_any}
-use Rattle.hc_types.specs.declared.refusal.Refusal.{Refusal}
 use Rattle.hc_types.specs.declared.refusal.Refusal.TheVariants.{NoMemory, UnknownCall, NotReady, ForeignHandle}
 use Rattle.hc_memory.specs.Item.{Open, Handle, charge_by}
 use Rattle.hc_memory.specs.Charges.{has_number, is_open, open_at}
 use Rattle.hc_memory.specs.Memory.{Memory, after_free}
 use Rattle.hc_memory.proofs.Books.{found_position, is_open-found}
-use Rattle.hc_history.specs.Note.{Note, Reply, End, Freed, Now}
+use Rattle.hc_history.specs.Note.{Reply, End, Freed, Now}
 use Rattle.hc_history.specs.Told.{told_more}
 use Rattle.hc_history.proofs.Telling.{told-nothing}
 use Rattle.hc_machine.specs.Nvm.{Nvm, Fill, is_fill_of, fill_at, adds}
 use Rattle.hc_machine.specs.Takes as flash
 use Rattle.hc_machine.specs.Takes.{Take, Taken, Reclaiming}
-use Rattle.hc_machine.specs.Cache.{Cache, Moved, Owed, Refused, Discarded, Replied, Moment, Took, Reclaimed, answers, stays, tells, with_memory, owed_at, owed_less, unmarked_by}
+use Rattle.hc_machine.specs.Cache.{Cache, Owed, Refused, Discarded, Replied, Moment, Took, Reclaimed, answers, stays, with_memory, owed_at, owed_less}
 use Rattle.hc_machine.specs.Waiting.{free}
 use Rattle.hc_machine.specs.Calls.{is_kept_in, is_known, discard, take_of, take_reply, tick}
-use Rattle.hc_machine.specs.Workers.{after_take, take_on, writer_take, after_reclaim, reclaim_on, reclaim}
+use Rattle.hc_machine.specs.Workers.{take_on, writer_take, reclaim_on, reclaim}
 use Rattle.hc_invariant.specs.Structure.{Structured}
 use Rattle.hc_replies.specs.Replies.{is_answered}
 use Rattle.hc_waiting.specs.Fills as fills
 use Rattle.hc_nvm.specs.Taking.{IsTaken}
 use Rattle.hc_nvm.specs.Starting.{IsReclaimed}
-use Rattle.hc_state.specs.Answering.{refusal_in, IsReason}
+use Rattle.hc_state.specs.Answering.{IsReason}
 use Rattle.hc_state.specs.Owing.{keeps_in}
 use Rattle.hc_state.specs.Whole.{Whole, IsReady, IsStep}
 use Rattle.hc_state.proofs.Frees.{length-closed}

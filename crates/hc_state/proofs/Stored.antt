@@ -1,15 +1,15 @@
 -- A key is inserted or removed as the machine does it, though its item is linked before anything is told.
-use Rattle.std.proofs.Common.{append-nil, arith, ◌+◌, ◌≡◌, ℕ, ◌≤◌, ◌<◌, ◌++◌, Bool, true, false, not, List, [], ◌∷◌, Option, Some, None, refl, sym, ap, ◌∙◌, subst}
+use Rattle.std.proofs.Common.{append-nil, arith, ◌≡◌, ℕ, ◌≤◌, ◌<◌, Bool, true, false, not, List, [], ◌∷◌, Option, Some, None, refl, sym, ap, ◌∙◌, subst}
 use Rattle.std.specs.Prelude.{option_map}
-use Rattle.std.specs.List.{filter, AllByRecursion}
+use Rattle.std.specs.List.{AllByRecursion}
 use Rattle.std.specs.Option.{option_map_or}
 use mathlib.Core.Bool.{cond}
 use Rattle.hc_types.specs.FlashEntry.{FlashEntry}
 use Rattle.hc_types.specs.Loss.{Scope}
-use Rattle.hc_memory.specs.Item.{Item, Handle, item_by}
-use Rattle.hc_memory.specs.Memory.{Memory, linked_at, unlinked, after_unlink, after_link, after_unmark, early}
+use Rattle.hc_memory.specs.Item.{Item, Handle}
+use Rattle.hc_memory.specs.Memory.{Memory, linked_at, unlinked, after_unlink, after_unmark, early}
 use Rattle.hc_history.specs.Note.{Note, Reply, Stored, Did, End}
-use Rattle.hc_machine.specs.Nvm.{Nvm, Waiter, Fill, is_fill_of, fill_at, without_fill}
+use Rattle.hc_machine.specs.Nvm.{Nvm, Fill, is_fill_of, fill_at, without_fill}
 use Rattle.hc_machine.specs.Nvm.{put_at, is_due}
 use Rattle.hc_engines.specs.pair.Pair.{is_indexed}
 use Rattle.hc_machine.specs.Leaving.{Changed, unqueue, outdate, bury, unindex}
@@ -17,7 +17,7 @@ use Rattle.std.specs.Prelude.{is_some}
 use Rattle.hc_machine.specs.Cache.{Cache, Told, tells, and_then, behind, on_flash, on_flash_of, with_memory, with_nvm}
 use Rattle.hc_machine.specs.Waiting.{clear, plant, uproot, entry_of_handle, serve_fill, end_fill, end_fill_of, serve_all}
 use Rattle.hc_machine.specs.Calls.{replies_then, store}
-use Rattle.hc_memory.specs.Pool.{Pool, is_at, item_at, without}
+use Rattle.hc_memory.specs.Pool.{Pool, without}
 use Rattle.hc_memory.specs.Sound.{items_at}
 use Rattle.hc_memory.proofs.Keyed.{count-none}
 use Rattle.hc_memory.proofs.Linking.{gone}
@@ -25,9 +25,9 @@ use Rattle.hc_memory.proofs.Handing.{length-home}
 use Rattle.hc_memory.proofs.Commuting.{unmark-early, unmark-unlink}
 use Rattle.hc_memory.proofs.Early.{early-same, unlinked-none}
 use Rattle.hc_proof_frames.proofs.fresh.Calming.{fill_key}
-use Rattle.hc_state.specs.Serving.{all_stored, clear_by, planted_by, all_served, waiters_at, without_calls, ended_by, stored_with, stored_without, store_by, unstore_by}
+use Rattle.hc_state.specs.Serving.{all_stored, all_served, waiters_at, without_calls, ended_by, stored_with, stored_without, store_by, unstore_by}
 use Rattle.hc_state.specs.Linked.{removed_early}
-use Rattle.hc_state.proofs.Served.{Fits, AllFit, over, number_at, clear-over, plant-over, stored-keys, served-over, clear-now, fits-clear, fits-link, linked-last}
+use Rattle.hc_state.proofs.Served.{Fits, AllFit, number_at, clear-over, plant-over, stored-keys, served-over, clear-now, fits-clear, fits-link, linked-last}
 
 -- ---- the fill of a key
 

@@ -1,8 +1,7 @@
 -- What a worker's take leaves where no fill ends.
-use Rattle.std.proofs.Common.{◌≡◌, ℕ, List, [], ◌∷◌, ◌++◌, Option, Some, None, refl, sym, ap, ◌∙◌, append-nil, arith}
+use Rattle.std.proofs.Common.{◌≡◌, List, [], ◌∷◌, ◌++◌, Option, Some, None, refl, sym, ap, ◌∙◌, append-nil}
 use Rattle.hc_memory.specs.Memory.{Memory, after_unmark}
 use Rattle.hc_history.specs.Note.{Note, Lose}
-use Rattle.hc_machine.specs.Nvm.{Nvm}
 use Rattle.hc_machine.specs.Takes.{Taken, Filled}
 use Rattle.hc_machine.specs.Cache.{Cache, unmarked_by, takes_in}
 use Rattle.hc_machine.specs.Workers.{fill, after_take}

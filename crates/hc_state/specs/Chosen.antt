@@ -1,7 +1,7 @@
 -- Of the items that calls store, one in place of the other, the last stays: it is linked, and the charges of the others end.
 use Rattle.std.specs.Prelude.{ℕ, List, [], ◌∷◌, ◌++◌, Option, Some, None, option_to_list}
 use Rattle.hc_memory.specs.Item.{Handle}
-use Rattle.hc_machine.specs.Nvm.{Waiter, Wish, ToFind, ToAdd}
+use Rattle.hc_machine.specs.Nvm.{Waiter, Wish, ToAdd}
 use Rattle.hc_state.specs.declared.serving.Course.{Course}
 use Rattle.hc_state.specs.declared.serving.Course.TheVariants.{Store}
 

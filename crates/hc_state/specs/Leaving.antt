@@ -1,5 +1,5 @@
 -- Items leave their pool.
-use Rattle.std.specs.Prelude.{◌≡◌, ℕ, Bool, true, List, [], ◌∷◌, ◌++◌, map, Option, Some, None, is_some}
+use Rattle.std.specs.Prelude.{◌≡◌, ℕ, true, List, [], ◌∷◌, ◌++◌, map, None, is_some}
 use Rattle.hc_memory.specs.Item.{Item}
 use Rattle.hc_history.specs.Note.{Freed, Queued}
 use Rattle.hc_history.specs.Told.{Heard, where_kept}

@@ -3,6 +3,7 @@ pub mod Allocating
 pub mod Answering
 pub mod Bringing
 pub mod Chosen
+pub mod Copying
 pub mod Courses
 pub mod Ends
 pub mod FillEnds

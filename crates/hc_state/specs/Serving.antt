@@ -1,5 +1,5 @@
 -- Calls that wait are answered, and keys cleared, where the items that are to be linked are linked already.
-use Rattle.std.specs.Prelude.{◌≡◌, ℕ, Bool, true, false, List, [], ◌∷◌, ◌++◌, length, Option, Some, None}
+use Rattle.std.specs.Prelude.{ℕ, List, [], ◌∷◌, ◌++◌, Option, Some, None}
 use Rattle.hc_types.specs.FlashEntry.{FlashEntry}
 use Rattle.hc_memory.specs.Item.{Handle}
 use Rattle.hc_history.specs.Note.{Reply, Stored, Exists, Linked}

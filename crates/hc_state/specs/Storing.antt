@@ -1,17 +1,14 @@
 -- A key is inserted or removed by a plan: what the calls that wait for it need was made.
-use Rattle.std.specs.Prelude.{◌≡◌, ℕ, ◌*◌, ◌≤◌, List, [], ◌∷◌, ◌++◌, length, Option, Some, None}
-use Rattle.hc_memory.specs.Item.{Handle}
-use Rattle.hc_memory.specs.Memory.{Memory, after_frees, after_link}
+use Rattle.std.specs.Prelude.{ℕ, List, [], ◌∷◌, length, Option, Some, None}
 use Rattle.hc_history.specs.Note.{Reply, Stored, Linked}
 use Rattle.hc_history.specs.Told.{is_log}
-use Rattle.hc_machine.specs.Nvm.{Nvm, Waiter, Wish, ToFind, ToAdd, Fill, fill_at}
+use Rattle.hc_machine.specs.Nvm.{Nvm, Fill, fill_at}
 use Rattle.hc_machine.specs.Cache.{Cache, Told, tells, and_then}
 use Rattle.hc_machine.specs.Calls.{replies_then}
 use Rattle.hc_state.specs.Serving.{clear_by, waiters_at, without_calls}
 use Rattle.hc_state.specs.Courses.{AllFit, AllMayFree, all_served_as}
-use Rattle.hc_state.specs.Whole.{Whole, Costs, costs}
+use Rattle.hc_state.specs.Whole.{Whole}
 use Rattle.hc_state.specs.declared.serving.Course.{Course}
-use Rattle.hc_state.specs.declared.serving.Course.TheVariants.{Find, Exists, Store}
 
 -- ---- a key's fill ends
 

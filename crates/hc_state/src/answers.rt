@@ -25,6 +25,16 @@ impl<A: Allocator> fmt::Debug for Found<A> {
     }
 }
 
+/// What a find answers that copies the value to a buffer.
+#[derive(Clone, Copy, Debug, PartialEq, Eq)]
+pub enum Copied {
+    /// The key has a value of so many bytes: it stands at the buffer's head, where it fits.
+    Hit(usize),
+    Miss,
+    /// The value may be on flash: the call with this number waits for it, and its reply is taken later.
+    Waiting(u64),
+}
+
 /// What an insert answers.
 #[derive(Clone, Copy, Debug, PartialEq, Eq)]
 pub enum Inserted {

@@ -275,14 +275,14 @@ impl<N: Notes<Note<A>>, A: Allocator + Clone + Copy> State<N, A> {
     }
 
     /// Whether notes are kept.
-    fn keeps_notes(&self) -> bool
+    pub(crate) fn keeps_notes(&self) -> bool
         ensures { result ≡ is_log self.now.log }
     {
         self.notes.keeps()
     }
 
     /// Whether there is flash.
-    fn has_flash(&self) -> bool
+    pub(crate) fn has_flash(&self) -> bool
         ensures { result ≡ is_some self.now.cache.nvm }
     {
         self.nvm.is_some()
@@ -317,7 +317,12 @@ impl<N: Notes<Note<A>>, A: Allocator + Clone + Copy> State<N, A> {
     }
 
     /// A find of a key without an unexpired item, where notes aren't kept. With no flash it is a miss.
-    fn find_beside(&mut self, call: u64, client: u8, key: &Key<A>) -> Result<Found<A>, Refusal>
+    pub(crate) fn find_beside(
+        &mut self,
+        call: u64,
+        client: u8,
+        key: &Key<A>,
+    ) -> Result<Found<A>, Refusal>
         requires room { 1 + length self.old.cache.memory.charges ≤ self.old.notes }
         requires begun { OwesBegun self.old.cache }
         requires call { call ≡ self.old.cache.calls + 1 }

@@ -7,6 +7,7 @@ mod beginning;
 mod bringing;
 mod clearing;
 mod clock;
+mod copying;
 mod discarding;
 mod ending;
 mod ends;
@@ -32,7 +33,7 @@ mod tells;
 mod waiting;
 mod working;
 
-pub use answers::{Found, Inserted, Removed, Unlinked};
+pub use answers::{Copied, Found, Inserted, Removed, Unlinked};
 pub use planning::There;
 pub use serving::Course;
 pub use state::State;

@@ -3,7 +3,9 @@ ghost use Rattle.std.specs.Prelude.{◌≡◌, ◌≤◌, ◌+◌, ◌∷◌, []
 ghost use Rattle.std.specs.Option.{option_copied};
 ghost use Rattle.hc_memory.specs.Item.{charge_by};
 ghost use Rattle.hc_memory.specs.Charges.{is_open};
+ghost use Rattle.hc_memory.specs.Memory.{early};
 ghost use Rattle.hc_invariant.specs.Jobs.{AllWish};
+ghost use Rattle.hc_machine.specs.Cache.{with_memory};
 ghost use Rattle.hc_state.specs.Chosen.{stored_as, all_stored_as, last_of, before_last};
 ghost use Rattle.hc_state.specs.Linked.{linked_with, linked_without, number_at};
 ghost use Rattle.hc_state.specs.Serving.{waiters_at};
@@ -73,6 +75,18 @@ impl<N: Notes<Note<A>>, A: Allocator + Clone + Copy> State<N, A> {
             Some(parked) => Ok(Some(parked.twin()?)),
             None => Ok(None),
         }
+    }
+
+    /// Links the item of a handle that is known, over which none is stored, and answers the charge of the item that the key
+    /// had. Refused only for want of memory: then nothing changed, and the handle comes back.
+    pub(crate) fn link_alone(&mut self, sealed: Sealed<A>) -> Result<Option<u64>, Sealed<A>>
+        requires { is_open (charge_by sealed) self.old.cache.memory.charges ≡ true }
+        ensures ok { OnOk result (self.new ≡ record self.old { cache = with_memory (early (sealed ∷ []) self.old.cache.memory) self.old.cache }) }
+        ensures standing { IfOk result (λ old. old ≡ number_at sealed.key self.old.cache.memory) }
+        ensures err { OnErr result (self.new ≡ self.old) }
+        ensures sealed_returned { IfErr result (λ back. back ≡ sealed) }
+    {
+        self.pools.link_after(&[], sealed)
     }
 
     /// Links the item of a handle that is known, or in its place the last of those that are stored over it, and answers the

@@ -166,6 +166,10 @@ impl<N: Notes<Note<A>>, A: Allocator + Clone + Copy> State<N, A> {
     fn plan_to_clear_for(&self, sealed: &Sealed<A>) -> Result<Clearing<A>, AllocError>
         ensures { IfOk result (λ plan. Clears sealed.now.key (Some (entry_of_handle sealed.now)) self.now plan) }
     {
+        if !self.has_flash() {
+            // no call waits, so that the value isn't shared with any
+            return self.plan_to_clear(sealed.key(), None);
+        }
         let there = There::of_handle(sealed)?;
         self.plan_to_clear(sealed.key(), Some(there))
     }

@@ -75,6 +75,9 @@ impl<N: Notes<Note<A>>, A: Allocator + Clone + Copy> State<N, A> {
         ensures err { OnErr result (self.new ≡ self.old) }
         ensures sealed_returned { IfErr result (λ back. back ≡ sealed) }
     {
+        if courses.is_empty() {
+            return self.link_alone(sealed);
+        }
         match room_for_charges(alloc_of(&self.config), courses.len()) {
             Ok(mut earlier) => {
                 earlier.push_reserved(sealed.number());

@@ -1,8 +1,8 @@
 // A cache answers the same whether its log is kept, counted or not heard, and whether there is flash: nothing leaves memory.
 use crate::fixtures::{FLASH, config, counted};
 use hc_core::{
-    Core, FlashConfig, Found, Inserted, Kept, Listener, Note, Notes, Refusal, Removed, Silent,
-    Stats,
+    Copied, Core, FlashConfig, Found, Inserted, Kept, Listener, Note, Notes, Refusal, Removed,
+    Silent, Stats,
 };
 use std::alloc::Global;
 use std::process::Abort;
@@ -17,6 +17,18 @@ fn is_value(found: &Found) -> bool {
 // What a get answers.
 fn get<N: Notes<Note>>(rt: &impl Abort, core: &mut Core<N>) -> Found {
     core.get(b"k").expect(rt, "there is memory")
+}
+
+// What a get that copies answers, and whether this is in the buffer of dashes then.
+fn copies<N: Notes<Note>, const LEN: usize>(
+    rt: &impl Abort,
+    core: &mut Core<N>,
+    left: &[u8; LEN],
+) -> Copied {
+    let mut buffer = [b'-'; LEN];
+    let copied = core.get_into(b"k", buffer.as_mut_slice());
+    assert!(rt; buffer == *left);
+    copied.expect(rt, "there is memory")
 }
 
 // Stores the value for five seconds, and no other over it.
@@ -38,21 +50,30 @@ fn clear<N: Notes<Note>>(rt: &impl Abort, core: &mut Core<N>) {
 // What these calls count.
 const COUNTS: Stats = Stats {
     stored: 1,
-    hits: 1,
-    misses: 1,
+    hits: 4,
+    misses: 2,
     removes: 1,
     losses: 0,
     reads: 0,
     writes: 0,
 };
 
-// Three calls that succeed, and a get that misses.
+// That the value is found, and copied where it fits.
+fn find_it<N: Notes<Note>>(rt: &impl Abort, core: &mut Core<N>) {
+    assert!(rt; is_value(&get(rt, core)));
+    assert!(rt; copies(rt, core, b"value-") == Copied::Hit(5));
+    assert!(rt; copies(rt, core, b"value") == Copied::Hit(5));
+    assert!(rt; copies(rt, core, b"----") == Copied::Hit(5));
+}
+
+// Calls that succeed, and gets that miss.
 fn use_it<N: Notes<Note>>(rt: &impl Abort, core: &mut Core<N>) {
     store(rt, core);
-    assert!(rt; is_value(&get(rt, core)));
+    find_it(rt, core);
     clear(rt, core);
     assert!(rt; matches!(get(rt, core), Found::Miss));
-    assert!(rt; core.calls() == 4 && core.now() == 5);
+    assert!(rt; copies(rt, core, b"------") == Copied::Miss);
+    assert!(rt; core.calls() == 8 && core.now() == 5);
 }
 
 // That a cache which tells nobody answers.

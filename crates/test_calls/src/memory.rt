@@ -1,6 +1,6 @@
 // What calls take of memory, where the log is counted.
 use crate::fixtures::{FLASH, counted};
-use hc_core::{Core, Counting, FlashConfig, Found};
+use hc_core::{Copied, Core, Counting, FlashConfig, Found};
 use std::alloc::Global;
 use std::process::Abort;
 use test_allocator::Refusing;
@@ -33,6 +33,8 @@ fn assert_hit<'a>(rt: &impl Abort, core: &mut Core<Counting<Heap<'a>>, Heap<'a>>
         Ok(Found::Hit(handle)) => assert!(rt; handle.bytes() == VALUE.as_slice()),
         _ => panic!(rt; "the item is there, and no memory is wanted"),
     }
+    let copied = core.get_into(b"k", [0; 40].as_mut_slice());
+    assert!(rt; copied == Ok(Copied::Hit(40)));
 }
 
 // That a get which hits asks for no memory.
@@ -67,11 +69,11 @@ fn assert_replaced_with<'a>(
 }
 
 #[test]
-fn a_value_is_replaced_with_three_growths(rt: HostRuntime) {
-    assert_replaced_with(&rt, &Refusing::new(rt.alloc(), 0), None, 3);
+fn a_value_is_replaced_with_two_growths(rt: HostRuntime) {
+    assert_replaced_with(&rt, &Refusing::new(rt.alloc(), 0), None, 2);
 }
 
 #[test]
-fn a_value_is_replaced_with_three_growths_with_flash(rt: HostRuntime) {
-    assert_replaced_with(&rt, &Refusing::new(rt.alloc(), 0), FLASH, 3);
+fn a_value_is_replaced_with_two_growths_with_flash(rt: HostRuntime) {
+    assert_replaced_with(&rt, &Refusing::new(rt.alloc(), 0), FLASH, 2);
 }

@@ -1,4 +1,4 @@
-use Rattle.std.proofs.Common.{◌≡◌, ◌≤◌, length, drop}
+use Rattle.std.proofs.Common.{◌≡◌, drop}
 use Rattle.hc_state.specs.Filling.{is_lost as is_lost_seen}
 use Rattle.hc_state.proofs.marking.is_lost.Given as goal
 

@@ -1,8 +1,8 @@
-use Rattle.std.proofs.Common.{◌≡◌, ◌<◌, ◌+◌, List, [], ◌∷◌, length, refl, sym, ap, ◌∙◌, arith, subst}
+use Rattle.std.proofs.Common.{◌≡◌, ◌+◌, List, length, sym, ap, ◌∙◌, arith, subst}
 use Rattle.std.specs.Prelude.{option_map, option_to_list}
 use Rattle.hc_types.specs.Charge.{charge_of}
 use Rattle.hc_memory.specs.Item.{Handle, Item}
-use Rattle.hc_memory.specs.Memory.{victims_of, after_charge, handle_for}
+use Rattle.hc_memory.specs.Memory.{victims_of, handle_for}
 use Rattle.hc_memory.specs.Sound.{Sound}
 use Rattle.hc_memory.specs.Seen.{filled}
 use Rattle.hc_history.specs.Note.{Charged}

@@ -1,4 +1,4 @@
-use Rattle.std.proofs.Common.{◌+◌, ◌*◌, ◌≤◌, length, arith}
+use Rattle.std.proofs.Common.{arith}
 use Rattle.hc_state.proofs.Brought.{arrived-fit, arrived-may-free, arrived-served}
 use Rattle.hc_state.proofs.state.State.end_brought.Goals as goal
 

@@ -1,4 +1,4 @@
-use Rattle.std.proofs.Common.{◌+◌, ◌*◌, length, arith}
+use Rattle.std.proofs.Common.{arith}
 use Rattle.hc_state.proofs.Brought.{arrived}
 use Rattle.hc_state.proofs.state.State.tell_arrived.Goals as goal
 

@@ -1,4 +1,4 @@
-use Rattle.std.proofs.Common.{[], ◌∷◌, None, sym, ap, ◌∙◌}
+use Rattle.std.proofs.Common.{None, sym, ap, ◌∙◌}
 use Rattle.hc_state.specs.Chosen.{all_stored_as, before_last}
 use Rattle.hc_state.specs.Linked.{number_at}
 use Rattle.hc_state.specs.Serving.{waiters_at}
