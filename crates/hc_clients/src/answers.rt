@@ -1,5 +1,4 @@
 // What requests are answered.
-ghost use Rattle.std.specs.Prelude.{◌≡◌};
 
 use crate::closing::write_text;
 use crate::session::Session;

@@ -7,33 +7,55 @@ use hc_threads::{Added, Client, Shared, Unadded};
 use std::alloc::{AllocError, Global};
 use std::sync::Wait;
 
-/// Makes the request, and answers what it came to, once it was answered. An error is want of memory.
+/// What a client asks for.
+#[derive(Clone, Copy)]
+pub(crate) enum Call<'a> {
+    /// The item is stored, in place of the key's item where there is one.
+    Set(NewItem<'a>),
+    /// The item is stored where the key has no unexpired one.
+    Add(NewItem<'a>),
+    Get(&'a [u8]),
+    Del(&'a [u8]),
+}
+
+impl<'a> Call<'a> {
+    /// What a client asks for by the step. `None` where it is the clock's.
+    pub(crate) fn of(step: Step<'a>) -> Option<Call<'a>> {
+        match step {
+            Step::Set(item) => Some(Call::Set(item)),
+            Step::Add(item) => Some(Call::Add(item)),
+            Step::Get(key) => Some(Call::Get(key)),
+            Step::Del(key) => Some(Call::Del(key)),
+            Step::Now(_) => None,
+        }
+    }
+
+    /// The bytes of the key that it is for.
+    pub(crate) fn key(&self) -> &'a [u8] {
+        match self {
+            Call::Set(item) | Call::Add(item) => item.key,
+            Call::Get(key) | Call::Del(key) => *key,
+        }
+    }
+}
+
+/// Makes the call, and answers what it came to, once it was answered. An error is want of memory.
 pub(crate) fn ask<R: Wait>(
     rt: &R,
     alloc: Global,
     shared: &Shared<Kept>,
     client: &mut Client,
-    step: &Step<'_>,
+    call: &Call<'_>,
 ) -> Result<Answer, AllocError> {
-    let key = match key_of(alloc, step) {
+    let key = match Key::new(alloc, call.key()) {
         Ok(key) => key,
         Err(refusal) => return refused(refusal),
     };
-    match step {
-        Step::Set(item) => set(rt, shared, client, key, *item),
-        Step::Add(item) => add(rt, shared, client, key, *item),
-        Step::Get(_) => get(rt, shared, client, &key),
-        Step::Del(_) => delete(rt, shared, client, &key),
-        Step::Now(_) => Ok(Answer::Absent),
-    }
-}
-
-/// The key that the request is for.
-pub(crate) fn key_of(alloc: Global, step: &Step<'_>) -> Result<Key, Refusal> {
-    match step {
-        Step::Set(item) | Step::Add(item) => Key::new(alloc, item.key),
-        Step::Get(key) | Step::Del(key) => Key::new(alloc, key),
-        Step::Now(_) => Err(Refusal::KeyEmpty),
+    match call {
+        Call::Set(item) => set(rt, shared, client, key, *item),
+        Call::Add(item) => add(rt, shared, client, key, *item),
+        Call::Get(_) => get(rt, shared, client, &key),
+        Call::Del(_) => delete(rt, shared, client, &key),
     }
 }
 

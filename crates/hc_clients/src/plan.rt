@@ -1,6 +1,7 @@
 // What a trace asks for.
-ghost use Rattle.std.specs.Prelude.{◌≡◌, ◌<◌, ◌≤◌, length};
+ghost use Rattle.std.specs.Prelude.{◌<◌, length};
 
+use crate::calls::Call;
 use hc_lines::{Line, Order, Step, line_in};
 use hc_types::{Config, FlashConfig, PoolSize};
 use memchr::memchr;
@@ -10,7 +11,7 @@ use std::alloc::{AllocError, Global};
 #[derive(Drop)]
 pub(crate) struct Plan<'a> {
     pub(crate) config: Config,
-    pub(crate) requests: Vec<Step<'a>>,
+    pub(crate) requests: Vec<Call<'a>>,
     is_configured: bool,
 }
 
@@ -102,10 +103,12 @@ impl<'a> Plan<'a> {
     }
 
     fn add_request(&mut self, step: Step<'a>) -> Result<bool, AllocError> {
-        if !self.is_configured || matches!(&step, Step::Now(_)) {
-            return Ok(false);
+        match Call::of(step) {
+            Some(call) if self.is_configured => {
+                self.requests.push(call)?;
+                Ok(true)
+            }
+            _ => Ok(false),
         }
-        self.requests.push(step)?;
-        Ok(true)
     }
 }

@@ -1,14 +1,15 @@
 // The replay.
-ghost use Rattle.std.specs.Prelude.{◌≡◌, ◌≤◌, ◌<◌};
+ghost use Rattle.std.specs.Prelude.{◌≤◌, ◌<◌};
 
 use crate::answers::{in_order, write_answers};
 use crate::closing::{verdict, write_text};
 use crate::plan::{Plan, Unplanned, plan_of};
 use crate::reading::read_all;
 use crate::session::{Session, clients_of, sessions};
-use hc_core::{Config, Core, FlashConfig, Kept, Refusal};
-use hc_flash::{Flash, MemFlash};
+use hc_core::{Core, FlashConfig, Kept, Refusal};
+use hc_flash::Flash;
 use hc_lines::{add_fault, add_refusal};
+use hc_player::new_device;
 use hc_threads::{Client, NoGate, Shared, serve};
 use std::alloc::{AllocError, Global};
 use std::io::{self, Read, Write};
@@ -195,17 +196,4 @@ fn run_clients<T: Threads + Wait + Sync>(
         usize::from(clients),
         &|_, session| session.run(rt, alloc, shared),
     );
-}
-
-/// A device for this flash. Without flash it has no page.
-fn new_device(alloc: Global, flash: Option<FlashConfig>) -> Result<MemFlash, AllocError> {
-    let Some(flash) = flash else {
-        return MemFlash::new(alloc, 0, 0);
-    };
-    let regions = flash.regions.saturating_mul(flash.region_pages);
-    let pages = flash.buckets.saturating_add(regions);
-    match (u32::try_from(pages), usize::try_from(flash.page)) {
-        (Ok(pages), Ok(bytes)) => MemFlash::new(alloc, pages, bytes),
-        _ => Err(AllocError),
-    }
 }

@@ -1,9 +1,9 @@
 // A client with what it is to do.
+ghost use Rattle.std.specs.Prelude.{◌<◌};
 
 use crate::answers::Answer;
-use crate::calls::{ask, key_of};
-use hc_core::{Kept, Refusal};
-use hc_lines::Step;
+use crate::calls::{Call, ask};
+use hc_core::{Kept, Key, Refusal};
 use hc_threads::{Client, Shared};
 use hc_types::hash;
 use std::alloc::{AllocError, Global};
@@ -13,7 +13,7 @@ use std::sync::Wait;
 #[derive(Clone, Copy)]
 pub(crate) struct Request<'a> {
     place: usize,
-    step: Step<'a>,
+    call: Call<'a>,
 }
 
 /// What the request at this place was answered.
@@ -91,7 +91,7 @@ fn make<R: Wait>(
     answers: &mut Vec<Answered>,
 ) -> Result<(), AllocError> {
     answers.reserve(1)?;
-    let answer = ask(rt, alloc, shared, client, &asked.step)?;
+    let answer = ask(rt, alloc, shared, client, &asked.call)?;
     answers.push_reserved(Answered {
         place: asked.place,
         answer,
@@ -106,11 +106,13 @@ pub(crate) fn sessions<'a, R: Wait>(
     alloc: Global,
     shared: &Shared<Kept>,
     count: u8,
-    steps: &[Step<'a>],
-) -> Result<Vec<Session<'a>>, AllocError> {
+    calls: &[Call<'a>],
+) -> Result<Vec<Session<'a>>, AllocError>
+    requires { 0 < count }
+{
     let mut sessions = Vec::new(alloc);
     begin(rt, alloc, shared, count, &mut sessions)?;
-    deal(alloc, count, steps, &mut sessions)?;
+    deal(alloc, count, calls, &mut sessions)?;
     Ok(sessions)
 }
 
@@ -134,22 +136,25 @@ fn begin<R: Wait>(
 fn deal<'a>(
     alloc: Global,
     count: u8,
-    steps: &[Step<'a>],
+    calls: &[Call<'a>],
     sessions: &mut [Session<'a>],
-) -> Result<(), AllocError> {
-    for (place, step) in steps.iter().enumerate() {
-        let number = client_of(alloc, step, count)?;
+) -> Result<(), AllocError>
+    requires { 0 < count }
+{
+    for (place, call) in calls.iter().enumerate() {
+        let number = client_of(alloc, call, count)?;
         if let Some(session) = sessions.get_mut(number) {
-            session.requests.push(Request { place, step: *step })?;
+            session.requests.push(Request { place, call: *call })?;
         }
     }
     Ok(())
 }
 
-fn client_of(alloc: Global, step: &Step<'_>, count: u8) -> Result<usize, AllocError> {
-    match key_of(alloc, step) {
-        Ok(key) if count > 0 => Ok((hash(&key) % u64::from(count)) as usize),
-        Ok(_) => Ok(0),
+fn client_of(alloc: Global, call: &Call<'_>, count: u8) -> Result<usize, AllocError>
+    requires { 0 < count }
+{
+    match Key::new(alloc, call.key()) {
+        Ok(key) => Ok((hash(&key) % u64::from(count)) as usize),
         Err(Refusal::NoMemory) => Err(AllocError),
         Err(_) => Ok(0),
     }

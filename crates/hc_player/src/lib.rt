@@ -9,4 +9,4 @@ mod steps;
 mod working;
 
 pub use answers::Answer;
-pub use player::Player;
+pub use player::{Player, new_device};

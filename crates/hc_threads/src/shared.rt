@@ -210,6 +210,8 @@ impl<N: Notes<Note>> Shared<N> {
                 Ok(Reply::Hit(value)) => return Ok((call, Some(ReadHandle::new(value)))),
                 Ok(_) => return Ok((call, None)),
                 Err(Refusal::NotReady) => held = self.replies.wait(rt, held),
+                // The call's reply is owed until it is taken, which is done here alone: so this isn't `UnknownCall`, and
+                // `NoMemory` is the only other refusal.
                 Err(_) => return Err(Refusal::NoMemory),
             }
         }

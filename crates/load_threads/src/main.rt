@@ -4,8 +4,8 @@
 //! - `load_threads soak SECONDS` does so for so many seconds;
 //! - `load_threads speed` tells what a find costs by the number of clients.
 //!
-//! The status is 0 where all records agreed with their logs and no log told a lie, 1 where one didn't, and 4 where memory or
-//! something else lacked.
+//! The status is 0 where all records agreed with their logs and no log told a lie, 1 where one didn't, 2 for any other command
+//! line, and 4 where memory or something else lacked.
 #![tactic(auto)]
 
 mod cache;
@@ -31,22 +31,32 @@ enum Asked {
     Speed,
 }
 
-fn request<R: Env + AllocGlobal>(rt: &R) -> io::Result<Option<Asked>> {
-    let mut words = env::args(rt)?;
-    let _name = words.next();
-    let Some(what) = words.next() else {
-        return Ok(None);
-    };
-    let count = match words.next() {
-        Some(word) => word.as_str().parse::<u64>().ok(),
-        None => None,
-    };
-    Ok(match (what.as_str(), count) {
-        ("close", Some(count)) => Some(Asked::Close(count)),
-        ("soak", Some(seconds)) => Some(Asked::Soak(seconds)),
-        ("speed", None) => Some(Asked::Speed),
+// What the words of a command line ask for, of which the first is the program's name. None where they are wrong.
+fn request_in(words: &[String]) -> Option<Asked> {
+    match words {
+        [_, what] if what.as_str() == "speed" => Some(Asked::Speed),
+        [_, what, count] => {
+            let count = count.as_str().parse::<u64>().ok()?;
+            match what.as_str() {
+                "close" => Some(Asked::Close(count)),
+                "soak" => Some(Asked::Soak(count)),
+                _ => None,
+            }
+        }
         _ => None,
-    })
+    }
+}
+
+// The same of the program's own command line. One that isn't text is wrong.
+fn request<R: Env + AllocGlobal>(rt: &R) -> io::Result<Option<Asked>> {
+    match env::args(rt) {
+        Ok(words) => {
+            let words: Vec<String> = words.collect(rt.alloc())?;
+            Ok(request_in(&words))
+        }
+        Err(error) if error.kind() == io::ErrorKind::OutOfMemory => Err(error),
+        Err(_) => Ok(None),
+    }
 }
 
 // Closes the cache with this number. Whether all was right; an error where memory lacked.
@@ -98,27 +108,37 @@ fn soak<R: Threads + Wait + Sync + Print + Clock>(
     Ok(true)
 }
 
-fn run<R: Threads + Wait + Sync + Print + Eprint + Clock + Env + AllocGlobal>(
+// Does what is asked for. Whether all was right.
+fn perform<R: Threads + Wait + Sync + Print + Clock>(
     rt: &R,
+    alloc: Global,
+    asked: Asked,
 ) -> io::Result<bool> {
-    match request(rt)? {
-        Some(Asked::Close(count)) => close_many(rt, rt.alloc(), count),
-        Some(Asked::Soak(seconds)) => soak(rt, rt.alloc(), seconds),
-        Some(Asked::Speed) => {
-            print_speeds(rt, rt.alloc())?;
+    match asked {
+        Asked::Close(count) => close_many(rt, alloc, count),
+        Asked::Soak(seconds) => soak(rt, alloc, seconds),
+        Asked::Speed => {
+            print_speeds(rt, alloc)?;
             Ok(true)
-        }
-        None => {
-            eprintln!(rt; "usage: load_threads close COUNT | soak SECONDS | speed")?;
-            Ok(false)
         }
     }
 }
 
-fn main(rt: HostRuntime) -> ExitCode {
-    match run(&rt) {
-        Ok(true) => ExitCode::SUCCESS,
-        Ok(false) => ExitCode::FAILURE,
-        Err(_) => ExitCode::from(4),
+fn run<R: Threads + Wait + Sync + Print + Eprint + Clock + Env + AllocGlobal>(rt: &R) -> u8 {
+    match request(rt) {
+        Ok(Some(asked)) => match perform(rt, rt.alloc(), asked) {
+            Ok(true) => 0,
+            Ok(false) => 1,
+            Err(_) => 4,
+        },
+        Ok(None) => {
+            let _ = eprintln!(rt; "usage: load_threads close COUNT | soak SECONDS | speed");
+            2
+        }
+        Err(_) => 4,
     }
+}
+
+fn main(rt: HostRuntime) -> ExitCode {
+    ExitCode::from(run(&rt))
 }

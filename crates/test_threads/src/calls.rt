@@ -1,7 +1,7 @@
 // Calls of a client that are to succeed.
 
 use crate::stage::Scene;
-use hc_core::{Fill, Key, ReadHandle, Sealed};
+use hc_core::{Fill, Key, ReadHandle, Removed, Sealed};
 use hc_threads::Client;
 use std::alloc::Global;
 use std::process::Abort;
@@ -72,7 +72,7 @@ pub fn holds<R: Abort + Wait>(
     }
 }
 
-/// Whether the key was removed.
+/// Removes what the key has. Whether an item was in memory.
 pub fn is_removed<R: Abort + Wait>(
     rt: &R,
     scene: &Scene<'_>,
@@ -80,5 +80,5 @@ pub fn is_removed<R: Abort + Wait>(
     name: &[u8],
 ) -> bool {
     let key = key(rt, scene.alloc, name);
-    client.remove(rt, scene.shared, &key).is_ok()
+    client.remove(rt, scene.shared, &key) == Ok(Removed::FoundInMemory)
 }

@@ -42,7 +42,8 @@ fn back(rt: &impl Abort, unadded: Unadded) -> Sealed {
 fn is_added<R: Abort + Wait>(rt: &R, scene: &Scene<'_>, client: &mut Client) -> bool {
     let sealed = sealed(rt, scene, client, b"a", b"1");
     match client.insert(rt, scene.shared, sealed) {
-        Ok(added) => added == Added::Stored,
+        Ok(Added::Stored) => true,
+        Ok(Added::Exists) => panic!(rt; "it doesn't wait"),
         Err(unadded) => {
             give_up(rt, scene, client, back(rt, unadded));
             false

@@ -1,7 +1,7 @@
 // A read that is answered with what nobody wrote.
 
 use bytes::Bytes;
-use hc_core::{Core, Found, IoResult, Kept, Take};
+use hc_core::{Core, Found, IoResult, Kept, Order, Take};
 use std::alloc::Global;
 use std::process::Abort;
 
@@ -19,10 +19,10 @@ fn find_on_flash(rt: &impl Abort, core: &mut Core<Kept>) {
     }
 }
 
-// The filler's job.
+// The filler's job, which reads the bucket.
 fn job(rt: &impl Abort, core: &mut Core<Kept>) -> u64 {
     match core.filler_take() {
-        Ok(Take::Work(job, _)) => job,
+        Ok(Take::Work(job, Order::Read(0))) => job,
         _ => panic!(rt; "a key is to be brought"),
     }
 }
@@ -33,7 +33,7 @@ pub fn answer_zeros(rt: &impl Abort, alloc: Global, core: &mut Core<Kept>) {
     let job = job(rt, core);
     let zeros = zeros(rt, alloc);
     match core.finish(job, IoResult::Page(zeros)) {
-        Ok(_) => {}
-        Err(_) => panic!(rt; "a page is to be read"),
+        Ok(Take::Finished) => {}
+        _ => panic!(rt; "the job is over"),
     }
 }

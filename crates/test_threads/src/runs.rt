@@ -48,7 +48,12 @@ fn each_of_64_clients_finds_what_it_set(rt: HostRuntime) {
     assert!(&rt; is_full(&rt, rt.alloc(), &played));
     let verdict = legal(&rt, played);
     assert!(&rt; verdict.ends == 6_400);
-    assert!(&rt; verdict.stats.stored == 3_200 && verdict.stats.hits == 3_200);
+    let want = Stats {
+        stored: 3_200,
+        hits: 3_200,
+        ..Stats::default()
+    };
+    assert!(&rt; verdict.stats == want);
 }
 
 // What the calls of four clients count.
@@ -84,7 +89,11 @@ fn a_forgotten_reply_is_a_mismatch(rt: HostRuntime) {
 #[test]
 fn handles_come_back(rt: HostRuntime) {
     let played = wide(&rt, rt.alloc(), Script::Handles, 1);
-    assert!(&rt; legal(&rt, played).stats.stored == 1);
+    let want = Stats {
+        stored: 1,
+        ..Stats::default()
+    };
+    assert!(&rt; legal(&rt, played).stats == want);
 }
 
 #[test]
@@ -123,7 +132,13 @@ fn each_failure_is_counted(rt: HostRuntime) {
     let played = narrow(&rt, rt.alloc(), Script::Spill, 1);
     assert!(&rt; played.failures == 1);
     let verdict = closed(played, 1).expect(&rt, "the records agree");
-    assert!(&rt; verdict.lie.is_none() && verdict.stats.losses == 1);
+    let want = Stats {
+        stored: 2,
+        losses: 1,
+        writes: 1,
+        ..Stats::default()
+    };
+    assert!(&rt; verdict.lie.is_none() && verdict.stats == want);
 }
 
 #[test]
