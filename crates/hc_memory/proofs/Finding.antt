@@ -1,16 +1,23 @@
 -- What a find does to the pools.
-use Rattle.std.proofs.Common.{◌≡◌, ℕ, true, List, Option, Some, None, refl, ap, sym, subst, ◌∙◌, is_some, slice_set, get_or}
+use Rattle.std.proofs.Common.{◌≡◌, ℕ, ◌+◌, ◌<◌, ◌≤◌, true, List, Option, Some, None, refl, ap, sym, subst, ◌∙◌, arith, is_some, length, drop, slice_set, get_or}
 use Rattle.std.specs.Prelude.{option_map, IfSome}
-use Rattle.hc_memory.specs.Item.{Item, Open}
-use Rattle.hc_memory.specs.Pool.{Pool, item_at, used, unexpired}
-use Rattle.hc_memory.specs.Memory.{home_of, value_at, change_home}
-use Rattle.hc_memory.specs.Sound.{Sound}
-use Rattle.hc_memory.proofs.Homes.{home, away}
-use Rattle.hc_memory.proofs.Keyed.{unexpired-some, unexpired-none}
-use Rattle.hc_memory.proofs.Linking.{sound-home, shrinks-used}
-use Rattle.hc_memory.proofs.Making.{at-home}
 use Rattle.std.proofs.lemmas.List.{set-get_or}
 use Rattle.std.proofs.lemmas.Option.{get_or_from_slice_get}
+use Rattle.hc_types.specs.Tally.{tally}
+use Rattle.hc_types.specs.declared.config.FlashConfig.{FlashConfig}
+use Rattle.hc_types.proofs.Tallies.{tally-push}
+use Rattle.hc_memory.specs.Item.{Item, Open}
+use Rattle.hc_memory.specs.Pool.{Pool, item_at, without, used, unexpired, value_then}
+use Rattle.hc_memory.specs.Memory.{home_of, value_at, copied, change_home, used_in}
+use Rattle.hc_memory.specs.Clean.{Listing, Listed}
+use Rattle.hc_memory.specs.Sound.{Sound}
+use Rattle.hc_memory.proofs.Homes.{home, away}
+use Rattle.hc_memory.proofs.Looking.{passed, arrived}
+use Rattle.hc_memory.proofs.Keyed.{mapped-none, is_some-mapped, tally-without, unexpired-some, unexpired-none}
+use Rattle.hc_memory.proofs.Linking.{sound-home, shrinks-used, unexpired-is}
+use Rattle.hc_memory.proofs.Making.{at-home}
+use Rattle.hc_memory.proofs.Handing.{untouched}
+use Rattle.hc_memory.proofs.Listing.{listed-set}
 
 -- ---- what is there, and the number of its pool
 
@@ -52,3 +59,60 @@ missed_step key now pools (Some i) e miss =
 -- an expired item stays where it is
 pub missed : (key : List ℕ) (now : ℕ) (pools : List Pool) → None ≡ value_at now key pools → change_home key (uses key now) pools ≡ pools
 missed key now pools miss = missed_step key now pools (home_of key pools) refl miss
+
+-- ---- one pool after the other
+
+-- this pool has the item
+pub record Here (key : List ℕ) (now : ℕ) (old after : List Pool) (buffer filled : List ℕ) (found : Option ℕ) : Type 0 where
+  pub value : found ≡ option_map length (value_at now key old)
+  pub copy : filled ≡ copied (value_at now key old) buffer
+  pub pools : after ≡ used_in now key old
+
+length_step : (now : ℕ) (o : Option Item) (found : Option ℕ) → Some found ≡ option_map (λ (x : Item). option_map length (value_then now (Some x))) o → found ≡ option_map length (value_then now o)
+length_step now None found e = absurd cc
+length_step now (Some x) found e = cc
+
+pub here : (key : List ℕ) (now : ℕ) (old pools : List Pool) (i : ℕ) (there new : Pool) (buffer filled : List ℕ) (found : Option ℕ) → pools ≡ old → i < length old → there ≡ get_or pools i there → Some found ≡ option_map (λ (x : Item). option_map length (value_then now (Some x))) (item_at key there.items)
+    → filled ≡ copied (value_then now (item_at key there.items)) buffer → new ≡ uses key now there → option_map (λ n. i + n) (home_of key (drop i old)) ≡ home_of key old → Here key now old (slice_set pools i new) buffer filled found
+here key now old pools i there new buffer filled found same lt read value fill is so =
+    let read' = read ∙ ap (λ ps. get_or ps i there) same in
+    let holds = sym (is_some-mapped (λ (x : Item). option_map length (value_then now (Some x))) (item_at key there.items)) ∙ sym (ap is_some value) in
+    let h = at-home key old i there new (uses key now) (sym (arrived key old i there lt read' holds so)) read' is in
+    record {
+      value = length_step now (item_at key there.items) found value ∙ ap (λ o. option_map length (value_then now o)) h.item;
+      copy = fill ∙ ap (λ o. copied (value_then now o) buffer) h.item;
+      pools = ap (λ ps. slice_set ps i new) same ∙ h.set;
+    }
+
+-- this pool has none
+pub record Elsewhere (key : List ℕ) (old after : List Pool) (i : ℕ) (buffer filled : List ℕ) : Type 0 where
+  pub same : after ≡ old
+  pub rest : option_map (λ n. (i + 1) + n) (home_of key (drop (i + 1) old)) ≡ home_of key old
+  pub same_buffer : filled ≡ buffer
+
+pub elsewhere : (key : List ℕ) (now : ℕ) (old pools : List Pool) (i : ℕ) (there new : Pool) (buffer filled : List ℕ) → pools ≡ old → i < length old → there ≡ get_or pools i there → None ≡ option_map (λ (x : Item). option_map length (value_then now (Some x))) (item_at key there.items)
+    → filled ≡ copied (value_then now (item_at key there.items)) buffer → new ≡ uses key now there → option_map (λ n. i + n) (home_of key (drop i old)) ≡ home_of key old → Elsewhere key old (slice_set pools i new) i buffer filled
+elsewhere key now old pools i there new buffer filled same lt read value fill is so =
+    let none = mapped-none (λ (x : Item). option_map length (value_then now (Some x))) (item_at key there.items) (sym value) in
+    let stays : new ≡ there = is ∙ (λ j. record { size = there.size; items = used key (unexpired now (none j)) there.items }) in
+    record {
+      same = untouched pools i there new (omega (arith, lt, ap length same)) read stays ∙ same;
+      rest = passed key old i there lt (read ∙ ap (λ ps. get_or ps i there) same) (ap is_some none) so;
+      same_buffer = fill ∙ ap (λ o. copied (value_then now o) buffer) none;
+    }
+
+-- ---- all pools
+
+tally-unexpired : (f : Item → ℕ) (key : List ℕ) (now : ℕ) (items : List Item) (o : Option Item) → unexpired now (item_at key items) ≡ o → tally f (used key o items) ≤ tally f items
+tally-unexpired f key now items None e = omega arith
+tally-unexpired f key now items (Some x) e = omega (arith, tally-push f (without key items) x, tally-without f key items x (unexpired-is now (item_at key items) x e))
+
+home_listed : (flash : Option FlashConfig) (listing : Listing) (key : List ℕ) (now : ℕ) (pools : List Pool) (o : Option ℕ) → home_of key pools ≡ o → Listed flash listing pools → Listed flash listing (used_in now key pools)
+home_listed flash listing key now pools None e l = rw ((away key pools e).change (uses key now)) l
+home_listed flash listing key now pools (Some i) e l =
+    let h = home key pools i e in
+    rw (h.change (uses key now)) (listed-set flash listing pools i h.pool (uses key now h.pool) l h.found (λ f. tally-unexpired f key now h.pool.items (unexpired now (item_at key h.pool.items)) refl))
+
+-- what is listed is so after a find
+pub listed-find : (flash : Option FlashConfig) (listing : Listing) (key : List ℕ) (now : ℕ) (pools : List Pool) → Listed flash listing pools → Listed flash listing (used_in now key pools)
+listed-find flash listing key now pools l = home_listed flash listing key now pools (home_of key pools) refl l

@@ -1,5 +1,5 @@
 -- The item under a key, and sums over items.
-use Rattle.std.proofs.Common.{◌≡◌, ℕ, ◌+◌, ◌++◌, Bool, true, false, List, [], ◌∷◌, Option, Some, None, is_some, Bor, refl, ap, arith, subst}
+use Rattle.std.proofs.Common.{◌≡◌, ℕ, ◌+◌, ◌≤◌, ◌++◌, Bool, true, false, List, [], ◌∷◌, Option, Some, None, is_some, Bor, refl, ap, arith, subst}
 use mathlib.Core.Bool.{cond}
 use Rattle.std.specs.Option.{option_map, option_copied}
 use Rattle.std.specs.Str.{bytes_eq}
@@ -7,7 +7,7 @@ use Rattle.std.proofs.lemmas.Slice.Eq.{bytes_eq-Decides}
 use Rattle.hc_types.specs.Tally.{tally, count}
 use Rattle.hc_types.proofs.Tallies.{tally-push}
 use Rattle.hc_memory.specs.Item.{Item}
-use Rattle.hc_memory.specs.Pool.{is_at, item_at, without, used, is_expired, unexpired, unmarked_where}
+use Rattle.hc_memory.specs.Pool.{is_at, item_at, without, used, is_expired, unexpired, value_then, unmarked_where}
 
 -- what is nothing under a function is nothing
 pub mapped-none : {X Y : Type 0} (f : X → Y) (o : Option X) → option_map f o ≡ None → o ≡ None
@@ -22,6 +22,10 @@ copied-map f (Some x) = refl
 pub is_some-mapped : {X Y : Type 0} (f : X → Y) (o : Option X) → is_some (option_map f o) ≡ is_some o
 is_some-mapped f None = refl
 is_some-mapped f (Some x) = refl
+
+pub none_of : {X : Type 0} (o : Option X) → is_some o ≡ false → o ≡ None
+none_of None none = refl
+none_of (Some x) none = cc
 
 -- keys that are alike are one
 pub same_bytes : (a b : List ℕ) → bytes_eq a b ≡ true → a ≡ b
@@ -53,6 +57,14 @@ absent_step key y items false h none = ap (λ ys. y ∷ ys) (h none)
 pub without-none : (key : List ℕ) (items : List Item) → item_at key items ≡ None → without key items ≡ items
 without-none key [] none = refl
 without-none key (y ∷ items) none = absent_step key y items (is_at key y) (without-none key items) none
+
+less_step : (f : Item → ℕ) (key : List ℕ) (items : List Item) (o : Option Item) → item_at key items ≡ o → tally f (without key items) ≤ tally f items
+less_step f key items None e = rw (without-none key items e) (omega arith)
+less_step f key items (Some x) e = omega (arith, tally-without f key items x e)
+
+-- taking out the item under a key leaves no more
+pub less-without : (f : Item → ℕ) (key : List ℕ) (items : List Item) → tally f (without key items) ≤ tally f items
+less-without f key items = less_step f key items (item_at key items) refl
 
 uncounted_step : (key : List ℕ) (y : Item) (items : List Item) (b : Bool) → (count (is_at key) items ≡ 0 → item_at key items ≡ None) → cond b 1 0 + count (is_at key) items ≡ 0 → cond b (Some y) (item_at key items) ≡ None
 uncounted_step key y items true h none = absurd (omega arith)
@@ -102,10 +114,6 @@ tally-used f key items = used_step f key items (item_at key items) refl
 
 -- ---- what is expired
 
--- the value, if it isn't expired
-abbrev pub value_then : ℕ → Option Item → Option (List ℕ)
-value_then now o = option_map (λ (i : Item). i.value) (unexpired now o)
-
 pub value-fresh : (now : ℕ) (x : Item) → is_expired now x ≡ false → value_then now (Some x) ≡ Some x.value
 value-fresh now x e = ap (λ b. option_map (λ (i : Item). i.value) (cond b None (Some x))) e
 
@@ -121,12 +129,8 @@ pub unexpired-some : (now : ℕ) (o : Option Item) → is_some (value_then now o
 unexpired-some now None some = refl
 unexpired-some now (Some x) some = whole_step x (is_expired now x) some
 
-none_step : (o : Option Item) → is_some (option_map (λ (i : Item). i.value) o) ≡ false → o ≡ None
-none_step None none = refl
-none_step (Some x) none = cc
-
 pub unexpired-none : (now : ℕ) (o : Option Item) → is_some (value_then now o) ≡ false → unexpired now o ≡ None
-unexpired-none now o none = none_step (unexpired now o) none
+unexpired-none now o none = mapped-none (λ (i : Item). i.value) (unexpired now o) (none_of (value_then now o) none)
 
 -- ---- marks
 

@@ -16,6 +16,7 @@ pub mod Few
 pub mod Finding
 pub mod Grouped
 pub mod Listing
+pub mod Fresh
 pub mod Ending
 pub mod Commuting
 pub mod Early

@@ -16,7 +16,7 @@ use Rattle.hc_memory.specs.Pool.{Pool, item_at, without, used, is_at}
 use Rattle.hc_memory.specs.Memory.{empty_pool, home_of, change_at, unlinked}
 use Rattle.hc_memory.specs.Clean.{Listing, keys_at, has_key, with_key, is_listed, is_missed, Listed}
 use Rattle.hc_memory.proofs.Homes.{home, away}
-use Rattle.hc_memory.proofs.Keyed.{tally-without, without-none, tally-used}
+use Rattle.hc_memory.proofs.Keyed.{less-without, tally-used}
 
 -- ---- one key more
 
@@ -58,15 +58,11 @@ set-less f pools i old new at less = omega (arith, less, tally-set (λ (pool : P
 pub listed-set : (flash : Option FlashConfig) (listing : Listing) (pools : List Pool) (i : ℕ) (old new : Pool) → Listed flash listing pools → slice_get pools i ≡ Some old → ((f : Item → ℕ) → tally f new.items ≤ tally f old.items) → Listed flash listing (slice_set pools i new)
 listed-set flash listing pools i old new l at less = omega (arith, l, set-less (one flash listing) pools i old new at (less (one flash listing)))
 
-less-without : (f : Item → ℕ) (key : List ℕ) (items : List Item) (o : Option Item) → item_at key items ≡ o → tally f (without key items) ≤ tally f items
-less-without f key items None e = rw (without-none key items e) (omega arith)
-less-without f key items (Some x) e = omega (arith, tally-without f key items x e)
-
 home_less : (f : Item → ℕ) (key : List ℕ) (pools : List Pool) (o : Option ℕ) → home_of key pools ≡ o → all f (unlinked key pools) ≤ all f pools
 home_less f key pools None e = rw ((away key pools e).change (λ pool. record pool { items = without key pool.items })) (omega arith)
 home_less f key pools (Some i) e =
     let h = home key pools i e in
-    rw (h.change (λ pool. record pool { items = without key pool.items })) (set-less f pools i h.pool (record h.pool { items = without key h.pool.items }) h.found (less-without f key h.pool.items (item_at key h.pool.items) refl))
+    rw (h.change (λ pool. record pool { items = without key pool.items })) (set-less f pools i h.pool (record h.pool { items = without key h.pool.items }) h.found (less-without f key h.pool.items))
 
 pub listed-unlinked : (flash : Option FlashConfig) (listing : Listing) (key : List ℕ) (pools : List Pool) → Listed flash listing pools → Listed flash listing (unlinked key pools)
 listed-unlinked flash listing key pools l = omega (arith, l, home_less (one flash listing) key pools (home_of key pools) refl)

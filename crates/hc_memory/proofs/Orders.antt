@@ -1,5 +1,5 @@
 -- The items of a pool against the entries of its map, which stand the other way round.
-use Rattle.std.proofs.Common.{◌≡◌, ℕ, ◌+◌, ◌-◌, ◌<◌, ◌≤◌, ◌++◌, Bool, true, false, List, [], ◌∷◌, length, take, reverse, Option, Some, None, refl, ap, sym, ◌∙◌, arith, subst, is_some, length-append}
+use Rattle.std.proofs.Common.{◌≡◌, ℕ, ◌+◌, ◌-◌, ◌<◌, ◌≤◌, ◌++◌, Bool, true, false, List, [], ◌∷◌, length, take, reverse, Option, Some, None, refl, ap, sym, ◌∙◌, arith, subst, is_some, slice_get, length-append}
 use Rattle.std.specs.List.{AllByRecursion, IsDistinct}
 use Rattle.std.specs.Option.{option_map, option_map_or}
 use Rattle.std.specs.Map.{keys_of, lookup, lookup_entry, remove_entry, set_value}
@@ -83,6 +83,22 @@ module _ {A : Type 0} where
   -- the entry that goes first is the item that is used
   pub items_of-promoted : (key : List ℕ) (es : List (List ℕ × Held A)) → count (is_at key) (items_of es) ≤ 1 → items_of (promoted (bytes_eq key) es) ≡ used key (item_at key (items_of es)) (items_of es)
   items_of-promoted key es one = promoted_step key es (lookup_entry (bytes_eq key) es) (items_of-remove key es one) ∙ ap (λ o. used key o (items_of es)) (sym (item_at-entry key es one))
+
+  first_step : (found : Option Item) (es rest : List (List ℕ × Held A)) (o : Option (List ℕ × Held A)) (k : List ℕ) (h : Held A) → found ≡ option_map item_of o → is_some found ≡ true → Some (k, h) ≡ slice_get (option_map_or (λ e. e ∷ rest) o es) 0 → found ≡ Some (item_of (k, h))
+  first_step found es rest None k h is some first = absurd (let none : is_some found ≡ false = ap is_some is in cc)
+  first_step found es rest (Some e) k h is some first = is ∙ ap (option_map item_of) (sym first)
+
+  -- the first entry is then the key's
+  pub promoted-first : (key : List ℕ) (es : List (List ℕ × Held A)) (k : List ℕ) (h : Held A) → count (is_at key) (items_of es) ≤ 1 → is_some (item_at key (items_of es)) ≡ true → Some (k, h) ≡ slice_get (promoted (bytes_eq key) es) 0 → item_at key (items_of es) ≡ Some (item_of (k, h))
+  promoted-first key es k h one some first = first_step (item_at key (items_of es)) es (remove_entry (bytes_eq key) es) (lookup_entry (bytes_eq key) es) k h (item_at-entry key es one) some first
+
+  there_first : (found : Option Item) (es rest : List (List ℕ × Held A)) (o : Option (List ℕ × Held A)) → found ≡ option_map item_of o → is_some found ≡ true → None ≡ slice_get (option_map_or (λ e. e ∷ rest) o es) 0 → ⊥
+  there_first found es rest None is some first = absurd (let none : is_some found ≡ false = ap is_some is in cc)
+  there_first found es rest (Some e) is some first = absurd cc
+
+  -- there is one
+  pub promoted-there : (key : List ℕ) (es : List (List ℕ × Held A)) → count (is_at key) (items_of es) ≤ 1 → is_some (item_at key (items_of es)) ≡ true → None ≡ slice_get (promoted (bytes_eq key) es) 0 → ⊥
+  promoted-there key es one some first = there_first (item_at key (items_of es)) es (remove_entry (bytes_eq key) es) (lookup_entry (bytes_eq key) es) (item_at-entry key es one) some first
 
   -- ---- values
 

@@ -8,7 +8,7 @@ use Rattle.hc_types.specs.declared.config.FlashConfig.{FlashConfig}
 use Rattle.hc_types.specs.declared.config.PoolSize.{PoolSize}
 use Rattle.hc_memory.specs.declared.usage.PoolUsage.{PoolUsage}
 use Rattle.hc_memory.specs.Item.{Item, Open, Handle, item_by}
-use Rattle.hc_memory.specs.Pool.{Pool, linked_usage, item_at, without, used, is_full, kept, dropped, unexpired, unmarked_where}
+use Rattle.hc_memory.specs.Pool.{Pool, linked_usage, item_at, without, used, is_full, kept, dropped, unexpired, value_then, unmarked_where}
 use Rattle.hc_memory.specs.Charges.{usage_of, closed, all_closed}
 
 -- The pools, the one with the number 0 first; the charges that are open; how many charges were made; and the flash
@@ -127,7 +127,7 @@ early (handle ∷ next ∷ handles) memory = early (next ∷ handles) (after_fre
 
 -- the value that a find answers
 abbrev pub value_at : ℕ → List ℕ → List Pool → Option (List ℕ)
-value_at now key pools = option_map (λ (item : Item). item.value) (unexpired now (linked_at key pools))
+value_at now key pools = value_then now (linked_at key pools)
 
 -- a buffer to whose head a value was copied, where there is one and it fits
 abbrev pub copied : Option (List ℕ) → List ℕ → List ℕ
@@ -135,10 +135,11 @@ copied None buffer = buffer
 copied (Some value) buffer = if nat_le (length value) (length buffer) then value ++ drop (length value) buffer else buffer
 
 -- an unexpired item that is found is the one that was used last
+abbrev pub used_in : ℕ → List ℕ → List Pool → List Pool
+used_in now key pools = change_home key (λ pool. record pool { items = used key (unexpired now (item_at key pool.items)) pool.items }) pools
+
 abbrev pub after_find : Memory → ℕ → List ℕ → Memory
-after_find memory now key = record memory {
-  pools = change_home key (λ pool. record pool { items = used key (unexpired now (item_at key pool.items)) pool.items }) memory.pools;
-}
+after_find memory now key = record memory { pools = used_in now key memory.pools }
 
 -- the items that a scope covers lose their clean mark
 abbrev pub all_unmarked : Option FlashConfig → loss.Scope → List Pool → List Pool

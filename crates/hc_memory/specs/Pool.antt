@@ -1,5 +1,5 @@
 -- One pool: its items in the order of their use, and who goes where room is made.
-use Rattle.std.specs.Prelude.{ℕ, ◌+◌, ◌==◌, nat_lt, Bool, false, not, ◌&&◌, ◌||◌, List, [], ◌∷◌, ◌++◌, map, length, Option, Some, None, if◌then◌else◌}
+use Rattle.std.specs.Prelude.{ℕ, ◌+◌, ◌==◌, nat_lt, Bool, false, not, ◌&&◌, ◌||◌, List, [], ◌∷◌, ◌++◌, map, length, Option, Some, None, option_map, if◌then◌else◌}
 use Rattle.std.specs.Str.{bytes_eq}
 use Rattle.hc_types.specs.Tally.{tally}
 use Rattle.hc_types.specs.Loss.{Scope, covers}
@@ -65,6 +65,10 @@ is_expired now item = not (item.expiry == 0) && not (nat_lt now item.expiry)
 abbrev pub unexpired : ℕ → Option Item → Option Item
 unexpired now None = None
 unexpired now (Some item) = if is_expired now item then None else Some item
+
+-- its value
+abbrev pub value_then : ℕ → Option Item → Option (List ℕ)
+value_then now item = option_map (λ (i : Item). i.value) (unexpired now item)
 
 -- the items, those that pass without their clean mark
 abbrev pub unmarked_where : (Item → Bool) → List Item → List Item

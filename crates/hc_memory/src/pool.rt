@@ -4,7 +4,8 @@ ghost use Rattle.std.specs.Option.{option_map_or};
 ghost use Rattle.lru.specs.LruCache.{lru_cache, last_entry};
 ghost use Rattle.hc_types.specs.Loss.{scope_of};
 ghost use Rattle.hc_memory.specs.Item.{cost as item_cost};
-ghost use Rattle.hc_memory.specs.Pool.{bytes_of, linked_usage, is_at, item_at, without, used, unmarked_where, is_covered, is_covered_at, is_full, kept, dropped};
+ghost use Rattle.hc_memory.specs.Pool.{bytes_of, linked_usage, is_at, item_at, without, used, unmarked_where, is_covered, is_covered_at, is_full, kept, dropped, is_expired, unexpired, value_then};
+ghost use Rattle.hc_memory.specs.Memory.{copied};
 ghost use Rattle.hc_memory.specs.Seen.{item_of};
 
 use crate::item::{Held, Item, expired};
@@ -40,19 +41,22 @@ pub struct Pool<A: Allocator = Global> {
     cache: LruCache<Key<A>, Held<A>, DefaultHasher, A>,
     // what its items are charged
     bytes: u64,
+    // a second at which none of its items is expired yet
+    fresh_until: u64,
     size: PoolSize,
 }
 
 impl<A: Allocator> Model for Pool<A> {
     ghost use Rattle.std.specs.Prelude.{◌≡◌, ◌-◌, ◌≤◌, ◌^◌};
-    ghost use Rattle.hc_memory.specs.Pool.{Pool as Order, bytes_of};
+    ghost use Rattle.hc_types.specs.Tally.{count};
+    ghost use Rattle.hc_memory.specs.Pool.{Pool as Order, bytes_of, is_expired};
     ghost use Rattle.hc_memory.specs.Seen.{items_of};
 
     ghost Value = { Order };
 
     ghost view = { λ p. record { size = p.size; items = items_of p.cache.entries } };
 
-    ghost invariant = { λ p. (p.bytes ≡ bytes_of (items_of p.cache.entries)) × (p.cache.cap ≡ 2 ^ 64 - 1) };
+    ghost invariant = { λ p. (p.bytes ≡ bytes_of (items_of p.cache.entries)) × (p.cache.cap ≡ 2 ^ 64 - 1) × (count (is_expired p.fresh_until) (items_of p.cache.entries) ≡ 0) };
 }
 
 impl<A: Allocator + Clone> Pool<A> {
@@ -63,6 +67,7 @@ impl<A: Allocator + Clone> Pool<A> {
         Ok(Pool {
             cache: LruCache::unbounded(alloc)?,
             bytes: 0,
+            fresh_until: u64::MAX,
             size,
         })
     }
@@ -110,6 +115,58 @@ impl<A: Allocator> Pool<A> {
     {
         let _len = self.cache.len();
         self.cache.promote(key);
+    }
+
+    /// Whether there is an item under the key that is expired at `now` (seconds). It isn't used. No key is looked up as long as
+    /// none of the items can be.
+    fn has_expired(&self, key: &Key<A>, now: u64) -> bool
+        ensures { result ≡ option_map_or (is_expired now) (item_at key.now self.now.items) false }
+    {
+        if now <= self.fresh_until {
+            return false;
+        }
+        match self.held(key) {
+            Some(held) => expired(now, held.expiry),
+            None => false,
+        }
+    }
+
+    /// Copies the value of the item under the key, expired or not, to the head of the buffer, where it fits, and answers how
+    /// long it is. The item is now the one that was used last.
+    fn use_into(&mut self, key: &Key<A>, buffer: &mut [u8]) -> Option<usize>
+        ensures value { result ≡ option_map (λ i. length i.value) (item_at key.now self.old.items) }
+        ensures buffer { buffer.new ≡ copied (option_map (λ i. i.value) (item_at key.now self.old.items)) buffer.old }
+        ensures items { self.new ≡ record { size = self.old.size; items = used key.now (item_at key.now self.old.items) self.old.items } }
+    {
+        let _len = self.cache.len();
+        if !self.cache.promote(key) {
+            return None;
+        }
+        match self.cache.peek_mru() {
+            Some((_, held)) => Some(held.value.copy_to(buffer)),
+            None => unreachable!(),
+        }
+    }
+
+    /// Copies the value of the item under the key to the head of the buffer, where it fits, and answers how long it is. The
+    /// item is now the one that was used last. One that is expired at `now` (seconds) stays where it is, and has no length.
+    pub fn find_into(
+        &mut self,
+        key: &Key<A>,
+        now: u64,
+        buffer: &mut [u8],
+    ) -> Option<Option<usize>>
+        ensures value { result ≡ option_map (λ i. option_map length (value_then now (Some i))) (item_at key.now self.old.items) }
+        ensures buffer { buffer.new ≡ copied (value_then now (item_at key.now self.old.items)) buffer.old }
+        ensures items { self.new ≡ record { size = self.old.size; items = used key.now (unexpired now (item_at key.now self.old.items)) self.old.items } }
+    {
+        if self.has_expired(key, now) {
+            return Some(None);
+        }
+        match self.use_into(key, buffer) {
+            Some(len) => Some(Some(len)),
+            None => None,
+        }
     }
 
     /// Takes out the item under the key, and answers its number.
@@ -257,12 +314,14 @@ impl<A: Allocator + Clone> Pool<A> {
         let _len = self.cache.len();
         let key_len = key.len() as u64;
         let cost = cost(&key, &held);
+        let fresh_until = last_fresh(held.expiry);
         let old = match self.cache.put(key, held) {
             Ok(old) => old,
             Err(failed) => return Err(failed),
         };
         let (number, freed) = taken(key_len, old);
         self.bytes = self.bytes - freed + cost;
+        self.fresh_until = self.fresh_until.min(fresh_until);
         Ok(number)
     }
 
@@ -309,6 +368,13 @@ fn taken<A: Allocator>(key_len: u64, held: Option<Held<A>>) -> (Option<u64>, u64
         Some(held) => (Some(held.number), 32 + key_len + held.value.len() as u64),
         None => (None, 0),
     }
+}
+
+/// The last second at which an item of this expiry (seconds; 0: never) isn't expired.
+fn last_fresh(expiry: u64) -> u64
+    ensures { (not (expiry == 0) && not (nat_lt result expiry)) ≡ false }
+{
+    if expiry == 0 { u64::MAX } else { expiry - 1 }
 }
 
 /// What an item is charged, in bytes.

@@ -6,7 +6,7 @@ ghost use Rattle.hc_memory.specs.Planned.{IsPlanned};
 ghost use Rattle.hc_memory.specs.Pool.{is_full, kept, dropped};
 ghost use Rattle.hc_memory.specs.Sound.{Sound, FlashFits, IsWithin};
 ghost use Rattle.hc_memory.specs.Seen.{item_of, filled, glance_of};
-ghost use Rattle.hc_memory.specs.Memory.{empty_pool, pool_usage, home_of, linked_at, value_at, copied, is_hopeless, victims_of, oldest_keys, handle_for, unlinked, after_room, after_charge, after_unlink, after_find};
+ghost use Rattle.hc_memory.specs.Memory.{empty_pool, pool_usage, home_of, linked_at, value_at, copied, used_in, is_hopeless, victims_of, oldest_keys, handle_for, unlinked, after_room, after_charge, after_unlink, after_find};
 
 use crate::answers::{Charged, Uncharged};
 use crate::clean::{CleanIndex, forget_items};
@@ -158,13 +158,7 @@ impl<A: Allocator> Pools<A> {
         ensures buffer { buffer.new ≡ copied (value_at now key.now self.old.pools) buffer.old }
         ensures pools { self.new ≡ after_find self.old now key.now }
     {
-        match copied_from(self.pools.as_slice(), key, now, buffer) {
-            Some((home, len)) => {
-                self.pools[home].promote(key);
-                Some(len)
-            }
-            None => None,
-        }
+        find_in(&mut self.pools, key, now, buffer)
     }
 }
 
@@ -218,25 +212,23 @@ fn fresh_in<A: Allocator>(
     Ok(Some((at, held.value.to_bytes()?)))
 }
 
-/// Copies the value under this key to the head of the buffer, where its item isn't expired at `now` (seconds) and the value
-/// fits. Answers the number of the item's pool, and how long the value is.
-fn copied_from<A: Allocator>(
-    pools: &[Pool<A>],
+/// Finds the value under this key in the pool that has its item, as `Pool::find_into` does, and answers how long it is.
+fn find_in<A: Allocator>(
+    pools: &mut Vec<Pool<A>, A>,
     key: &Key<A>,
     now: u64,
     buffer: &mut [u8],
-) -> Option<(usize, usize)>
-    ensures value { option_map (λ there. there.1) result ≡ option_map length (value_at now key.now pools.now) }
-    ensures buffer { buffer.new ≡ copied (value_at now key.now pools.now) buffer.old }
-    ensures place { IfSome result (λ there. home_of key.now pools.now ≡ Some there.0) }
+) -> Option<usize>
+    ensures value { result ≡ option_map length (value_at now key.now pools.old.items) }
+    ensures buffer { buffer.new ≡ copied (value_at now key.now pools.old.items) buffer.old }
+    ensures pools { pools.new.items ≡ used_in now key.now pools.old.items }
 {
-    let Some((at, held)) = held_in(pools, key) else {
-        return None;
-    };
-    if expired(now, held.expiry) {
-        return None;
+    for i in 0..pools.len() {
+        if let Some(found) = pools[i].find_into(key, now, buffer) {
+            return found;
+        }
     }
-    Some((at, held.value.copy_to(buffer)))
+    None
 }
 
 /// Takes the item under this key out of the pool that has it, and answers its number.

@@ -51,6 +51,8 @@ impl<N: Notes<Note>> Shared<N> {
                 Ok(Reply::Stored) => return Ok((call, Added::Stored)),
                 Ok(_) => return Ok((call, Added::Exists)),
                 Err(Refusal::NotReady) => held = self.replies.wait(rt, held),
+                // The call's reply is owed until it is taken, which is done here alone: so this isn't `UnknownCall`, and
+                // memory lacks.
                 Err(_) => return Err(Unadded::Unanswered),
             }
         }

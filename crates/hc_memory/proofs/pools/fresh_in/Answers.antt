@@ -1,6 +1,7 @@
 use Rattle.std.proofs.Common.{Some, sym, ◌∙◌, ap}
 use Rattle.hc_memory.specs.Seen.{item_of}
-use Rattle.hc_memory.proofs.Keyed.{value_then, value-fresh, value-stale}
+use Rattle.hc_memory.specs.Pool.{value_then}
+use Rattle.hc_memory.proofs.Keyed.{value-fresh, value-stale}
 use Rattle.hc_memory.proofs.pools.fresh_in.Goals as goal
 
 pub returns-in_default : goal.returns-in_default

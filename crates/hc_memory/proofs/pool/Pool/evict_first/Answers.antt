@@ -1,5 +1,6 @@
 use Rattle.std.proofs.Common.{◌≡◌, ◌-◌, sym, ◌∙◌, ap, arith, take, drop, length, slice_get}
-use Rattle.hc_memory.specs.Pool.{bytes_of}
+use Rattle.hc_types.specs.Tally.{count}
+use Rattle.hc_memory.specs.Pool.{bytes_of, is_expired}
 use Rattle.std.proofs.lemmas.List.{take_all}
 use Rattle.hc_memory.specs.Seen.{items_of}
 use Rattle.hc_memory.proofs.Orders.{last-first, no-entries}
@@ -15,7 +16,7 @@ pub invariant_of-self-2 : goal.invariant_of-self-2
 invariant_of-self-2 g c =
     let first = last-first c.self.inside.cache.entries (c.in_ok-key.key, c.in_ok-key.held) (sym c.pop_oldest.ensures.value ∙ c.in_ok-key.was) in
     let inv = c.self.invariant.0 in
-    rw c.pop_oldest.ensures.entries (omega (arith, ap bytes_of first, inv, c.cost.ensures), c.self.invariant.1)
+    rw c.pop_oldest.ensures.entries (omega (arith, ap bytes_of first, inv, c.cost.ensures), c.self.invariant.1, omega (arith, ap (count (is_expired c.self.inside.fresh_until)) first, c.self.invariant.2))
 
 pub returns-clause-value : goal.returns-clause-value
 returns-clause-value g c =

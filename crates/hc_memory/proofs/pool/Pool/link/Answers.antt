@@ -3,7 +3,9 @@ use Rattle.std.specs.Option.{option_map}
 use Rattle.hc_types.proofs.Tallies.{tally-push}
 use Rattle.hc_memory.specs.declared.item.Held.{Held}
 use Rattle.hc_memory.specs.Item.{cost}
-use Rattle.hc_memory.specs.Pool.{bytes_of, without}
+use Rattle.hc_types.specs.Tally.{count}
+use Rattle.hc_memory.specs.Pool.{bytes_of, without, is_expired}
+use Rattle.hc_memory.proofs.Fresh.{fresh-put}
 use Rattle.hc_memory.specs.Seen.{item_of, items_of}
 use Rattle.hc_memory.proofs.Orders.{unique, seen-held, bytes-without, items_of-put, is_some-held}
 use Rattle.hc_memory.proofs.pool.Pool.link.Goals as goal
@@ -39,7 +41,8 @@ invariant_of-self-2 g c =
     let cap = c.self.invariant.1 in
     let put = items_of-put es c.self.inside.cache.cap c.args.key c.args.held one (omega (arith, cap, c.len-len.ensures.fits, c.len-len.ensures.len)) in
     let new = ap bytes_of put ∙ tally-push cost (without c.args.key (items_of es)) (item_of (c.args.key, c.args.held)) in
-    rw c.in-Ok.ensures.entries (omega (arith, sum, inv, new, c.taken-number.ensures.freed, c.cost-cost.ensures), cap)
+    let fresh = fresh-put c.self.inside.fresh_until c.last_fresh-fresh_until.result c.min-self-inside.result c.args.key (items_of es) (item_of (c.args.key, c.args.held)) (omega (arith, c.min-self-inside.ensures)) (omega (arith, c.min-self-inside.ensures)) c.self.invariant.2 c.last_fresh-fresh_until.ensures in
+    rw c.in-Ok.ensures.entries (omega (arith, sum, inv, new, c.taken-number.ensures.freed, c.cost-cost.ensures), cap, ap (count (is_expired c.min-self-inside.result)) put ∙ fresh)
 
 pub returns-clause-old : goal.returns-clause-old
 returns-clause-old g c =

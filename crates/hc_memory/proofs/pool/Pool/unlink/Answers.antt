@@ -1,7 +1,12 @@
 use Rattle.std.proofs.Common.{sym, ◌∙◌, ap, arith, refl}
 use Rattle.std.specs.Option.{option_map}
 use Rattle.hc_memory.specs.declared.item.Held.{Held}
-use Rattle.hc_memory.specs.Pool.{bytes_of}
+use mathlib.Core.Bool.{cond}
+use Rattle.hc_types.specs.Tally.{count}
+use Rattle.hc_memory.specs.Item.{Item}
+use Rattle.hc_memory.specs.Pool.{bytes_of, is_expired}
+use Rattle.hc_memory.specs.Seen.{items_of}
+use Rattle.hc_memory.proofs.Keyed.{less-without}
 use Rattle.hc_memory.proofs.Orders.{unique, seen-held, bytes-without, items_of-remove}
 use Rattle.hc_memory.proofs.pool.Pool.unlink.Goals as goal
 
@@ -28,7 +33,11 @@ invariant_of-self g c =
     let sum = bytes-without c.args.key.now c.len.result es c.pop.result one c.len.ensures.value c.pop.ensures.value in
     let inv = c.self.invariant.0 in
     let gone = ap bytes_of (items_of-remove c.args.key.now es one) in
-    rw c.pop.ensures.entries (omega (arith, sum, inv, gone, c.taken-number.ensures.freed), c.self.invariant.1)
+    rw c.pop.ensures.entries (
+      omega (arith, sum, inv, gone, c.taken-number.ensures.freed),
+      c.self.invariant.1,
+      omega (arith, ap (count (is_expired c.self.inside.fresh_until)) (items_of-remove c.args.key.now es one), less-without (λ (i : Item). cond (is_expired c.self.inside.fresh_until i) 1 0) c.args.key.now (items_of es), c.self.invariant.2),
+    )
 
 pub returns-clause-value : goal.returns-clause-value
 returns-clause-value g c =
