@@ -150,12 +150,7 @@ impl<A: Allocator> Pool<A> {
 
     /// Copies the value of the item under the key to the head of the buffer, where it fits, and answers how long it is. The
     /// item is now the one that was used last. One that is expired at `now` (seconds) stays where it is, and has no length.
-    pub fn find_into(
-        &mut self,
-        key: &Key<A>,
-        now: u64,
-        buffer: &mut [u8],
-    ) -> Option<Option<usize>>
+    pub fn find_into(&mut self, key: &Key<A>, now: u64, buffer: &mut [u8]) -> Option<Option<usize>>
         ensures value { result ≡ option_map (λ i. option_map length (value_then now (Some i))) (item_at key.now self.old.items) }
         ensures buffer { buffer.new ≡ copied (value_then now (item_at key.now self.old.items)) buffer.old }
         ensures items { self.new ≡ record { size = self.old.size; items = used key.now (unexpired now (item_at key.now self.old.items)) self.old.items } }

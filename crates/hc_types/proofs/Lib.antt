@@ -2,3 +2,4 @@
 pub mod Tallies
 pub mod Rows
 mod Showing
+pub mod Rooms

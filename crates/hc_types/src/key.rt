@@ -42,6 +42,8 @@ impl<A: Allocator> Model for Key<A> {
 impl<A: Allocator + Clone> Key<A> {
     /// The key of these bytes, which are copied once. Refused with `KeyEmpty` for no byte and with `KeyTooLong` for
     /// more than 255, whether there is memory or not. Up to 46 bytes are never refused for memory.
+    // Always inlined, as is what it calls, so that the key is made where its caller has it and is not moved there.
+    #[inline(always)]
     pub fn new(alloc: A, bytes: &[u8]) -> Result<Key<A>, Refusal>
         ensures ok { IfOk result (λ key. key ≡ bytes.now) }
         ensures fits { OnOk result ((1 ≤ length bytes.now) × (length bytes.now ≤ 255)) }
@@ -171,7 +173,7 @@ impl<A: Allocator> PartialEq for Key<A> {
     ghost laws = { partial_equiv_from_equiv nat_list_eq_equiv };
 
     fn eq(&self, other: &Self) -> bool {
-        self.bytes.as_slice() == other.bytes.as_slice()
+        self.bytes == other.bytes
     }
 }
 

@@ -1,15 +1,20 @@
 // The bytes of a key: in place where they are few, and shared where they are many.
-ghost use Rattle.std.specs.Prelude.{◌≡◌, ◌≤◌, length, IsOk, IfOk};
+ghost use Rattle.std.specs.Prelude.{◌≡◌, ◌+◌, ◌≤◌, length, nat_eq, IsOk, IfOk};
+ghost use Rattle.std.specs.Simd.Lanes.{chunk};
+ghost use Rattle.std.specs.Cmp.Lexicographic.{pointwise, nat_list_eq_equiv};
+ghost use Rattle.std.specs.Cmp.{partial_equiv_from_equiv};
 
 use bytes::Bytes;
 use std::alloc::{AllocError, Allocator, Global};
 use std::marker::Model;
+use std::simd::prelude::*;
 
 /// The most bytes that stand in place. With their length and the enum's mark they take 48 bytes, as a `Bytes` does with
 /// its mark, so that a key takes 56 with its hash.
 const SHORT_MAX: usize = 46;
 
-/// At most `SHORT_MAX` bytes in place.
+/// At most `SHORT_MAX` bytes in place, and 0 in the rest of the room. So two are compared by their whole rooms, with no
+/// step that depends on their length.
 #[derive(Drop)]
 struct Short {
     len: u8,
@@ -17,16 +22,17 @@ struct Short {
 }
 
 impl Model for Short {
-    ghost use Rattle.std.specs.Prelude.{◌≤◌, List, ℕ, take};
+    ghost use Rattle.std.specs.Prelude.{◌≡◌, ◌-◌, ◌≤◌, List, ℕ, take, drop, replicate};
 
     ghost Value = { List ℕ };
 
     ghost view = { λ short. take short.len short.bytes };
 
-    ghost invariant = { λ short. short.len ≤ 46 };
+    ghost invariant = { λ short. (short.len ≤ 46) × (drop short.len short.bytes ≡ replicate (46 - short.len) 0) };
 }
 
 impl Short {
+    #[inline(always)]
     fn copy_of(bytes: &[u8]) -> Short
         requires { length bytes.now ≤ 46 }
         ensures { result ≡ bytes.now }
@@ -55,6 +61,34 @@ impl Short {
     }
 }
 
+impl PartialEq for Short {
+    ghost eq = { pointwise nat_eq };
+
+    ghost laws = { partial_equiv_from_equiv nat_list_eq_equiv };
+
+    fn eq(&self, other: &Short) -> bool {
+        self.len == other.len && are_equal(&self.bytes, &other.bytes)
+    }
+}
+
+/// Whether two rooms hold the same: 16 bytes at a time, of which the last overlap those before. By `&` and not `&&`, so
+/// that it is one test.
+fn are_equal(a: &[u8; SHORT_MAX], b: &[u8; SHORT_MAX]) -> bool
+    ensures { result ≡ pointwise nat_eq a.now b.now }
+{
+    are_equal_at(a, b, 0) & are_equal_at(a, b, 16) & are_equal_at(a, b, SHORT_MAX - 16)
+}
+
+/// Whether the 16 bytes from `at` on are the same.
+fn are_equal_at(a: &[u8], b: &[u8], at: usize) -> bool
+    requires a { at + 16 ≤ length a.now }
+    requires b { at + 16 ≤ length b.now }
+    ensures { result ≡ pointwise nat_eq (chunk at 16 a.now) (chunk at 16 b.now) }
+{
+    let lanes = u8x16::from_slice(&a[at..]);
+    !lanes.simd_ne(u8x16::from_slice(&b[at..])).any()
+}
+
 /// Where bytes stand.
 #[derive(Drop)]
 enum Place<A: Allocator> {
@@ -81,6 +115,7 @@ impl<A: Allocator> Model for KeyBytes<A> {
 
 impl<A: Allocator + Clone> KeyBytes<A> {
     /// These bytes, which are copied once. At most `SHORT_MAX` take no memory.
+    #[inline(always)]
     pub(crate) fn copy_of(alloc: A, bytes: &[u8]) -> Result<KeyBytes<A>, AllocError>
         ensures ok { IfOk result (λ copy. copy ≡ bytes.now) }
         ensures short { length bytes.now ≤ 46 → IsOk result }
@@ -133,5 +168,18 @@ impl<A: Allocator> Clone for KeyBytes<A> {
             Place::Long(bytes) => Place::Long(bytes.clone()?),
         };
         Ok(KeyBytes { place })
+    }
+}
+
+impl<A: Allocator> PartialEq for KeyBytes<A> {
+    ghost eq = { pointwise nat_eq };
+
+    ghost laws = { partial_equiv_from_equiv nat_list_eq_equiv };
+
+    fn eq(&self, other: &Self) -> bool {
+        match (&self.place, &other.place) {
+            (Place::Short(one), Place::Short(two)) => one == two,
+            _ => self.as_slice() == other.as_slice(),
+        }
     }
 }
