@@ -1,7 +1,9 @@
 //! A thread's own nanoseconds and allocations of an operation: this cache, the crate `lru`, and a HashMap with a ring of keys,
 //! out of which the oldest key goes (it keeps no order of use).
 //!
-//! Keys have 20 bytes and values 100. Each store is handed the key's bytes and copies the value out into a buffer.
+//! Keys have 20 bytes and values 100. Each store is handed the key's bytes and copies the value out into a buffer. The bytes
+//! are written just before, as those of a key that is put together for the call, but for `hit by a ready key`: those were
+//! written long before, and are read from a list.
 //! `speed hits KEYS` and `speed replaces KEYS` run 200,000 of these of this cache alone, for a profiler.
 use kilambosetry::{Cache, Pool};
 use std::collections::HashMap;
@@ -163,6 +165,14 @@ fn measure(name: &str, store: &mut dyn Store, keys: u64) {
         let found = store.get(&key(next(&mut random) % keys), &mut out);
         assert_eq!(black_box(found), Some(100));
     });
+    let made: Vec<[u8; 20]> = (0..keys).map(key).collect();
+    let ready_own = timed(operations, |_| {
+        black_box(&made[(next(&mut random) % keys) as usize]);
+    });
+    let ready = timed(operations, |_| {
+        let found = store.get(&made[(next(&mut random) % keys) as usize], &mut out);
+        assert_eq!(black_box(found), Some(100));
+    });
     let miss = timed(operations, |_| {
         let found = store.get(&key(keys * 1000 + next(&mut random) % keys), &mut out);
         assert_eq!(black_box(found), None);
@@ -170,7 +180,13 @@ fn measure(name: &str, store: &mut dyn Store, keys: u64) {
     let replace = timed(operations, |_| store.set(&key(next(&mut random) % keys), &value));
     let evict = timed(operations, |i| store.set(&key(keys + i), &value));
     print!("{name:14} {keys:>8}");
-    for (label, (nanoseconds, allocations)) in [("hit", hit), ("miss", miss), ("replace", replace), ("new", evict)] {
+    for (label, (nanoseconds, allocations), own) in [
+        ("hit", hit, own),
+        ("hit by a ready key", ready, ready_own),
+        ("miss", miss, own),
+        ("replace", replace, own),
+        ("new", evict, own),
+    ] {
         print!("  {label} {:5.0} ({allocations:.1})", nanoseconds - own.0);
     }
     println!();
