@@ -20,7 +20,9 @@ use hc_state::{Copied, Found, Inserted, Removed, Unlinked};
 use hc_types::{Config, Key, Refusal};
 use std::alloc::Allocator;
 
-// The key of these bytes, by the allocator of the configuration's list.
+// The key of these bytes, by the allocator of the configuration's list. Always inlined, so that it is made where the call
+// has it.
+#[inline(always)]
 fn key_of<A: Allocator + Copy>(config: &Config<A>, bytes: &[u8]) -> Result<Key<A>, Refusal>
     ensures ok { IfOk result (λ key. key ≡ bytes.now) }
     ensures fits { OnOk result (key_refusal bytes.now ≡ None) }

@@ -148,8 +148,9 @@ impl<A: Allocator> Pool<A> {
         }
     }
 
-    /// Copies the value of the item under the key to the head of the buffer, where it fits, and answers how long it is. The
-    /// item is now the one that was used last. One that is expired at `now` (seconds) stays where it is, and has no length.
+    /// Copies the value of the item under the key to the head of the buffer, where it fits, and answers how long it is
+    /// (`Some(Some(_))`). The item is now the one that was used last. One that is expired at `now` (seconds) stays where it is,
+    /// and nothing is copied (`Some(None)`). Without an item there is no answer (`None`).
     pub fn find_into(&mut self, key: &Key<A>, now: u64, buffer: &mut [u8]) -> Option<Option<usize>>
         ensures value { result ≡ option_map (λ i. option_map length (value_then now (Some i))) (item_at key.now self.old.items) }
         ensures buffer { buffer.new ≡ copied (value_then now (item_at key.now self.old.items)) buffer.old }

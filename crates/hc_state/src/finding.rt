@@ -317,6 +317,8 @@ impl<N: Notes<Note<A>>, A: Allocator + Clone + Copy> State<N, A> {
     }
 
     /// A find of a key without an unexpired item, where notes aren't kept. With no flash it is a miss.
+    // Out of line, so that a hit has a small frame.
+    #[inline(never)]
     pub(crate) fn find_beside(
         &mut self,
         call: u64,

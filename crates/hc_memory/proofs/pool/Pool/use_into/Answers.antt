@@ -1,24 +1,18 @@
 use Rattle.std.proofs.Common.{Some, sym, ◌∙◌, ap, length, slice_get}
-use mathlib.Core.Bool.{cond}
 use Rattle.std.specs.Option.{option_map}
-use Rattle.hc_types.specs.Tally.{count}
-use Rattle.hc_memory.specs.Item.{Item, cost}
-use Rattle.hc_memory.specs.Pool.{bytes_of, item_at, is_expired}
+use Rattle.hc_memory.specs.Item.{Item}
+use Rattle.hc_memory.specs.Pool.{item_at}
 use Rattle.hc_memory.specs.Memory.{copied}
 use Rattle.hc_memory.specs.Seen.{items_of}
-use Rattle.hc_memory.proofs.Keyed.{none_of, tally-used}
-use Rattle.hc_memory.proofs.Orders.{unique, items_of-promoted, is_some-held, promoted-first, promoted-there}
+use Rattle.hc_memory.proofs.Keyed.{none_of}
+use Rattle.hc_memory.proofs.Orders.{unique, items_of-promoted, promoted-books, is_some-held, promoted-first, promoted-there}
 use Rattle.hc_memory.proofs.pool.Pool.use_into.Goals as goal
 
 pub invariant_of-self : goal.invariant_of-self
 invariant_of-self g c =
     let es = c.self.inside.cache.entries in
-    let first = items_of-promoted c.args.key.now es (unique es c.len-len.ensures.valid.0 c.args.key.now) in
-    rw c.promote.ensures.entries (
-      c.self.invariant.0 ∙ sym (ap bytes_of first ∙ tally-used cost c.args.key.now (items_of es)),
-      c.self.invariant.1,
-      ap (count (is_expired c.self.inside.fresh_until)) first ∙ tally-used (λ (i : Item). cond (is_expired c.self.inside.fresh_until i) 1 0) c.args.key.now (items_of es) ∙ c.self.invariant.2,
-    )
+    let books = promoted-books c.args.key.now es c.self.inside.bytes c.self.inside.fresh_until (unique es c.len-len.ensures.valid.0 c.args.key.now) c.self.invariant.0 c.self.invariant.2 in
+    rw c.promote.ensures.entries (books.0, c.self.invariant.1, books.1)
 
 pub returns-then-not-promote-clause-value : goal.returns-then-not-promote-clause-value
 returns-then-not-promote-clause-value g c =
@@ -50,12 +44,8 @@ unreachable-requires g c =
 pub invariant_of-self-2 : goal.invariant_of-self-2
 invariant_of-self-2 g c =
     let es = c.self.inside.cache.entries in
-    let first = items_of-promoted c.args.key.now es (unique es c.len-len.ensures.valid.0 c.args.key.now) in
-    rw c.promote.ensures.entries (
-      c.self.invariant.0 ∙ sym (ap bytes_of first ∙ tally-used cost c.args.key.now (items_of es)),
-      c.self.invariant.1,
-      ap (count (is_expired c.self.inside.fresh_until)) first ∙ tally-used (λ (i : Item). cond (is_expired c.self.inside.fresh_until i) 1 0) c.args.key.now (items_of es) ∙ c.self.invariant.2,
-    )
+    let books = promoted-books c.args.key.now es c.self.inside.bytes c.self.inside.fresh_until (unique es c.len-len.ensures.valid.0 c.args.key.now) c.self.invariant.0 c.self.invariant.2 in
+    rw c.promote.ensures.entries (books.0, c.self.invariant.1, books.1)
 
 pub returns-clause-value : goal.returns-clause-value
 returns-clause-value g c =
