@@ -128,7 +128,7 @@ impl Stats {
         ensures { result ≡ nat_le n (left_to_count self) }
     {
         match self.total() {
-            Some(total) => n <= u64::MAX - total,
+            Some(total) => total.checked_add(n).is_some(),
             None => n == 0,
         }
     }
