@@ -26,16 +26,6 @@ impl CacheHandle {
         }
     }
 
-    /// A handle without a cache.
-    fn empty(alloc: Global) -> CacheHandle
-        ensures { result.seat.cache ≡ None }
-    {
-        CacheHandle {
-            seat: CacheSeat::empty(alloc),
-            full: false,
-        }
-    }
-
     /// The cache, if there is one.
     fn into_box(self) -> Option<Box<Cache>>
         ensures some { IfSome result (λ cache. self.seat.cache ≡ Some cache.value) }
@@ -55,7 +45,21 @@ impl CacheHandle {
         ensures none { IfNone result (self.old.seat.cache ≡ None) }
         ensures empty { self.new.seat.cache ≡ None }
     {
-        mem::replace(self, CacheHandle::empty(alloc)).into_box()
+        if !self.full {
+            return None;
+        }
+        self.full = false;
+        let seat = mem::replace(&mut self.seat, CacheSeat::empty(alloc));
+        Some(seat.into_parts().into_box())
+    }
+
+    /// Puts the cache back into the handle that it was taken out of.
+    pub fn put(&mut self, cache: Box<Cache>)
+        requires empty { self.old.seat.cache ≡ None }
+        ensures full { self.new.seat.cache ≡ Some cache.value }
+    {
+        self.seat = CacheSeat::of_parts(Parts::of(cache));
+        self.full = true;
     }
 }
 

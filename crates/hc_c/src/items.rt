@@ -24,7 +24,7 @@ pub extern "C" fn kilambosetry_set(
         return Status::Empty.number();
     };
     let status = calls::set(&mut cache.core, pool, key, value, ttl);
-    *handle = CacheHandle::of(cache);
+    handle.put(cache);
     status.number()
 }
 
@@ -44,7 +44,7 @@ pub extern "C" fn kilambosetry_add(
         return Status::Empty.number();
     };
     let status = calls::add(&mut cache.core, pool, key, value, ttl);
-    *handle = CacheHandle::of(cache);
+    handle.put(cache);
     status.number()
 }
 
@@ -64,7 +64,7 @@ pub extern "C" fn kilambosetry_get(
         return Status::Empty.number();
     };
     let status = calls::get(&mut cache.core, key, out, len);
-    *handle = CacheHandle::of(cache);
+    handle.put(cache);
     status.number()
 }
 
@@ -77,6 +77,6 @@ pub extern "C" fn kilambosetry_delete(alloc: Global, handle: &mut CacheHandle, k
         return Status::Empty.number();
     };
     let status = calls::delete(&mut cache.core, key);
-    *handle = CacheHandle::of(cache);
+    handle.put(cache);
     status.number()
 }

@@ -102,7 +102,7 @@ pub extern "C" fn kilambosetry_tick(alloc: Global, handle: &mut CacheHandle, mom
         return Status::Empty.number();
     };
     let status = calls::tick(&mut cache.core, moment);
-    *handle = CacheHandle::of(cache);
+    handle.put(cache);
     status.number()
 }
 
@@ -115,7 +115,7 @@ pub extern "C" fn kilambosetry_calls(alloc: Global, handle: &mut CacheHandle, ca
         return Status::Empty.number();
     };
     let status = tell_calls(&cache.core, calls);
-    *handle = CacheHandle::of(cache);
+    handle.put(cache);
     status.number()
 }
 
@@ -132,7 +132,7 @@ pub extern "C" fn kilambosetry_counts(
         return Status::Empty.number();
     };
     let status = tell_counts(&cache.core, counts);
-    *handle = CacheHandle::of(cache);
+    handle.put(cache);
     status.number()
 }
 
@@ -150,6 +150,6 @@ pub extern "C" fn kilambosetry_usage(
         return Status::Empty.number();
     };
     let status = tell_usage(&cache.core, pool, used);
-    *handle = CacheHandle::of(cache);
+    handle.put(cache);
     status.number()
 }

@@ -26,16 +26,6 @@ impl ValueHandle {
         }
     }
 
-    /// A handle without a value.
-    fn empty(alloc: Global) -> ValueHandle
-        ensures { result.seat.value ≡ None }
-    {
-        ValueHandle {
-            seat: ValueSeat::empty(alloc),
-            full: false,
-        }
-    }
-
     /// The value, if there is one.
     fn into_box(self) -> Option<Box<Reading>>
         ensures some { IfSome result (λ value. self.seat.value ≡ Some value.value) }
@@ -55,7 +45,21 @@ impl ValueHandle {
         ensures none { IfNone result (self.old.seat.value ≡ None) }
         ensures empty { self.new.seat.value ≡ None }
     {
-        mem::replace(self, ValueHandle::empty(alloc)).into_box()
+        if !self.full {
+            return None;
+        }
+        self.full = false;
+        let seat = mem::replace(&mut self.seat, ValueSeat::empty(alloc));
+        Some(seat.into_parts().into_box())
+    }
+
+    /// Puts the value back into the handle that it was taken out of.
+    pub fn put(&mut self, value: Box<Reading>)
+        requires empty { self.old.seat.value ≡ None }
+        ensures full { self.new.seat.value ≡ Some value.value }
+    {
+        self.seat = ValueSeat::of_parts(Parts::of(value));
+        self.full = true;
     }
 }
 

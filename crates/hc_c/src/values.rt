@@ -115,7 +115,7 @@ pub extern "C" fn kilambosetry_read(
         return Status::Empty.number();
     };
     let status = read(&mut cache.core, alloc, key, value);
-    *handle = CacheHandle::of(cache);
+    handle.put(cache);
     status.number()
 }
 
@@ -135,7 +135,7 @@ pub extern "C" fn kilambosetry_take_reply(
         return Status::Empty.number();
     };
     let status = reply(&mut cache.core, alloc, call, value);
-    *handle = CacheHandle::of(cache);
+    handle.put(cache);
     status.number()
 }
 
@@ -152,7 +152,7 @@ pub extern "C" fn kilambosetry_value_length(
         return Status::Empty.number();
     };
     let status = tell_length(&reading.bytes, len);
-    *value = ValueHandle::of(reading);
+    value.put(reading);
     status.number()
 }
 
@@ -171,7 +171,7 @@ pub extern "C" fn kilambosetry_value_copy(
         return Status::Empty.number();
     };
     let status = copy_piece(&reading.bytes, from, out, len);
-    *value = ValueHandle::of(reading);
+    value.put(reading);
     status.number()
 }
 

@@ -26,7 +26,7 @@ pub extern "C" fn kilambosetry_writer_take(
         return Status::Empty.number();
     };
     let status = jobs::writer_take(&mut cache.core, job);
-    *handle = CacheHandle::of(cache);
+    handle.put(cache);
     status.number()
 }
 
@@ -43,7 +43,7 @@ pub extern "C" fn kilambosetry_filler_take(
         return Status::Empty.number();
     };
     let status = jobs::filler_take(&mut cache.core, job);
-    *handle = CacheHandle::of(cache);
+    handle.put(cache);
     status.number()
 }
 
@@ -57,7 +57,7 @@ pub extern "C" fn kilambosetry_reclaim(alloc: Global, handle: &mut CacheHandle) 
         return Status::Empty.number();
     };
     let status = jobs::reclaim(&mut cache.core);
-    *handle = CacheHandle::of(cache);
+    handle.put(cache);
     status.number()
 }
 
@@ -78,7 +78,7 @@ pub extern "C" fn kilambosetry_order(
         return Status::Empty.number();
     };
     let status = jobs::order(&cache.core, job, operation, out, len);
-    *handle = CacheHandle::of(cache);
+    handle.put(cache);
     status.number()
 }
 
@@ -101,7 +101,7 @@ pub extern "C" fn kilambosetry_finish_read(
         Ok(bytes) => jobs::finish(&mut cache.core, job, IoResult::Page(bytes)),
         Err(_) => Status::Refused(Refusal::NoMemory),
     };
-    *handle = CacheHandle::of(cache);
+    handle.put(cache);
     status.number()
 }
 
@@ -114,7 +114,7 @@ pub extern "C" fn kilambosetry_finish_write(alloc: Global, handle: &mut CacheHan
         return Status::Empty.number();
     };
     let status = jobs::finish(&mut cache.core, job, IoResult::Written);
-    *handle = CacheHandle::of(cache);
+    handle.put(cache);
     status.number()
 }
 
@@ -131,6 +131,6 @@ pub extern "C" fn kilambosetry_finish_failed(
         return Status::Empty.number();
     };
     let status = jobs::finish(&mut cache.core, job, IoResult::Failed);
-    *handle = CacheHandle::of(cache);
+    handle.put(cache);
     status.number()
 }
