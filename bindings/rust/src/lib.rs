@@ -96,6 +96,7 @@ pub struct Usage {
     pub open_items: u64,
 }
 
+#[inline]
 fn done(status: u8) -> Result<(), Refused> {
     match status {
         DONE => Ok(()),
@@ -104,6 +105,7 @@ fn done(status: u8) -> Result<(), Refused> {
 }
 
 // Whether it was done, where there may be nothing to do it to.
+#[inline]
 fn found(status: u8) -> Result<bool, Refused> {
     match status {
         MISS => Ok(false),
@@ -146,6 +148,7 @@ impl Cache {
     /// Stores a copy of the value under the key, in place of what the key has in whichever pool, for `ttl` seconds from now
     /// (0: for good). The items of the pool that were used longest ago go to make room. Where memory is wanted once room was
     /// made, what went to make it is gone.
+    #[inline]
     pub fn set(&mut self, pool: u8, key: &[u8], value: &[u8], ttl: u32) -> Result<(), Refused> {
         // SAFETY: both slices are valid for their lengths, and the handle overlaps neither.
         done(unsafe {
@@ -162,10 +165,12 @@ impl Cache {
     /// assert_eq!(cache.add(0, b"key", b"second", 0), Err(Refused::EXISTS));
     /// # Ok::<(), Refused>(())
     /// ```
+    #[inline]
     pub fn add(&mut self, pool: u8, key: &[u8], value: &[u8], ttl: u32) -> Result<(), Refused> {
         done(self.add_status(pool, key, value, ttl))
     }
 
+    #[inline]
     fn add_status(&mut self, pool: u8, key: &[u8], value: &[u8], ttl: u32) -> u8 {
         // SAFETY: as in `set`.
         unsafe {
@@ -186,6 +191,7 @@ impl Cache {
     /// assert_eq!(cache.get_into(b"key", &mut out[..2])?, Some(5)); // too short: call again with five
     /// # Ok::<(), Refused>(())
     /// ```
+    #[inline]
     pub fn get_into(&mut self, key: &[u8], out: &mut [u8]) -> Result<Option<usize>, Refused> {
         let mut len = 0;
         // SAFETY: each slice is valid for its length, and nothing that is written overlaps anything.
@@ -226,6 +232,7 @@ impl Cache {
     }
 
     /// Takes the key's item out of the cache, and answers whether there was one.
+    #[inline]
     pub fn delete(&mut self, key: &[u8]) -> Result<bool, Refused> {
         // SAFETY: the key is valid for its length.
         found(unsafe { library::kilambosetry_delete(&mut self.0, key.as_ptr(), key.len()) })

@@ -4,6 +4,7 @@
 //! Keys have 20 bytes and values 100. Each store is handed the key's bytes and copies the value out into a buffer. The bytes
 //! are written just before, as those of a key that is put together for the call, but for `hit by a ready key`: those were
 //! written long before, and are read from a list.
+//! `speed least KEYS` makes finds alone, of this cache and of `lru` in turn, in many short rounds, and tells the least of each.
 //! `speed hits KEYS` and `speed replaces KEYS` run 200,000 of these of this cache alone, for a profiler.
 use kilambosetry::{Cache, Pool};
 use std::collections::HashMap;
@@ -196,6 +197,59 @@ fn cache_for(keys: u64) -> Cache {
     Cache::new(&[Pool { bytes: 4_294_967_296, items: keys }]).unwrap()
 }
 
+// Hits, hits by a ready key and misses of a store, in one short round: nanoseconds with the making of the key.
+fn finds(store: &mut dyn Store, keys: u64, made: &[[u8; 20]], random: &mut u64) -> [f64; 3] {
+    let mut out = [0; 128];
+    let operations = 20_000;
+    let hit = timed(operations, |_| {
+        let found = store.get(&key(next(random) % keys), &mut out);
+        assert_eq!(black_box(found), Some(100));
+    });
+    let ready = timed(operations, |_| {
+        let found = store.get(&made[(next(random) % keys) as usize], &mut out);
+        assert_eq!(black_box(found), Some(100));
+    });
+    let miss = timed(operations, |_| {
+        let found = store.get(&key(keys * 1000 + next(random) % keys), &mut out);
+        assert_eq!(black_box(found), None);
+    });
+    [hit.0, ready.0, miss.0]
+}
+
+// The least of many short rounds, in one of which the machine did little else.
+fn least(keys: u64) {
+    let mut random = 88_172_645_463_325_252;
+    let made: Vec<[u8; 20]> = (0..keys).map(key).collect();
+    let mut ours = cache_for(keys);
+    let mut theirs = lru::LruCache::<Vec<u8>, Vec<u8>>::new(keys as usize);
+    let mut least = [[f64::MAX; 3]; 3];
+    let mut keep = |row: usize, round: [f64; 3]| {
+        for (best, ns) in least[row].iter_mut().zip(round) {
+            *best = best.min(ns);
+        }
+    };
+    for made in &made {
+        ours.set(0, made, &[7; 100], 0).unwrap();
+        Store::set(&mut theirs, made, &[7; 100]);
+    }
+    for _ in 0..100 {
+        let own = timed(20_000, |_| {
+            black_box(key(next(&mut random) % keys));
+        });
+        let ready_own = timed(20_000, |_| {
+            black_box(&made[(next(&mut random) % keys) as usize]);
+        });
+        keep(0, [own.0, ready_own.0, own.0]);
+        keep(1, finds(&mut ours, keys, &made, &mut random));
+        keep(2, finds(&mut theirs, keys, &made, &mut random));
+    }
+    let [own, ours, theirs] = least;
+    for (i, label) in ["hit", "hit by a ready key", "miss"].into_iter().enumerate() {
+        let (ours, theirs) = (ours[i] - own[i], theirs[i] - own[i]);
+        println!("{label}: {ours:.1} ns, lru {theirs:.1}, which is {:.2} times as much", ours / theirs);
+    }
+}
+
 // Hits, or replaced values, of this cache alone.
 fn alone(word: &str, keys: u64) {
     let mut cache = cache_for(keys);
@@ -216,7 +270,8 @@ fn alone(word: &str, keys: u64) {
 fn main() {
     let arguments: Vec<String> = env::args().collect();
     if let [_, word, keys] = arguments.as_slice() {
-        return alone(word, keys.parse().unwrap());
+        let keys = keys.parse().unwrap();
+        return if word == "least" { least(keys) } else { alone(word, keys) };
     }
     println!("ns an operation without the making of its key (allocations an operation)");
     for round in 1..=3 {
