@@ -62,7 +62,9 @@ if has cargo; then
     (cd "$here/rust" && CARGO_TARGET_DIR="$out/target" cargo test --offline --quiet)
     if [ "${1-}" = --speed ]; then
         if ls -d /usr/share/cargo/registry/lru-0.7* >/dev/null 2>&1; then
-            (cd "$here/speed" && CARGO_TARGET_DIR="$out/target" cargo run --offline --quiet --release)
+            speed() { (cd "$here/speed" && CARGO_TARGET_DIR="$out/target" cargo run --offline --quiet --release -- "$@"); }
+            speed
+            speed least 1000
         else
             echo "skipped: no crate lru (Debian's librust-lru-dev)"
         fi

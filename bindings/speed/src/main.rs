@@ -151,56 +151,20 @@ fn timed(operations: u64, mut operation: impl FnMut(u64)) -> (f64, f64) {
     (nanoseconds / operations as f64, allocations / operations as f64)
 }
 
-fn measure(name: &str, store: &mut dyn Store, keys: u64) {
-    let value = [7; 100];
-    let mut out = [0; 128];
-    let mut random = 88_172_645_463_325_252;
-    let operations = 2_000_000;
-    for i in 0..keys {
-        store.set(&key(i), &value);
-    }
+// What the making of a key costs, and the reading of a ready one: nanoseconds.
+fn making(operations: u64, keys: u64, made: &[[u8; 20]], random: &mut u64) -> [f64; 2] {
     let own = timed(operations, |_| {
-        black_box(key(next(&mut random) % keys));
-    });
-    let hit = timed(operations, |_| {
-        let found = store.get(&key(next(&mut random) % keys), &mut out);
-        assert_eq!(black_box(found), Some(100));
-    });
-    let made: Vec<[u8; 20]> = (0..keys).map(key).collect();
-    let ready_own = timed(operations, |_| {
-        black_box(&made[(next(&mut random) % keys) as usize]);
+        black_box(key(next(random) % keys));
     });
     let ready = timed(operations, |_| {
-        let found = store.get(&made[(next(&mut random) % keys) as usize], &mut out);
-        assert_eq!(black_box(found), Some(100));
+        black_box(&made[(next(random) % keys) as usize]);
     });
-    let miss = timed(operations, |_| {
-        let found = store.get(&key(keys * 1000 + next(&mut random) % keys), &mut out);
-        assert_eq!(black_box(found), None);
-    });
-    let replace = timed(operations, |_| store.set(&key(next(&mut random) % keys), &value));
-    let evict = timed(operations, |i| store.set(&key(keys + i), &value));
-    print!("{name:14} {keys:>8}");
-    for (label, (nanoseconds, allocations), own) in [
-        ("hit", hit, own),
-        ("hit by a ready key", ready, ready_own),
-        ("miss", miss, own),
-        ("replace", replace, own),
-        ("new", evict, own),
-    ] {
-        print!("  {label} {:5.0} ({allocations:.1})", nanoseconds - own.0);
-    }
-    println!();
+    [own.0, ready.0]
 }
 
-fn cache_for(keys: u64) -> Cache {
-    Cache::new(&[Pool { bytes: 4_294_967_296, items: keys }]).unwrap()
-}
-
-// Hits, hits by a ready key and misses of a store, in one short round: nanoseconds with the making of the key.
-fn finds(store: &mut dyn Store, keys: u64, made: &[[u8; 20]], random: &mut u64) -> [f64; 3] {
+// Hits, hits by a ready key, and misses, with the making of the key: nanoseconds and allocations of each.
+fn finds(store: &mut dyn Store, operations: u64, keys: u64, made: &[[u8; 20]], random: &mut u64) -> [(f64, f64); 3] {
     let mut out = [0; 128];
-    let operations = 20_000;
     let hit = timed(operations, |_| {
         let found = store.get(&key(next(random) % keys), &mut out);
         assert_eq!(black_box(found), Some(100));
@@ -213,40 +177,66 @@ fn finds(store: &mut dyn Store, keys: u64, made: &[[u8; 20]], random: &mut u64) 
         let found = store.get(&key(keys * 1000 + next(random) % keys), &mut out);
         assert_eq!(black_box(found), None);
     });
-    [hit.0, ready.0, miss.0]
+    [hit, ready, miss]
 }
 
-// The least of many short rounds, in one of which the machine did little else.
+fn measure(name: &str, store: &mut dyn Store, keys: u64) {
+    let value = [7; 100];
+    let mut random = 88_172_645_463_325_252;
+    let made: Vec<[u8; 20]> = (0..keys).map(key).collect();
+    let operations = 2_000_000;
+    for made in &made {
+        store.set(made, &value);
+    }
+    let [own, ready_own] = making(operations, keys, &made, &mut random);
+    let [hit, ready, miss] = finds(store, operations, keys, &made, &mut random);
+    let replace = timed(operations, |_| store.set(&key(next(&mut random) % keys), &value));
+    let evict = timed(operations, |i| store.set(&key(keys + i), &value));
+    print!("{name:14} {keys:>8}");
+    for (label, (nanoseconds, allocations), own) in [
+        ("hit", hit, own),
+        ("hit by a ready key", ready, ready_own),
+        ("miss", miss, own),
+        ("replace", replace, own),
+        ("new", evict, own),
+    ] {
+        print!("  {label} {:5.0} ({allocations:.1})", nanoseconds - own);
+    }
+    println!();
+}
+
+fn cache_for(keys: u64) -> Cache {
+    Cache::new(&[Pool { bytes: 4_294_967_296, items: keys }]).unwrap()
+}
+
+// Finds alone, of this cache and of `lru` in turn: the least of many short rounds, in some of which the machine did little else.
 fn least(keys: u64) {
     let mut random = 88_172_645_463_325_252;
     let made: Vec<[u8; 20]> = (0..keys).map(key).collect();
-    let mut ours = cache_for(keys);
-    let mut theirs = lru::LruCache::<Vec<u8>, Vec<u8>>::new(keys as usize);
-    let mut least = [[f64::MAX; 3]; 3];
-    let mut keep = |row: usize, round: [f64; 3]| {
-        for (best, ns) in least[row].iter_mut().zip(round) {
-            *best = best.min(ns);
+    let mut stores: [Box<dyn Store>; 2] =
+        [Box::new(cache_for(keys)), Box::new(lru::LruCache::<Vec<u8>, Vec<u8>>::new(keys as usize))];
+    for store in &mut stores {
+        for made in &made {
+            store.set(made, &[7; 100]);
         }
-    };
-    for made in &made {
-        ours.set(0, made, &[7; 100], 0).unwrap();
-        Store::set(&mut theirs, made, &[7; 100]);
     }
+    let operations = 20_000;
+    let mut least = [[f64::MAX; 3]; 3];
     for _ in 0..100 {
-        let own = timed(20_000, |_| {
-            black_box(key(next(&mut random) % keys));
-        });
-        let ready_own = timed(20_000, |_| {
-            black_box(&made[(next(&mut random) % keys) as usize]);
-        });
-        keep(0, [own.0, ready_own.0, own.0]);
-        keep(1, finds(&mut ours, keys, &made, &mut random));
-        keep(2, finds(&mut theirs, keys, &made, &mut random));
+        let [own, ready_own] = making(operations, keys, &made, &mut random);
+        let [ours, theirs] = stores
+            .each_mut()
+            .map(|store| finds(store.as_mut(), operations, keys, &made, &mut random).map(|(ns, _)| ns));
+        for (least, round) in least.iter_mut().zip([[own, ready_own, own], ours, theirs]) {
+            for (least, nanoseconds) in least.iter_mut().zip(round) {
+                *least = least.min(nanoseconds);
+            }
+        }
     }
     let [own, ours, theirs] = least;
     for (i, label) in ["hit", "hit by a ready key", "miss"].into_iter().enumerate() {
         let (ours, theirs) = (ours[i] - own[i], theirs[i] - own[i]);
-        println!("{label}: {ours:.1} ns, lru {theirs:.1}, which is {:.2} times as much", ours / theirs);
+        println!("{label}: {ours:.1} ns, lru {theirs:.1}: {:.2} times as much", ours / theirs);
     }
 }
 
