@@ -30,7 +30,7 @@ fn copy_out<A: Allocator>(found: Found<A>, buffer: &mut [u8]) -> Copied
 
 impl<N: Notes<Note<A>>, A: Allocator + Clone + Copy> State<N, A> {
     /// A find by a handle, out of which the value is copied.
-    // Out of line, so that a hit where notes are counted has a small frame.
+    // Out of line, so that a find where notes are counted has a small frame.
     #[inline(never)]
     fn find_and_copy(
         &mut self,

@@ -259,6 +259,8 @@ impl<N: Notes<Note<A>>, A: Allocator + Clone + Copy> State<N, A> {
     }
 
     /// A find that is answered at once, or waits for flash.
+    // Out of line, so that a find without flash has a small frame.
+    #[inline(never)]
     fn find_or_wait(&mut self, call: u64, client: u8, key: &Key<A>) -> Result<Found<A>, Refusal>
         requires ready { IsReady self.old }
         requires begun { OwesBegun self.old.cache }
@@ -317,8 +319,6 @@ impl<N: Notes<Note<A>>, A: Allocator + Clone + Copy> State<N, A> {
     }
 
     /// A find of a key without an unexpired item, where notes aren't kept. With no flash it is a miss.
-    // Out of line, so that a hit has a small frame.
-    #[inline(never)]
     pub(crate) fn find_beside(
         &mut self,
         call: u64,
