@@ -1,22 +1,9 @@
 -- What a result will come to, as it can be known before it is handed in.
 use Rattle.std.specs.Prelude.{ℕ, Bool, true, false, List, [], length, max, Option, Some, None}
-use Rattle.hc_types.specs.FlashEntry.{FlashEntry}
-use Rattle.hc_engines.specs.Engine.{Op, Put, Get, Delete, Flush, Reclaim, Answer, Nothing, Over, Absent, Found, Loss, Next, Busy, Io, Done}
+use Rattle.hc_engines.specs.Engine.{Op, Put, Get, Delete, Flush, Reclaim, Answer, Over, Absent, Loss, Next, Busy, Io, Done}
 use Rattle.hc_engines.specs.small.BigHash.{Phase, Reading, Writing, Plan, ToRead, ToWrite, ToEnd, ToKeep, ToGiveUp, Moved}
 
 -- ---- what a get finds
-
--- the entry that was found
-abbrev pub found_in : Answer → Option FlashEntry
-found_in Nothing = None
-found_in Over = None
-found_in Absent = None
-found_in (Found e) = Some e
-
-abbrev pub found_next : Next → Option FlashEntry
-found_next Busy = None
-found_next (Io order outcome) = None
-found_next (Done outcome) = found_in outcome.answer
 
 -- the answer of what is over
 abbrev pub answer_next : Next → Option Answer

@@ -3,7 +3,6 @@
 //! what came of that.
 #![tactic(auto)]
 
-mod answers;
 mod awaiting;
 mod big_hash;
 mod bloom;
@@ -12,6 +11,7 @@ mod jobs;
 mod ops;
 mod pages;
 mod plans;
+mod questions;
 mod results;
 mod resuming;
 mod shared_page;

@@ -8,5 +8,4 @@ pub mod Going
 pub mod Settling
 pub mod Reads
 pub mod Turns
-pub mod Found
 pub mod Endings

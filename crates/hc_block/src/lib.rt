@@ -9,7 +9,6 @@ mod block_cache;
 mod came;
 mod endings;
 mod ends;
-mod finding;
 mod flushes;
 mod gets;
 mod index;

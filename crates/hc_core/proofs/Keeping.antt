@@ -3,7 +3,7 @@ use Rattle.std.proofs.Common.{◌≡◌, ◌≤◌, [], length, None, refl, sym,
 use Rattle.std.specs.Prelude.{Result, Ok, Err, IfOk, OnOk, OnErr}
 use Rattle.hc_types.specs.Config.{Config}
 use Rattle.hc_types.specs.Limits.{first_wrong}
-use Rattle.hc_history.specs.Told.{Heard, Nothing, Log, Counts, IfLog, told_more, losses_taken}
+use Rattle.hc_history.specs.Told.{Heard, IfLog, told_more}
 use Rattle.hc_machine.specs.Cache.{Cache, Answer, new_cache}
 use Rattle.hc_invariant.specs.Structure.{Structured}
 use Rattle.hc_proof_runs.specs.Events.{Event, Allocates, Inserts, Adds, Discards, Finds, Removes, Replies, Ticks, Writes, Fills, Reclaims, Finishes, act}
@@ -16,7 +16,7 @@ use Rattle.hc_state.proofs.Finds.{stays-unchanged}
 use Rattle.hc_core.specs.Events.{EventFits}
 use Rattle.hc_core.specs.Holds.{AreShort, Holds}
 use Rattle.hc_core.proofs.Short.{stays-short}
-use Rattle.hc_core.proofs.Guarding.{IsGuarded, guarded-as, new-guarded, stays-guarded}
+use Rattle.hc_core.proofs.Guarding.{guarded-as, new-guarded, stays-guarded}
 
 -- ---- by the kind of the step
 
@@ -79,21 +79,6 @@ unchanged_holds old new h same = record {
   guarded = guarded-as old.log new.log old.cache new.cache same.log same.cache h.guarded;
 }
 
--- what is heard of the log are its counts, of which the losses are taken
-pub taken-holds : (old new : Whole) → Holds old → new.cache ≡ old.cache → new.log ≡ losses_taken old.log → old.notes ≤ new.notes → Holds new
-taken-holds old new h is taken room = record {
-  structured = subst Structured (sym is) h.structured;
-  begun = subst OwesBegun (sym is) h.begun;
-  ready = subst (λ (c : Cache). length c.memory.charges ≤ new.notes) (sym is) (omega (arith, h.ready, room));
-  short = subst (λ (c : Cache). AreShort c.memory.charges) (sym is) h.short;
-  guarded = guarded-as (losses_taken old.log) new.log old.cache new.cache taken is (go old.log h.guarded);
-}
-  where
-    go : (heard : Heard) → IsGuarded heard old.cache → IsGuarded (losses_taken heard) old.cache
-    go Nothing g = tt
-    go (Log log) g = g
-    go (Counts counts losses) g = tt
-
 -- ---- calls
 
 module _ {T E : Type 0} (event : Event) (old new : Whole) (fits : EventFits event) (h : Holds old) where
@@ -110,7 +95,3 @@ module _ {T E : Type 0} (event : Event) (old new : Whole) (fits : EventFits even
   pub done-holds : (answer : Answer) (result : Result T E) → OnOk result (IsStep (act event old.cache) answer old new) → OnErr result (Stays old new) → Holds new
   done-holds answer (Ok x) ok err = step_holds event answer old new fits h ok
   done-holds answer (Err e) ok err = unchanged_holds old new h (stays-unchanged old new err)
-
-  pub put-holds : (answer : Answer) (result : Result T E) → OnOk result (IsStep (act event old.cache) answer old new) → OnErr result (IsUnchanged old new) → Holds new
-  put-holds answer (Ok x) ok err = step_holds event answer old new fits h ok
-  put-holds answer (Err e) ok err = unchanged_holds old new h err

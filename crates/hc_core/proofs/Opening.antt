@@ -1,19 +1,18 @@
 -- A handle that was allocated is known, and one that is known is given up.
-use Rattle.std.proofs.Common.{◌≡◌, ℕ, ◌+◌, Bool, true, false, not, ◌&&◌, List, [], ◌∷◌, length, Option, Some, None, if◌then◌else◌, refl, ap, ◌∙◌, subst}
+use Rattle.std.proofs.Common.{◌≡◌, ℕ, ◌+◌, true, false, not, ◌&&◌, List, [], ◌∷◌, length, Option, Some, None, refl, ap, ◌∙◌, subst}
 use Rattle.std.specs.Prelude.{Result, Ok, Err, IfOk}
 use Rattle.std.specs.List.{list_any}
 use Rattle.hc_types.specs.Tally.{count}
-use Rattle.hc_types.specs.declared.refusal.Refusal.TheVariants.{ForeignHandle}
 use Rattle.hc_memory.specs.Item.{Handle, charge_by}
 use Rattle.hc_memory.specs.Charges.{has_number}
 use Rattle.hc_memory.specs.Memory.{Memory, handle_for}
 use Rattle.hc_items.specs.Items.{items_of}
 use Rattle.hc_items.specs.Allocating.{expiry_of}
 use Rattle.hc_machine.specs.Nvm.{Nvm, Wish, ToFind, ToAdd, Waiter, Fill, adds}
-use Rattle.hc_machine.specs.Cache.{Cache, Refused, Discarded, answers, stays}
+use Rattle.hc_machine.specs.Cache.{Cache}
 use Rattle.hc_machine.specs.Waiting.{free}
 use Rattle.hc_machine.specs.Evicting.{make_charge}
-use Rattle.hc_machine.specs.Calls.{is_kept_in, is_known, discard}
+use Rattle.hc_machine.specs.Calls.{is_kept_in, is_known}
 use Rattle.hc_invariant.specs.Jobs.{WishHolds, AllWish, AllWishes}
 use Rattle.hc_invariant.specs.Good.{fills_of}
 use Rattle.hc_invariant.specs.Structure.{Structured, queue_of}
@@ -66,6 +65,3 @@ opened-known pool key value ttl old new (Ok blank) structured opens is =
     λ i. opens.is_open i && not (free i)
 
 -- ---- what is known
-
-pub known-discards : (cache : Cache) (handle : Handle) → is_known cache handle ≡ true → (discard handle cache).answer ≡ Discarded
-known-discards cache handle known = ap (λ (b : Bool). (if b then answers Discarded (free handle.number cache) else stays (Refused ForeignHandle) cache).answer) known

@@ -170,9 +170,6 @@ counts-did counts call NotInMemory = λ i. record {
 pub counts-kind : (counts : Stats) (call : ℕ) (reply : Reply) (kind : Kind) → kind_of reply ≡ Some kind → counts_one counts kind ≡ counts_more counts (Did call reply ∷ [])
 counts-kind counts call reply kind e = ap (counts_if counts) (sym e) ∙ counts-did counts call reply
 
-pub counts-no-kind : (counts : Stats) (call : ℕ) (reply : Reply) → kind_of reply ≡ None → counts ≡ counts_more counts (Did call reply ∷ [])
-counts-no-kind counts call reply e = ap (counts_if counts) (sym e) ∙ counts-did counts call reply
-
 none_lost : (call : ℕ) (reply : Reply) → [] ≡ losses_of (Did call reply ∷ [])
 none_lost call reply = refl
 
@@ -181,8 +178,3 @@ pub told-did : (heard : Heard) (call : ℕ) (reply : Reply) (kind : Kind) → is
 told-did Nothing call reply kind e is = refl
 told-did (Log log) call reply kind e is = absurd cc
 told-did (Counts counts losses) call reply kind e is = λ i. Counts (counts-kind counts call reply kind is i) ((sym (append-nil losses) ∙ ap (λ ns. losses ++ ns) (none_lost call reply)) i)
-
-pub told-no-kind : (heard : Heard) (call : ℕ) (reply : Reply) → is_log heard ≡ false → kind_of reply ≡ None → heard ≡ told_more heard (Did call reply ∷ [])
-told-no-kind Nothing call reply e is = refl
-told-no-kind (Log log) call reply e is = absurd cc
-told-no-kind (Counts counts losses) call reply e is = λ i. Counts (counts-no-kind counts call reply is i) ((sym (append-nil losses) ∙ ap (λ ns. losses ++ ns) (none_lost call reply)) i)

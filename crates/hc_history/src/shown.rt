@@ -34,42 +34,37 @@ impl<A: Allocator> Debug for Reply<A> {
     }
 }
 
-/// A page by its length.
+// What a note is called, and its first number, where it begins with one.
+fn heading<A: Allocator>(said: &Said<A>) -> (&'static str, Option<u64>) {
+    match said {
+        Said::Begin { call, .. } => ("Begin", Some(*call)),
+        Said::Did { call, .. } => ("Did", Some(*call)),
+        Said::End { call } => ("End", Some(*call)),
+        Said::Lose { .. } => ("Lose", None),
+        Said::Charged { charge, .. } => ("Charged", Some(*charge)),
+        Said::Linked { charge } => ("Linked", Some(*charge)),
+        Said::Freed { charge } => ("Freed", Some(*charge)),
+        Said::Queued { .. } => ("Queued", None),
+        Said::Unqueued { .. } => ("Unqueued", None),
+        Said::Writing { .. } => ("Writing", None),
+        Said::Written { .. } => ("Written", None),
+        Said::Buried { .. } => ("Buried", None),
+        Said::Raised { .. } => ("Raised", None),
+        Said::Read { page, .. } => ("Read", Some(u64::from(*page))),
+        Said::Wrote { page, .. } => ("Wrote", Some(u64::from(*page))),
+        Said::Opened { region } => ("Opened", Some(u64::from(*region))),
+        Said::Flushed { region } => ("Flushed", Some(u64::from(*region))),
+        Said::Cleared { region } => ("Cleared", Some(u64::from(*region))),
+        Said::Now { moment } => ("Now", Some(*moment)),
+    }
+}
+
+/// What it is, and its first number. A log as text has the rest.
 impl<A: Allocator + Debug> Debug for Said<A> {
     fn fmt<W: fmt::Write>(&self, f: &mut fmt::Formatter<W>) -> fmt::Result {
-        match self {
-            Said::Begin { call, client, op } => write!(f, "Begin({call}, {client}, {op:?})"),
-            Said::Did { call, reply } => write!(f, "Did({call}, {reply:?})"),
-            Said::End { call } => write!(f, "End({call})"),
-            Said::Lose { scope, cause } => write!(f, "Lose({scope:?}, {cause:?})"),
-            Said::Charged {
-                charge,
-                key,
-                pool,
-                bytes,
-            } => write!(f, "Charged({charge}, {key:?}, {pool}, {bytes})"),
-            Said::Linked { charge } => write!(f, "Linked({charge})"),
-            Said::Freed { charge } => write!(f, "Freed({charge})"),
-            Said::Queued { key } => write!(f, "Queued({key:?})"),
-            Said::Unqueued { key } => write!(f, "Unqueued({key:?})"),
-            Said::Writing { key } => write!(f, "Writing({key:?})"),
-            Said::Written { key } => write!(f, "Written({key:?})"),
-            Said::Buried { key } => write!(f, "Buried({key:?})"),
-            Said::Raised { key } => write!(f, "Raised({key:?})"),
-            Said::Read {
-                page,
-                result: Some(bytes),
-            } => write!(f, "Read({page}, {} bytes)", bytes.len()),
-            Said::Read { page, result: None } => write!(f, "Read({page}, failed)"),
-            Said::Wrote {
-                page,
-                bytes,
-                is_written,
-            } => write!(f, "Wrote({page}, {} bytes, {is_written})", bytes.len()),
-            Said::Opened { region } => write!(f, "Opened({region})"),
-            Said::Flushed { region } => write!(f, "Flushed({region})"),
-            Said::Cleared { region } => write!(f, "Cleared({region})"),
-            Said::Now { moment } => write!(f, "Now({moment})"),
+        match heading(self) {
+            (word, Some(number)) => write!(f, "{word}({number}, ..)"),
+            (word, None) => f.write_str(word),
         }
     }
 }

@@ -1,5 +1,5 @@
 -- Items under keys, and the entries of the map that they come to.
-use Rattle.std.proofs.Common.{◌≡◌, ℕ, ◌+◌, ◌≤◌, Bool, true, false, List, [], ◌∷◌, Option, Some, None, refl, ap, sym, ◌∙◌, arith, subst}
+use Rattle.std.proofs.Common.{◌≡◌, ℕ, ◌+◌, ◌≤◌, Bool, true, false, List, [], ◌∷◌, Some, None, refl, ap, sym, ◌∙◌, arith, subst}
 use Rattle.std.proofs.lemmas.Slice.Eq.{bytes_eq-Decides}
 use Rattle.std.specs.Str.{bytes_eq}
 use mathlib.Core.Bool.{cond}
@@ -7,9 +7,6 @@ use Rattle.hc_types.specs.Tally.{tally, count}
 use Rattle.hc_memory.specs.Item.{Item}
 use Rattle.hc_memory.specs.Pool.{is_at, item_at, without}
 use Rattle.hc_memory.proofs.Keyed.{same_bytes, tally-without, item_at-is, count-none}
-use Rattle.hc_memory.proofs.Keys.{counted, none-counted}
-use Rattle.hc_history.specs.Books.{is_linked}
-use Rattle.hc_items.specs.Items.{charge_at, entry_of}
 
 -- ---- keys
 
@@ -24,11 +21,6 @@ sym_step a b false true e f = let same = same_bytes b a f in let other : bytes_e
 
 pub bytes_eq-sym : (a b : List ℕ) → bytes_eq a b ≡ bytes_eq b a
 bytes_eq-sym a b = sym_step a b (bytes_eq a b) (bytes_eq b a) refl refl
-
--- as many linked charges have a key as items
-pub linked-count : (key : List ℕ) (items : List Item) → count (λ item. is_linked key (charge_at item)) items ≡ count (is_at key) items
-linked-count key [] = refl
-linked-count key (x ∷ items) = omega (arith, linked-count key items, ap {B = ℕ} (λ b. cond b 1 0) (bytes_eq-sym x.key key))
 
 -- ---- items that go and come
 
@@ -77,21 +69,3 @@ only_one key items x f one found =
 value_step : (a b : List ℕ) (t : Bool) → bytes_eq b a ≡ t → ◌≡◌ {A = ℕ} (cond t 1 0) 1 → b ≡ a
 value_step a b true e h = same_bytes b a e
 value_step a b false e h = absurd (omega (arith, h))
-
-both_step : (key : List ℕ) (xs ys : List Item) (x y : Item) → count (is_at key) xs ≤ 1 → count (is_at key) ys ≤ 1 → ((f : Item → ℕ) → tally f xs ≡ tally f ys) → item_at key xs ≡ Some x → item_at key ys ≡ Some y → entry_of (Some x) ≡ entry_of (Some y)
-both_step key xs ys x y one one' same found found' =
-    let each : (f : Item → ℕ) → f x ≡ f y = λ f. omega (arith, only_one key xs x f one found, only_one key ys y f one' found', same (λ item. cond (is_at key item) (f item) 0)) in
-    let refl_y : ◌≡◌ {A = ℕ} (cond (bytes_eq y.value y.value) 1 0) 1 = ap {B = ℕ} (λ b. cond b 1 0) (bytes_eq-refl y.value) in
-    let value : y.value ≡ x.value = value_step x.value y.value (bytes_eq y.value x.value) refl (each (λ item. cond (bytes_eq y.value item.value) 1 0) ∙ refl_y) in
-    let expiry : x.expiry ≡ y.expiry = each (λ item. item.expiry) in
-    λ i. Some (record { value = sym value i; expiry = expiry i })
-
-entry_step : (key : List ℕ) (xs ys : List Item) (o p : Option Item) → count (is_at key) xs ≤ 1 → count (is_at key) ys ≤ 1 → ((f : Item → ℕ) → tally f xs ≡ tally f ys) → item_at key xs ≡ o → item_at key ys ≡ p → entry_of o ≡ entry_of p
-entry_step key xs ys None None one one' same e f = refl
-entry_step key xs ys (Some x) None one one' same e f = absurd (omega (arith, counted key xs x e, none-counted key ys f, same (λ item. cond (is_at key item) 1 0)))
-entry_step key xs ys None (Some y) one one' same e f = absurd (omega (arith, counted key ys y f, none-counted key xs e, same (λ item. cond (is_at key item) 1 0)))
-entry_step key xs ys (Some x) (Some y) one one' same e f = both_step key xs ys x y one one' same e f
-
--- the order of items doesn't tell in the map
-pub entry-same : (key : List ℕ) (xs ys : List Item) → count (is_at key) xs ≤ 1 → ((f : Item → ℕ) → tally f xs ≡ tally f ys) → entry_of (item_at key xs) ≡ entry_of (item_at key ys)
-entry-same key xs ys one same = entry_step key xs ys (item_at key xs) (item_at key ys) one (omega (arith, one, same (λ item. cond (is_at key item) 1 0))) same refl refl

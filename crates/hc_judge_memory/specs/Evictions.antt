@@ -4,8 +4,7 @@ use Rattle.hc_types.specs.Config.{Config}
 use Rattle.hc_types.specs.Tally.{count}
 use Rattle.hc_history.specs.Note.{Note, Freed}
 use Rattle.hc_history.specs.Books.{Charge, charges, has_number, is_linked}
-use Rattle.hc_history.specs.Lawful.{is_full, next_charged, is_charge_of}
-use Rattle.hc_legal.specs.Judge.{is_charge, may_free}
+use Rattle.hc_legal.specs.Judge.{may_free}
 
 -- the charge that the last note freed, and what was before it
 abbrev pub last_freed : List Note → Option (ℕ × List Note)
@@ -15,10 +14,6 @@ last_freed older = None
 -- a linked charge of the key has the number
 abbrev pub is_link_of : ℕ → List ℕ → Charge → Bool
 is_link_of number key charge = has_number number charge && is_linked key charge
-
-abbrev pub is_evicted_by : Config → Option (ℕ × List Note) → List ℕ → ℕ → ℕ → List Note → Bool
-is_evicted_by config None key pool want rest = false
-is_evicted_by config (Some freed) key pool want rest = nat_lt 0 (count (is_charge_of freed.0 key pool) (charges freed.1)) && (is_full config pool (charges freed.1) want && is_charge (next_charged rest) pool want)
 
 abbrev pub is_freed_by : Option (ℕ × List Note) → List ℕ → Bool
 is_freed_by None key = false

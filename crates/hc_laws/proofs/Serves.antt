@@ -14,7 +14,7 @@ use Rattle.hc_engines.proofs.pair.Waiting.{busy_is_true}
 use Rattle.hc_machine.specs.Nvm.{Nvm, Tombstone, Fill, Task, Putting, Deleting, Filling, Flushing, next_put, next_delete, next_fill, fill_by, taken_stone, taken_fill, without_put}
 use Rattle.hc_machine.specs.Leaving.{Changed}
 use Rattle.hc_machine.specs.Takes as takes
-use Rattle.hc_machine.specs.Takes.{Take, Idle, Finished, Work, Taken, idle, fill_out, finished, ends, settled, launched, launch, launch_by, take_sized, take_put, take_delete, take_flush, take_page, take_fill}
+use Rattle.hc_machine.specs.Takes.{Take, Idle, Taken, idle, fill_out, ends, settled, launched, launch, take_sized, take_put, take_delete, take_page, take_fill}
 use Rattle.hc_machine.specs.Cache.{Cache, Moved, Answer, Took, stays}
 use Rattle.hc_machine.specs.Workers.{after_take, take_on}
 use Rattle.hc_laws.specs.Serving.{can_put, can_delete, can_fill, next_page, Piece, APage, ADelete, APut, IsTurn, NothingToWrite, page_goes, written, IsFillsTurn, NothingToFill, filled, NothingOn, ServesTheFirst, WriterServesTheFirst, FillerServesTheFirst}
@@ -61,10 +61,6 @@ writer_is nvm = ap (λ (m : block.Moved). take_page (by_large nvm.pair [] m) nvm
     by (Some turn) = refl
 
 -- ---- each piece
-
-and_left : (a b : Bool) → (a && b) ≡ true → a ≡ true
-and_left true b h = refl
-and_left false b h = absurd cc
 
 and_free : (a b : Bool) → (a && not b) ≡ true → b ≡ false
 and_free true true h = absurd cc

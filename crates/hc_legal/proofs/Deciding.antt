@@ -74,9 +74,6 @@ charge (Some next) pool want = (
       and_from (next.0 == pool) (next.1 == want) ((Decides-eqb next.0 pool).1 (ap (λ (x : ℕ × ℕ). x.0) same)) ((Decides-eqb next.1 want).1 (ap (λ (x : ℕ × ℕ). x.1) same)),
 )
 
-same_why : {found why : Why} → found ≡ why → Decides true (Some found ≡ Some why)
-same_why e = (λ h. ap (λ (x : Why). Some x) e, λ h. refl)
-
 reason : (o : Option Why) (why : Why) → Decides (is_why o why) (o ≡ Some why)
 reason (Some NoFlash) NoFlash = (λ h. refl, λ h. refl)
 reason (Some Tombstone) Tombstone = (λ h. refl, λ h. refl)

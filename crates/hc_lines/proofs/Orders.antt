@@ -9,7 +9,7 @@ use Rattle.std.specs.Prelude.{codes}
 use Rattle.hc_lines.specs.Lines.{onto_first, fields_of, Lacks}
 use Rattle.hc_lines.specs.Numbers.{is_visible, is_key, number_of, below, number_below, value_of}
 use Rattle.hc_lines.specs.Steps.{Get, Del, Now, Finish, Reply}
-use Rattle.hc_lines.specs.Grammar.{Order, Do, Serve, pool_with, pool_order, item_with, item_of, get_order, del_order, now_order, noflash_order, Five, five_with, five_of, flash_with, io_with, io_order, done_order, reply_order, alone_of, alone, served, serve_of, order_of}
+use Rattle.hc_lines.specs.Grammar.{Order, Do, Serve, pool_with, pool_order, item_with, item_of, get_order, del_order, now_order, noflash_order, five_with, five_of, io_with, io_order, done_order, reply_order, alone_of, alone, served, serve_of, order_of}
 use Rattle.hc_lines.proofs.Decimals.{both, true-is-not-false, number-digits}
 use Rattle.hc_lines.proofs.Parts.{Some-fields, fields-some, fields-one, fields-ended, around, not-true}
 
@@ -248,9 +248,6 @@ reply-from text (inr p) = ap reply_order (two text p) ∙ sym (ap (λ r. option_
 pub reply-is : (text : List ℕ) → reply_order (fields_of text) ≡ option_map (λ call. Serve (Reply call)) (number_of text)
 reply-is text = reply-from text (one-or-more text)
 
-fail-two : (job first second : List ℕ) (rest : List (List ℕ)) → io_order (job ∷ first ∷ second ∷ rest) ≡ None
-fail-two job first second rest = refl
-
 fail-from : (job text : List ℕ) → (fields_of text ≡ text ∷ []) ⊎ Parted text → io_order (job ∷ fields_of text) ≡ (if bytes_eq text (codes "fail") then io_with true (number_of job) else None)
 fail-from job text (inl one) = ap (λ z. io_order (job ∷ z)) one
 fail-from job text (inr p) =
@@ -277,8 +274,3 @@ five-from a b c d text (inr p) =
 
 pub five-is : (a b c d text : List ℕ) → five_of (a ∷ b ∷ c ∷ d ∷ fields_of text) ≡ five_with (number_of a) (number_of b) (number_of c) (number_of d) (number_of text)
 five-is a b c d text = five-from a b c d text (one-or-more text)
-
--- a flash of five fields is none
-pub no-limits : (sizes : Option Five) → flash_with sizes None ≡ None
-no-limits None = refl
-no-limits (Some sizes) = refl

@@ -13,7 +13,7 @@ use Rattle.hc_memory.specs.declared.usage.Usage.{Usage}
 use Rattle.hc_memory.specs.Item.{Item, Handle, cost, item_by}
 use Rattle.hc_memory.specs.Charges.{closed, usage_of}
 use Rattle.hc_memory.specs.Pool.{Pool, bytes_of, is_at, item_at, without, is_full, kept, dropped, unmarked_where, is_covered}
-use Rattle.hc_memory.specs.Memory.{Memory, has, linked_at, change_at, change_home, unlinked, is_hopeless, victims_of, after_room, handle_for, after_charge, after_free, after_frees, after_link, planted, early, after_unlink, after_unmark}
+use Rattle.hc_memory.specs.Memory.{Memory, has, linked_at, change_at, change_home, unlinked, is_hopeless, victims_of, after_room, handle_for, after_charge, after_free, after_link, early, after_unlink, after_unmark}
 use Rattle.hc_memory.proofs.Keyed.{tally-unmarked, unmarked-push, is_some-mapped}
 
 -- ---- one item
@@ -146,12 +146,6 @@ module _ (flash : Option FlashConfig) (s : Scope) where
 
 -- ---- the steps
 
-pub unmark-free : (m : Memory) (n : ℕ) (s : Scope) → after_unmark (after_free m n) s ≡ after_free (after_unmark m s) n
-unmark-free m n s = refl
-
-pub unmark-frees : (ns : List ℕ) (m : Memory) (s : Scope) → after_unmark (after_frees ns m) s ≡ after_frees ns (after_unmark m s)
-unmark-frees ns m s = refl
-
 -- the item under a key goes
 pub unmark-unlink : (m : Memory) (key : List ℕ) (s : Scope) → after_unmark (after_unlink m key) s ≡ after_unlink (after_unmark m s) key
 unmark-unlink m key s = let pools = unlinked-off m.flash s key m.pools in λ i. record { flash = m.flash; pools = sym pools i; charges = m.charges; made = m.made }
@@ -161,10 +155,6 @@ pub unmark-link : (m : Memory) (h : Handle) (s : Scope) → after_unmark (after_
 unmark-link m h s =
     let pools = linked-off m.flash s h.pool h.key (item_by false h) (unclean h (is_covered m.flash s (item_by false h))) m.pools in
     λ i. record { flash = m.flash; pools = sym pools i; charges = closed h.number m.charges; made = m.made }
-
-pub unmark-planted : (hs : List Handle) (m : Memory) (s : Scope) → after_unmark (planted hs m) s ≡ planted hs (after_unmark m s)
-unmark-planted [] m s = refl
-unmark-planted (h ∷ hs) m s = unmark-planted hs (after_link m false h) s ∙ ap (planted hs) (unmark-link m h s)
 
 pub unmark-early : (hs : List Handle) (m : Memory) (s : Scope) → after_unmark (early hs m) s ≡ early hs (after_unmark m s)
 unmark-early [] m s = refl
@@ -176,12 +166,6 @@ unmark-early (h ∷ g ∷ hs) m s = unmark-early (g ∷ hs) (after_free m h.numb
 -- what is seen of the item under a key, but for its mark
 pub unmark-found : {X : Type 0} (f : Item → X) → ((x : Item) → f (record x { clean = false }) ≡ f x) → (m : Memory) (s : Scope) (key : List ℕ) → option_map f (linked_at key (after_unmark m s).pools) ≡ option_map f (linked_at key m.pools)
 unmark-found f same m s key = pools-found m.flash s f same key m.pools
-
-pub unmark-linked : (m : Memory) (s : Scope) (key : List ℕ) → is_some (linked_at key (after_unmark m s).pools) ≡ is_some (linked_at key m.pools)
-unmark-linked m s key =
-    sym (is_some-mapped (λ (x : Item). x.number) (linked_at key (after_unmark m s).pools))
-    ∙ ap is_some (unmark-found (λ (x : Item). x.number) (λ x. refl) m s key)
-    ∙ is_some-mapped (λ (x : Item). x.number) (linked_at key m.pools)
 
 victims_step : (m : Memory) (s : Scope) (pool want : ℕ) (o : Option Pool)
     → option_map_or (λ p. dropped p.size (usage_of pool m.charges) want p.items) (option_map (pool_off m.flash s) o) [] ≡ unmarked_where (is_covered m.flash s) (option_map_or (λ p. dropped p.size (usage_of pool m.charges) want p.items) o [])

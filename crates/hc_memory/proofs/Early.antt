@@ -1,5 +1,5 @@
 -- Items of one key that are linked one over the other: only the last stays.
-use Rattle.std.proofs.Common.{◌≡◌, ℕ, zero, suc, ◌≤◌, ◌++◌, Bool, true, false, List, [], ◌∷◌, Option, Some, None, is_some, map, refl, ap, sym, ◌∙◌, arith, subst, slice_get, slice_set}
+use Rattle.std.proofs.Common.{◌≡◌, ℕ, zero, suc, ◌≤◌, ◌++◌, Bool, true, false, List, [], ◌∷◌, Option, Some, None, is_some, refl, ap, sym, ◌∙◌, arith, slice_get, slice_set}
 use mathlib.Core.Bool.{cond}
 use Rattle.std.specs.List.{AllByRecursion}
 use Rattle.std.specs.Option.{option_map_or}
@@ -10,7 +10,7 @@ use Rattle.hc_memory.specs.Item.{Item, Handle, item_by}
 use Rattle.hc_memory.specs.Charges.{closed}
 use Rattle.hc_memory.specs.Pool.{Pool, is_at, item_at, without}
 use Rattle.hc_memory.specs.Sound.{items_at}
-use Rattle.hc_memory.specs.Memory.{Memory, has, change_at, unlinked, after_free, after_frees, after_link, planted, early}
+use Rattle.hc_memory.specs.Memory.{Memory, has, change_at, unlinked, after_free, after_link, early}
 use Rattle.hc_memory.proofs.Keyed.{count-none, item_at-pushed, without-pushed}
 use Rattle.hc_memory.proofs.Linking.{gone}
 
@@ -72,12 +72,6 @@ relinked key m h single same =
     (λ i. unlinked key (change_at h.pool (pushed (item_by false h)) (unlinked (same i) m.pools)))
     ∙ unlinked-linked key (item_by false h) at m.pools h.pool single
 
--- what is linked over another is linked as if that one had only ended
-pub link-over-link : (m : Memory) (h g : Handle) → items_at h.key m.pools ≤ 1 → h.key ≡ g.key → after_link (after_link m false h) false g ≡ after_link (after_free m h.number) false g
-link-over-link m h g single same =
-    let pools : unlinked g.key (after_link m false h).pools ≡ unlinked g.key m.pools = (λ i. unlinked (sym same i) (after_link m false h).pools) ∙ relinked h.key m h single refl ∙ (λ i. unlinked (same i) m.pools) in
-    λ i. record { flash = m.flash; pools = change_at g.pool (pushed (item_by false g)) (pools i); charges = closed g.number (closed h.number m.charges); made = m.made }
-
 -- what is linked early hangs on the other keys' items alone
 pub early-same : (key : List ℕ) (h : Handle) (hs : List Handle) (m : Memory) (pools : List Pool) → unlinked key m.pools ≡ unlinked key pools → h.key ≡ key → AllByRecursion (λ (g : Handle). g.key ≡ key) hs → early (h ∷ hs) m ≡ early (h ∷ hs) (record m { pools = pools })
 early-same key h [] m pools e same all =
@@ -92,16 +86,3 @@ early-first key h (g ∷ hs) m single same all = early-same key g hs (after_free
 -- the first is linked as well
 pub early-link : (h : Handle) (hs : List Handle) (m : Memory) → items_at h.key m.pools ≤ 1 → AllByRecursion (λ (g : Handle). g.key ≡ h.key) hs → early (h ∷ hs) m ≡ early hs (after_link m false h)
 early-link h hs m single all = early-first h.key h hs m single refl all
-
--- each is linked
-pub early-planted : (key : List ℕ) (hs : List Handle) (m : Memory) → items_at key m.pools ≤ 1 → AllByRecursion (λ (g : Handle). g.key ≡ key) hs → early hs m ≡ planted hs m
-early-planted key [] m single all = refl
-early-planted key (h ∷ hs) m single all =
-    let next : items_at key (after_link m false h).pools ≤ 1 = subst (λ k. items_at key (change_at h.pool (pushed (item_by false h)) (unlinked k m.pools)) ≤ 1) (sym all.0) (linked-single key (item_by false h) m.pools h.pool single) in
-    early-first key h hs m single all.0 all.1 ∙ early-planted key hs (after_link m false h) next all.1
-
--- the last is linked, and the charges of the others end before
-pub early-last : (hs : List Handle) (last : Handle) (m : Memory) → early (hs ++ last ∷ []) m ≡ after_link (after_frees (map (λ (h : Handle). h.number) hs) m) false last
-early-last [] last m = refl
-early-last (h ∷ []) last m = refl
-early-last (h ∷ g ∷ hs) last m = early-last (g ∷ hs) last (after_free m h.number)

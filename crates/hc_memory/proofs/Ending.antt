@@ -2,7 +2,6 @@
 use Rattle.std.proofs.Common.{◌≡◌, ℕ, ◌+◌, ◌<◌, ◌≤◌, nat_lt, ltb-true, Bool, true, false, List, [], ◌∷◌, ◌++◌, length, Option, Some, None, find, position, slice_get, swap_remove, refl, ap, sym, ◌∙◌, arith}
 use mathlib.Core.Bool.{cond}
 use Rattle.std.specs.List.{position_or_len}
-use Rattle.std.specs.Option.{option_map_or}
 use Rattle.hc_types.specs.Tally.{tally, count}
 use Rattle.hc_types.proofs.Tallies.{tally-where}
 use Rattle.hc_memory.specs.Item.{Open, Handle, charge_by, item_by}
@@ -25,11 +24,6 @@ below_step i at n false e h = absurd cc
 -- a place that is answered is there
 pub position-below : {X : Type 0} (p : X → Bool) (xs : List X) (at : ℕ) → position p xs ≡ Some at → at < length xs
 position-below p xs at h = below_step (position_or_len p xs) at (length xs) (nat_lt (position_or_len p xs) (length xs)) refl h
-
--- where there is none, nothing ends
-pub closed-nowhere : (number : ℕ) (charges : List Open) → position (has_number number) charges ≡ None → closed number charges ≡ charges
-closed-nowhere number [] h = refl
-closed-nowhere number (c ∷ charges) h = ap (λ o. option_map_or (λ i. swap_remove (c ∷ charges) i c) o (c ∷ charges)) h
 
 -- the charge at the place is the one that ends
 pub closed-there : (number : ℕ) (old new : Book) (at : ℕ) → position (has_number number) old.charges ≡ Some at → ((charge : Open) → slice_get old.charges at ≡ Some charge → new ≡ record old { charges = swap_remove old.charges at charge }) → new ≡ record old { charges = closed number old.charges }

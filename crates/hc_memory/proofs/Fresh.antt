@@ -6,7 +6,7 @@ use Rattle.std.proofs.lemmas.Bool.{ltb-true, ltb-false}
 use Rattle.hc_types.specs.Tally.{count}
 use Rattle.hc_types.proofs.Tallies.{tally-mono, tally-push}
 use Rattle.hc_memory.specs.Item.{Item}
-use Rattle.hc_memory.specs.Pool.{item_at, without, is_expired, unexpired}
+use Rattle.hc_memory.specs.Pool.{item_at, without, is_expired}
 use Rattle.hc_memory.proofs.Keyed.{tally-without, less-without}
 use Rattle.hc_memory.proofs.Listing.{zero_one}
 
@@ -30,16 +30,6 @@ fresh_step key now items (Some x) e none = zero_one (is_expired now x) (omega (a
 -- where none is expired at a later second, none is now
 pub none-expired : (key : List ℕ) (now later : ℕ) (items : List Item) → now ≤ later → count (is_expired later) items ≡ 0 → option_map_or (is_expired now) (item_at key items) false ≡ false
 none-expired key now later items le none = fresh_step key now items (item_at key items) refl (omega (arith, expired-more now later items le, none))
-
--- an item that isn't expired is one that may be found
-pub this-fresh : (now : ℕ) (o : Option Item) → option_map_or (is_expired now) o false ≡ false → unexpired now o ≡ o
-this-fresh now None e = refl
-this-fresh now (Some x) e = ap (λ b. cond b None (Some x)) e
-
--- one that is isn't
-pub this-expired : (now : ℕ) (o : Option Item) → option_map_or (is_expired now) o false ≡ true → unexpired now o ≡ None
-this-expired now None e = refl
-this-expired now (Some x) e = ap (λ b. cond b None (Some x)) e
 
 -- an item that takes the place of another is fresh with the rest up to the earlier of two seconds
 pub fresh-put : (until last now : ℕ) (key : List ℕ) (items : List Item) (x : Item) → now ≤ until → now ≤ last → count (is_expired until) items ≡ 0 → is_expired last x ≡ false → count (is_expired now) (without key items ++ x ∷ []) ≡ 0

@@ -122,34 +122,6 @@ listed-but flash old new key other n bucket hash e small large h = go (is_small_
     go true h = small (bucket_at flash other) other (rw e (no_more (bucket_at flash other == bucket))) h
     go false h = large (kept_of flash.bits other) other (rw e (no_more (kept_of flash.bits other == hash))) h
 
--- a bucket is forgotten
-pub listed-bucket : (flash : FlashConfig) (old new : Listing) (bucket : ℕ) (key : List ℕ) (len : ℕ) → ((p : ℕ) → keys_at p new.small ≡ cond (p == bucket) [] (keys_at p old.small)) → new.large ≡ old.large
-    → (is_small_by flash key len && (bucket_at flash key == bucket)) ≡ false → is_listed (Some flash) old key len ≡ true → is_listed (Some flash) new key len ≡ true
-listed-bucket flash old new bucket key len small large e h = go (is_small_by flash key len) e h
-  where
-    go : (b : Bool) → (b && (bucket_at flash key == bucket)) ≡ false → cond b (has_key key (keys_at (bucket_at flash key) old.small)) (has_key key (keys_at (kept_of flash.bits key) old.large)) ≡ true
-        → cond b (has_key key (keys_at (bucket_at flash key) new.small)) (has_key key (keys_at (kept_of flash.bits key) new.large)) ≡ true
-    go true e h = ap (has_key key) (small (bucket_at flash key) ∙ ap (λ b. cond b [] (keys_at (bucket_at flash key) old.small)) e) ∙ h
-    go false e h = ap (λ gs. has_key key (keys_at (kept_of flash.bits key) gs)) large ∙ h
-
--- large keys are forgotten
-pub listed-hash : (flash : FlashConfig) (old new : Listing) (hash : ℕ) (key : List ℕ) (len : ℕ) (goes : Bool) → (((kept_of flash.bits key == hash) && goes) ≡ false → has_key key (keys_at (kept_of flash.bits key) old.large) ≡ true → has_key key (keys_at (kept_of flash.bits key) new.large) ≡ true) → new.small ≡ old.small
-    → (not (is_small_by flash key len) && ((kept_of flash.bits key == hash) && goes)) ≡ false → is_listed (Some flash) old key len ≡ true → is_listed (Some flash) new key len ≡ true
-listed-hash flash old new hash key len goes large small e h = go (is_small_by flash key len) e h
-  where
-    go : (b : Bool) → (not b && ((kept_of flash.bits key == hash) && goes)) ≡ false → cond b (has_key key (keys_at (bucket_at flash key) old.small)) (has_key key (keys_at (kept_of flash.bits key) old.large)) ≡ true
-        → cond b (has_key key (keys_at (bucket_at flash key) new.small)) (has_key key (keys_at (kept_of flash.bits key) new.large)) ≡ true
-    go true e h = ap (λ gs. has_key key (keys_at (bucket_at flash key) gs)) small ∙ h
-    go false e h = large e h
-
--- where the whole place goes
-pub all-go : (place p : ℕ) (key : List ℕ) (old : List (ℕ × List (List ℕ))) (new : List (List ℕ)) → new ≡ cond (p == place) [] (keys_at p old) → ((p == place) && true) ≡ false → has_key key (keys_at p old) ≡ true → has_key key new ≡ true
-all-go place p key old new is e h = ap (has_key key) is ∙ go (p == place) e
-  where
-    go : (b : Bool) → (b && true) ≡ false → has_key key (cond b [] (keys_at p old)) ≡ true
-    go true e = absurd cc
-    go false e = h
-
 at_step : (x : Item) (key : List ℕ) (b : Bool) (old new : Bool) → (b ≡ false → old ≡ true → new ≡ true) → cond (x.clean && not new) 1 0 ≤ cond (x.clean && not old) 1 0 + cond b 1 0
 at_step x key true old new h = one_at_most (x.clean && not new) (cond (x.clean && not old) 1 0)
   where

@@ -1,15 +1,12 @@
 -- Lemmas.
 pub mod Raises
 pub mod Settles
-pub mod Finds
-pub mod Counted
 pub mod Goes
 pub mod Joins
 pub mod Outdates
 pub mod Fresh
 pub mod Numbers
 pub mod Fetching
-pub mod UnderWay
 pub mod Serving
 pub mod Launching
 pub mod Keeping

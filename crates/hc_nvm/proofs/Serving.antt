@@ -16,7 +16,7 @@ use Rattle.hc_nvm.specs.Fetching.{gets_page, is_fetch, serves, AreServed, Brings
 use Rattle.hc_nvm.specs.Stock.{AreNumbered}
 use Rattle.hc_nvm.proofs.Fetching.{reads_or_looked, fetch_goes, get_starts, none_resumes}
 use Rattle.hc_nvm.proofs.Launching.{BringsNothing}
-use Rattle.hc_nvm.proofs.UnderWay.{started_goes, resumed_goes}
+use Rattle.hc_engines.proofs.pair.Going.{started_goes, resumed_goes}
 
 -- ---- the jobs
 

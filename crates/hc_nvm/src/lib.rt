@@ -2,10 +2,8 @@
 #![tactic(auto)]
 
 mod choosing;
-mod counting;
 mod endings;
 mod filler;
-mod finding;
 mod finishing;
 mod jobs;
 mod leaving;

@@ -4,7 +4,7 @@ ghost use Rattle.std.specs.List.{list_all, list_any};
 ghost use Rattle.std.specs.Option.{option_copied};
 ghost use Rattle.hc_types.specs.FlashEntry.{entry_of};
 ghost use Rattle.hc_engines.specs.pair.Pair.{could_have as could_have_seen, hash_in, is_indexed as is_indexed_seen};
-ghost use Rattle.hc_machine.specs.Nvm.{Fill, Job as Waits, fill_at, fill_by, is_job, job_at, put_at, puts as puts_seen, is_buried as is_buried_seen, is_due as is_due_seen, is_written_now as is_written_now_seen, may_come as may_come_seen};
+ghost use Rattle.hc_machine.specs.Nvm.{Job as Waits, fill_at, is_job, job_at, put_at, puts as puts_seen, is_buried as is_buried_seen, is_due as is_due_seen, is_written_now as is_written_now_seen, may_come as may_come_seen};
 ghost use Rattle.hc_machine.specs.Calls.{must_wait_in};
 ghost use Rattle.hc_nvm.specs.Asked.{calls_of};
 ghost use Rattle.hc_nvm.specs.Seen.{order_of};
@@ -161,14 +161,6 @@ impl<A: Allocator + Clone + Copy> Nvm<A> {
             Some(waiters) => waiters.as_slice(),
             None => &[],
         }
-    }
-
-    /// The key that the job with this number brings, unless it is an orphan.
-    #[must_use]
-    pub fn filling(&self, number: u64) -> Option<&Key<A>>
-        ensures { option_copied result ≡ option_map (λ (fill : Fill). fill.key) (fill_by number self.now.nvm.fills) }
-    {
-        self.fills.key_of(number)
     }
 
     /// The device operation for which the job with this number waits.

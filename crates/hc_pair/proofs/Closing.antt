@@ -2,57 +2,40 @@
 use Rattle.std.proofs.Common.{◌≡◌, ℕ, Bool, true, false, List, [], Option, Some, None, refl, sym, ap, ◌∙◌, subst}
 use Rattle.std.specs.Prelude.{option_map, if◌then◌else◌}
 use Rattle.hc_types.specs.declared.config.FlashConfig.{FlashConfig}
-use Rattle.hc_types.specs.FlashEntry.{FlashEntry}
 use Rattle.hc_types.specs.Places.{bucket_at}
 use Rattle.hc_engines.proofs.pair.Numbers.{none_in_both}
 use Rattle.hc_engines.proofs.small.UnderWay.{none_is_there}
-use Rattle.hc_engines.specs.Engine.{Op, Put, Get, Delete, Flush, Reclaim, Order, IoResult, Answer, Nothing, Over, Absent, Found, Outcome, Next, Busy, Io, Done, outcome_of, UnderWay}
+use Rattle.hc_engines.specs.Engine.{Op, Get, Order, IoResult, Absent, Busy, Done, outcome_of, UnderWay}
 use Rattle.hc_engines.specs.small.BigHash as bighash
-use Rattle.hc_engines.specs.small.BigHash.{BigHash, Job, ToRead, ToEnd, begun, could_hold, is_busy, moved, carried, job_at, tells, without_job, word_at}
+use Rattle.hc_engines.specs.small.BigHash.{BigHash, Job, ToRead, ToEnd, begun, could_hold, is_busy, moved, job_at, tells, without_job, word_at}
 use Rattle.hc_engines.specs.large.Block as block
-use Rattle.hc_engines.specs.large.Block.{Block, Work, Writing, Getting, finished, work_of}
+use Rattle.hc_engines.specs.large.Block.{Work, Writing, Getting, finished, work_of}
 use Rattle.hc_engines.specs.large.Sound.{Sound}
 use Rattle.hc_engines.specs.large.Steps as steps
-use Rattle.hc_engines.specs.pair.Pair.{Pair, Moved, after_losses, next_of, waits_for, by_small, by_large, went_on, after_small, start, resume, resume_in, resume_large}
+use Rattle.hc_engines.specs.pair.Pair.{Pair, Moved, after_losses, next_of, waits_for, by_small, by_large, after_small, start, resume, resume_in, resume_large}
 use Rattle.hc_engines.specs.pair.Held.{first_of, work_under_way}
 use Rattle.hc_engines.specs.small.Held.{job_under_way}
-use Rattle.hc_bighash.specs.Endings.{has_looked, is_over}
-use Rattle.hc_bighash.specs.Found.{answer_next, get_answer}
+use Rattle.hc_bighash.specs.Endings.{is_over}
+use Rattle.hc_bighash.specs.Found.{answer_next}
 use Rattle.hc_bighash.specs.Handed as handed
-use Rattle.hc_bighash.specs.Handed.{absent_plan, op_in, lost_with}
+use Rattle.hc_bighash.specs.Handed.{absent_plan, op_in}
 use Rattle.hc_block.specs.Endings as large_endings
-use Rattle.hc_block.specs.Endings.{Rest, CanEndRead, read_left, without_lost, is_last}
+use Rattle.hc_block.specs.Endings.{read_left, without_lost, is_last}
 use Rattle.hc_block.specs.Large.{Large}
 use Rattle.hc_block.specs.Moves.{stepped, resume_work, resume_by}
 use Rattle.hc_block.specs.Works.{reading_at}
-use Rattle.hc_pair.specs.Joined.{IsJoined, after}
-use Rattle.hc_pair.specs.Endings.{Ending, behind_losses, of_large, state_or, small_left, small_end, left_in, left_by, op_under, ends, is_done, CanEndIn, CanLeave, IsStep, Ends, IsEnding, IsEndingAtOnce}
-use Rattle.hc_pair.proofs.Steps.{some_is, op-some, op-none, resumed_large, resumed_joined, gone_on}
+use Rattle.hc_pair.specs.Joined.{IsJoined}
+use Rattle.hc_pair.specs.Endings.{Ending, of_large, state_or, small_left, left_in, left_by, op_under, ends, is_done, CanEndIn, CanLeave, IsStep, Ends, IsEnding, IsEndingAtOnce}
+use Rattle.hc_pair.proofs.Steps.{some_is, op-none, resumed_large, resumed_joined}
 
 abbrev both : BigHash → Large → Pair
 both small large = record { small = small; large = large.block }
 
 -- ---- the operation that is under way
 
-under-small : (pair : Pair) (number : ℕ) (op : Op) → op_in number pair.small.jobs ≡ Some op → op_under number pair ≡ Some op
-under-small pair number op under = by (job_at number pair.small.jobs) under
-  where
-    by : (o : Option Job) → option_map (λ (j : Job). j.op) o ≡ Some op → option_map (λ (w : UnderWay). w.op) (first_of (option_map (job_under_way pair.small.flash) o) (option_map (work_under_way pair.small.flash pair.large) (work_of number pair.large.jobs))) ≡ Some op
-    by None h = absurd cc
-    by (Some job) h = h
-
 under-large : (pair : Pair) (number : ℕ) → op_in number pair.small.jobs ≡ None → op_under number pair ≡ option_map (λ (w : UnderWay). w.op) (option_map (work_under_way pair.small.flash pair.large) (work_of number pair.large.jobs))
 under-large pair number none =
     ap (λ (o : Option Job). option_map (λ (w : UnderWay). w.op) (first_of (option_map (job_under_way pair.small.flash) o) (option_map (work_under_way pair.small.flash pair.large) (work_of number pair.large.jobs)))) (op-none (job_at number pair.small.jobs) none)
-
--- what isn't a get
-other-ends : (op : Op) (o : Option Moved) → ((key : List ℕ) → op ≡ Get key → o ≡ None) → ends (Some op) o ≡ false
-other-ends op None h = refl
-other-ends (Get key) (Some m) h = let wrong : Some m ≡ None = h key refl in absurd cc
-other-ends (Put e) (Some m) h = refl
-other-ends (Delete key) (Some m) h = refl
-other-ends Flush (Some m) h = refl
-other-ends Reclaim (Some m) h = refl
 
 -- ---- a read of the large engine
 
@@ -104,109 +87,6 @@ large_ends small large number came (Some ending) joined none h = record {
     left = ap (left_in number false ending.rest (both small large)) none
 
 -- ---- a get of the small engine
-
-left-small : (pair : Pair) (number : ℕ) (op : Op) (gives_up : Bool) (rest : Rest) → op_in number pair.small.jobs ≡ Some op → left_by number gives_up rest pair ≡ small_end number gives_up rest pair
-left-small pair number op gives_up rest under = ap (left_in number gives_up rest pair) under
-
-small-there : (s : BigHash) (number : ℕ) (op : Op) (gives_up : Bool) → op_in number s.jobs ≡ Some op → option_map (λ (m : bighash.Moved). m.state) (carried s number (absent_plan gives_up)) ≡ Some (small_left number gives_up s)
-small-there s number op gives_up under = by (job_at number s.jobs) under
-  where
-    by : (o : Option Job) → option_map (λ (j : Job). j.op) o ≡ Some op
-        → option_map (λ (m : bighash.Moved). m.state) (option_map (λ (j : Job). moved s j.number j.bucket j.op (absent_plan gives_up)) o) ≡ Some (state_or s (option_map (λ (j : Job). moved s j.number j.bucket j.op (absent_plan gives_up)) o))
-    by None h = absurd cc
-    by (Some job) h = refl
-
-can-end : (pair : Pair) (number : ℕ) (key : List ℕ) (rest : Rest) → op_in number pair.small.jobs ≡ Some (Get key) → CanEndIn number rest pair (op_in number pair.small.jobs)
-can-end pair number key rest gets = subst (λ (o : Option Op). CanEndIn number rest pair o) (sym gets) (key, refl)
-
--- it found this
-pub found_ends : (pair : Pair) (number : ℕ) (e : FlashEntry) (came : IoResult) (outcome : Outcome) → handed.IsGet pair.small number → bighash.resume pair.small number came ≡ carried pair.small number (ToEnd (Found e))
-    → outcome ≡ outcome_of (Found e) [] → Ends number came pair (record { outcome = outcome; gives_up = false; rest = record { lost = None; clean = None } })
-found_ends pair number e came outcome gets is out = record {
-  gets = (gets.0, under-small pair number (Get gets.0) gets.1);
-  can = can-end pair number gets.0 (record { lost = None; clean = None }) gets.1;
-  step = ap (λ (o : Option Job). resume_in number came pair o) at ∙ ap (option_map (λ (m : bighash.Moved). after_small number job.op (by_small pair m))) (is ∙ carries)
-      ∙ ap (λ (op : Op). Some (after_small number op (by_small pair (moved pair.small job.number job.bucket op (ToEnd (Found e)))))) has
-      ∙ (λ i. Some (record { pair = record { small = there i; large = pair.large }; next = Done (sym out i) }))
-      ∙ ap (λ (p : Pair). Some (record { pair = p; next = Done outcome })) (sym (left-small pair number (Get gets.0) false (record { lost = None; clean = None }) gets.1));
-}
-  where
-    job : Job
-    job = (op-some (job_at number pair.small.jobs) (Get gets.0) gets.1).0
-
-    at : job_at number pair.small.jobs ≡ Some job
-    at = (op-some (job_at number pair.small.jobs) (Get gets.0) gets.1).1
-
-    has : job.op ≡ Get gets.0
-    has = (op-some (job_at number pair.small.jobs) (Get gets.0) gets.1).2
-
-    carries : carried pair.small number (ToEnd (Found e)) ≡ Some (moved pair.small job.number job.bucket job.op (ToEnd (Found e)))
-    carries = ap (option_map (λ (j : Job). moved pair.small j.number j.bucket j.op (ToEnd (Found e)))) at
-
-    there : (moved pair.small job.number job.bucket (Get gets.0) (ToEnd (Found e))).state ≡ small_left number false pair.small
-    there = sym (ap (λ (o : Option Job). state_or pair.small (option_map (λ (j : Job). moved pair.small j.number j.bucket j.op (absent_plan false)) o)) at)
-
--- it found nothing, and the large engine ends it or reads a page
-pub behind_ends : (pair : Pair) (number : ℕ) (key : List ℕ) (gives_up : Bool) (came : IoResult) (ending : large_endings.Ending) → op_in number pair.small.jobs ≡ Some (Get key)
-    → bighash.resume pair.small number came ≡ carried pair.small number (absent_plan gives_up) → large_endings.IsEndingAtOnce pair.small.flash key pair.large (Some ending)
-    → Ends number came pair (behind_losses (lost_with pair.small number gives_up) gives_up ending)
-behind_ends pair number key gives_up came ending gets is over = record {
-  gets = (key, under-small pair number (Get key) gets);
-  can = can-end pair number key ending.rest gets;
-  step = gone_on pair number key gives_up came (small_left number gives_up pair.small) (without_lost ending.rest.lost pair.large) (Done ending.outcome) gets is (small-there pair.small number (Get key) gives_up gets) (ap stepped (over number))
-      ∙ ap (λ (p : Pair). Some (record { pair = p; next = Done (after_losses (lost_with pair.small number gives_up) ending.outcome) })) (sym (left-small pair number (Get key) gives_up ending.rest gets));
-}
-
-pub behind_goes_on : (pair : Pair) (number : ℕ) (key : List ℕ) (gives_up : Bool) (came : IoResult) → op_in number pair.small.jobs ≡ Some (Get key)
-    → bighash.resume pair.small number came ≡ carried pair.small number (absent_plan gives_up) → large_endings.IsEndingAtOnce pair.small.flash key pair.large None → ends (op_under number pair) (resume number came pair) ≡ false
-behind_goes_on pair number key gives_up came gets is on =
-    (λ i. ends (under-small pair number (Get key) gets i) (went i)) ∙ by m.order (on number)
-  where
-    m : block.Moved
-    m = steps.get pair.small.flash number key pair.large
-
-    went : resume number came pair ≡ Some (record { pair = record { small = small_left number gives_up pair.small; large = m.state }; next = after (lost_with pair.small number gives_up) (next_of m.outcome m.order) })
-    went = gone_on pair number key gives_up came (small_left number gives_up pair.small) m.state (next_of m.outcome m.order) gets is (small-there pair.small number (Get key) gives_up gets) refl
-
-    by : (o : Option Order) → is_last o ≡ false → is_over (answer_next (after (lost_with pair.small number gives_up) (next_of m.outcome o))) ≡ false
-    by None h = absurd cc
-    by (Some order) h = refl
-
--- it isn't over in the small engine
-looked-ends : (number : ℕ) (key : List ℕ) (pair : Pair) (outcome : Outcome) (answer : Answer) → outcome.answer ≡ answer → has_looked answer ≡ false → is_over (answer_next (went_on number key pair outcome answer).next) ≡ false
-looked-ends number key pair outcome Nothing is h = ap has_looked is
-looked-ends number key pair outcome Over is h = ap has_looked is
-looked-ends number key pair outcome Absent is h = absurd cc
-looked-ends number key pair outcome (Found e) is h = absurd cc
-
-next-ends : (number : ℕ) (key : List ℕ) (pair : Pair) (next : Next) → is_over (answer_next next) ≡ false → is_over (answer_next (after_small number (Get key) (record { pair = pair; next = next })).next) ≡ false
-next-ends number key pair Busy h = refl
-next-ends number key pair (Io order outcome) h = refl
-next-ends number key pair (Done outcome) h = looked-ends number key pair outcome outcome.answer refl h
-
-op-ends : (number : ℕ) (op : Op) (pair : Pair) (o : Option bighash.Moved) → is_over (get_answer (Some op) o) ≡ false → ends (Some op) (option_map (λ (m : bighash.Moved). after_small number op (by_small pair m)) o) ≡ false
-op-ends number op pair None h = refl
-op-ends number (Get key) pair (Some m) h = next-ends number key (record pair { small = m.state }) m.next h
-op-ends number (Put e) pair (Some m) h = refl
-op-ends number (Delete key) pair (Some m) h = refl
-op-ends number Flush pair (Some m) h = refl
-op-ends number Reclaim pair (Some m) h = refl
-
-pub small_goes_on : (pair : Pair) (number : ℕ) (op : Op) (came : IoResult) → op_in number pair.small.jobs ≡ Some op → is_over (get_answer (op_in number pair.small.jobs) (bighash.resume pair.small number came)) ≡ false
-    → ends (op_under number pair) (resume number came pair) ≡ false
-small_goes_on pair number op came under not =
-    (λ i. ends (under-small pair number op under i) (resume_in number came pair (at i)))
-    ∙ ap (λ (x : Op). ends (Some op) (option_map (λ (m : bighash.Moved). after_small number x (by_small pair m)) (bighash.resume pair.small number came))) has
-    ∙ op-ends number op pair (bighash.resume pair.small number came) (ap (λ (o : Option Op). is_over (get_answer o (bighash.resume pair.small number came))) (sym under) ∙ not)
-  where
-    job : Job
-    job = (op-some (job_at number pair.small.jobs) op under).0
-
-    at : job_at number pair.small.jobs ≡ Some job
-    at = (op-some (job_at number pair.small.jobs) op under).1
-
-    has : job.op ≡ op
-    has = (op-some (job_at number pair.small.jobs) op under).2
 
 -- ---- the pair stays one
 

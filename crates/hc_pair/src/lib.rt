@@ -3,7 +3,6 @@
 #![tactic(auto)]
 
 mod endings;
-mod finding;
 mod joining;
 mod losing;
 mod pair;

@@ -1,31 +1,31 @@
 -- A line does what the cache and the device do for it.
-use Rattle.std.proofs.Common.{◌≡◌, ◌≢◌, ◌⊎◌, inl, inr, ℕ, ◌==◌, Bool, true, false, List, [], ◌∷◌, Option, Some, None, refl, sym, ap, subst, ◌∙◌}
+use Rattle.std.proofs.Common.{◌≡◌, ◌≢◌, ◌⊎◌, inl, inr, ℕ, ◌==◌, Bool, true, false, List, [], Option, Some, None, refl, sym, ap, subst, ◌∙◌}
 use Rattle.std.specs.Prelude.{if◌then◌else◌, is_some}
 use Rattle.hc_types.specs.Limits.{key_refusal}
 use Rattle.hc_types.specs.declared.refusal.Refusal.{Refusal}
-use Rattle.hc_types.specs.declared.refusal.Refusal.TheVariants.{NoMemory, Exists, UnknownJob}
+use Rattle.hc_types.specs.declared.refusal.Refusal.TheVariants.{NoMemory}
 use Rattle.hc_engines.specs.Engine.{Order, IoResult, pages_after}
 use Rattle.hc_flash.specs.Devices.{Memory, held_by}
 use Rattle.hc_history.specs.Told.{told_more}
 use Rattle.hc_history.proofs.Telling.{told-nothing}
 use Rattle.hc_lines.specs.Steps as steps
-use Rattle.hc_lines.specs.Steps.{Set, Add, Get, Del, Now, Io, Finish, Answer}
+use Rattle.hc_lines.specs.Steps.{Io, Finish, Answer}
 use Rattle.hc_memory.specs.Item.{Handle}
 use Rattle.hc_machine.specs.Cache as machine
 use Rattle.hc_machine.specs.Cache.{Cache, Moved, stays}
 use Rattle.hc_machine.specs.Evicting.{allocate}
 use Rattle.hc_machine.specs.Workers as workers
 use Rattle.hc_machine.specs.World as world
-use Rattle.hc_machine.specs.World.{World, Line, Result, by_call, inserted, step, refused, made, io_of, done_of, result_of, order_in, result_at, without_result}
+use Rattle.hc_machine.specs.World.{World, Line, Result, by_call, inserted, step, made, io_of, done_of, result_of, order_in, result_at, without_result}
 use Rattle.hc_replayed.specs.Actions as replayed
-use Rattle.hc_replayed.specs.Actions.{Action, Deed, Do, Serve, unless, deed_of, done, by_step, act, answer_of, io_answer}
+use Rattle.hc_replayed.specs.Actions.{Action, Deed, Serve, unless, deed_of, done, by_step, act, answer_of, io_answer}
 use Rattle.hc_core.specs.Logged.{Logged, IsCall}
 use Rattle.hc_core.specs.Answers.{refusal_in}
 use Rattle.hc_player.specs.Alike.{Alike}
 use Rattle.hc_player.specs.Devices.{Comes}
 use Rattle.hc_player.specs.Playing.{Playing, world_of, Acts, Calls}
 use Rattle.hc_player.proofs.Resulting.{result-gone}
-use Rattle.hc_player.proofs.Refusing.{StaysRefused, allocate-stays, refused-is, never-exists}
+use Rattle.hc_player.proofs.Refusing.{StaysRefused, allocate-stays, refused-is}
 
 -- ---- any line
 
@@ -126,17 +126,6 @@ unopened {action} {answer} insert pool key value ttl line refusal old new flash 
 
 -- ---- device operations
 
-io_refused : (w : World) (job : ℕ) (fails : Bool) (order : Option Order) (result : Option IoResult) → (is_some result ≡ true) ⊎ (order ≡ None) → io_of w job fails order result ≡ refused w UnknownJob
-io_refused w job fails None None h = refl
-io_refused w job fails None (Some r) h = refl
-io_refused w job fails (Some o) (Some r) h = refl
-io_refused w job fails (Some o) None (inl h) = absurd cc
-io_refused w job fails (Some o) None (inr h) = absurd cc
-
--- there is none to make
-pub acts-idle : (job : ℕ) (fails : Bool) (old : Playing) → (is_some (result_at job old.results) ≡ true) ⊎ (order_in old.cache.nvm job ≡ None) → Acts (Serve (Io job fails)) (steps.Refused UnknownJob) old old
-acts-idle job fails old h = acts-refused old UnknownJob (ap by_step (io_refused (world_of old) job fails (order_in old.cache.nvm job) (result_at job old.results) h)) refl
-
 -- the pages behind an operation that came to this, and the results with its own
 made_like : (w : World) (job : ℕ) (order : Order) (came result : IoResult) (new : Playing) → came ≡ result → new.cache ≡ w.cache → ((page : ℕ) → held_by new.flash page ≡ pages_after order came w.pages page)
     → ((every : ℕ) → result_at every new.results ≡ (if job == every then Some came else result_at every w.results)) → w.breaks ≡ [] → w.failures ≡ 0 → Alike (world_of new) (made w job order result).world
@@ -165,10 +154,6 @@ not-there None h = refl
 not-there (Some r) h = absurd cc
 
 -- ---- results
-
--- no result waits
-pub acts-unready : (job : ℕ) (old : Playing) → result_at job old.results ≡ None → Acts (Serve (Finish job)) (steps.Refused UnknownJob) old old
-acts-unready job old none = acts-refused old UnknownJob (ap (λ (r : Option IoResult). by_step (done_of (world_of old) job r)) none) refl
 
 -- it is handed in, and doesn't wait any longer
 pub acts-finish : {answer : Answer} {old mid new : Playing} (job : ℕ) (result : IoResult) → result_at job old.results ≡ Some result → mid.cache ≡ old.cache → mid.log ≡ old.log → mid.flash ≡ old.flash

@@ -7,8 +7,7 @@ use Rattle.hc_queue.specs.declared.queue.Piece.{Piece}
 use Rattle.hc_queue.specs.Queue.{Rises, piece_at, without_number, taken_at}
 use Rattle.hc_queue.proofs.Gone.{none-gone}
 use Rattle.hc_queue.specs.declared.keyed.Named.{Named}
-use Rattle.std.specs.Map.{lookup}
-use Rattle.indexmap.specs.IndexMap.{IndexMap, get, spare, IsUnchanged}
+use Rattle.indexmap.specs.IndexMap.{IndexMap, get, spare}
 use Rattle.hc_queue.specs.Keys.{same_key, number_of, without_key, AreApart, IsIndexed}
 
 some-same : {X : Type 0} (x y : X) → ◌≡◌ {A = Option X} (Some x) (Some y) → x ≡ y
@@ -159,10 +158,6 @@ indexed-remove m m2 k room room2 es es2 is i same free h = record {
   apart = subst AreApart (sym is) (apart-without k es i.apart);
   room = (let was = i.room in omega (arith, was, same, free));
 }
-
--- a map with the same entries, and with room
-pub indexed-same : {V A S : Type 0} (m m2 : IndexMap (List ℕ) ℕ S) (room room2 : ℕ) (es es2 : List (ℕ × Piece (Named V A))) → IsUnchanged m m2 → es2 ≡ es → room2 ≤ spare m2 → IsIndexed es room m → IsIndexed es2 room2 m2
-indexed-same m m2 room room2 es es2 same is free i = record { found = λ q. (λ j. lookup (same_key q) (same j)) ∙ (i.found q ∙ ap (number_of q) (sym is)); apart = subst AreApart (sym is) i.apart; room = free }
 
 -- ---- a piece that is taken
 

@@ -206,13 +206,6 @@ kept-caught l es ps ws rs ls older most e k = record {
   room = (let was = k.room in let less : length older ≡ length ls + 1 = ap length e ∙ end-length ls l in omega (arith, was, less));
 }
 
-pub kept-new : {V : Type 0} (most : ℕ) → Kept {V = V} [] [] [] [] [] most
-kept-new most = record { rises = (0, omega arith); in_lanes = λ m. refl; by_lane = λ m. refl; serves = refl; distinct = tt; room = omega arith }
-
--- more room
-pub kept-more : {V : Type 0} (es : List (ℕ × Piece V)) (ps ws : List (ℕ × ℕ)) (rs ls : List ℕ) (most more : ℕ) → most ≤ more → Kept es ps ws rs ls most → Kept es ps ws rs ls more
-kept-more es ps ws rs ls most more le k = record { rises = k.rises; in_lanes = k.in_lanes; by_lane = k.by_lane; serves = k.serves; distinct = k.distinct; room = (let was = k.room in omega (arith, was, le)) }
-
 -- ---- a piece that is taken
 
 none-taken : {V : Type 0} (n low high : ℕ) (es : List (ℕ × Piece V)) → Rises low high es → n < low → taken_at n es ≡ es

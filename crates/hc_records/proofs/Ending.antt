@@ -1,9 +1,9 @@
 -- The entries behind one note more.
-use Rattle.std.proofs.Common.{◌≡◌, ℕ, ◌+◌, ◌<◌, false, List, [], ◌∷◌, ◌++◌, length, take, drop, get_or, drop-cons, add-one, sym, ap, ◌∙◌}
+use Rattle.std.proofs.Common.{◌≡◌, ℕ, ◌+◌, ◌<◌, List, [], ◌∷◌, ◌++◌, length, take, drop, get_or, drop-cons, add-one, sym, ap, ◌∙◌}
 use Rattle.hc_history.specs.Note.{Note}
 use Rattle.hc_history.specs.Lawful.{past}
 use Rattle.hc_records.specs.Records.{Entry, finished, finished_at}
-use Rattle.hc_records.specs.Judge.{are_same, Leaves, Differs}
+use Rattle.hc_records.specs.Judge.{are_same, Leaves}
 use Rattle.hc_records.proofs.Past.{past-more}
 
 here : (client : ℕ) (log : List Note) (i : ℕ) (note : Note) (entries : List Entry) → i < length log → note ≡ get_or log i note
@@ -16,7 +16,3 @@ here client log i note entries h is =
 pub left-here : (client : ℕ) (log : List Note) (i : ℕ) (note : Note) (entries left : List Entry) → i < length log → note ≡ get_or log i note → Leaves (finished_at client (past [] (take i log)) note) entries left
     → are_same (finished client (past [] (take (i + 1) log)) (drop (i + 1) log)) left ≡ are_same (finished client (past [] (take i log)) (drop i log)) entries
 left-here client log i note entries left h is leaves = sym (here client log i note entries h is ∙ leaves (finished client (past [] (take (i + 1) log)) (drop (i + 1) log)))
-
-pub differs-here : (client : ℕ) (log : List Note) (i : ℕ) (note : Note) (entries : List Entry) → i < length log → note ≡ get_or log i note → Differs (finished_at client (past [] (take i log)) note) entries
-    → are_same (finished client (past [] (take i log)) (drop i log)) entries ≡ false
-differs-here client log i note entries h is differs = here client log i note entries h is ∙ differs (finished client (past [] (take (i + 1) log)) (drop (i + 1) log))

@@ -125,10 +125,3 @@ module _ {A : Type 0} where
       go None e = let bad : Some ready ≡ None = h ∙ sym (unready-is call es e) in absurd (cc)
       go (Some None) e = found-is call es (Some None) e
       go (Some (Some r)) e = let bad : Some ready ≡ Some true = h ∙ sym (ready-is call es (Some r) e) in absurd (cc)
-
-  pub unknown-is : (call : ℕ) (es : List (ℕ × Option (Reply A))) → None ≡ option_map is_answered (owed_at call (owed_of es)) → owed_at call (owed_of es) ≡ None
-  unknown-is call es h = go (owed_at call (owed_of es)) refl h
-    where
-      go : (o : Option Owed) → owed_at call (owed_of es) ≡ o → None ≡ option_map is_answered (owed_at call (owed_of es)) → owed_at call (owed_of es) ≡ None
-      go None e h = e
-      go (Some o) e h = let bad : None ≡ Some (is_answered o) = h ∙ ap (option_map is_answered) e in absurd (cc)

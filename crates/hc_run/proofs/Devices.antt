@@ -1,32 +1,16 @@
 -- A device operation, and what the device holds behind it.
-use Rattle.std.proofs.Common.{◌≡◌, ℕ, ◌+◌, ◌==◌, Bool, true, false, List, Option, Some, None, refl, ap, sym, subst, ◌∙◌, arith}
-use Rattle.std.specs.Prelude.{if◌then◌else◌, IfSome}
+use Rattle.std.proofs.Common.{◌≡◌, ℕ, ◌+◌, ◌==◌, Bool, true, false, List, Option, Some, None, refl, subst, ◌∙◌, arith}
+use Rattle.std.specs.Prelude.{if◌then◌else◌}
 use Rattle.std.proofs.lemmas.Bool.{eqb-true}
-use Rattle.hc_engines.specs.Engine.{Pages, Order, Read, Write, Page, Written, Failed, with_page, pages_after}
-use Rattle.hc_machine.specs.World.{read_of}
-use Rattle.hc_proof_runs.specs.Between.{IsKnown}
+use Rattle.hc_engines.specs.Engine.{Pages, Order, Read, Write, Failed, with_page, pages_after}
 use Rattle.hc_run.specs.Shows.{Sight, IsWithin}
 use Rattle.hc_run.specs.Devices.{Comes}
 
 module _ {Device : Type 0} (sight : Sight Device) (old new : Device) where
   -- ---- a read
 
-  read_result : (page : ℕ) (pages : Pages) (bytes : List ℕ) → IsWithin pages (sight.held old) → IsKnown (pages page) → IfSome (sight.held old page) (λ (written : List ℕ). bytes ≡ written) → Page bytes ≡ read_of (pages page)
-  read_result page pages bytes within known is =
-      let same : bytes ≡ known.0 = subst (λ (held : Option (List ℕ)). IfSome held (λ (written : List ℕ). bytes ≡ written)) (within page known.0 known.1) is in
-      ap (λ (b : List ℕ). Page b) same ∙ ap read_of (sym known.1)
-
   same_within : (pages : Pages) → ((every : ℕ) → sight.held new every ≡ sight.held old every) → IsWithin pages (sight.held old) → IsWithin pages (sight.held new)
   same_within pages same within page bytes is = same page ∙ within page bytes is
-
-  pub read-came : (page : ℕ) (bytes : List ℕ) → ((every : ℕ) → sight.held new every ≡ sight.held old every) → sight.failed new ≡ sight.failed old + 0 → IfSome (sight.held old page) (λ (written : List ℕ). bytes ≡ written)
-      → Comes sight (Read page) false old (Page bytes) new
-  read-came page bytes same counted is = record {
-    breaks = false;
-    counted = omega (arith, counted);
-    comes = λ pages within can. read_result page pages bytes within can is;
-    within = λ pages within can. same_within pages same within;
-  }
 
   pub read-failed : (page : ℕ) → ((every : ℕ) → sight.held new every ≡ sight.held old every) → sight.failed new ≡ sight.failed old + 1 → Comes sight (Read page) false old Failed new
   read-failed page same counted = record {
@@ -46,31 +30,7 @@ module _ {Device : Type 0} (sight : Sight Device) (old new : Device) where
       go true e is = subst (λ (k : ℕ). sight.held new k ≡ Some bytes) (eqb-true page at e) (here bytes is)
       go false e is = others at (λ (same : at ≡ page). let yes : (page == at) ≡ true = grind (arith, same) in cc) ∙ within at bytes is
 
-  pub write-came : (page : ℕ) (bytes : List ℕ) → sight.held new page ≡ Some bytes → ((other : ℕ) → ¬ (other ≡ page) → sight.held new other ≡ sight.held old other) → sight.failed new ≡ sight.failed old + 0
-      → Comes sight (Write page bytes) false old Written new
-  write-came page bytes here others counted = record {
-    breaks = false;
-    counted = omega (arith, counted);
-    comes = λ pages within can. refl;
-    within = λ pages within can. set_within page (Some bytes) pages (λ (b : List ℕ) is. here ∙ is) others within;
-  }
-
-  pub write-failed : (page : ℕ) (bytes : List ℕ) → ((other : ℕ) → ¬ (other ≡ page) → sight.held new other ≡ sight.held old other) → sight.failed new ≡ sight.failed old + 1 → Comes sight (Write page bytes) false old Failed new
-  write-failed page bytes others counted = record {
-    breaks = true;
-    counted = counted;
-    comes = λ pages within can. refl;
-    within = λ pages within can. set_within page None pages (λ (b : List ℕ) is. absurd cc) others within;
-  }
-
   -- ---- nothing was done
-
-  pub kept-same : (page : ℕ) → sight.held new page ≡ sight.held old page → ((other : ℕ) → ¬ (other ≡ page) → sight.held new other ≡ sight.held old other) → (every : ℕ) → sight.held new every ≡ sight.held old every
-  kept-same page here others every = go (every == page) refl
-    where
-      go : (t : Bool) → (every == page) ≡ t → sight.held new every ≡ sight.held old every
-      go true e = subst (λ (k : ℕ). sight.held new k ≡ sight.held old k) (sym (eqb-true every page e)) here
-      go false e = others every (λ (same : every ≡ page). let yes : (every == page) ≡ true = grind (arith, same) in cc)
 
 -- the step fails it, and the device isn't reached
 module _ {Device : Type 0} (sight : Sight Device) (device : Device) where

@@ -1,12 +1,12 @@
 -- A quiet run goes on by one step.
-use Rattle.std.proofs.Common.{◌≡◌, ℕ, zero, suc, ◌+◌, ◌<◌, ◌==◌, ◌&&◌, Bool, true, false, List, [], ◌∷◌, ◌++◌, length, take, drop, get_or, Option, Some, None, refl, ap, sym, subst, ◌∙◌, arith, append_assoc, append-nil, length-append}
+use Rattle.std.proofs.Common.{◌≡◌, ℕ, zero, suc, ◌+◌, ◌<◌, ◌==◌, ◌&&◌, Bool, true, false, List, [], ◌∷◌, ◌++◌, length, take, drop, get_or, Option, None, refl, ap, sym, subst, ◌∙◌, arith, append_assoc, append-nil, length-append}
 use Rattle.std.specs.List.{list_all}
 use Rattle.std.proofs.lemmas.List.{take_more}
 use Rattle.hc_types.specs.Config.{Config}
 use Rattle.hc_types.specs.Limits.{first_wrong}
 use Rattle.hc_history.specs.Note.{Note}
 use Rattle.hc_history.specs.Told.{Log, told_more}
-use Rattle.hc_machine.specs.Nvm.{Job, is_job}
+use Rattle.hc_machine.specs.Nvm.{Job}
 use Rattle.hc_machine.specs.Schedule.{Deed, Step, Scene, Told, Ran, new_scene, run_from, run, given_up, step}
 use Rattle.hc_machine.specs.Quiet.{is_own, is_quiet, AllQuiet, BreaksQuiet}
 use Rattle.hc_run.specs.Steps.{breaking}
@@ -29,10 +29,6 @@ turned a b = grind arith
 none_all : (jobs : List Job) → list_all (λ (job : Job). false) jobs ≡ (length jobs == 0)
 none_all [] = refl
 none_all (job ∷ jobs) = grind arith
-
--- all are the step's, by its number
-pub quiet-own : (deed : Deed) (job : ℕ) (jobs : List Job) → ((number : ℕ) → is_own number deed ≡ is_of number (Some job)) → list_all (is_job job) jobs ≡ list_all (λ (j : Job). is_own j.number deed) jobs
-quiet-own deed job jobs own = same_jobs _ _ jobs (λ j. turned j.number job ∙ sym (own j.number))
 
 -- or there is none
 pub quiet-none : (deed : Deed) (jobs : List Job) → ((number : ℕ) → is_own number deed ≡ is_of number None) → (length jobs == 0) ≡ list_all (λ (j : Job). is_own j.number deed) jobs

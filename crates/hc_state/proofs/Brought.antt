@@ -1,9 +1,7 @@
 -- What is told of an item that comes from flash, part by part.
-use Rattle.std.proofs.Common.{◌≡◌, ℕ, ◌+◌, ◌*◌, List, [], ◌∷◌, Option, Some, length, refl, sym, ap, ◌∙◌, append-nil, arith, subst}
-use Rattle.std.specs.Prelude.{option_map, option_to_list}
+use Rattle.std.proofs.Common.{◌≡◌, ℕ, ◌+◌, ◌*◌, List, [], ◌∷◌, Option, Some, length, sym, ap, ◌∙◌, arith, subst}
 use Rattle.hc_history.specs.Note.{Charged, Linked}
-use Rattle.hc_history.specs.Told.{is_log, Heard, Nothing, Log, Counts, told_more, where_kept}
-use Rattle.hc_history.proofs.Telling.{told-nothing, counts-charged}
+use Rattle.hc_history.specs.Told.{is_log, Heard, where_kept}
 use Rattle.hc_memory.specs.Item.{Item}
 use Rattle.hc_memory.specs.Memory.{Memory}
 use Rattle.hc_machine.specs.Nvm.{Waiter}
@@ -16,15 +14,6 @@ use Rattle.hc_state.specs.Filling.{brought_by}
 use Rattle.hc_state.proofs.Joining.{does-both}
 use Rattle.hc_state.proofs.Leaving.{kept-told, all_leave-stays}
 use Rattle.hc_state.proofs.Unqueued.{does-log}
-
--- a charge is told, where its key was copied as notes are kept
-pub charged-log : (log new : Heard) (number pool bytes : ℕ) (key : List ℕ) (copy : Option (List ℕ)) → new ≡ told_more log (option_to_list (option_map (λ (k : List ℕ). Charged number k pool bytes) copy)) → copy ≡ where_kept log key → new ≡ told_more log (Charged number key pool bytes ∷ [])
-charged-log log new number pool bytes key copy told is = told ∙ ap (λ (c : Option (List ℕ)). told_more log (option_to_list (option_map (λ (k : List ℕ). Charged number k pool bytes) c))) is ∙ by log
-  where
-    by : (log : Heard) → told_more log (option_to_list (option_map (λ (k : List ℕ). Charged number k pool bytes) (where_kept log key))) ≡ told_more log (Charged number key pool bytes ∷ [])
-    by Nothing = refl
-    by (Log notes) = refl
-    by (Counts counts losses) = told-nothing (Counts counts losses) ∙ (λ i. Counts (sym (counts-charged counts number pool bytes key) i) (sym (append-nil losses) i))
 
 module _ (number pool want : ℕ) (key : List ℕ) (victims : List Item) (copy : Option (List ℕ)) (old left charged new : Whole) where
   -- the items left, and then it was charged and linked

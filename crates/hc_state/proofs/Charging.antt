@@ -32,11 +32,6 @@ use Rattle.hc_state.proofs.Leaving.{in_memory, all_leave-memory}
 
 -- ---- who goes
 
-keys_by : (count : Pool → ℕ) (gone : Pool → List Item) → ((pool : Pool) → take (count pool) pool.items ≡ gone pool) → (there : Option Pool)
-    → option_map_or (λ (pool : Pool). map (λ (item : Item). item.key) (take (count pool) pool.items)) there [] ≡ keys_of (option_map_or gone there [])
-keys_by count gone is None = refl
-keys_by count gone is (Some pool) = ap (map (λ (item : Item). item.key)) (is pool)
-
 victims_by : (memory : Memory) (pool want : ℕ) (there : Option Pool) → slice_get memory.pools pool ≡ there
     → oldest_keys memory pool (length (option_map_or (λ (p : Pool). dropped p.size (usage_of pool memory.charges) want p.items) there [])) ≡ keys_of (option_map_or (λ (p : Pool). dropped p.size (usage_of pool memory.charges) want p.items) there [])
 victims_by memory pool want None at = ap (λ o. option_map_or (λ (p : Pool). map (λ (item : Item). item.key) (take 0 p.items)) o []) at

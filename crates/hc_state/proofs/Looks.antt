@@ -27,14 +27,6 @@ linked-reply now key pools nvm there = go (linked_at key pools) there
     go None there = absurd (cc)
     go (Some item) there = item-reply now item (is_expired now item) refl
 
--- where there is none, the put that waits answers
-pub unlinked-stands : (key : List ℕ) (pools : List Pool) (nvm : Option Nvm) → is_some (linked_at key pools) ≡ false → stands_in pools nvm key ≡ waiting_at nvm key
-unlinked-stands key pools nvm none = go (linked_at key pools) none
-  where
-    go : (found : Option Item) → is_some found ≡ false → option_map_or (λ item. Some (entry_of_item item)) found (waiting_at nvm key) ≡ waiting_at nvm key
-    go None none = refl
-    go (Some item) none = absurd (cc)
-
 -- where no item is linked under the key, no pool changes for it
 pub unchanged-home : (key : List ℕ) (f : Pool → Pool) (pools : List Pool) → is_some (linked_at key pools) ≡ false → change_home key f pools ≡ pools
 unchanged-home key f [] none = refl

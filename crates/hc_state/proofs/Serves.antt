@@ -1,15 +1,14 @@
 -- Calls that wait are served one after the other: what is left to serve, and what was done, come to all.
 use Rattle.std.proofs.Common.{◌≡◌, ℕ, ◌+◌, ◌*◌, ◌≤◌, Bool, List, [], ◌∷◌, length, Option, Some, None, refl, sym, ap, ◌∙◌, subst, arith}
-use Rattle.hc_memory.specs.Item.{Handle}
 use Rattle.hc_memory.specs.Memory.{Memory, after_unmark}
-use Rattle.hc_history.specs.Note.{Note, Lose, Linked}
+use Rattle.hc_history.specs.Note.{Note, Lose}
 use Rattle.hc_history.specs.Told.{told_more, is_log}
 use Rattle.hc_history.proofs.Telling.{told-twice, told-nothing}
 use Rattle.hc_machine.specs.Nvm.{Nvm, Waiter, Wish, ToFind, ToAdd}
 use Rattle.hc_machine.specs.Leaving.{Changed, unqueue, outdate}
-use Rattle.hc_machine.specs.Cache.{Cache, Told, tells, and_then, on_flash, on_flash_of, unmarked_by}
+use Rattle.hc_machine.specs.Cache.{Cache, Told, tells, on_flash, on_flash_of, unmarked_by}
 use Rattle.hc_state.specs.Whole.{Whole, costs, Does}
-use Rattle.hc_state.specs.Serving.{clear_by, planted_by}
+use Rattle.hc_state.specs.Serving.{clear_by}
 use Rattle.hc_state.specs.Courses.{AllFit, AllMayFree, served_as, standing_as, all_served_as, charges_as}
 use Rattle.hc_state.specs.declared.serving.Course.{Course}
 use Rattle.hc_state.specs.declared.serving.Course.TheVariants.{Find, Exists, Store}
@@ -55,12 +54,6 @@ served_now call ToFind (Store plan) standing cache = refl
 served_now call (ToAdd handle) (Find told reply) standing cache = refl
 served_now call (ToAdd handle) Exists standing cache = refl
 served_now call (ToAdd handle) (Store plan) standing cache = clear_now standing handle.key cache
-
--- an item is planted, told by the numbers and bytes of its handle
-pub planted-as : (standing : Option ℕ) (handle : Handle) (key : List ℕ) (number : ℕ) (old new : Whole) → handle.key ≡ key → number ≡ handle.number → Does (and_then (clear_by standing key old.cache) (tells (Linked number ∷ []))) (costs 5 0 1 0) old new → Does (planted_by standing handle old.cache) (costs 5 0 1 0) old new
-planted-as standing handle key number old new of is does =
-    subst (λ n. Does (and_then (clear_by standing handle.key old.cache) (tells (Linked n ∷ []))) (costs 5 0 1 0) old new) is
-    (subst (λ k. Does (and_then (clear_by standing k old.cache) (tells (Linked number ∷ []))) (costs 5 0 1 0) old new) (sym of) does)
 
 -- ---- the calls one by one
 

@@ -1,28 +1,25 @@
 -- Small calls are the machine's steps.
-use Rattle.std.proofs.Common.{◌≡◌, inl, inr, ℕ, ◌+◌, ◌<◌, ◌≤◌, nat_lt, max, Bool, true, false, not, ◌&&◌, List, [], ◌∷◌, length, Option, Some, None, if◌then◌else◌, refl, sym, ap, ◌∙◌, subst, arith}
-use Rattle.std.specs.Prelude.{option_map, is_some, position}
+use Rattle.std.proofs.Common.{◌≡◌, ℕ, ◌+◌, ◌<◌, ◌≤◌, nat_lt, max, Bool, true, false, not, ◌&&◌, List, [], ◌∷◌, length, Option, Some, None, if◌then◌else◌, refl, sym, ap, ◌∙◌, subst, arith}
+use Rattle.std.specs.Prelude.{is_some, position}
 use Rattle.std.specs.List.{list_any}
-use Rattle.hc_types.specs.declared.refusal.Refusal.TheVariants.{NoMemory, UnknownCall, NotReady, ForeignHandle}
+use Rattle.hc_types.specs.declared.refusal.Refusal.TheVariants.{ForeignHandle}
 use Rattle.hc_memory.specs.Item.{Open, Handle, charge_by}
 use Rattle.hc_memory.specs.Charges.{has_number, is_open, open_at}
 use Rattle.hc_memory.specs.Memory.{Memory, after_free}
 use Rattle.hc_memory.proofs.Books.{found_position, is_open-found}
-use Rattle.hc_history.specs.Note.{Reply, End, Freed, Now}
+use Rattle.hc_history.specs.Note.{Freed, Now}
 use Rattle.hc_history.specs.Told.{told_more}
-use Rattle.hc_history.proofs.Telling.{told-nothing}
 use Rattle.hc_machine.specs.Nvm.{Nvm, Fill, is_fill_of, fill_at, adds}
 use Rattle.hc_machine.specs.Takes as flash
 use Rattle.hc_machine.specs.Takes.{Take, Taken, Reclaiming}
-use Rattle.hc_machine.specs.Cache.{Cache, Owed, Refused, Discarded, Replied, Moment, Took, Reclaimed, answers, stays, with_memory, owed_at, owed_less}
+use Rattle.hc_machine.specs.Cache.{Cache, Refused, Discarded, Moment, Took, Reclaimed, answers, stays, with_memory}
 use Rattle.hc_machine.specs.Waiting.{free}
-use Rattle.hc_machine.specs.Calls.{is_kept_in, is_known, discard, take_of, take_reply, tick}
+use Rattle.hc_machine.specs.Calls.{is_kept_in, is_known, discard, tick}
 use Rattle.hc_machine.specs.Workers.{take_on, writer_take, reclaim_on, reclaim}
 use Rattle.hc_invariant.specs.Structure.{Structured}
-use Rattle.hc_replies.specs.Replies.{is_answered}
 use Rattle.hc_waiting.specs.Fills as fills
 use Rattle.hc_nvm.specs.Taking.{IsTaken}
 use Rattle.hc_nvm.specs.Starting.{IsReclaimed}
-use Rattle.hc_state.specs.Answering.{IsReason}
 use Rattle.hc_state.specs.Owing.{keeps_in}
 use Rattle.hc_state.specs.Whole.{Whole, IsReady, IsStep}
 use Rattle.hc_state.proofs.Frees.{length-closed}
@@ -42,70 +39,7 @@ later_step moment old new true later lt is told room =
     }
 later_step moment old new false later lt is told room = absurd (grind (arith, later, lt))
 
-pub later-tick : (moment : ℕ) (old new : Whole) → old.cache.now < moment → new.cache ≡ record old.cache { now = moment } → new.log ≡ told_more old.log (Now moment ∷ []) → length old.cache.memory.charges ≤ new.notes → IsStep (tick moment old.cache) (Moment moment) old new
-later-tick moment old new lt is told room = later_step moment old new (nat_lt old.cache.now moment) refl lt is told room
-
-early_step : (moment : ℕ) (old : Whole) (b : Bool) → nat_lt old.cache.now moment ≡ b → moment ≤ old.cache.now → IsReady old → IsStep (tick moment old.cache) (Moment old.cache.now) old old
-early_step moment old true later le ready = absurd (grind (arith, later, le))
-early_step moment old false later le ready =
-    let at : old.cache.now ≡ max old.cache.now moment = omega (arith, le) in
-    record {
-      cache = ap (λ (n : ℕ). record old.cache { now = n }) at;
-      answer_is = ap (λ n. Moment n) at;
-      log = sym (told-nothing old.log) ∙ ap (λ (b : Bool). told_more old.log (if b then Now moment ∷ [] else [])) (sym later);
-      ready = ready;
-    }
-
-pub early-tick : (moment : ℕ) (old : Whole) → moment ≤ old.cache.now → IsReady old → IsStep (tick moment old.cache) (Moment old.cache.now) old old
-early-tick moment old le ready = early_step moment old (nat_lt old.cache.now moment) refl le ready
-
 -- ---- replies that are taken
-
-pub reply-step : (call : ℕ) (reply : Reply) (old new : Whole) → owed_at call old.cache.owed ≡ Some (record { call = call; reply = Some reply }) → new.cache ≡ record old.cache { owed = owed_less call old.cache.owed } → new.log ≡ told_more old.log (End call ∷ [])
-    → length old.cache.memory.charges ≤ new.notes → IsStep (take_reply call old.cache) (Replied reply) old new
-reply-step call reply old new there is told room =
-    subst (λ (found : Option Owed). IsStep (take_of found old.cache) (Replied reply) old new) (sym there) (record {
-      cache = is;
-      answer_is = refl;
-      log = told;
-      ready = subst (λ (c : Cache). length c.memory.charges ≤ new.notes) (sym is) room;
-    })
-
-pub unknown-reason : (call : ℕ) (cache : Cache) → owed_at call cache.owed ≡ None → IsReason (take_reply call cache).answer UnknownCall
-unknown-reason call cache none = subst (λ (found : Option Owed). IsReason (take_of found cache).answer UnknownCall) (sym none) (inl refl)
-
-pub waits-reason : (call : ℕ) (cache : Cache) → owed_at call cache.owed ≡ Some (record { call = call; reply = None }) → IsReason (take_reply call cache).answer NotReady
-waits-reason call cache waits = subst (λ (found : Option Owed). IsReason (take_of found cache).answer NotReady) (sym waits) (inl refl)
-
--- by what is told of the call
-pub unready-reason : (call : ℕ) (cache : Cache) → None ≡ option_map is_answered (owed_at call cache.owed) → IsReason (take_reply call cache).answer UnknownCall
-unready-reason call cache e = go (owed_at call cache.owed) e
-  where
-    go : (found : Option Owed) → None ≡ option_map is_answered found → IsReason (take_of found cache).answer UnknownCall
-    go None e = inl refl
-    go (Some owed) e = absurd (cc)
-
-pub waiting-reason : (call : ℕ) (cache : Cache) → Some false ≡ option_map is_answered (owed_at call cache.owed) → IsReason (take_reply call cache).answer NotReady
-waiting-reason call cache e = go (owed_at call cache.owed) e
-  where
-    by : (number : ℕ) (reply : Option Reply) → Some false ≡ option_map is_answered (Some (record { call = number; reply = reply })) → IsReason (take_of (Some (record { call = number; reply = reply })) cache).answer NotReady
-    by number None e = inl refl
-    by number (Some reply) e = absurd (cc)
-
-    go : (found : Option Owed) → Some false ≡ option_map is_answered found → IsReason (take_of found cache).answer NotReady
-    go None e = absurd (cc)
-    go (Some owed) e = by owed.call owed.reply e
-
-pub ready-reason : (call : ℕ) (cache : Cache) → Some true ≡ option_map is_answered (owed_at call cache.owed) → IsReason (take_reply call cache).answer NoMemory
-ready-reason call cache e = go (owed_at call cache.owed) e
-  where
-    by : (number : ℕ) (reply : Option Reply) → Some true ≡ option_map is_answered (Some (record { call = number; reply = reply })) → IsReason (take_of (Some (record { call = number; reply = reply })) cache).answer NoMemory
-    by number None e = absurd (cc)
-    by number (Some reply) e = inr (refl, refl)
-
-    go : (found : Option Owed) → Some true ≡ option_map is_answered found → IsReason (take_of found cache).answer NoMemory
-    go None e = absurd (cc)
-    go (Some owed) e = by owed.call owed.reply e
 
 -- ---- handles
 
@@ -173,10 +107,6 @@ discard-step handle old new structured ready free_of there is told room =
       ready = subst (λ (c : Cache). length c.memory.charges ≤ new.notes) (sym is) (omega (arith, length-closed (charge_by handle) old.cache.memory.charges there, ready, room));
     })
 
--- there is room for the note
-pub open-room : (handle : Handle) (old : Whole) → IsReady old → is_open (charge_by handle) old.cache.memory.charges ≡ true → 1 ≤ old.notes
-open-room handle old ready there = omega (arith, length-closed (charge_by handle) old.cache.memory.charges there, ready)
-
 -- ---- workers
 
 pub writer-step : (nvm after : Nvm) (memory : Memory) (take : Take) (old new : Whole) → old.cache.nvm ≡ Some nvm → IsTaken (flash.writer_take nvm) after take None old.log new.log old.cache.memory memory
@@ -204,11 +134,3 @@ reclaim-step nvm after memory region old new there reclaimed is room =
       log = reclaimed.told;
       ready = subst (λ (c : Cache). length c.memory.charges ≤ new.notes) (sym is) (omega (arith, charges, marked, room));
     })
-
--- without flash there is nothing to do
-pub idle-writer : (old : Whole) → old.cache.nvm ≡ None → IsReady old → IsStep (writer_take old.cache) (Took flash.Idle) old old
-idle-writer old none ready =
-    subst (λ (found : Option Nvm). IsStep (take_on found flash.writer_take old.cache) (Took flash.Idle) old old) (sym none) (record { cache = refl; answer_is = refl; log = sym (told-nothing old.log); ready = ready })
-
-pub idle-reclaim : (old : Whole) → old.cache.nvm ≡ None → IsReady old → IsStep (reclaim old.cache) (Reclaimed None) old old
-idle-reclaim old none ready = subst (λ (found : Option Nvm). IsStep (reclaim_on found old.cache) (Reclaimed None) old old) (sym none) (record { cache = refl; answer_is = refl; log = sym (told-nothing old.log); ready = ready })

@@ -1,8 +1,7 @@
 -- An item of a handle that is known is stored: what its parts need, and that they are the machine's step.
 use Rattle.std.proofs.Common.{◌≡◌, ℕ, ◌+◌, ◌*◌, ◌≤◌, true, List, length, Option, Some, refl, sym, ap, ◌∙◌, subst, arith}
 use Rattle.hc_types.specs.FlashEntry.{FlashEntry}
-use Rattle.hc_memory.specs.Item.{Handle, charge_by}
-use Rattle.hc_memory.specs.Charges.{is_open}
+use Rattle.hc_memory.specs.Item.{Handle}
 use Rattle.hc_memory.specs.Sound.{Sound}
 use Rattle.hc_history.specs.Note.{Op, Stored}
 use Rattle.hc_history.specs.Told.{told_more, is_log}
@@ -30,9 +29,6 @@ use Rattle.hc_state.proofs.Unqueued.{does-log, serves-then}
 -- ---- before anything changes
 
 module _ (h : Handle) (old mid : Whole) (stays : Stays old mid) where
-  pub store-open : is_known old.cache h ≡ true → is_open (charge_by h) mid.cache.memory.charges ≡ true
-  store-open knows = subst (λ (c : Cache). is_open (charge_by h) c.memory.charges ≡ true) (sym stays.cache) (known old.cache h knows).is_there
-
   pub store-wishes : Structured old.cache → AllWish mid.cache.memory h.key (waiters_at mid.cache.nvm h.key)
   store-wishes structured = subst (λ (c : Cache). AllWish c.memory h.key (waiters_at c.nvm h.key)) (sym stays.cache) (wishes-of h.key old.cache structured)
 

@@ -19,10 +19,6 @@ reply_to ToFind there = find_reply there
 reply_to (ToAdd handle) (Some entry) = Exists
 reply_to (ToAdd handle) None = Stored
 
-abbrev pub replies_to : ℕ → List Waiter → Option FlashEntry → List Reply
-replies_to now [] there = []
-replies_to now (waiter ∷ waiters) there = reply_to waiter.wish (live now there) ∷ replies_to now waiters (there_after waiter.wish (live now there))
-
 -- the item that it stores, if it stores one
 abbrev pub stored_by : Wish → Option FlashEntry → List Handle
 stored_by ToFind there = []

@@ -1,7 +1,7 @@
 // Items are allocated: room is made in a pool, and an item is charged.
 ghost use Rattle.std.specs.Prelude.{◌≡◌, ◌+◌, ◌*◌, ◌≤◌, ◌⊎◌, None, Some, length, IfOk, OnOk, IfErr, OnErr};
 ghost use Rattle.hc_types.specs.Charge.{charge_of};
-ghost use Rattle.hc_memory.specs.Memory.{victims_of, handle_for, blank_of};
+ghost use Rattle.hc_memory.specs.Memory.{victims_of, handle_for};
 ghost use Rattle.hc_memory.specs.Seen.{filled};
 ghost use Rattle.hc_items.specs.Allocating.{refusal_of, expiry_of};
 ghost use Rattle.hc_history.specs.Told.{where_kept};
@@ -154,24 +154,5 @@ impl<N: Notes<Note<A>>, A: Allocator + Clone + Copy> State<N, A> {
         self.leave_all(pool, want, victims, leaves);
         tells::charged(&mut self.notes, copy, blank.number(), pool, want);
         Ok(blank)
-    }
-
-    /// Allocates an item of `size` bytes that begins as zeros, as `allocate_with` does one that begins as `fill`.
-    pub fn allocate(
-        &mut self,
-        pool: u8,
-        key: Key<A>,
-        size: u64,
-        ttl: u32,
-    ) -> Result<Blank<A>, Uncharged<A>>
-        requires structured { Structured self.old.cache }
-        ensures ok { IfOk result (λ blank. Opens (make_charge pool key size self.old.cache) blank self.old self.new) }
-        ensures blank { IfOk result (λ blank. blank ≡ blank_of self.old.cache.memory pool key size (expiry_of self.old.cache.now ttl)) }
-        ensures fits { OnOk result (refusal_of self.old.cache.memory pool key size ≡ None) }
-        ensures err { OnErr result (Stays self.old self.new) }
-        ensures why { IfErr result (λ e. (refusal_of self.old.cache.memory pool key size ≡ Some e.refusal) ⊎ ((refusal_of self.old.cache.memory pool key size ≡ None) × (e.refusal ≡ Refusal.NoMemory))) }
-        ensures key_returned { IfErr result (λ e. e.key ≡ key) }
-    {
-        self.allocate_with(pool, key, Fill::Repeated(size, 0), ttl)
     }
 }

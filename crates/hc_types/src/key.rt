@@ -22,10 +22,16 @@ pub const KEY_MAX: usize = 255;
 ///
 /// Up to 46 bytes stand in the key itself, so that it and its copies take no memory. More are shared by its copies. It
 /// keeps the number that a map which holds it is fed, so that no look-up goes over its bytes again.
-#[derive(Drop)]
 pub struct Key<A: Allocator = Global> {
     bytes: KeyBytes<A>,
     digest: u64,
+}
+
+// (written out, so that who drops a key calls this one function)
+impl<A: Allocator> Drop for Key<A> {
+    fn drop(self) {
+        let Key { bytes: _, digest: _ } = self;
+    }
 }
 
 impl<A: Allocator> Model for Key<A> {

@@ -12,7 +12,7 @@ use Rattle.hc_waiting.specs.declared.fills.Bringing.{Bringing}
 use Rattle.hc_waiting.specs.Line.{has_key, piece_of, without_key, with_value, taken_key, AreApart}
 use Rattle.hc_queue.specs.Keys.{value_of}
 use Rattle.hc_queue.specs.Queue.{can_go}
-use Rattle.hc_waiting.specs.Fills.{fill_in, fills_in, AreFilled, can_be_filled, brings, brings_piece, is_kept_in, is_kept_by}
+use Rattle.hc_waiting.specs.Fills.{fill_in, fills_in, AreFilled, can_be_filled, is_kept_in, is_kept_by}
 use Rattle.hc_waiting.proofs.Mapped.{find-map, filter-map, is_some-map, unmapped}
 
 pub fill_there : {A : Type 0} (key : List ℕ) (pieces : List (Piece (Named (Bringing A) A))) → option_map fill_in (piece_of key pieces) ≡ fill_at key (fills_in pieces)
@@ -23,13 +23,6 @@ has_fill key pieces = sym (is_some-map fill_in (piece_of key pieces)) ∙ ap is_
 
 pub no_fill : {A : Type 0} (key : List ℕ) (pieces : List (Piece (Named (Bringing A) A))) → fill_at key (fills_in pieces) ≡ None → piece_of key pieces ≡ None
 no_fill key pieces e = unmapped fill_in (piece_of key pieces) (fill_there key pieces ∙ e)
-
-pub brings_as : {A : Type 0} (number : ℕ) (key : List ℕ) (pieces : List (Piece (Named (Bringing A) A))) → brings_piece number (piece_of key pieces) ≡ brings number (fill_at key (fills_in pieces))
-brings_as {A} number key pieces = by_piece (piece_of key pieces) ∙ ap (brings number) (fill_there key pieces)
-  where
-    by_piece : (o : Option (Piece (Named (Bringing A) A))) → brings_piece number o ≡ brings number (option_map fill_in o)
-    by_piece None = refl
-    by_piece (Some piece) = refl
 
 pub kept_as : {A : Type 0} (number : ℕ) (key : List ℕ) (pieces : List (Piece (Named (Bringing A) A))) → is_kept_by number (piece_of key pieces) ≡ is_kept_in number (fill_at key (fills_in pieces))
 kept_as {A} number key pieces = by_piece (piece_of key pieces) ∙ ap (is_kept_in number) (fill_there key pieces)

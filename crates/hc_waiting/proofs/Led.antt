@@ -2,10 +2,9 @@
 use Rattle.std.proofs.Common.{◌≡◌, ℕ, ◌==◌, nat_eq, Bool, true, false, not, List, [], ◌∷◌, ◌++◌, Option, Some, None, refl, sym, ap, ◌∙◌, subst, arith, if◌then◌else◌}
 use Rattle.std.specs.List.{filter}
 use Rattle.std.specs.Prelude.{is_some, option_map, ⊤}
-use Rattle.std.specs.Map.{lookup}
 use Rattle.std.proofs.lemmas.Bool.{eqb-true}
 use Rattle.std.proofs.lemmas.Slice.Eq.{bytes_eq-Decides}
-use Rattle.indexmap.specs.IndexMap.{IndexMap, get, IsUnchanged}
+use Rattle.indexmap.specs.IndexMap.{IndexMap, get}
 use Rattle.hc_queue.specs.declared.queue.Piece.{Piece}
 use Rattle.hc_queue.specs.declared.keyed.Named.{Named}
 use Rattle.hc_machine.specs.Nvm.{Fill, Waiter, is_fill_of, fill_at, fill_by, is_brought_by, without_fill, taken_fill, joined_by}
@@ -295,10 +294,6 @@ take_led keys keys2 key copy number empty x before pieces now apart value is ite
 
 pub none_led : {A S : Type 0} (keys : IndexMap ℕ (List ℕ) S) (key : List ℕ) (empty : Bringing A) (pieces now : List (Piece (Named (Bringing A) A))) → option_map value_of (piece_of key pieces) ≡ None → now ≡ with_value key empty pieces → IsLed (fills_in pieces) keys → IsLed (fills_in now) keys
 none_led {A} keys key empty pieces now none is led = rw (is, with_value-none key empty pieces (unmapped value_of (piece_of key pieces) none)) led
-
--- a map with the same entries
-pub led_same : {A S : Type 0} (keys keys2 : IndexMap ℕ (List ℕ) S) (pieces now : List (Piece (Named (Bringing A) A))) → IsUnchanged keys keys2 → now ≡ pieces → IsLed (fills_in pieces) keys → IsLed (fills_in now) keys2
-led_same keys keys2 pieces now same is led = rw is (record { leads = λ n. (λ j. lookup (nat_eq n) (same j)) ∙ led.leads n; sole = led.sole })
 
 pub under_as : {A : Type 0} (key : Option (List ℕ)) (pieces : List (Piece (Named (Bringing A) A))) → option_map fill_in (piece_by key pieces) ≡ fill_under key (fills_in pieces)
 under_as None pieces = refl

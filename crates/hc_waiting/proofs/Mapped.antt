@@ -1,7 +1,6 @@
 -- Lists that are seen through a function.
 use Rattle.std.proofs.Common.{◌≡◌, Bool, true, false, List, [], ◌∷◌, Option, Some, None, refl, ap}
 use Rattle.std.specs.List.{filter, find, list_any}
-use Rattle.hc_waiting.specs.Line.{without_first}
 use Rattle.std.specs.Prelude.{map, is_some, option_map}
 
 pub find-map : {X Y : Type 0} (f : X → Y) (test : Y → Bool) (xs : List X) → find test (map f xs) ≡ option_map f (find (λ x. test (f x)) xs)
@@ -35,14 +34,6 @@ any-map {X} {Y} f test (x ∷ xs) = by_test (test (f x)) refl (any-map f test xs
     by_test : (b : Bool) → test (f x) ≡ b → is_some (find (λ x. test (f x)) xs) ≡ list_any test (map f xs) → is_some (find (λ x. test (f x)) (x ∷ xs)) ≡ list_any test (map f (x ∷ xs))
     by_test true t more = rw t refl
     by_test false t more = rw t more
-
-pub without_first-map : {X Y : Type 0} (f : X → Y) (test : Y → Bool) (xs : List X) → without_first test (map f xs) ≡ map f (without_first (λ x. test (f x)) xs)
-without_first-map f test [] = refl
-without_first-map {X} {Y} f test (x ∷ xs) = by_test (test (f x)) refl (without_first-map f test xs)
-  where
-    by_test : (b : Bool) → test (f x) ≡ b → without_first test (map f xs) ≡ map f (without_first (λ x. test (f x)) xs) → without_first test (map f (x ∷ xs)) ≡ map f (without_first (λ x. test (f x)) (x ∷ xs))
-    by_test true t more = rw t refl
-    by_test false t more = rw t (ap (λ ys. f x ∷ ys) more)
 
 -- two maps that are the same at each element
 pub map-same : {X Y : Type 0} (f g : X → Y) → ((x : X) → f x ≡ g x) → (xs : List X) → map f xs ≡ map g xs

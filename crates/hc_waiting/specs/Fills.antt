@@ -3,7 +3,7 @@ use Rattle.std.specs.Prelude.{◌≡◌, ℕ, not, ◌&&◌, Bool, true, false, 
 use Rattle.std.specs.List.{list_any}
 use Rattle.hc_types.specs.declared.config.FlashConfig.{FlashConfig}
 use Rattle.hc_types.specs.Places.{bucket_at}
-use Rattle.hc_machine.specs.Nvm.{Fill, Waiter, fill_at, fill_by, is_brought_by, adds}
+use Rattle.hc_machine.specs.Nvm.{Fill, Waiter, fill_at, fill_by, adds}
 use Rattle.indexmap.specs.IndexMap.{IndexMap, get}
 use Rattle.hc_queue.specs.declared.queue.Piece.{Piece}
 use Rattle.hc_queue.specs.declared.keyed.Named.{Named}
@@ -24,16 +24,6 @@ AreFilled flash (piece ∷ pieces) = (piece.lane ≡ Some (bucket_at flash piece
 -- a fill that can be served: it has no job, and its bucket isn't busy
 abbrev pub can_be_filled : FlashConfig → (ℕ → Bool) → Fill → Bool
 can_be_filled flash busy fill = not (is_some fill.job) && not (busy (bucket_at flash fill.key))
-
--- the fill is of the key, and this job brings it
-abbrev pub brings : ℕ → Option Fill → Bool
-brings number None = false
-brings number (Some fill) = is_brought_by number fill.job
-
--- the same of its piece
-abbrev pub brings_piece : {A : Type 0} → ℕ → Option (Piece (Named (Bringing A) A)) → Bool
-brings_piece number None = false
-brings_piece number (Some piece) = is_brought_by number piece.value.value.job
 
 -- one call more waits, or comes back and nothing changed; the job stays
 pub record IsJoining {A : Type 0} (waiter : Waiter) (before : Bringing A) (after : Joining A) : Type 0 where

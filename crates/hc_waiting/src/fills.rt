@@ -5,7 +5,7 @@ ghost use Rattle.hc_machine.specs.Nvm.{Fill, fill_at, fill_by, joined_by, taken_
 ghost use Rattle.std.specs.List.{list_any};
 ghost use Rattle.indexmap.specs.IndexMap.{get, spare};
 ghost use Rattle.hc_queue.specs.Queue.{Answers};
-ghost use Rattle.hc_waiting.specs.Fills.{brings as brings_key, brings_piece, can_be_filled, IsJoining, IsFree, fill_under, is_kept_in, is_kept_by as is_kept_by_piece, job_by};
+ghost use Rattle.hc_waiting.specs.Fills.{can_be_filled, IsJoining, IsFree, fill_under, is_kept_in, is_kept_by as is_kept_by_piece, job_by};
 ghost use Rattle.hc_queue.specs.declared.queue.Piece.{Piece as PieceSeen};
 ghost use Rattle.hc_queue.specs.declared.keyed.Named.{Named as NamedSeen};
 
@@ -64,16 +64,6 @@ fn waiters_of<A: Allocator>(
     match piece {
         Some(piece) => Some(piece.value.value.waiters),
         None => None,
-    }
-}
-
-/// Whether this job brings what the piece waits for.
-fn is_brought<A: Allocator>(piece: Option<&Piece<Named<Bringing<A>, A>>>, number: u64) -> bool
-    ensures { result ≡ brings_piece number (option_copied piece.entry) }
-{
-    match piece {
-        Some(piece) => piece.value.value.job == Some(number),
-        None => false,
     }
 }
 
@@ -223,14 +213,6 @@ impl<A: Allocator + Copy> Fills<A> {
             line: Line::new(alloc),
             keys: IndexMap::new(alloc),
         }
-    }
-
-    /// Whether calls wait for this key, and this job brings it.
-    #[must_use]
-    pub fn brings(&self, key: &Key<A>, number: u64) -> bool
-        ensures { result ≡ brings_key number (fill_at key.now self.now.fills) }
-    {
-        is_brought(self.line.get(key), number)
     }
 
     /// The key that this job brings, found without a scan.

@@ -16,11 +16,6 @@ pub how_many-front : (f : ℕ → Bool) (n : ℕ) → how_many f (suc n) ≡ (if
 how_many-front f zero = omega arith
 how_many-front f (suc n) = omega (arith, how_many-front f n)
 
-pub clean_as_counted : (f : ℕ → Bool) (regions : List Region) → ((r : ℕ) → f r ≡ is_clean (region_at r regions).status) → how_many f (length regions) ≡ clean_count regions
-clean_as_counted f [] h = refl
-clean_as_counted f (x ∷ xs) h =
-    how_many-front f (length xs) ∙ (let first : f 0 ≡ is_clean x.status = h 0 in rw first (let more = clean_as_counted (λ i. f (suc i)) xs (λ r. h (suc r)) in omega (arith, more)))
-
 -- the lowest clean region, counted from n
 pub record IsLowest (regions : List Region) (i : ℕ) : Type 0 where
   pub there : i < length regions

@@ -7,8 +7,7 @@ use Rattle.hc_engines.specs.Engine.{Op, Put, Get, Delete, Flush, Reclaim, Absent
 use Rattle.hc_engines.specs.small.Bloom.{could_have}
 use Rattle.hc_engines.specs.small.BigHash.{BigHash, Job, Phase, Plan, ToRead, ToEnd, begun, waits, with_job, make_job, without_job, job_at, is_ours, our_bucket, key_of, words_after, next_of, moved, word_at}
 use Rattle.hc_engines.specs.Engine.{Next}
-use Rattle.hc_engines.specs.small.Sound.{CanStart, CanWrite, Limits, AllOurs}
-use Rattle.hc_engines.proofs.small.Fitting.{fits-put, fits-none, small_entry}
+use Rattle.hc_engines.specs.small.Sound.{CanStart, AllOurs}
 use Rattle.hc_engines.proofs.small.UnderWay.{none_is_there}
 
 words_if : (t : Bool) (words : List (Option ℕ)) (bucket : ℕ) → words_after words bucket (if t then ToRead else ToEnd Absent) ≡ words
@@ -26,22 +25,6 @@ begun_words words bucket (Some word) (Get key) = words_if (could_have word key) 
 begun_words words bucket (Some word) (Delete key) = refl
 begun_words words bucket (Some word) Flush = refl
 begun_words words bucket (Some word) Reclaim = refl
-
-write_if : (t : Bool) (size : ℕ) → CanWrite size (if t then ToRead else ToEnd Absent)
-write_if true size = tt
-write_if false size = tt
-
-pub begun_fits : (flash : FlashConfig) (w : Option ℕ) (op : Op) → Limits flash → CanStart op → is_ours flash op ≡ true → CanWrite flash.page (begun w op)
-begun_fits flash None (Put e) l can ours = let s = small_entry flash e l can ours in fits-put flash.page e [] (omega (arith, l.most_page)) (fits-none flash.page (omega (arith, l.least_page))) s.0 s.1
-begun_fits flash None (Get key) l can ours = tt
-begun_fits flash None (Delete key) l can ours = tt
-begun_fits flash None Flush l can ours = tt
-begun_fits flash None Reclaim l can ours = tt
-begun_fits flash (Some word) (Put e) l can ours = tt
-begun_fits flash (Some word) (Get key) l can ours = write_if (could_have word key) flash.page
-begun_fits flash (Some word) (Delete key) l can ours = tt
-begun_fits flash (Some word) Flush l can ours = tt
-begun_fits flash (Some word) Reclaim l can ours = tt
 
 ours_if : (t : Bool) (here bucket : ℕ) → (if t then Some here else None) ≡ Some bucket → (t ≡ true) × (bucket ≡ here)
 ours_if true here bucket h = (refl, grind (arith, h))
