@@ -1,2 +1,0 @@
--- One operation at a time.
-pub mod Alone

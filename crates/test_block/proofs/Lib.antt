@@ -1,2 +1,0 @@
--- Which numbers operations have.
-mod Numbered

@@ -1,7 +1,0 @@
-use Rattle.hc_bighash.specs.Next.{next_seen}
-use Rattle.hc_bighash.specs.Seen.{result_of}
-use Rattle.test_block.proofs.Numbered.{went_on}
-use Rattle.test_block.proofs.driving.Driver.resume.Goals as goal
-
-pub invariant_of-self : goal.invariant_of-self
-invariant_of-self g c = went_on c.resume.result next_seen c.self.inside.next c.args.number (result_of c.args.came) c.self.inside.engine c.resume.new.self c.is_sound.ensures c.self.invariant c.resume.ensures.ok c.resume.ensures.err
