@@ -29,8 +29,7 @@ module _ {Device : Type 0} (sight : Sight Device) (old new : Device) where
       go : (t : Bool) → (page == at) ≡ t → (if t then value else pages at) ≡ Some bytes → sight.held new at ≡ Some bytes
       go true e is = subst (λ (k : ℕ). sight.held new k ≡ Some bytes) (eqb-true page at e) (here bytes is)
       go false e is = others at (λ (same : at ≡ page). let yes : (page == at) ≡ true = grind (arith, same) in cc) ∙ within at bytes is
-
-  -- ---- nothing was done
+      -- ---- nothing was done
 
 -- the step fails it, and the device isn't reached
 module _ {Device : Type 0} (sight : Sight Device) (device : Device) where

@@ -30,7 +30,10 @@ pub struct Key<A: Allocator = Global> {
 // (written out, so that who drops a key calls this one function)
 impl<A: Allocator> Drop for Key<A> {
     fn drop(self) {
-        let Key { bytes: _, digest: _ } = self;
+        let Key {
+            bytes: _,
+            digest: _,
+        } = self;
     }
 }
 
