@@ -6,12 +6,12 @@ ghost use Rattle.hc_engines.specs.small.Sound.{Sound, CanStart};
 ghost use Rattle.hc_bighash.specs.Seen.{op_of};
 ghost use Rattle.hc_bighash.specs.Next.{next_seen};
 
-use crate::bloom;
 use crate::jobs::{Job, add_job, is_busy};
 use crate::ops::{Next, Op};
 use crate::plans::begun;
 use crate::steps::{Step, nothing, our_bucket, step_of};
 use crate::words::word_at;
+use hc_engines::bloom;
 use hc_types::{FlashConfig, Key, bucket_of};
 use std::alloc::{AllocError, Allocator, Global};
 use std::marker::Model;

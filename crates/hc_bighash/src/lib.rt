@@ -5,7 +5,6 @@
 
 mod awaiting;
 mod big_hash;
-mod bloom;
 mod endings;
 mod jobs;
 mod ops;

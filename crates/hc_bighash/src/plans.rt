@@ -6,8 +6,8 @@ ghost use Rattle.hc_engines.specs.Engine.{Put, Get};
 ghost use Rattle.hc_bighash.specs.Seen.{op_of};
 ghost use Rattle.hc_bighash.specs.Steps.{plan_of};
 
-use crate::bloom::could_have;
 use crate::ops::{Answer, Loss, Op, copy_of};
+use hc_engines::bloom::could_have;
 use hc_types::{Entry, Key};
 use std::alloc::{AllocError, Allocator, Global};
 

@@ -10,13 +10,13 @@ ghost use Rattle.hc_bighash.specs.Next.{next_seen};
 ghost use Rattle.hc_bighash.specs.Steps.{plan_of, phase_of};
 
 use crate::big_hash::BigHash;
-use crate::bloom::word_of;
 use crate::jobs::{Job, Phase, go_on, job_of, place};
 use crate::ops::{Answer, IoResult, Loss, Next, Op, Outcome};
 use crate::plans::Plan;
 use crate::steps::Step;
 use crate::turns::{Turn, step_for, turn_of};
 use crate::words::{set_word, settle};
+use hc_engines::bloom::word_of;
 use hc_types::{Cause, Refusal, Scope};
 use std::alloc::{AllocError, Allocator, Global};
 

@@ -1,4 +1,5 @@
 pub mod Keys
+pub mod Words
 pub mod small
 pub mod large
 pub mod pair

@@ -24,7 +24,7 @@ fn bits<A: Allocator>(key: &Key<A>) -> u64
 }
 
 /// Whether the word has all bits of the key.
-pub(crate) fn could_have<A: Allocator>(word: u64, key: &Key<A>) -> bool
+pub fn could_have<A: Allocator>(word: u64, key: &Key<A>) -> bool
     ensures { result ≡ word_has word key.now }
 {
     let bits = bits(key);
@@ -32,7 +32,7 @@ pub(crate) fn could_have<A: Allocator>(word: u64, key: &Key<A>) -> bool
 }
 
 /// The word of these entries.
-pub(crate) fn word_of<A: Allocator>(entries: &[Entry<A>]) -> u64
+pub fn word_of<A: Allocator>(entries: &[Entry<A>]) -> u64
     ensures { result ≡ word_over (entries_of entries.now) }
 {
     let mut word = 0;

@@ -1,8 +1,8 @@
 use Rattle.std.specs.Int.Bits.{or_zero_r}
 use Rattle.hc_types.specs.FlashEntry.{entries_of}
 use Rattle.hc_engines.specs.small.Bloom.{word_of}
-use Rattle.hc_bighash.proofs.Looping.{one_more_key}
-use Rattle.hc_bighash.proofs.bloom.word_of.Goals as goal
+use Rattle.hc_engines.proofs.Words.{one_more_key}
+use Rattle.hc_engines.proofs.bloom.word_of.Goals as goal
 
 pub loop-entry-init : goal.loop-entry-init
 loop-entry-init g c = or_zero_r (word_of (entries_of c.args.entries.now))
