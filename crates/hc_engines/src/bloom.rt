@@ -15,7 +15,7 @@ fn bit(hash: u64, i: u32) -> u64
 }
 
 /// The bits of a key.
-#[tactic(auto, unfolding(hc_engines::specs::small::Bloom::bits_of))]
+#[tactic(auto, unfolding(crate::specs::small::Bloom::bits_of))]
 fn bits<A: Allocator>(key: &Key<A>) -> u64
     ensures { result ≡ bits_of key.now }
 {
