@@ -1,13 +1,10 @@
 #!/usr/bin/env bash
 # Replays a trace and shows its answers: ./replay.sh --help says how it is called.
 #
-# Builds hc_replay first, where it is missing or something that it stands on has changed since: a file of src/, specs/ or proofs/ of a crate
-# at or below it, or the line of such a crate in crates.txt. A build proves each of these crates that has changed.
+# The program is hc_replay_plain. It is built where a crate at or below it has changed since this script proved it last: a file of its src/,
+# specs/ or proofs/, or its line in crates.txt. Where that takes long, the trace is answered first by a build that nothing has proved.
 set -euo pipefail
 shopt -s globstar nullglob dotglob lastpipe
-
-# What a first build took: the minutes of its crates, as the gate measured them.
-first_time="some 50 minutes on four processors that had other work too"
 
 usage="usage: ./replay.sh [TRACE | -]
 
@@ -16,18 +13,30 @@ where none is named. docs/FORMATS.md says what a trace is, what is answered, and
 or the configuration is refused, that line and its right form are shown on standard error. The status is 2 also where the trace can't be
 read or the command line is wrong, and 1 also where the program can't be built.
 
-The program is built first where it has to be, which proves what has changed of the crates that it stands on. The first time took
-$first_time."
+The program is built first where it has to be, crate by crate, lowest first: each crate that has changed is proved. The first time that
+takes an hour or two. So a trace that is a file is answered before that, within two minutes, by a build that isn't proved yet and checks
+itself as it runs; once all is proved, it is told whether the proved program answers the same. Ctrl-C ends it at any time. What is proved
+by then stays, and the next call goes on there."
 
 top="$(dirname -- "$(realpath -- "$0")")"
 default="$top/traces/first-with-flash.trace"
-program="$top/crates/hc_replay/out/hc_replay"
-kept_bytes=16777216         # so much of a trace that comes through a pipe is kept until its end
-kept_lines="$program.lines" # the lines of crates.txt with which the program was built last
-crates=()                   # the crates that the program stands on, lowest first, and itself
-lines=""                    # their lines of crates.txt
-log=""                      # the file with what a build says
-declare -A line_of=()
+name=hc_replay_plain
+program="$top/crates/$name/out/$name"
+kept_bytes=16777216 # so much of a trace that comes through a pipe is kept until its end
+most_tried=4194304  # so many bytes of a trace are answered before the proofs at most (`rt try` has no answer past 1 MiB of answers)
+worth_trying=300    # the hundredths of a minute of proofs before which it is
+other_minutes=100   # the hundredths of a minute that a crate is taken to need where no gate has measured it
+crates=()           # the crates that the program stands on, lowest first, and itself
+left=()             # those of them that are still to be proved
+to_do=0             # the hundredths of a minute of those that are left
+over=0              # the same of those that this run has proved
+begun=0             # the second at which it began to
+work=""             # a folder of this run's own
+log=""              # the file in it with what a build says
+has_run=0           # whether that was run
+tried=""            # the file in it with what a build that isn't proved answered
+tried_status=0
+declare -A line_of=() minutes_of=()
 
 refuse() {
     printf '%s\n' "$1" >&2
@@ -52,6 +61,15 @@ read_crates() {
     done < "$top/crates.txt"
 }
 
+# Reads the minutes of processor that the gate measured for each crate's proof, in hundredths.
+read_minutes() {
+    local name minutes
+    while read -r name minutes; do
+        case "$name" in "" | "#"*) continue ;; esac
+        minutes_of[$name]=$((10#${minutes/./}))
+    done < "$top/.ci/proof-minutes"
+}
+
 # Adds a crate to `crates` behind those that it stands on. A library that crates.txt doesn't list is the toolchain's.
 add_crate() {
     local words word line="${line_of[$1]:-}"
@@ -62,106 +80,195 @@ add_crate() {
         add_crate "$word"
     done
     crates+=("$1")
-    lines+="${words[*]}"$'\n'
 }
 
-# Whether the program is missing, or older than what it stands on. (A folder is newer where a file was taken out.)
-is_old() {
-    local crate file
-    [ -x "$program" ] || return 0
-    for crate in "${crates[@]}"; do
-        for file in "$top/crates/$crate"/{src,specs,proofs}/**; do
-            [[ ! "$file" -nt "$program" ]] || return 0
-        done
+# The file that says with which line of crates.txt a crate was proved last, and by its time, when.
+mark_of() {
+    printf '%s' "$top/crates/$1/out/replay.mark"
+}
+
+# Whether a crate itself has changed since it was proved last. (A folder is newer where a file was taken out.)
+has_changed() {
+    local file mark
+    mark="$(mark_of "$1")"
+    [ -f "$mark" ] && [ "$(< "$mark")" = "${line_of[$1]}" ] || return 0
+    for file in "$top/crates/$1"/{src,specs,proofs}/**; do
+        [[ ! "$file" -nt "$mark" ]] || return 0
     done
-    [[ "$top/crates.txt" -nt "$program" ]] && [[ "$program" -nt "$kept_lines" || "$(< "$kept_lines")"$'\n' != "$lines" ]]
+    return 1
 }
 
-# Tells which crate is being proved, and on a terminal for how long, on a line that changes.
-tell() {
-    local at=1
-    while [ "${crates[at - 1]:-$1}" != "$1" ]; do at=$((at + 1)); done
-    if [ -t 2 ]; then
-        printf '\r\e[KProving %s, crate %d of %d: %d:%02d' "$1" "$at" "${#crates[@]}" $(($2 / 60)) $(($2 % 60)) >&2
-    elif [ "$2" = 0 ]; then
-        printf 'Proving %s, crate %d of %d\n' "$1" "$at" "${#crates[@]}" >&2
-    fi
+# Whether a crate stands on one of `left`.
+stands_on_left() {
+    local word
+    for word in ${line_of[$1]//,/ }; do
+        [[ " ${left[*]} " != *" $word "* ]] || return 0
+    done
+    return 1
 }
 
-# Writes what `rt run` says to the log, telling how far it is, and returns whether it has come to run the program.
-watch_build() {
-    local line="" part crate="" since=0 is_built=1
+# Puts the crates that are to be proved into `left`.
+find_left() {
+    local crate
+    for crate in "${crates[@]}"; do
+        if has_changed "$crate" || stands_on_left "$crate"; then
+            left+=("$crate")
+        fi
+    done
+    [ -x "$program" ] || [[ " ${left[*]} " == *" $name "* ]] || left+=("$name")
+}
+
+# Prints the sum of the minutes of these crates, in hundredths.
+minutes() {
+    local crate sum=0
+    for crate in "$@"; do
+        sum=$((sum + ${minutes_of[$crate]:-$other_minutes}))
+    done
+    printf '%s' "$sum"
+}
+
+# Passes what a command says to the log line by line, and each second calls the words with the seconds that it has taken.
+watch() {
+    local line="" part since="$SECONDS"
+    "$@" 0
     while true; do
         if IFS= read -r -t 1 part; then
             line+="$part"
             printf '%s\n' "$line" >> "$log"
             case "$line" in
-                "rt: chose --jobs "*) crate="${line##* }" since="$SECONDS" && tell "$crate" 0 ;;
-                "rt: waiting for "*) printf '%s\n' "$line" >&2 ;;
-                "rt: running "*) is_built=0 ;;
+                "rt: waiting for "* | *" waiting for it, "*) printf '%s\n' "$line" >&2 ;;
+                "rt: running "*) has_run=1 ;;
             esac
             line=""
         elif [ $? -gt 128 ]; then
             line+="$part" # a second has passed
-            [ -z "$crate" ] || [ "$SECONDS" = "$since" ] || tell "$crate" $((SECONDS - since))
+            "$@" $((SECONDS - since))
         else
             break
         fi
     done
     [ ! -t 2 ] || printf '\r\e[K' >&2
-    return "$is_built"
 }
 
-# Proves the crates and builds the program, or shows the end of the log.
-build() {
-    local begin
-    log="$(mktemp)"
-    trap 'rm -f "$log"' EXIT
-    begin="$(date +%s.%N)"
-    echo "Proving and building what has changed of hc_replay and the crates that it stands on. The first time took $first_time." >&2
-    if ! { (cd "$top/crates/hc_replay" && rt run < /dev/null 2>&1) || true; } | watch_build; then
-        trap - EXIT
-        tail -n 40 "$log" >&2
-        echo "replay.sh: hc_replay could not be built: the log is $log" >&2
-        exit 1
+# Tells on a terminal for how long a build that nothing proves has been made and run.
+tell_try() {
+    [ ! -t 2 ] || printf '\r\e[K%d:%02d' $(($1 / 60)) $(($1 % 60)) >&2
+}
+
+# Answers the trace in this file by a build that nothing has proved. Returns whether it could.
+answer_unproved() {
+    [ "$(wc -c < "$1")" -le "$most_tried" ] || return 1
+    echo "These first answers are of a build that isn't proved yet, and checks itself as it runs (a minute or two):" >&2
+    tried="$work/tried"
+    (cd "$top/crates/$name" && exec rt try --seconds 120 2>&1 > "$tried") < "$1" | watch tell_try || tried_status=$?
+    if ! tail -n 1 "$log" | grep -q '^run=ended '; then
+        echo "replay.sh: there are none: $(tail -n 1 "$log")" >&2
+        tried=""
+        return
     fi
-    printf '%s' "$lines" > "$kept_lines"
-    # (what was edited during the build is newer than the program)
-    touch -d "@$begin" "$program" "$kept_lines"
-    rm -f "$log"
+    cat "$tried"
+    [ "$tried_status" != 1 ] || explain "$1" "$(tail -n 1 "$tried")"
 }
 
-# Says on standard error which line of the trace in this file is at fault, and why.
+# Tells which crate is being proved, on a terminal also for how long, and how many minutes are left: those of processor that the
+# gate measured, at the pace so far, to which five minutes that took as long on the clock are added.
+tell_crate() {
+    local at=1 minutes_left
+    while [ "${crates[at - 1]}" != "$1" ]; do at=$((at + 1)); done
+    minutes_left=$((to_do * (SECONDS - begun - $2 + 300) / (60 * over + 30000) - $2 / 60))
+    [ "$minutes_left" -gt 0 ] || minutes_left=1
+    if [ -t 2 ]; then
+        printf '\r\e[KProving %s, crate %d of %d: %d:%02d, some %d minutes left' "$1" "$at" "${#crates[@]}" $(($2 / 60)) $(($2 % 60)) "$minutes_left" >&2
+    elif [ "$2" = 0 ]; then
+        printf 'Proving %s, crate %d of %d: some %d minutes left\n' "$1" "$at" "${#crates[@]}" "$minutes_left" >&2
+    fi
+}
+
+# Builds a crate, which proves it, and marks it as built.
+build_crate() {
+    local begin mark
+    begin="$(date +%s.%N)"
+    if [ "$1" = "$name" ]; then
+        # (it is run on an empty trace, which is a fault, so that its status says nothing)
+        { (cd "$top/crates/$1" && exec rt run < /dev/null 2>&1) || true; } | watch tell_crate "$1"
+        [ "$has_run" = 1 ] || return 1
+    else
+        (cd "$top/crates/$1" && exec rt lib < /dev/null 2>&1) | watch tell_crate "$1" || return 1
+    fi
+    # (what was edited during the build is newer than the mark)
+    mark="$(mark_of "$1")"
+    printf '%s' "${line_of[$1]}" > "$mark"
+    touch -d "@$begin" "$mark"
+}
+
+# Builds the crates of `left`, or shows the end of the log.
+build() {
+    local crate kept
+    begun="$SECONDS"
+    to_do="$(minutes "${left[@]}")"
+    echo "Now $name is proved, with what it stands on: ${#left[@]} of ${#crates[@]} crates are left. Ctrl-C ends it: what is proved by then stays." >&2
+    for crate in "${left[@]}"; do
+        : > "$log"
+        if ! build_crate "$crate"; then
+            kept="$(mktemp)"
+            cp "$log" "$kept"
+            tail -n 40 "$log" >&2
+            echo "replay.sh: $crate could not be built: the log is $kept" >&2
+            exit 1
+        fi
+        to_do=$((to_do - $(minutes "$crate")))
+        over=$((over + $(minutes "$crate")))
+    done
+}
+
+# Says on standard error which line of the trace in this file is at fault, and why, where its last answer is this.
 explain() {
-    local last
-    last="$("$program" < "$1" 2> /dev/null | tail -n 1)" || true
-    case "$last" in
-        "fault line "*) "$top/traces/explain-fault" "$1" "${last##* }" ;;
+    case "$2" in
+        "fault line "*) "$top/traces/explain-fault" "$1" "${2##* }" ;;
         "refused "*) "$top/traces/explain-fault" "$1" ;;
     esac | sed 's/^/replay.sh: /' >&2
     echo 'replay.sh: docs/FORMATS.md has a section "When it says fault"' >&2
 }
 
-# Replays standard input, which is this file, where one is named.
+# The same, where the program answers it.
+explain_file() {
+    local last
+    last="$("$program" < "$1" 2> /dev/null | tail -n 1)" || true
+    explain "$1" "$last"
+}
+
+# Replays standard input, a file that was answered before the proofs, and says whether the proved program answers the same.
+replay_again() {
+    local status=0
+    "$program" > "$work/answers" || status=$?
+    if [ "$status" = "$tried_status" ] && cmp -s "$tried" "$work/answers"; then
+        echo "All is proved now, and the proved program answers the same, with status $status." >&2
+    else
+        echo "replay.sh: all is proved now, and the PROVED PROGRAM ANSWERS OTHERWISE, with status $status:" >&2
+        cat "$work/answers"
+        [ "$status" != 1 ] || explain_file "$1"
+    fi
+    exit "$status"
+}
+
+# Replays standard input, which is this file.
 replay_file() {
     local status=0
     "$program" || status=$?
-    [ "$status" != 1 ] || explain "$1"
+    [ "$status" != 1 ] || explain_file "$1"
     exit "$status"
 }
 
 # Replays standard input, which is a pipe: its first bytes are kept, to show a faulty line of.
 replay_pipe() {
-    local status=0 keep keeper
-    copy="$(mktemp)"
-    trap 'rm -f "$copy"' EXIT
+    local status=0 keep keeper copy="$work/trace"
     exec {keep}> >(head -c "$kept_bytes" > "$copy"; cat > /dev/null)
     keeper=$!
     tee "/dev/fd/$keep" | { exec {keep}>&-; "$program"; } || status="${PIPESTATUS[1]}"
     exec {keep}>&-
     wait "$keeper" || true
     if [ "$status" = 1 ] && [ "$(wc -c < "$copy")" -lt "$kept_bytes" ]; then
-        explain "$copy"
+        explain_file "$copy"
     elif [ "$status" = 1 ]; then
         echo "replay.sh: the faulty line isn't shown, since only the first $kept_bytes bytes of a pipe are kept: name a file" >&2
     fi
@@ -176,17 +283,29 @@ case "${1:-}" in
     -?*) refuse "$usage" ;;
 esac
 [ $# -le 1 ] || refuse "$usage"
-open_trace "${1-$default}"
-read_crates
-add_crate hc_replay
-if is_old; then
-    build
-fi
 trace="${1-$default}"
-if [ -f "$trace" ]; then
+open_trace "$trace"
+read_crates
+read_minutes
+add_crate "$name"
+find_left
+work="$(mktemp -d)"
+log="$work/log"
+trap 'rm -rf "$work"' EXIT
+if [ ${#left[@]} -gt 0 ]; then
+    trap '[ ! -t 2 ] || echo >&2; exit 130' INT
+    if [ -f "$trace" ] && [ "$(minutes "${left[@]}")" -ge "$worth_trying" ]; then
+        answer_unproved "$trace" || true
+    fi
+    build
+    trap - INT
+fi
+if [ -n "$tried" ]; then
+    replay_again "$trace"
+elif [ -f "$trace" ]; then
     replay_file "$trace"
 elif [ -t 0 ]; then
-    exec "$program"
+    "$program"
 else
     replay_pipe
 fi
