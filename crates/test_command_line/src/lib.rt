@@ -1,0 +1,5 @@
+//! Tests of which command lines `hc_replay` follows.
+#![tactic(auto)]
+
+#[cfg(test)]
+mod rows;
