@@ -1,0 +1,2 @@
+-- What a command line asks for.
+pub mod Asked
