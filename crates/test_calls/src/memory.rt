@@ -1,79 +1,90 @@
 // What calls take of memory, where the log is counted.
-use crate::fixtures::{FLASH, counted};
+use crate::fixtures::{FLASH, Heap, counted};
 use hc_core::{Copied, Core, Counting, FlashConfig, Found};
-use std::alloc::Global;
 use std::process::Abort;
 use test_allocator::Refusing;
 
-// Lends what counts.
-type Heap<'a> = &'a Refusing<Global>;
+type Cache<'a> = Core<Counting<Heap<'a>>, Heap<'a>>;
 
-const VALUE: [u8; 40] = [b'x'; 40];
-
-// Stores the value.
-fn store<'a>(rt: &impl Abort, core: &mut Core<Counting<Heap<'a>>, Heap<'a>>) {
-    let stored = core.set(0, b"k", VALUE.as_slice(), 0);
+// Stores 400 bytes: two such items fit the pool.
+fn store<'a>(rt: &impl Abort, core: &mut Cache<'a>, key: &[u8]) {
+    let stored = core.set(0, key, &[b'x'; 400], 0);
     assert!(rt; stored == Ok(()));
 }
 
 // A cache with the value stored.
-fn stored<'a>(
-    rt: &impl Abort,
-    alloc: Heap<'a>,
-    flash: Option<FlashConfig>,
-) -> Core<Counting<Heap<'a>>, Heap<'a>> {
+fn stored<'a>(rt: &impl Abort, alloc: Heap<'a>, flash: Option<FlashConfig>) -> Cache<'a> {
     let mut core = counted(rt, alloc, flash);
-    store(rt, &mut core);
+    store(rt, &mut core, b"k");
     core
 }
 
-// That the value is found.
-fn assert_hit<'a>(rt: &impl Abort, core: &mut Core<Counting<Heap<'a>>, Heap<'a>>) {
+// That the value is found, and that another key has none.
+fn assert_gets<'a>(rt: &impl Abort, core: &mut Cache<'a>) {
     match core.get(b"k") {
-        Ok(Found::Hit(handle)) => assert!(rt; handle.bytes() == VALUE.as_slice()),
+        Ok(Found::Hit(handle)) => assert!(rt; handle.bytes() == [b'x'; 400].as_slice()),
         _ => panic!(rt; "the item is there, and no memory is wanted"),
     }
-    let copied = core.get_into(b"k", [0; 40].as_mut_slice());
-    assert!(rt; copied == Ok(Copied::Hit(40)));
+    let copied = core.get_into(b"k", [0; 400].as_mut_slice());
+    assert!(rt; copied == Ok(Copied::Hit(400)));
+    assert!(rt; matches!(core.get(b"l"), Ok(Found::Miss)));
 }
 
-// That a get which hits asks for no memory.
+// That a get asks for no memory.
 fn assert_found_with_none<'a>(rt: &impl Abort, alloc: Heap<'a>, flash: Option<FlashConfig>) {
     let mut core = stored(rt, alloc, flash);
     alloc.refuse_from(1);
-    assert_hit(rt, &mut core);
+    assert_gets(rt, &mut core);
     assert!(rt; alloc.refused() == 0);
+    alloc.refuse(0);
 }
 
 #[test]
-fn a_get_that_hits_takes_no_memory(rt: HostRuntime) {
-    assert_found_with_none(&rt, &Refusing::new(rt.alloc(), 0), None);
+fn a_get_that_waits_for_nothing_takes_no_memory(rt: HostRuntime) {
+    let alloc = Refusing::new(rt.alloc(), 0);
+    assert_found_with_none(&rt, &alloc, None);
+    let alloc = Refusing::new(rt.alloc(), 0);
+    assert_found_with_none(&rt, &alloc, FLASH);
 }
 
-#[test]
-fn a_get_that_hits_takes_no_memory_with_flash(rt: HostRuntime) {
-    assert_found_with_none(&rt, &Refusing::new(rt.alloc(), 0), FLASH);
-}
-
-// That a value is replaced with so many growths, and not with fewer.
-fn assert_replaced_with<'a>(
-    rt: &impl Abort,
-    alloc: Heap<'a>,
-    flash: Option<FlashConfig>,
-    growths: u64,
-) {
+// That a value is replaced with two growths.
+fn assert_replaced_with_two<'a>(rt: &impl Abort, alloc: Heap<'a>, flash: Option<FlashConfig>) {
     let mut core = stored(rt, alloc, flash);
     let before = alloc.taken();
-    store(rt, &mut core);
-    assert!(rt; alloc.taken().wrapping_sub(before) == growths);
+    store(rt, &mut core, b"k");
+    assert!(rt; alloc.taken().wrapping_sub(before) == 2);
 }
 
 #[test]
 fn a_value_is_replaced_with_two_growths(rt: HostRuntime) {
-    assert_replaced_with(&rt, &Refusing::new(rt.alloc(), 0), None, 2);
+    let alloc = Refusing::new(rt.alloc(), 0);
+    assert_replaced_with_two(&rt, &alloc, None);
+    assert_replaced_with_two(&rt, &alloc, FLASH);
+}
+
+// How many growths so many rounds take. In each round three items come, of which two are in memory and one waits for flash, and
+// goes as its key is stored anew.
+fn taken_by<'a>(rt: &impl Abort, alloc: Heap<'a>, core: &mut Cache<'a>, rounds: u32) -> u64 {
+    let before = alloc.taken();
+    for _ in 0..rounds {
+        store(rt, core, b"a");
+        store(rt, core, b"b");
+        store(rt, core, b"c");
+    }
+    alloc.taken().wrapping_sub(before)
+}
+
+// That later rounds take as many growths as earlier ones.
+fn assert_even<'a>(rt: &impl Abort, alloc: Heap<'a>) {
+    let mut core = counted(rt, alloc, FLASH);
+    let _first = taken_by(rt, alloc, &mut core, 100);
+    let early = taken_by(rt, alloc, &mut core, 100);
+    let _between = taken_by(rt, alloc, &mut core, 3_000);
+    let late = taken_by(rt, alloc, &mut core, 100);
+    assert!(rt; early == late, "{early} and then {late}");
 }
 
 #[test]
-fn a_value_is_replaced_with_two_growths_with_flash(rt: HostRuntime) {
-    assert_replaced_with(&rt, &Refusing::new(rt.alloc(), 0), FLASH, 2);
+fn what_comes_and_goes_leaves_no_growth(rt: HostRuntime) {
+    assert_even(&rt, &Refusing::new(rt.alloc(), 0));
 }

@@ -1,18 +1,10 @@
-//! Tests of schedules: what steps are answered, where they end in the log, what comes back from flash and what is lost there,
-//! and where a run stops.
+//! Tests of schedules: where a run stops for want of memory, with what its finished steps left, and what is answered where a
+//! slot is in the wrong state.
 #![tactic(auto)]
 
 #[cfg(test)]
-mod answers;
-#[cfg(test)]
-mod ends;
-#[cfg(test)]
 mod memory;
 #[cfg(test)]
-mod quiet;
+mod slots;
 #[cfg(test)]
 mod steps;
-#[cfg(test)]
-mod trips;
-#[cfg(test)]
-mod words;
