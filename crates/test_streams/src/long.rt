@@ -13,6 +13,9 @@ const LONGEST: usize = 2_097_152;
 /// The most bytes of a trace.
 const MOST: u64 = 4_294_967_296;
 
+/// A line that is read with one read, its line feed included: the replay asks for 65,536 bytes at a time.
+const LINE: usize = 65_535;
+
 // A reader that makes up comments of so many bytes, with a line feed behind each, up to so many bytes in all.
 #[derive(Drop)]
 struct Comments {
@@ -22,23 +25,37 @@ struct Comments {
     left: u64,
 }
 
-impl Read for Comments {
-    fn read(&mut self, buf: &mut [u8]) -> io::Result<usize> {
-        let most = usize::try_from(self.left).unwrap_or(usize::MAX);
-        let n = buf.len().min(self.of_line).min(most);
-        let Some(part) = buf.get_mut(..n) else {
-            return Ok(0);
-        };
-        part.fill(b'#');
+impl Comments {
+    // Whether the buffer is as the last read left it, which was a line from end to end. So is the next.
+    fn is_ready(&self, buf: &[u8]) -> bool {
+        buf.len() == self.of_line && buf.first() == Some(&b'#')
+    }
+
+    // So many bytes were read, up to this last one.
+    fn go_on(&mut self, n: usize, last: &mut u8) {
         self.left = self.left.saturating_sub(n as u64);
         self.of_line = self.of_line.saturating_sub(n);
         if self.of_line == 0 {
             self.of_line = self.line.saturating_add(1);
-            if let Some(last) = part.last_mut() {
-                *last = b'\n';
-            }
+            *last = b'\n';
         }
-        Ok(n)
+    }
+}
+
+impl Read for Comments {
+    fn read(&mut self, buf: &mut [u8]) -> io::Result<usize> {
+        if self.of_line > self.line && !self.is_ready(buf) {
+            buf.fill(b'#');
+        }
+        let most = usize::try_from(self.left).unwrap_or(usize::MAX);
+        let n = buf.len().min(self.of_line).min(most);
+        match buf.get_mut(..n) {
+            Some([.., last]) => {
+                self.go_on(n, last);
+                Ok(n)
+            }
+            _ => Ok(0),
+        }
     }
 }
 
@@ -65,13 +82,12 @@ fn a_line_may_be_as_long_as_the_longest(rt: HostRuntime) {
     assert_ends(&rt, rt.alloc(), LONGEST + 1, 5_000_000, 1, b"fault line 3\n");
 }
 
-// (read by halves, so that a test has its own time)
 #[test]
 fn a_trace_may_have_the_most_bytes(rt: HostRuntime) {
-    assert_ends(&rt, rt.alloc(), 60_000, MOST, 0, NOTHING);
+    assert_ends(&rt, rt.alloc(), LINE, MOST, 0, NOTHING);
 }
 
 #[test]
 fn a_trace_of_a_byte_more_ends_with_status_4(rt: HostRuntime) {
-    assert_ends(&rt, rt.alloc(), 60_000, MOST + 1, 4, b"");
+    assert_ends(&rt, rt.alloc(), LINE, MOST + 1, 4, b"");
 }
