@@ -14,3 +14,5 @@ pub mod Finds
 pub mod Inserts
 pub mod Refuses
 pub mod Serves
+pub mod Pages
+pub mod Entries

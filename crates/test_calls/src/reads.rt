@@ -28,7 +28,7 @@ fn misses<'a>(core: &mut Cache<'a>) -> bool {
 fn read_both<'a>(rt: &impl Abort, core: &mut Cache<'a>) -> [ReadHandle<Heap<'a>>; 2] {
     store(rt, core, b"a", b"one");
     let evicted = found(rt, core);
-    store(rt, core, b"b", &[b'x'; 900]);
+    store(rt, core, b"b", &[b'x'; 960]);
     assert!(rt; misses(core));
     store(rt, core, b"a", b"two");
     let removed = found(rt, core);

@@ -1,9 +1,8 @@
-// What is printed of keys, of what is forgotten, of notes, handles and counts.
+// What is printed of keys, of what is forgotten, of notes, handles, counts and errors.
 use crate::fixtures::{counted, key};
 use bytes::Bytes;
-use hc_core::{
-    Blank, Cause, Core, Counting, Found, Note, Op, Refusal, Said, Scope, Sealed, Stats, Why,
-};
+use hc_core::{Blank, Cause, Found, Note, Op, Said, Scope, Sealed, Stats, Why};
+use hc_flash::FlashError;
 use std::alloc::Global;
 use std::fmt::{Debug, Display};
 use std::process::Abort;
@@ -62,39 +61,33 @@ fn causes_show_in_the_words_of_answers(rt: HostRuntime) {
     assert_cause(&rt, rt.alloc(), Cause::Reclaimed(2), "reclaimed 2");
 }
 
-// A note of an insert of five bytes.
-fn inserted(rt: &impl Abort, alloc: Global) -> Note {
-    let value = Bytes::copy_from_slice(alloc, b"value").expect(rt, "there is memory");
-    let op = Op::Insert(key(rt, alloc, b"k"), value, 15);
-    Note::new(Said::Begin {
+// That a note of these bytes shows few of them, if any.
+fn assert_short(rt: &impl Abort, alloc: Global, said: Said) {
+    let note = Note::new(said);
+    let shown = format!(in alloc; "{note:?}").expect(rt, "there is memory");
+    assert!(rt; !shown.is_empty() && shown.len() < 100, "{shown}");
+}
+
+// A hundred bytes.
+fn bytes(rt: &impl Abort, alloc: Global) -> Bytes {
+    Bytes::copy_from_slice(alloc, &[b'x'; 100]).expect(rt, "there is memory")
+}
+
+#[test]
+fn a_note_shows_no_value_and_no_page(rt: HostRuntime) {
+    let op = Op::Insert(key(&rt, rt.alloc(), b"k"), bytes(&rt, rt.alloc()), 15);
+    let said = Said::Begin {
         call: 1,
         client: 0,
         op,
-    })
-}
-
-#[test]
-fn a_note_shows_no_value(rt: HostRuntime) {
-    let note = inserted(&rt, rt.alloc());
-    let text = "Note { said: Begin(1, 0, Insert(b\"k\", 5 bytes, 15)) }";
-    assert_debugged(&rt, rt.alloc(), &note, text);
-}
-
-// A note of a page of two bytes that was written.
-fn wrote(rt: &impl Abort, alloc: Global) -> Note {
-    let bytes = Bytes::copy_from_slice(alloc, b"ab").expect(rt, "there is memory");
-    Note::new(Said::Wrote {
+    };
+    assert_short(&rt, rt.alloc(), said);
+    let said = Said::Wrote {
         page: 3,
-        bytes,
+        bytes: bytes(&rt, rt.alloc()),
         is_written: true,
-    })
-}
-
-#[test]
-fn a_note_shows_no_page(rt: HostRuntime) {
-    let note = wrote(&rt, rt.alloc());
-    let text = "Note { said: Wrote(3, 2 bytes, true) }";
-    assert_debugged(&rt, rt.alloc(), &note, text);
+    };
+    assert_short(&rt, rt.alloc(), said);
 }
 
 #[test]
@@ -110,6 +103,12 @@ fn counts_show_with_their_names(rt: HostRuntime) {
     };
     let text = "stored 1 hits 2 misses 3 removes 4 losses 5 reads 0 writes 0";
     assert_shown(&rt, rt.alloc(), &counts, text);
+}
+
+#[test]
+fn errors_of_a_device_show(rt: HostRuntime) {
+    assert_shown(&rt, rt.alloc(), &FlashError::Device, "the device failed");
+    assert_shown(&rt, rt.alloc(), &FlashError::NoMemory, "no memory");
 }
 
 // The handle, sealed.
@@ -131,23 +130,6 @@ fn handles_show_no_value(rt: HostRuntime) {
     let text = "Sealed { number: 1, pool: 0, key: b\"k\", value: 5 bytes, expiry: 0 }";
     assert_debugged(&rt, rt.alloc(), &sealed, text);
     sealed.abandon();
-}
-
-// Why no item is allocated in a pool that isn't there.
-fn refusal_of(rt: &impl Abort, alloc: Global, core: &mut Core<Counting>) -> Refusal {
-    match core.allocate(1, key(rt, alloc, b"k"), 5, 0) {
-        Ok(blank) => {
-            blank.abandon();
-            panic!(rt; "there is one pool")
-        }
-        Err(refused) => Refusal::from(refused),
-    }
-}
-
-#[test]
-fn what_was_refused_is_a_refusal(rt: HostRuntime) {
-    let mut core = counted(&rt, rt.alloc(), None);
-    assert!(rt; refusal_of(&rt, rt.alloc(), &mut core) == Refusal::NoPool);
 }
 
 // That what a find answers shows as this text.

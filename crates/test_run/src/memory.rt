@@ -162,6 +162,9 @@ fn grow<'a>(rt: &impl Abort, alloc: Heap<'a>) -> usize {
 fn a_run_stops_where_memory_lacks(rt: HostRuntime) {
     let alloc = Refusing::new(rt.alloc(), 0);
     let stops = grow(&rt, &alloc);
-    assert!(&rt; stops >= 6, "at half of the steps at least, and not at {stops}");
+    assert!(&rt;
+        stops >= 6,
+        "at half of the steps at least, and not at {stops}"
+    );
     assert!(&rt; alloc.is_even());
 }

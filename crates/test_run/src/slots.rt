@@ -57,6 +57,7 @@ fn slots_in_the_wrong_state_are_told(rt: HostRuntime) {
     spend(&rt, rt.alloc(), &mut steps);
     use_empty(&rt, &mut steps);
     keep(&rt, rt.alloc(), &mut steps);
-    let want = "no slot,no slot,no slot,filled,no slot,stored,no slot,no slot,no slot,filled,exists,discarded,no slot,";
+    let want =
+        "no slot,no slot,no slot,filled,no slot,stored,no slot,no slot,no slot,filled,exists,discarded,no slot,";
     assert_words(&rt, rt.alloc(), steps.as_slice(), want);
 }

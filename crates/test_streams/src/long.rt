@@ -79,7 +79,14 @@ const NOTHING: &[u8] =
 #[test]
 fn a_line_may_be_as_long_as_the_longest(rt: HostRuntime) {
     assert_ends(&rt, rt.alloc(), LONGEST, 5_000_000, 0, NOTHING);
-    assert_ends(&rt, rt.alloc(), LONGEST + 1, 5_000_000, 1, b"fault line 3\n");
+    assert_ends(
+        &rt,
+        rt.alloc(),
+        LONGEST + 1,
+        5_000_000,
+        1,
+        b"fault line 3\n",
+    );
 }
 
 #[test]

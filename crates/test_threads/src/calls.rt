@@ -1,19 +1,18 @@
 // Calls of a client that are to succeed.
 
 use crate::stage::Scene;
-use hc_core::{Fill, Key, ReadHandle, Removed, Sealed};
+use hc_core::{Fill, Key, Removed, Sealed};
 use hc_threads::Client;
 use std::alloc::Global;
 use std::process::Abort;
 use std::sync::Wait;
 
-/// The key of this name.
-pub fn key(rt: &impl Abort, alloc: Global, name: &[u8]) -> Key {
+fn key(rt: &impl Abort, alloc: Global, name: &[u8]) -> Key {
     Key::new(alloc, name).expect(rt, "the key fits")
 }
 
-/// An item of this value, which is to stay for good.
-pub fn sealed<R: Abort + Wait>(
+// An item of this value, which is to stay for good.
+fn sealed<R: Abort + Wait>(
     rt: &R,
     scene: &Scene<'_>,
     client: &Client,
@@ -45,19 +44,6 @@ pub fn set<R: Abort + Wait>(
     }
 }
 
-/// What is under the key.
-pub fn get<R: Abort + Wait>(
-    rt: &R,
-    scene: &Scene<'_>,
-    client: &mut Client,
-    name: &[u8],
-) -> Option<ReadHandle> {
-    let key = key(rt, scene.alloc, name);
-    client
-        .find(rt, scene.shared, &key)
-        .expect(rt, "there is memory")
-}
-
 /// Whether this value is under the key.
 pub fn holds<R: Abort + Wait>(
     rt: &R,
@@ -66,7 +52,9 @@ pub fn holds<R: Abort + Wait>(
     name: &[u8],
     value: &[u8],
 ) -> bool {
-    match get(rt, scene, client, name) {
+    let key = key(rt, scene.alloc, name);
+    let found = client.find(rt, scene.shared, &key);
+    match found.expect(rt, "there is memory") {
         Some(found) => found.bytes() == value,
         None => false,
     }
@@ -81,4 +69,16 @@ pub fn is_removed<R: Abort + Wait>(
 ) -> bool {
     let key = key(rt, scene.alloc, name);
     client.remove(rt, scene.shared, &key) == Ok(Removed::FoundInMemory)
+}
+
+/// Gives an item up before it is sealed.
+pub fn give_up<R: Abort + Wait>(rt: &R, scene: &Scene<'_>, client: &Client) {
+    let key = key(rt, scene.alloc, b"a");
+    let blank = client
+        .allocate(rt, scene.shared, 0, key, 4, 0)
+        .expect(rt, "the item fits");
+    match client.discard_blank(rt, scene.shared, blank) {
+        Ok(()) => {}
+        Err(_) => panic!(rt; "the handle is this cache's"),
+    }
 }

@@ -1,19 +1,17 @@
-//! Tests of clients and workers in threads, which end the same whatever the schedule.
+//! Tests of clients and workers in threads, and of the replay by several clients, which end the same whatever the schedule.
 #![tactic(auto)]
 
 #[cfg(test)]
 mod calls;
 #[cfg(test)]
-mod handles;
-#[cfg(test)]
-mod lying;
+mod replays;
 #[cfg(test)]
 mod runs;
+#[cfg(test)]
+mod said;
 #[cfg(test)]
 mod scripts;
 #[cfg(test)]
 mod stage;
-#[cfg(test)]
-mod verdicts;
 #[cfg(test)]
 mod watch;

@@ -1,7 +1,6 @@
 // What clients do.
 
-use crate::calls::{get, holds, is_removed, set};
-use crate::handles::use_handles;
+use crate::calls::{give_up, holds, is_removed, set};
 use crate::stage::Scene;
 use crate::watch::{add, comes};
 use hc_threads::Client;
@@ -15,61 +14,30 @@ use std::thread;
 pub enum Script {
     /// Each sets and finds a key of its own, 50 times.
     Rounds,
-    /// Four have a key each: three set and find it, one of them removes it then, and one finds nothing.
-    Keys,
     /// The first has an item read from flash, and the second finds one in memory while the read is held.
     Held,
     /// An item leaves memory, and is written to flash.
     Spill,
-    /// So does another, and the first comes back.
+    /// So does another, and the first comes back. One is given up, and one removed.
     Trip,
-    /// Handles are taken and given up.
-    Handles,
 }
 
 /// Does what the script has for the client.
 pub fn play<R: Abort + Wait>(rt: &R, scene: &Scene<'_>, client: &mut Client) {
     match scene.script {
         Script::Rounds => go_round(rt, scene, client),
-        Script::Keys => use_key(rt, scene, client),
         Script::Held => meet(rt, scene, client),
         Script::Spill => spill(rt, scene, client),
         Script::Trip => bring_back(rt, scene, client),
-        Script::Handles => use_handles(rt, scene, client),
     }
-}
-
-// Sets the key, and finds it.
-fn set_and_find<R: Abort + Wait>(
-    rt: &R,
-    scene: &Scene<'_>,
-    client: &mut Client,
-    name: &[u8],
-    value: &[u8],
-) {
-    set(rt, scene, client, name, value);
-    assert!(rt; holds(rt, scene, client, name, value));
 }
 
 // Sets and finds a key of the client's own, 50 times.
 fn go_round<R: Abort + Wait>(rt: &R, scene: &Scene<'_>, client: &mut Client) {
     let name = [b'k', client.number()];
     for round in 0..50_u8 {
-        set_and_find(rt, scene, client, name.as_slice(), [round].as_slice());
-    }
-}
-
-// What each of four clients does with a key of its own.
-fn use_key<R: Abort + Wait>(rt: &R, scene: &Scene<'_>, client: &mut Client) {
-    let number = client.number();
-    let name = [number];
-    if number == 3 {
-        assert!(rt; get(rt, scene, client, name.as_slice()).is_none());
-        return;
-    }
-    set_and_find(rt, scene, client, name.as_slice(), b"1");
-    if number == 2 {
-        assert!(rt; is_removed(rt, scene, client, name.as_slice()));
+        set(rt, scene, client, name.as_slice(), [round].as_slice());
+        assert!(rt; holds(rt, scene, client, name.as_slice(), [round].as_slice()));
     }
 }
 
@@ -111,10 +79,13 @@ fn spill<R: Abort + Wait>(rt: &R, scene: &Scene<'_>, client: &mut Client) {
     assert!(rt; comes(&scene.watch.operations, 1));
 }
 
-// The second leaves for a third, and the first comes back.
+// The second leaves for a third, and the first comes back. It is removed a second later.
 fn bring_back<R: Abort + Wait>(rt: &R, scene: &Scene<'_>, client: &mut Client) {
     spill(rt, scene, client);
     set(rt, scene, client, b"c", b"three");
     assert!(rt; comes(&scene.watch.operations, 3));
+    give_up(rt, scene, client);
     assert!(rt; holds(rt, scene, client, b"a", b"one"));
+    assert!(rt; scene.shared.tick(rt, 1) == Ok(1));
+    assert!(rt; is_removed(rt, scene, client, b"a"));
 }
