@@ -1,47 +1,36 @@
 // Badges of users, which are written into the cache piece by piece.
-use crate::profiles::POOL;
-use hc_core::{Core, Counting, Key, Refusal, Sealed, Uncharged, Unlinked, give_up_blank};
+use crate::profiles::{HOUR, POOL};
+use hc_core::{Core, Counting, Key, Refusal, Sealed, Unlinked, give_up_blank};
 use std::alloc::Global;
 
 /// So many bytes a badge has, at most.
 const BADGE: u64 = 16;
-
-/// For so many seconds a badge may be served from the cache.
-const HOUR: u32 = 3600;
-
-/// Gives up what was written. A handle of another cache is ended.
-fn discard(cache: &mut Core<Counting>, sealed: Sealed) {
-    if let Err(sealed) = cache.discard(sealed) {
-        sealed.abandon();
-    }
-}
 
 /// Inserts what was written. What can't be inserted is given up.
 fn insert(cache: &mut Core<Counting>, sealed: Sealed) -> Result<(), Refusal> {
     match cache.insert_or_replace(0, sealed) {
         Ok(()) => Ok(()),
         Err(Unlinked { refusal, sealed }) => {
-            discard(cache, sealed);
+            if let Err(sealed) = cache.discard(sealed) {
+                sealed.abandon();
+            }
             Err(refusal)
         }
     }
 }
 
-/// Writes a user's name into a badge, and inserts it. One that the name doesn't fit is given up: its room is free again,
-/// and nothing is found under the key that wasn't before.
+/// Writes a user's name into a badge, and inserts it under this key. One that the name doesn't fit is given up: its room is
+/// free again, and nothing is found under the key that wasn't before.
 pub fn badge(
     alloc: Global,
     cache: &mut Core<Counting>,
-    user: &str,
+    text: &str,
     name: &str,
 ) -> Result<(), Refusal> {
-    let key = Key::new(alloc, user.as_bytes())?;
+    let key = Key::new(alloc, text.as_bytes())?;
     let mut blank = match cache.allocate(POOL, key, BADGE, HOUR) {
         Ok(blank) => blank,
-        Err(Uncharged { refusal, key }) => {
-            drop(key);
-            return Err(refusal);
-        }
+        Err(uncharged) => return Err(uncharged.refusal),
     };
     if let Err(refusal) = blank.write_at(0, name.as_bytes()) {
         give_up_blank(cache, blank);

@@ -1,8 +1,6 @@
 // Profiles of users, from a cache before a database.
-use crate::database::Database;
 use crate::worker::Worker;
 use hc_core::{Config, Core, Counting, FlashConfig, Found, PoolSize, Refusal, Reply, Said};
-use hc_flash::MemFlash;
 use std::alloc::{AllocError, Global};
 use std::io;
 
@@ -29,13 +27,7 @@ const FLASH: FlashConfig = FlashConfig {
 };
 
 /// For so many seconds a profile may be served from the cache.
-const HOUR: u32 = 3600;
-
-/// The worker of such a cache, with a device in memory. A service has a real one, and writes an `impl Flash` for it.
-pub fn hire(alloc: Global) -> Result<Worker, AllocError> {
-    let device = MemFlash::new(alloc, 16, 512)?;
-    Ok(Worker::new(device))
-}
+pub const HOUR: u32 = 3600;
 
 /// An empty cache, whose clock stands at the second `now`.
 pub fn open(alloc: Global, now: u64) -> Result<Core<Counting>, Refusal> {
@@ -60,8 +52,8 @@ fn wait(
     }
 }
 
-/// The profile that is in memory or on flash, if any.
-pub fn cached(
+// The profile that is in memory or on flash, if any.
+fn cached(
     alloc: Global,
     cache: &mut Core<Counting>,
     worker: &mut Worker,
@@ -74,51 +66,34 @@ pub fn cached(
     }
 }
 
+// The profile from the database: slow, and always right.
+fn load(alloc: Global, user: &str) -> Result<String, AllocError> {
+    format!(in alloc; "the profile of {user}")
+}
+
 /// The profile of a user: from the cache, or else from the database, and then it's cached for an hour.
 pub fn profile(
     alloc: Global,
     cache: &mut Core<Counting>,
     worker: &mut Worker,
-    database: &Database,
     user: &str,
 ) -> Result<String, AllocError> {
     if let Ok(Some(profile)) = cached(alloc, cache, worker, user) {
         return Ok(profile);
     }
-    let profile = database.load(alloc, user)?;
+    let profile = load(alloc, user)?;
     // what can't be cached is served all the same
     let _ = cache.set(POOL, user.as_bytes(), profile.as_bytes(), HOUR);
     Ok(profile)
 }
 
-/// Changes a user's profile: in the database first, and then it is forgotten here.
-pub fn change(
-    cache: &mut Core<Counting>,
-    database: &mut Database,
-    user: &str,
-) -> Result<(), Refusal> {
-    database.change();
-    cache.delete(user.as_bytes())?;
-    Ok(())
-}
-
-/// Prints what the cache forgot since this was called last, and why.
-pub fn print_losses(rt: &impl Print, cache: &mut Core<Counting>) -> io::Result<()> {
+/// Prints what the cache forgot since this was called last, and why; and what was asked and answered since it was opened.
+pub fn print_state(rt: &impl Print, cache: &mut Core<Counting>) -> io::Result<()> {
     for note in cache.notes().losses.as_slice() {
         if let Said::Lose { scope, cause } = &note.said {
             println!(rt; "forgotten: {scope}, {cause}")?;
         }
     }
     cache.forget_losses();
-    Ok(())
-}
-
-/// Prints what is in the pool, its limit, and what was asked and answered.
-pub fn print_counts(rt: &impl Print, cache: &Core<Counting>) -> io::Result<()> {
-    let pools = cache.pools();
-    if usize::from(POOL) < pools.len() {
-        let usage = pools.usage(POOL);
-        println!(rt; "{} of {} bytes", usage.linked.bytes, usage.limits.bytes)?;
-    }
     println!(rt; "{}", cache.notes().counts)
 }

@@ -1,6 +1,7 @@
 // The worker of a cache: it takes jobs, does their operations on the device, and hands in what came of them.
 use hc_core::{Core, Counting, IoResult, Order, Refusal, Take, Unfinished};
 use hc_flash::{Flash, MemFlash};
+use std::alloc::{AllocError, Global};
 
 // The device does one operation. One that it can't do, for want of memory too, has failed: the cache does without it.
 fn operate(device: &mut MemFlash, order: &Order) -> IoResult {
@@ -24,9 +25,10 @@ pub struct Worker {
 }
 
 impl Worker {
-    /// The worker of a cache that writes on this device.
-    pub fn new(device: MemFlash) -> Worker {
-        Worker { device, owed: None }
+    /// The worker of such a cache, with a device in memory. A service has a real one, and writes an `impl Flash` for it.
+    pub fn new(alloc: Global) -> Result<Worker, AllocError> {
+        let device = MemFlash::new(alloc, 16, 512)?;
+        Ok(Worker { device, owed: None })
     }
 
     // Hands in what came of a job's operation: what is next of the job.
