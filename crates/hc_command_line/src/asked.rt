@@ -1,5 +1,10 @@
 // What a command line asks for.
-ghost use Rattle.std.specs.Prelude.{◌≡◌, ◌<◌, ◌≤◌, IfOk, IfSome};
+ghost use Rattle.std.specs.Prelude.{◌≡◌, ◌≢◌, ℕ, Option, map, IfOk, IfErr, IfSome, MatchOption};
+ghost use Rattle.std.specs.List.{list_any};
+ghost use Rattle.std.specs.String.{string_bytes};
+ghost use Rattle.std.specs.Fmt.{decimal};
+ghost use Rattle.hc_command_line.specs.Asked.{AsksFor, IsCount, is_beyond, is_dashes};
+ghost use Rattle.hc_command_line.specs.declared.asked.Unread.TheVariants.{NoMemory, Wrong};
 
 use clap::error::ErrorKind;
 use clap::{Arg, Command};
@@ -17,6 +22,8 @@ pub enum Unread {
 }
 
 impl From<AllocError> for Unread {
+    ghost from_gives = { λ _ e. e ≡ NoMemory };
+
     fn from(_error: AllocError) -> Unread {
         Unread::NoMemory
     }
@@ -24,28 +31,40 @@ impl From<AllocError> for Unread {
 
 // How many clients the text names: 1 to 64, in decimal digits of which no zero leads.
 fn count_in(text: &str) -> Option<u8>
-    ensures { IfSome result (λ count. (0 < count) × (count ≤ 64)) }
+    ensures { MatchOption result ((n : ℕ) → IsCount n → text.now ≢ decimal n) (λ n. IsCount n × (text.now ≡ decimal n)) }
 {
-    let count = u8::try_from(number(text.as_bytes())?).ok()?;
+    let count = number(text.as_bytes())?;
     if count > 0 && count <= 64 {
-        Some(count)
+        Some(count as u8)
     } else {
         None
     }
 }
 
-// Whether there are more words than any command line that is followed has, or a `--`, which clap takes for the end of the
-// options.
-fn is_beyond(words: &[String]) -> bool {
-    words.len() > 3 || words.iter().any(|word| word.as_str() == "--")
+// Whether a word is `--`, which clap takes for the end of the options.
+fn has_dashes(words: &[String]) -> bool
+    ensures { result ≡ list_any (λ word. is_dashes (string_bytes word)) words.now }
+{
+    words.iter().any(|word| word.as_str() == "--")
+}
+
+// Whether there are more words behind the program's name than any command line that is followed has, or one is `--`.
+fn are_beyond(words: &[String]) -> bool
+    ensures { result ≡ is_beyond string_bytes words.now }
+{
+    match words {
+        [] => false,
+        [_, rest @ ..] => rest.len() > 2 || has_dashes(rest),
+    }
 }
 
 /// By how many clients these words, of which the first is the program's name, ask for the replay. None are named where it
 /// is by one, line by line.
 pub fn clients_in(alloc: Global, words: &[String]) -> Result<Option<u8>, Unread>
-    ensures { IfOk result (λ clients. IfSome clients (λ count. (0 < count) × (count ≤ 64))) }
+    ensures asked { IfOk result (AsksFor (map string_bytes words.now)) }
+    ensures wrong { IfErr result (λ why. why ≡ Wrong → (clients : Option ℕ) → AsksFor (map string_bytes words.now) clients → ⊥) }
 {
-    if is_beyond(words) {
+    if are_beyond(words) {
         return Err(Unread::Wrong);
     }
     let option = Arg::new(alloc, "clients").long("clients");
@@ -67,7 +86,7 @@ pub fn clients_in(alloc: Global, words: &[String]) -> Result<Option<u8>, Unread>
 
 /// The same of the program's own command line. One that isn't text is wrong.
 pub fn clients<R: Env + AllocGlobal>(rt: &R) -> Result<Option<u8>, Unread>
-    ensures { IfOk result (λ clients. IfSome clients (λ count. (0 < count) × (count ≤ 64))) }
+    ensures { IfOk result (λ clients. IfSome clients IsCount) }
 {
     match env::args(rt) {
         Ok(words) => {
