@@ -31,13 +31,12 @@ impl Comments {
         buf.len() == self.of_line && buf.first() == Some(&b'#')
     }
 
-    // So many bytes were read, up to this last one.
-    fn go_on(&mut self, n: usize, last: &mut u8) {
+    // So many bytes were read.
+    fn go_on(&mut self, n: usize) {
         self.left = self.left.saturating_sub(n as u64);
         self.of_line = self.of_line.saturating_sub(n);
         if self.of_line == 0 {
             self.of_line = self.line.saturating_add(1);
-            *last = b'\n';
         }
     }
 }
@@ -49,13 +48,14 @@ impl Read for Comments {
         }
         let most = usize::try_from(self.left).unwrap_or(usize::MAX);
         let n = buf.len().min(self.of_line).min(most);
-        match buf.get_mut(..n) {
-            Some([.., last]) => {
-                self.go_on(n, last);
-                Ok(n)
-            }
-            _ => Ok(0),
+        if n == 0 {
+            return Ok(0);
         }
+        if n == self.of_line {
+            buf[n - 1] = b'\n';
+        }
+        self.go_on(n);
+        Ok(n)
     }
 }
 

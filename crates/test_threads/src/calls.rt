@@ -1,7 +1,7 @@
 // Calls of a client that are to succeed.
 
 use crate::stage::Scene;
-use hc_core::{Fill, Key, Removed, Sealed};
+use hc_core::{Fill, Key, ReadHandle, Sealed};
 use hc_threads::Client;
 use std::alloc::Global;
 use std::process::Abort;
@@ -44,6 +44,18 @@ pub fn set<R: Abort + Wait>(
     }
 }
 
+/// What is under the key.
+pub fn find<R: Abort + Wait>(
+    rt: &R,
+    scene: &Scene<'_>,
+    client: &mut Client,
+    name: &[u8],
+) -> Option<ReadHandle> {
+    let key = key(rt, scene.alloc, name);
+    let found = client.find(rt, scene.shared, &key);
+    found.expect(rt, "there is memory")
+}
+
 /// Whether this value is under the key.
 pub fn holds<R: Abort + Wait>(
     rt: &R,
@@ -52,23 +64,16 @@ pub fn holds<R: Abort + Wait>(
     name: &[u8],
     value: &[u8],
 ) -> bool {
-    let key = key(rt, scene.alloc, name);
-    let found = client.find(rt, scene.shared, &key);
-    match found.expect(rt, "there is memory") {
+    match find(rt, scene, client, name) {
         Some(found) => found.bytes() == value,
         None => false,
     }
 }
 
-/// Removes what the key has. Whether an item was in memory.
-pub fn is_removed<R: Abort + Wait>(
-    rt: &R,
-    scene: &Scene<'_>,
-    client: &mut Client,
-    name: &[u8],
-) -> bool {
+/// Removes what the key has.
+pub fn remove<R: Abort + Wait>(rt: &R, scene: &Scene<'_>, client: &mut Client, name: &[u8]) {
     let key = key(rt, scene.alloc, name);
-    client.remove(rt, scene.shared, &key) == Ok(Removed::FoundInMemory)
+    assert!(rt; client.remove(rt, scene.shared, &key).is_ok());
 }
 
 /// Gives an item up before it is sealed.

@@ -14,4 +14,6 @@ mod scripts;
 #[cfg(test)]
 mod stage;
 #[cfg(test)]
+mod unstarted;
+#[cfg(test)]
 mod watch;

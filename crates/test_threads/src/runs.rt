@@ -51,6 +51,21 @@ fn each_of_64_clients_finds_what_it_set(rt: HostRuntime) {
     assert!(&rt; closed(&rt, played, 0).stats == want);
 }
 
+// (the pool has room for what all clients write at once, and for a part of the 200 keys)
+const CROWD: Setting = Setting {
+    items: 100,
+    clients: 64,
+    script: Script::Crowd,
+    fails: 9,
+};
+
+#[test]
+fn a_crowd_over_a_device_that_fails_agrees_with_the_log(rt: HostRuntime) {
+    let played = run(&rt, rt.alloc(), CROWD);
+    let failures = played.failures;
+    assert!(&rt; closed(&rt, played, failures).stats.stored == 64 * 13);
+}
+
 const HELD: Setting = Setting {
     items: 1,
     clients: 2,

@@ -1,6 +1,6 @@
 // What clients do.
 
-use crate::calls::{give_up, holds, is_removed, set};
+use crate::calls::{find, give_up, holds, remove, set};
 use crate::stage::Scene;
 use crate::watch::{add, comes};
 use hc_threads::Client;
@@ -14,6 +14,8 @@ use std::thread;
 pub enum Script {
     /// Each sets and finds a key of its own, 50 times.
     Rounds,
+    /// Each sets, removes and finds keys that all share, 50 times.
+    Crowd,
     /// The first has an item read from flash, and the second finds one in memory while the read is held.
     Held,
     /// An item leaves memory, and is written to flash.
@@ -26,6 +28,7 @@ pub enum Script {
 pub fn play<R: Abort + Wait>(rt: &R, scene: &Scene<'_>, client: &mut Client) {
     match scene.script {
         Script::Rounds => go_round(rt, scene, client),
+        Script::Crowd => mingle(rt, scene, client),
         Script::Held => meet(rt, scene, client),
         Script::Spill => spill(rt, scene, client),
         Script::Trip => bring_back(rt, scene, client),
@@ -38,6 +41,26 @@ fn go_round<R: Abort + Wait>(rt: &R, scene: &Scene<'_>, client: &mut Client) {
     for round in 0..50_u8 {
         set(rt, scene, client, name.as_slice(), [round].as_slice());
         assert!(rt; holds(rt, scene, client, name.as_slice(), [round].as_slice()));
+    }
+}
+
+// Sets, removes and finds keys that all clients share, each in an order of its own. Each value is its key.
+fn mingle<R: Abort + Wait>(rt: &R, scene: &Scene<'_>, client: &mut Client) {
+    let step = client.number() | 1;
+    for round in 0..50_u8 {
+        let name = [round.wrapping_mul(step) % 200];
+        match round % 4 {
+            0 => set(rt, scene, client, name.as_slice(), name.as_slice()),
+            1 => remove(rt, scene, client, name.as_slice()),
+            _ => look(rt, scene, client, name.as_slice()),
+        }
+    }
+}
+
+// Finds nothing under the key, or its value.
+fn look<R: Abort + Wait>(rt: &R, scene: &Scene<'_>, client: &mut Client, name: &[u8]) {
+    if let Some(found) = find(rt, scene, client, name) {
+        assert!(rt; found.bytes() == name);
     }
 }
 
@@ -87,5 +110,5 @@ fn bring_back<R: Abort + Wait>(rt: &R, scene: &Scene<'_>, client: &mut Client) {
     give_up(rt, scene, client);
     assert!(rt; holds(rt, scene, client, b"a", b"one"));
     assert!(rt; scene.shared.tick(rt, 1) == Ok(1));
-    assert!(rt; is_removed(rt, scene, client, b"a"));
+    remove(rt, scene, client, b"a");
 }

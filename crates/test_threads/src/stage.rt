@@ -68,8 +68,8 @@ fn cache(rt: &impl Abort, alloc: Global, items: u64) -> Core<Kept> {
     Core::new(alloc, &config, Kept::new(alloc)).expect(rt, "the numbers fit")
 }
 
-// The same, to be shared.
-fn shared(rt: &impl Abort, alloc: Global, items: u64) -> Shared<Kept> {
+/// The same, to be shared.
+pub fn shared(rt: &impl Abort, alloc: Global, items: u64) -> Shared<Kept> {
     match Shared::new(cache(rt, alloc, items)) {
         Ok(shared) => shared,
         Err(_) => panic!(rt; "there is memory"),
