@@ -1,17 +1,16 @@
 -- What clap makes of at most two words behind the program's name.
-use Rattle.std.proofs.Common.{◌≡◌, ◌≢◌, ◌⊎◌, inl, inr, ◌∙◌, ◌≤◌, ◌<◌, ◌+◌, ◌||◌, ◌==◌, ℕ, zero, suc, Bool, true, false, not, List, [], ◌∷◌, ◌++◌, length, Option, Some, None, is_some, refl, sym, ap, ap₂, subst, arith, rules, codes, true≢false}
-use Rattle.std.specs.Prelude.{MatchOption, drop, take, slice_get, fold}
+use Rattle.std.proofs.Common.{◌≡◌, ◌∙◌, ◌≤◌, ◌+◌, ◌||◌, ◌==◌, ℕ, suc, Bool, true, false, List, [], ◌∷◌, ◌++◌, length, Option, Some, None, is_some, refl, sym, ap, ap₂, subst, arith, codes}
+use Rattle.std.specs.Prelude.{MatchOption, drop, take, slice_get}
 use Rattle.std.specs.List.{after_first, before_first, list_any, position_or_len}
-use Rattle.std.specs.Option.{option_map_or}
 use Rattle.std.specs.Str.{bytes_eq, chars}
 use Rattle.std.proofs.lemmas.Slice.Eq.{bytes_eq-Decides}
 use Rattle.std.proofs.lemmas.Bool.Decides.{nat_tests}
 use Rattle.hc_command_line.specs.Asked.{is_dashes}
 use Rattle.clap.specs.Lexer.{has_byte, long_of, name_and_value, short_of}
 use Rattle.clap.specs.Kinds.{Kinds, or_else}
-use Rattle.clap.specs.Walk.{bundle_met, idle, next, used, finished, settled, Held, Row, Rule, Step, Text, Walk, first_of, long_or_other, nothing_held, option, rows_after, short_or_plain, walk, walk_from, walked}
-use Rattle.clap.specs.Simple.{App, Shape, app_of, built, entered, filled, matches_of, new_app, new_rule, on_top, with_rule}
-use Rattle.clap.specs.Faults.{bundle_fault, check_fault, defaults_fault, entered_fault, fault_of, flag_word_fault, flags_fault, settle_fault, step_fault, turn_fault, walk_fault}
+use Rattle.clap.specs.Walk.{bundle_met, idle, next, used, finished, settled, Held, Rule, Text, Walk, first_of, long_or_other, nothing_held, option, rows_after, short_or_plain, walk, walk_from, walked}
+use Rattle.clap.specs.Simple.{App, Shape, built, entered, filled, matches_of, new_app, new_rule, on_top, with_rule}
+use Rattle.clap.specs.Faults.{check_fault, defaults_fault, entered_fault, fault_of, flag_word_fault, flags_fault, settle_fault, step_fault, turn_fault, walk_fault}
 use Rattle.clap.proofs.OnLiterals.{clap_on_literals}
 
 -- `--clients N`

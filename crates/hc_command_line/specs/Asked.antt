@@ -25,7 +25,7 @@ pub record AsksForMany (words : List (List ℕ)) (n : ℕ) : Type 0 where
   pub count : IsCount n
   pub spelled : IsNamed words (codes "--clients" ∷ decimal n ∷ []) ⊎ IsNamed words ((codes "--clients=" ++ decimal n) ∷ [])
 
--- what the words ask for: by one client, line by line, where they are the program's name alone, and else by so many
+-- what the words ask for: by one client, line by line, where they are the program's name alone (or none at all), and else by so many
 abbrev pub AsksFor : List (List ℕ) → Option ℕ → Type 0
 AsksFor words None = IsNamed words []
 AsksFor words (Some n) = AsksForMany words n

@@ -1,4 +1,4 @@
-use Rattle.std.proofs.Common.{rules, ap, refl, sym, map, ◌≡◌, ◌≢◌, ◌∙◌, [], Some, None, true, true≢false}
+use Rattle.std.proofs.Common.{rules, ap, sym, map, ◌≡◌, ◌≢◌, ◌∙◌, [], Some, None, true, true≢false}
 use Rattle.std.specs.String.{string_bytes}
 use Rattle.clap.specs.Words.{app_of, fault_of, first_of, is_simple_and_free, kind_of, matches_of}
 use Rattle.clap.specs.declared.error.kind.ErrorKind.TheVariants.{OutOfMemory}

@@ -1,5 +1,4 @@
-use Rattle.std.proofs.Common.{arith, sym, ◌∙◌, ◌≤◌, ◌<◌}
-use Rattle.hc_command_line.specs.Asked.{IsCount}
+use Rattle.std.proofs.Common.{arith, sym, ◌∙◌}
 use Rattle.hc_command_line.proofs.Reading.{no_count}
 use Rattle.hc_command_line.proofs.asked.count_in.Goals as goal
 
