@@ -14,7 +14,7 @@ or the configuration is refused, that line and its right form are shown on stand
 read or the command line is wrong, and 1 also where the program can't be built.
 
 The program is built first where it has to be, crate by crate, lowest first: each crate that has changed is proved. The first time that
-takes an hour or two. So a trace that is a file is answered before that, within two minutes, by a build that isn't proved yet and checks
+takes an hour or two. So a trace that is a file is answered before that, in a minute or two, by a build that isn't proved yet and checks
 itself as it runs; once all is proved, it is told whether the proved program answers the same. Ctrl-C ends it at any time. What is proved
 by then stays, and the next call goes on there."
 
@@ -173,14 +173,14 @@ answer_unproved() {
 # Tells which crate is being proved, on a terminal also for how long, and how many minutes are left: those of processor that the
 # gate measured, at the pace so far, to which five minutes that took as long on the clock are added.
 tell_crate() {
-    local at=1 minutes_left
+    local at=1 minutes_left how_long="a minute"
     while [ "${crates[at - 1]}" != "$1" ]; do at=$((at + 1)); done
     minutes_left=$((to_do * (SECONDS - begun - $2 + 300) / (60 * over + 30000) - $2 / 60))
-    [ "$minutes_left" -gt 0 ] || minutes_left=1
+    [ "$minutes_left" -le 1 ] || how_long="some $minutes_left minutes"
     if [ -t 2 ]; then
-        printf '\r\e[KProving %s, crate %d of %d: %d:%02d, some %d minutes left' "$1" "$at" "${#crates[@]}" $(($2 / 60)) $(($2 % 60)) "$minutes_left" >&2
+        printf '\r\e[KProving %s, crate %d of %d: %d:%02d, %s left' "$1" "$at" "${#crates[@]}" $(($2 / 60)) $(($2 % 60)) "$how_long" >&2
     elif [ "$2" = 0 ]; then
-        printf 'Proving %s, crate %d of %d: some %d minutes left\n' "$1" "$at" "${#crates[@]}" "$minutes_left" >&2
+        printf 'Proving %s, crate %d of %d: %s left\n' "$1" "$at" "${#crates[@]}" "$how_long" >&2
     fi
 }
 
