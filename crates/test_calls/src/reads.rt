@@ -25,7 +25,10 @@ fn misses<'a>(core: &mut Cache<'a>) -> bool {
 }
 
 // A value whose item makes room for another, and one whose item is removed.
-fn read_both<'a>(rt: &impl Abort, core: &mut Cache<'a>) -> [ReadHandle<Heap<'a>>; 2] {
+fn read_both<'a>(
+    rt: &impl Abort,
+    core: &mut Cache<'a>,
+) -> (ReadHandle<Heap<'a>>, ReadHandle<Heap<'a>>) {
     store(rt, core, b"a", b"one");
     let evicted = found(rt, core);
     store(rt, core, b"b", &[b'x'; 960]);
@@ -34,13 +37,13 @@ fn read_both<'a>(rt: &impl Abort, core: &mut Cache<'a>) -> [ReadHandle<Heap<'a>>
     let removed = found(rt, core);
     assert!(rt; core.delete(b"a") == Ok(Removed::FoundInMemory));
     assert!(rt; misses(core));
-    [evicted, removed]
+    (evicted, removed)
 }
 
 // The values outlive their cache, too.
 fn assert_read<'a>(rt: &impl Abort, alloc: Heap<'a>) {
     let mut core = counted(rt, alloc, None);
-    let [evicted, removed] = read_both(rt, &mut core);
+    let (evicted, removed) = read_both(rt, &mut core);
     drop(core);
     assert!(rt; evicted.bytes() == b"one".as_slice());
     assert!(rt; removed.into_bytes().as_slice() == b"two".as_slice());

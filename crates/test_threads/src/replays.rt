@@ -52,13 +52,21 @@ stats stored 3 hits 3 misses 1 removes 1 losses 0 reads 0 writes 0
 verdict legal, honest
 ";
 
+// That so many clients answer it so.
+fn assert_four<R: Abort + Threads + Wait + Sync>(rt: &R, alloc: Global, clients: u8)
+    requires some { 0 < clients }
+    requires few { clients ≤ 64 }
+{
+    let (status, written) = answered(rt, alloc, clients, FOUR_KEYS);
+    assert_eq!(rt; written.as_slice(), FOUR_KEYS_ANSWERS);
+    assert_eq!(rt; status, 0);
+}
+
 #[test]
 fn answers_come_in_the_order_of_the_trace(rt: HostRuntime) {
-    for clients in [1, 4, 64] {
-        let (status, written) = answered(&rt, rt.alloc(), clients, FOUR_KEYS);
-        assert_eq!(rt; written.as_slice(), FOUR_KEYS_ANSWERS);
-        assert_eq!(rt; status, 0);
-    }
+    assert_four(&rt, rt.alloc(), 1);
+    assert_four(&rt, rt.alloc(), 4);
+    assert_four(&rt, rt.alloc(), 64);
 }
 
 // One item leaves memory for another.
