@@ -8,13 +8,18 @@ mod difference;
 mod folder;
 mod judging;
 mod left;
+mod trying;
 
 use crate::folder::{answers_of, log_names, log_of, status_of, trace_names, trace_of, verdict_of};
 use crate::judging::{Verdict, judge, judge_log};
 use crate::left::judge_left;
+use crate::trying::{try_lying, try_traces};
 use hc_verdict::Verdict as Said;
 use std::process::ExitCode;
 use std::{env, io};
+
+// The folder with the traces over which devices lie.
+const LYING: &str = "traces";
 
 // Replays a trace of the folder, which is to end with this status.
 fn judged(rt: &HostRuntime, folder: &str, name: &str, status: u8) -> io::Result<Verdict> {
@@ -118,6 +123,10 @@ fn check_traces(rt: &HostRuntime, folder: &str) -> io::Result<bool> {
         all &= check_trace(rt, folder, name, status)?;
     }
     all &= check_all_left(rt, folder, &names)?;
+    all &= try_traces(rt, folder, &names)?;
+    if folder == LYING {
+        all &= try_lying(rt, folder)?;
+    }
     Ok(all)
 }
 
