@@ -1,7 +1,9 @@
 //! Replays the traces of each folder that it is given, judges its logs, and compares what is printed with the answers and
 //! the verdicts that stand beside them. A line for each says `ok`, or in which line they differ first. Then the log that
 //! each trace leaves is judged, note by note: a line says how many were, and one for each that isn't legal and honest what is
-//! wrong with it. The status is 0 where all are as wanted, 1 where one isn't, and 2 where a folder or a file can't be read.
+//! wrong with it. Then each trace is tried with hostile use: memory that is refused, calls that must be, devices that fail and lie.
+//! Lines say how much was tried, and the first difference ends the trials of a folder. The status is 0 where all are as wanted, 1
+//! where one isn't, and 2 where a folder or a file can't be read.
 #![tactic(auto)]
 
 mod difference;
@@ -123,7 +125,9 @@ fn check_traces(rt: &HostRuntime, folder: &str) -> io::Result<bool> {
         all &= check_trace(rt, folder, name, status)?;
     }
     all &= check_all_left(rt, folder, &names)?;
-    all &= try_traces(rt, folder, &names)?;
+    if !names.is_empty() {
+        all &= try_traces(rt, folder, &names)?;
+    }
     if folder == LYING {
         all &= try_lying(rt, folder)?;
     }

@@ -76,14 +76,18 @@ fn try_one(rt: &HostRuntime, folder: &str, name: &str, counts: &mut Counts) -> i
     tell(rt, folder, name, &tried, counts)
 }
 
-// Says how much was tried.
-fn tell_counts(rt: &HostRuntime, folder: &str, counts: &Counts) -> io::Result<()> {
+// Says how many growths and operations were tried.
+fn tell_failures(rt: &HostRuntime, folder: &str, counts: &Counts) -> io::Result<()> {
     println!(rt; "{folder}: {} growths are refused, {} where three finds end, {} where a region opens", counts.growths, counts.ends_of_three, counts.opened)?;
-    println!(rt; "{folder}: {} sealed handles of another cache are refused, and {} blank ones", counts.sealed, counts.blank)?;
-    println!(rt; "{folder}: {} results for no job are refused, {} of the wrong kind", counts.jobs, counts.kinds)?;
-    println!(rt; "{folder}: {} replies are refused that nobody is owed, and {} that come too early", counts.replies, counts.early)?;
-    println!(rt; "{folder}: {} calls take no memory", counts.free)?;
-    println!(rt; "{folder}: {} operations are failed by the step, and {} by the device", counts.failed, counts.failed_below)
+    println!(rt; "{folder}: {} operations fail by the step, {} by the device", counts.failed, counts.failed_below)?;
+    println!(rt; "{folder}: {} calls take no memory", counts.free)
+}
+
+// Says how many calls were made that must be refused.
+fn tell_hostile(rt: &HostRuntime, folder: &str, counts: &Counts) -> io::Result<()> {
+    println!(rt; "{folder}: handles of other caches are refused: {} sealed, {} blank", counts.sealed, counts.blank)?;
+    println!(rt; "{folder}: results are refused: {} for no job, {} of the wrong kind", counts.jobs, counts.kinds)?;
+    println!(rt; "{folder}: replies are refused: {} that nobody is owed, {} too early", counts.replies, counts.early)
 }
 
 /// Tries these traces, up to the first that isn't as wanted, and says how much was tried. Whether all is as wanted.
@@ -94,7 +98,8 @@ pub fn try_traces(rt: &HostRuntime, folder: &str, names: &[String]) -> io::Resul
             return Ok(false);
         }
     }
-    tell_counts(rt, folder, &counts)?;
+    tell_failures(rt, folder, &counts)?;
+    tell_hostile(rt, folder, &counts)?;
     Ok(true)
 }
 

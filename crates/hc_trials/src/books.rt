@@ -27,7 +27,8 @@ fn usage_of(core: &Cache<'_>) -> (Usage, Usage) {
     let pools = core.pools();
     let mut linked = Usage { bytes: 0, number: 0 };
     let mut charged = Usage { bytes: 0, number: 0 };
-    for number in 0..pools.len() {
+    let count = pools.len();
+    for number in 0..count {
         let usage = pools.usage(number as u8);
         linked = sum(linked, usage.linked);
         charged = sum(charged, usage.open_charges);

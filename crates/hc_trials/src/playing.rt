@@ -123,7 +123,10 @@ fn take_lines<'t>(
     is_true: bool,
 ) -> Result<bool, AllocError> {
     let mut rest = lines;
-    'lines: while let Some((line, later)) = first_line(rest) {
+    for _ in 0..lines.len() {
+        let Some((line, later)) = first_line(rest) else {
+            break;
+        };
         rest = later;
         stage.line = stage.line.wrapping_add(1);
         stage.ask_wrong();
@@ -211,13 +214,11 @@ fn play_behind<'a>(
 // The most regions of a cache that is tried.
 const MOST_REGIONS: u64 = 4_096;
 
-// The regions of a configuration, where they are more than can be tried.
+// The regions of a cache of this configuration, where they are more than can be tried.
 fn too_many<'a>(config: &Config<Heap<'a>>) -> Option<u64> {
-    let flash = config.flash?;
-    if flash.regions > MOST_REGIONS {
-        Some(flash.regions)
-    } else {
-        None
+    match (config.flash, config.check()) {
+        (Some(flash), Ok(())) if flash.regions > MOST_REGIONS => Some(flash.regions),
+        _ => None,
     }
 }
 

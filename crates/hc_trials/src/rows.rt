@@ -11,7 +11,10 @@ const PLACE: usize = 29;
 // Whether the line is there.
 fn has_line(text: &[u8], wanted: &[u8]) -> bool {
     let mut rest = text;
-    'lines: while let Some((line, later)) = first_line(rest) {
+    for _ in 0..text.len() {
+        let Some((line, later)) = first_line(rest) else {
+            break;
+        };
         rest = later;
         if line == wanted {
             return true;

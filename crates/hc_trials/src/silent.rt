@@ -1,6 +1,7 @@
-// Calls that take no memory where nobody hears of the log.
-ghost use Rattle.std.specs.Prelude.{◌^◌};
+// Calls that take no memory, most of them where nobody hears of the log.
+ghost use Rattle.std.specs.Prelude.{◌≡◌, ◌^◌, None, IfSome};
 ghost use Rattle.hc_history.specs.Told.{Nothing};
+ghost use Rattle.hc_types.specs.Limits.{flash_wrong};
 
 use crate::counts::Counts;
 use crate::difference::{Difference, Trial, Wrong};
@@ -8,9 +9,10 @@ use crate::heap::Heap;
 use crate::trace::configuration;
 use crate::trials::Tried;
 use hc_core::{
-    Config, Core, Found, IoResult, Key, Kind, Listener, Note, Notes, Order, Refusal, Removed,
-    Reply, Take, Unfinished,
+    Config, Core, FlashConfig, Found, IoResult, Key, Kind, Listener, Note, Notes, Order, Refusal,
+    Removed, Reply, Take, Unfinished,
 };
+use hc_pair::Pair;
 use std::alloc::{AllocError, Global};
 use test_allocator::Refusing;
 
@@ -114,24 +116,48 @@ fn is_replied<'a>(heap: Heap<'a>, config: &Config<Heap<'a>>) -> Result<bool, Ref
     }
 }
 
+// Whether engines that have nothing say so where every growth is refused.
+fn rules_out<'a>(heap: Heap<'a>, flash: Option<FlashConfig>) -> Result<bool, Refusal>
+    requires { IfSome flash (λ f. flash_wrong f ≡ None) }
+{
+    let Some(flash) = flash else {
+        return Ok(false);
+    };
+    let key = Key::new(heap, b"a")?;
+    let engines = Pair::new(heap, flash)?;
+    heap.refuse_from(1);
+    let could_have = engines.could_have(&key);
+    let is_refused = heap.refused() > 0;
+    heap.refuse(0);
+    Ok(!could_have && !is_refused)
+}
+
+// The same, with the flash of this configuration.
+fn is_ruled_out<'a>(heap: Heap<'a>, config: &Config<Heap<'a>>) -> Result<bool, Refusal> {
+    config.check()?;
+    rules_out(heap, config.flash)
+}
+
 // Whether the calls take no memory, with this configuration and with its pools alone.
 fn are_free<'a>(heap: Heap<'a>, trace: &[u8]) -> Result<bool, Refusal> {
     let Some((mut config, _)) = configuration(heap, trace)? else {
         return Ok(false);
     };
+    let is_ruled_out = is_ruled_out(heap, &config)?;
     let is_replied = is_replied(heap, &config)?;
     config.flash = None;
-    Ok(is_replied && is_removed(heap, &config)?)
+    let is_removed = is_removed(heap, &config)?;
+    Ok(is_ruled_out && is_replied && is_removed)
 }
 
-/// Tries the calls that take no memory where nobody hears of the log, on a cache as the trace
-/// `small-items-go-to-a-bucket-and-come-back` has: a reply is taken, and without flash an item is removed, and then none.
+/// Tries calls that take no memory, on a cache as the trace `small-items-go-to-a-bucket-and-come-back` has: the engines are asked
+/// for a key, and where nobody hears of the log a reply is taken, and without flash an item is removed, and then none.
 pub fn try_silent(alloc: Global, trace: &[u8]) -> Result<Tried, AllocError> {
     let heap = Refusing::new(alloc, 0);
     let are_free = matches!(are_free(&heap, trace), Ok(true));
     if are_free && heap.is_even() {
         return Ok(Tried::All(Counts {
-            free: 3,
+            free: 4,
             ..Counts::default()
         }));
     }

@@ -1,6 +1,4 @@
 // A trace as lines.
-ghost use Rattle.std.specs.Prelude.{◌<◌, length, IfSome};
-
 use crate::heap::Heap;
 use hc_core::{Config, PoolSize};
 use hc_lines::{Line, Order, line_in};
@@ -8,9 +6,7 @@ use memchr::memchr;
 use std::alloc::AllocError;
 
 /// The first line, and what stands behind its line feed. None where no byte is left.
-pub(crate) fn first_line(bytes: &[u8]) -> Option<(&[u8], &[u8])>
-    ensures { IfSome result (λ p. length p.1.now < length bytes.now) }
-{
+pub(crate) fn first_line(bytes: &[u8]) -> Option<(&[u8], &[u8])> {
     if bytes.is_empty() {
         return None;
     }
@@ -27,7 +23,10 @@ pub(crate) fn configuration<'a, 't>(
 ) -> Result<Option<(Config<Heap<'a>>, &'t [u8])>, AllocError> {
     let mut pools = Vec::new(heap);
     let mut rest = trace;
-    'lines: while let Some((line, later)) = first_line(rest) {
+    for _ in 0..trace.len() {
+        let Some((line, later)) = first_line(rest) else {
+            return Ok(None);
+        };
         rest = later;
         match line_in(line) {
             Line::Skipped => {}

@@ -124,9 +124,6 @@ impl<'a> Stage<'a> {
         if self.results.has(job) || self.core.order(job).is_none() {
             return Err(Refusal::UnknownJob);
         }
-        if self.results.reserve().is_err() {
-            return Err(Refusal::NoMemory);
-        }
         let fails = self.is_due() || fails;
         let Some(order) = self.core.order(job) else {
             return Err(Refusal::UnknownJob);
@@ -140,6 +137,10 @@ impl<'a> Stage<'a> {
             self.failed = self.failed.wrapping_add(1);
         }
         let is_made = !matches!(came, IoResult::Failed);
+        match self.results.reserve() {
+            Ok(()) => {}
+            Err(_) => return Err(Refusal::NoMemory),
+        }
         self.results.put(job, came);
         Ok(is_made)
     }
