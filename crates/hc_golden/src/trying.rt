@@ -18,6 +18,7 @@ const LIES: [&str; 2] = [
     "small-items-go-to-a-bucket-and-come-back",
     "an-entry-may-cross-pages",
 ];
+
 const PAGE: usize = 512;
 
 // Says what isn't as wanted.
@@ -64,7 +65,9 @@ fn tell_row(rt: &HostRuntime, folder: &str, name: &str, tried: &Tried) -> io::Re
     let growths = counts.growths;
     let ends = counts.ends_of_three;
     let opened = counts.opened;
-    println!(rt; "{folder}/{name}: {growths} growths are refused, {ends} where three finds end, {opened} where a region opens")
+    println!(rt;
+        "{folder}/{name}: {growths} growths are refused, {ends} where three finds end, {opened} where a region opens"
+    )
 }
 
 // Tries a trace. Whether all is as wanted.
@@ -78,16 +81,31 @@ fn try_one(rt: &HostRuntime, folder: &str, name: &str, counts: &mut Counts) -> i
 
 // Says how many growths and operations were tried.
 fn tell_failures(rt: &HostRuntime, folder: &str, counts: &Counts) -> io::Result<()> {
-    println!(rt; "{folder}: {} growths are refused, {} where three finds end, {} where a region opens", counts.growths, counts.ends_of_three, counts.opened)?;
-    println!(rt; "{folder}: {} operations fail by the step, {} by the device", counts.failed, counts.failed_below)?;
+    println!(rt;
+        "{folder}: {} growths are refused, {} where three finds end, {} where a region opens",
+        counts.growths, counts.ends_of_three, counts.opened
+    )?;
+    println!(rt;
+        "{folder}: {} operations fail by the step, {} by the device",
+        counts.failed, counts.failed_below
+    )?;
     println!(rt; "{folder}: {} calls take no memory", counts.free)
 }
 
 // Says how many calls were made that must be refused.
 fn tell_hostile(rt: &HostRuntime, folder: &str, counts: &Counts) -> io::Result<()> {
-    println!(rt; "{folder}: handles of other caches are refused: {} sealed, {} blank", counts.sealed, counts.blank)?;
-    println!(rt; "{folder}: results are refused: {} for no job, {} of the wrong kind", counts.jobs, counts.kinds)?;
-    println!(rt; "{folder}: replies are refused: {} that nobody is owed, {} too early", counts.replies, counts.early)
+    println!(rt;
+        "{folder}: handles of other caches are refused: {} sealed, {} blank",
+        counts.sealed, counts.blank
+    )?;
+    println!(rt;
+        "{folder}: results are refused: {} for no job, {} of the wrong kind",
+        counts.jobs, counts.kinds
+    )?;
+    println!(rt;
+        "{folder}: replies are refused: {} that nobody is owed, {} too early",
+        counts.replies, counts.early
+    )
 }
 
 /// Tries these traces, up to the first that isn't as wanted, and says how much was tried. Whether all is as wanted.
@@ -109,7 +127,10 @@ fn try_lies_of(rt: &HostRuntime, folder: &str, name: &str) -> io::Result<bool> {
     let mut counts = Counts::default();
     let tried = try_lies(rt.alloc(), &trace, PAGE)?;
     let is_right = tell(rt, folder, name, &tried, &mut counts)?;
-    println!(rt; "{folder}/{name}: {} bytes are read as others, and {} pages of noise", counts.bytes, counts.noise)?;
+    println!(rt;
+        "{folder}/{name}: {} bytes are read as others, and {} pages of noise",
+        counts.bytes, counts.noise
+    )?;
     Ok(is_right)
 }
 
@@ -125,17 +146,20 @@ fn try_known_lies(rt: &HostRuntime, folder: &str, name: &str) -> io::Result<bool
     }
 }
 
-// Tries the calls that take no memory where nobody hears of the log. Whether all is as wanted.
+// Tries calls that take no memory beside those of the trials. Whether all is as wanted.
 fn try_without_notes(rt: &HostRuntime, folder: &str, name: &str) -> io::Result<bool> {
     let trace = trace_of(rt, folder, name)?;
     let mut counts = Counts::default();
     let tried = try_silent(rt.alloc(), &trace)?;
     let is_right = tell(rt, folder, name, &tried, &mut counts)?;
-    println!(rt; "{folder}/{name}: {} calls take no memory where nothing is noted", counts.free)?;
+    println!(rt;
+        "{folder}/{name}: {} more calls take no memory",
+        counts.free
+    )?;
     Ok(is_right)
 }
 
-/// Tries devices that lie, and a cache whose notes nobody hears. Whether all is as wanted.
+/// Tries devices that lie, and calls that take no memory where nobody hears of the log. Whether all is as wanted.
 pub fn try_lying(rt: &HostRuntime, folder: &str) -> io::Result<bool> {
     let mut all = true;
     for name in LIES {

@@ -25,8 +25,14 @@ fn sum(a: Usage, b: Usage) -> Usage {
 // What the items of all pools are charged, and what the items are that are being written.
 fn usage_of(core: &Cache<'_>) -> (Usage, Usage) {
     let pools = core.pools();
-    let mut linked = Usage { bytes: 0, number: 0 };
-    let mut charged = Usage { bytes: 0, number: 0 };
+    let mut linked = Usage {
+        bytes: 0,
+        number: 0,
+    };
+    let mut charged = Usage {
+        bytes: 0,
+        number: 0,
+    };
     let count = pools.len();
     for number in 0..count {
         let usage = pools.usage(number as u8);

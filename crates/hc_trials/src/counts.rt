@@ -33,7 +33,6 @@ pub struct Counts {
     pub noise: u64,
 }
 
-
 impl Counts {
     /// Adds what was tried elsewhere.
     pub fn add(&mut self, other: &Counts) {

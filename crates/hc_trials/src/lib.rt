@@ -31,7 +31,7 @@ mod working;
 
 pub use counts::Counts;
 pub use difference::{Difference, Trial, Wrong};
-pub use rows::try_lies_of_row;
 pub use lies::try_lies;
+pub use rows::try_lies_of_row;
 pub use silent::try_silent;
 pub use trials::{Tried, try_trace};

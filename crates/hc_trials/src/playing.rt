@@ -171,7 +171,13 @@ fn play_lines<'a>(
 ) -> Result<Played, AllocError> {
     let mut played = Played::new(alloc);
     let mut values = Values::new(alloc);
-    let is_whole = take_lines(stage, &mut values, &mut played.answers, lines, is_true(trial))?;
+    let is_whole = take_lines(
+        stage,
+        &mut values,
+        &mut played.answers,
+        lines,
+        is_true(trial),
+    )?;
     played.is_whole = is_whole;
     played.is_scheduled = stage.is_scheduled;
     if is_whole {
@@ -204,7 +210,11 @@ fn play_behind<'a>(
         }
     };
     let made = heap.taken().wrapping_sub(before);
-    let left = if heap.refused() > 0 { 0 } else { due.saturating_sub(made) };
+    let left = if heap.refused() > 0 {
+        0
+    } else {
+        due.saturating_sub(made)
+    };
     let device = new_device(heap, config, fate_of(trial))?;
     let twins = twins_of(heap, trial)?;
     let mut stage = Stage::new(heap, core, twins, device, left, failure_of(trial));

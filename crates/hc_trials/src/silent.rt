@@ -61,11 +61,7 @@ fn is_removed<'a>(heap: Heap<'a>, config: &Config<Heap<'a>>) -> Result<bool, Ref
 }
 
 // Hands in what came of the job's operation.
-fn hand_in<'a>(
-    core: &mut Silent<'a>,
-    job: u64,
-    came: IoResult<Heap<'a>>,
-) -> Result<(), Refusal> {
+fn hand_in<'a>(core: &mut Silent<'a>, job: u64, came: IoResult<Heap<'a>>) -> Result<(), Refusal> {
     match core.finish(job, came) {
         Ok(_) => Ok(()),
         Err(Unfinished { refusal, came: _ }) => Err(refusal),

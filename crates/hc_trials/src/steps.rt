@@ -1,7 +1,5 @@
 // The lines of a trace move the stage.
-use crate::answers::{
-    Answer, added, found, made, reclaimed, removed, replied, set, taken, ticked,
-};
+use crate::answers::{Answer, added, found, made, reclaimed, removed, replied, set, taken, ticked};
 use crate::difference::Wrong;
 use crate::heap::Heap;
 use crate::stage::Stage;

@@ -24,10 +24,12 @@ impl<'a> Stage<'a> {
         self.disarm(armed);
         match first {
             Ok(blank) => Ok(blank),
-            Err(Uncharged {
-                refusal: Refusal::NoMemory,
-                key,
-            }) => {
+            Err(
+                Uncharged {
+                    refusal: Refusal::NoMemory,
+                    key,
+                },
+            ) => {
                 self.was_refused(armed);
                 self.allocate_again(key, item)
             }
@@ -98,10 +100,12 @@ impl<'a> Stage<'a> {
         let first = self.core.insert_or_replace(0, sealed);
         self.disarm(armed);
         match first {
-            Err(Unlinked {
-                refusal: Refusal::NoMemory,
-                sealed,
-            }) => {
+            Err(
+                Unlinked {
+                    refusal: Refusal::NoMemory,
+                    sealed,
+                },
+            ) => {
                 self.was_refused(armed);
                 self.core.insert_or_replace(0, sealed)
             }
@@ -114,10 +118,12 @@ impl<'a> Stage<'a> {
         let first = self.core.insert(0, sealed);
         self.disarm(armed);
         match first {
-            Err(Unlinked {
-                refusal: Refusal::NoMemory,
-                sealed,
-            }) => {
+            Err(
+                Unlinked {
+                    refusal: Refusal::NoMemory,
+                    sealed,
+                },
+            ) => {
                 self.was_refused(armed);
                 self.core.insert(0, sealed)
             }

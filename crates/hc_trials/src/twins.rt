@@ -9,7 +9,9 @@ use std::alloc::AllocError;
 
 // How many pools another cache has, and how large each is.
 const POOLS: u8 = 16;
+
 const POOL_BYTES: u64 = 4_000_000;
+
 const POOL_ITEMS: u64 = 8;
 
 // The longest value.
@@ -242,7 +244,10 @@ impl<'a> Stage<'a> {
     // Handles of other caches of this number, of another key, pool and size.
     fn try_twins(&mut self, twins: &mut Twins<'a>, made: Made<'_>) -> Result<(), Refusal> {
         let other = other_key(self.heap, made.key)?;
-        let key = Made { key: other.as_slice(), ..made };
+        let key = Made {
+            key: other.as_slice(),
+            ..made
+        };
         let sealed = self.sealed_of(&mut twins.key, key)?;
         store(&mut twins.key, sealed)?;
         let blank = self.blank_of(&mut twins.blank, key)?;
@@ -250,7 +255,11 @@ impl<'a> Stage<'a> {
         let pool = made.pool.wrapping_add(1) % POOLS;
         let sealed = self.sealed_of(&mut twins.pool, Made { pool, ..made })?;
         store_new(self.heap, &mut twins.pool, sealed)?;
-        let size = if made.size < LONGEST { made.size + 1 } else { 0 };
+        let size = if made.size < LONGEST {
+            made.size + 1
+        } else {
+            0
+        };
         let sealed = self.sealed_of(&mut twins.size, Made { size, ..made })?;
         self.counts.free = self.counts.free.wrapping_add(2);
         give_up(self.heap, &mut twins.size, sealed)

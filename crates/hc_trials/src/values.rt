@@ -163,12 +163,14 @@ impl<'t> Values<'t> {
     // An add that waited is answered: its value is the last from here on.
     fn settle_one(&mut self, number: u64) -> Result<(), AllocError> {
         match waiting_at(&self.waiting, number) {
-            Some(Waiting {
-                call: _,
-                key,
-                value: Some(value),
-                line: _,
-            }) => self.change(key, Some(value)),
+            Some(
+                Waiting {
+                    call: _,
+                    key,
+                    value: Some(value),
+                    line: _,
+                },
+            ) => self.change(key, Some(value)),
             _ => Ok(()),
         }
     }

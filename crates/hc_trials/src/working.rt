@@ -85,10 +85,12 @@ impl<'a> Stage<'a> {
         self.disarm(armed);
         match first {
             Ok(take) => Ok(take),
-            Err(Unfinished {
-                refusal: Refusal::NoMemory,
-                came,
-            }) => {
+            Err(
+                Unfinished {
+                    refusal: Refusal::NoMemory,
+                    came,
+                },
+            ) => {
                 self.was_refused(armed);
                 self.hand_in_again(job, came, notes)
             }
