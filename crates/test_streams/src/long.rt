@@ -1,4 +1,5 @@
-// Traces too long for a file of the repository: the longest lines, the most bytes, and one byte past each.
+// Traces too long for a file of the repository: the longest lines, the most bytes, and one byte past each. (`rt try`, which looks
+// at each byte that is read, needs minutes for the most bytes: `--seconds 900`. Built as the gate builds it, it takes seconds.)
 use hc_trace::replay;
 use std::alloc::Global;
 use std::io;
