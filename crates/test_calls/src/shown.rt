@@ -1,7 +1,8 @@
-// What is printed of keys, of what is forgotten, of notes, handles, counts and errors.
+// What is printed that no contract says: of keys, notes, handles and errors. (Scopes, causes and counts have their texts in
+// contracts.)
 use crate::fixtures::{counted, key};
 use bytes::Bytes;
-use hc_core::{Blank, Cause, Found, Note, Op, Said, Scope, Sealed, Stats, Why};
+use hc_core::{Blank, Note, Op, Said, Sealed};
 use hc_flash::FlashError;
 use std::alloc::Global;
 use std::fmt::{Debug, Display};
@@ -27,38 +28,6 @@ fn keys_show_their_bytes(rt: HostRuntime) {
     let other = key(&rt, rt.alloc(), b"a\xff\n");
     assert_shown(&rt, rt.alloc(), &other, "a\\xff\\n");
     assert_debugged(&rt, rt.alloc(), &other, "b\"a\\xff\\n\"");
-}
-
-// That a scope shows as this text.
-fn assert_scope(rt: &impl Abort, alloc: Global, scope: Scope, text: &str) {
-    assert_shown(rt, alloc, &scope, text);
-}
-
-#[test]
-fn scopes_show_what_they_cover(rt: HostRuntime) {
-    let alloc = rt.alloc();
-    assert_scope(&rt, alloc, Scope::Key(key(&rt, alloc, b"k")), "key k");
-    assert_scope(&rt, alloc, Scope::Bucket(7), "bucket 7");
-    assert_scope(&rt, alloc, Scope::Hash { kept: 9, but: None }, "hash 9");
-    let but = Some(key(&rt, alloc, b"k"));
-    assert_scope(&rt, alloc, Scope::Hash { kept: 9, but }, "hash 9 but k");
-}
-
-// That a cause shows as this text.
-fn assert_cause(rt: &impl Abort, alloc: Global, cause: Cause, text: &str) {
-    assert_shown(rt, alloc, &cause, text);
-}
-
-#[test]
-fn causes_show_in_the_words_of_answers(rt: HostRuntime) {
-    let why = Why::NoFlash;
-    let evicted = Cause::Evicted {
-        pool: 0,
-        want: 53,
-        why,
-    };
-    assert_cause(&rt, rt.alloc(), evicted, "evicted noflash");
-    assert_cause(&rt, rt.alloc(), Cause::Reclaimed(2), "reclaimed 2");
 }
 
 // That a note of these bytes shows few of them, if any.
@@ -91,21 +60,6 @@ fn a_note_shows_no_value_and_no_page(rt: HostRuntime) {
 }
 
 #[test]
-fn counts_show_with_their_names(rt: HostRuntime) {
-    let counts = Stats {
-        stored: 1,
-        hits: 2,
-        misses: 3,
-        removes: 4,
-        losses: 5,
-        reads: 0,
-        writes: 0,
-    };
-    let text = "stored 1 hits 2 misses 3 removes 4 losses 5 reads 0 writes 0";
-    assert_shown(&rt, rt.alloc(), &counts, text);
-}
-
-#[test]
 fn errors_of_a_device_show(rt: HostRuntime) {
     assert_shown(&rt, rt.alloc(), &FlashError::Device, "the device failed");
     assert_shown(&rt, rt.alloc(), &FlashError::NoMemory, "no memory");
@@ -132,17 +86,10 @@ fn handles_show_no_value(rt: HostRuntime) {
     sealed.abandon();
 }
 
-// That what a find answers shows as this text.
-fn assert_found(rt: &impl Abort, alloc: Global, found: Found, text: &str) {
-    assert_debugged(rt, alloc, &found, text);
-}
-
 #[test]
 fn what_was_found_shows_no_value(rt: HostRuntime) {
     let mut core = counted(&rt, rt.alloc(), None);
     assert!(&rt; core.set(0, b"k", b"value", 0) == Ok(()));
     let hit = core.get(b"k").expect(&rt, "there is memory");
-    assert_found(&rt, rt.alloc(), hit, "Hit(5 bytes)");
-    assert_found(&rt, rt.alloc(), Found::Miss, "Miss");
-    assert_found(&rt, rt.alloc(), Found::Waiting(3), "Waiting(3)");
+    assert_debugged(&rt, rt.alloc(), &hit, "Hit(5 bytes)");
 }
