@@ -43,12 +43,23 @@ impl<'a> Noisy<'a> {
 }
 
 /// A device in memory.
-#[derive(Drop)]
 pub(crate) enum Device<'a> {
     Works(MemFlash<Heap<'a>>),
     Fails(FailAt<MemFlash<Heap<'a>>, Heap<'a>>),
     Lies(Liar<MemFlash<Heap<'a>>, Heap<'a>>),
     Noisy(Noisy<'a>),
+}
+
+// (written out, so that who drops a device calls this one function)
+impl<'a> Drop for Device<'a> {
+    fn drop(self) {
+        match self {
+            Device::Works(inner) => drop(inner),
+            Device::Fails(inner) => drop(inner),
+            Device::Lies(inner) => drop(inner),
+            Device::Noisy(inner) => drop(inner),
+        }
+    }
 }
 
 // A device of so many pages as the configuration has.

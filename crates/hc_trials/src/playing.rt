@@ -142,34 +142,33 @@ fn take_lines<'t>(
 
 // What came of the trace, at its end.
 fn end<'a>(
-    heap: Heap<'a>,
     config: &Config<Heap<'a>>,
     stage: &Stage<'a>,
-    mut played: Played,
+    played: &mut Played,
     trial: Trial,
-) -> Result<Played, AllocError> {
+) -> Result<(), AllocError> {
     let notes = &stage.core.notes().notes;
     add_stats(&mut played.answers, &stage.core.notes().stats())?;
     add_notes(&mut played.log, notes)?;
     played.reads = stage.core.notes().stats().reads;
     played.operations = stage.operations;
     if growth_of(trial) == 0 {
-        played.verdict = judge(config, notes, &heap).ok();
+        played.verdict = judge(config, notes, &stage.heap).ok();
         played.lie = first_lie(notes);
         played.is_bucket_lost = is_bucket_lost(notes, 0);
     }
-    Ok(played)
+    Ok(())
 }
 
-// Plays the lines on the stage.
-fn play_lines<'a>(
+// Plays the lines on the stage, and looks at the end where none has a fault.
+fn play_to_end<'a>(
     alloc: Global,
     config: &Config<Heap<'a>>,
     stage: &mut Stage<'a>,
     lines: &[u8],
     trial: Trial,
-) -> Result<Played, AllocError> {
-    let mut played = Played::new(alloc);
+    played: &mut Played,
+) -> Result<(), AllocError> {
     let mut values = Values::new(alloc);
     let is_whole = take_lines(
         stage,
@@ -178,36 +177,45 @@ fn play_lines<'a>(
         lines,
         is_true(trial),
     )?;
+    drop(values);
     played.is_whole = is_whole;
     played.is_scheduled = stage.is_scheduled;
     if is_whole {
-        played = end(stage.heap, config, stage, played, trial)?;
+        end(config, stage, played, trial)
+    } else {
+        Ok(())
     }
+}
+
+// Plays the lines on the stage, and behind a lie goes on.
+fn play_lines<'a>(
+    alloc: Global,
+    config: &Config<Heap<'a>>,
+    stage: &mut Stage<'a>,
+    lines: &[u8],
+    trial: Trial,
+    played: &mut Played,
+) -> Result<(), AllocError> {
+    play_to_end(alloc, config, stage, lines, trial, played)?;
     if !is_true(trial) {
         stage.go_on();
     }
     played.wrong = stage.wrong;
     played.counts = stage.counts;
-    Ok(played)
+    Ok(())
 }
 
-// Plays the lines behind the configuration on a new cache.
-fn play_behind<'a>(
-    alloc: Global,
+// A new cache of this configuration over its device, or why there is none.
+fn staged<'a>(
     heap: Heap<'a>,
     config: &Config<Heap<'a>>,
-    lines: &[u8],
     trial: Trial,
-) -> Result<Played, AllocError> {
+) -> Result<Result<Stage<'a>, Refusal>, AllocError> {
     let due = growth_of(trial);
     let before = heap.taken();
     let core = match new_core(heap, config, due) {
         Ok(core) => core,
-        Err(refusal) => {
-            let mut played = Played::new(alloc);
-            add_refusal(&mut played.answers, refusal)?;
-            return Ok(played);
-        }
+        Err(refusal) => return Ok(Err(refusal)),
     };
     let made = heap.taken().wrapping_sub(before);
     let left = if heap.refused() > 0 {
@@ -217,8 +225,23 @@ fn play_behind<'a>(
     };
     let device = new_device(heap, config, fate_of(trial))?;
     let twins = twins_of(heap, trial)?;
-    let mut stage = Stage::new(heap, core, twins, device, left, failure_of(trial));
-    play_lines(alloc, config, &mut stage, lines, trial)
+    let stage = Stage::new(heap, core, twins, device, left, failure_of(trial));
+    Ok(Ok(stage))
+}
+
+// Plays the lines behind the configuration on a new cache.
+fn play_behind<'a>(
+    alloc: Global,
+    heap: Heap<'a>,
+    config: &Config<Heap<'a>>,
+    lines: &[u8],
+    trial: Trial,
+    played: &mut Played,
+) -> Result<(), AllocError> {
+    match staged(heap, config, trial)? {
+        Ok(mut stage) => play_lines(alloc, config, &mut stage, lines, trial, played),
+        Err(refusal) => add_refusal(&mut played.answers, refusal),
+    }
 }
 
 // The most regions of a cache that is tried.
@@ -238,24 +261,23 @@ fn play_on<'a>(
     heap: Heap<'a>,
     trace: &[u8],
     trial: Trial,
-) -> Result<Played, AllocError> {
-    match configuration(heap, trace)? {
-        Some((config, lines)) => {
-            if let Some(regions) = too_many(&config) {
-                let mut played = Played::new(alloc);
-                played.left_out = Some(regions);
-                return Ok(played);
-            }
-            play_behind(alloc, heap, &config, lines, trial)
-        }
-        None => Ok(Played::new(alloc)),
+    played: &mut Played,
+) -> Result<(), AllocError> {
+    let Some((config, lines)) = configuration(heap, trace)? else {
+        return Ok(());
+    };
+    played.left_out = too_many(&config);
+    if played.left_out.is_some() {
+        return Ok(());
     }
+    play_behind(alloc, heap, &config, lines, trial, played)
 }
 
 /// Plays the trace in this trial. At the end all memory is given back.
 pub(crate) fn play(alloc: Global, trace: &[u8], trial: Trial) -> Result<Played, AllocError> {
     let heap = Refusing::new(alloc, 0);
-    let mut played = play_on(alloc, &heap, trace, trial)?;
+    let mut played = Played::new(alloc);
+    play_on(alloc, &heap, trace, trial, &mut played)?;
     played.is_refused = heap.refused() > 0;
     if !heap.is_even() && played.wrong.is_none() {
         played.wrong = Some((Wrong::Memory, 0));

@@ -40,7 +40,7 @@ fn load_in(words: &[String]) -> Option<Load> {
 }
 
 // The same of the program's own command line.
-fn load<R: Env + AllocGlobal>(rt: &R) -> io::Result<Option<Load>> {
+fn asked<R: Env + AllocGlobal>(rt: &R) -> io::Result<Option<Load>> {
     let words: Vec<String> = env::args(rt)?.collect(rt.alloc())?;
     Ok(load_in(&words))
 }
@@ -74,7 +74,7 @@ fn perform<R: Threads + Wait + Sync>(rt: &R, alloc: Global, load: Load) -> Resul
 }
 
 fn run<R: Threads + Wait + Sync + Print + Eprint + Env + AllocGlobal>(rt: &R) -> io::Result<u8> {
-    let Some(load) = load(rt)? else {
+    let Some(load) = asked(rt)? else {
         eprintln!(rt; "usage: load_threads CLIENTS KEYS FINDS")?;
         return Ok(2);
     };
