@@ -7,7 +7,7 @@ use crate::answers::Brought;
 use crate::clean::forget_items;
 use crate::item::Held;
 use crate::pools::{Pools, room_for};
-use crate::value::ItemValue;
+use crate::value::{ItemValue, apart};
 use bytes::Bytes;
 use hc_types::{Key, VALUE_MAX};
 use std::alloc::{AllocError, Allocator};
@@ -15,8 +15,9 @@ use std::alloc::{AllocError, Allocator};
 impl<A: Allocator + Clone> Pools<A> {
     /// Makes room in the pool for an item that comes from flash, where a copy of it stays, and links it at once, as the
     /// one that was used last: the `count` items that were used longest ago go, as `victims` says how many. Its key has
-    /// no item, its value is shared, and it expires at `expiry` (seconds; 0: never). Refused only where memory lacks, or
-    /// no number is left; then nothing changed, and the key and the value are dropped.
+    /// no item, its value is copied where it is short beside the pages that it was read with (`SHARED_PAGES`), and it
+    /// expires at `expiry` (seconds; 0: never). Refused only where memory lacks, or no number is left; then nothing
+    /// changed, and the key and the value are dropped.
     pub fn bring(
         &mut self,
         pool: u8,
@@ -42,6 +43,7 @@ impl<A: Allocator + Clone> Pools<A> {
         };
         let mut victims = room_for(alloc, count)?;
         let len = value.len() as u64;
+        let value = apart(alloc, &self.flash, value)?;
         self.clean.list(alloc, &self.flash, &key, len)?;
         let held = Held {
             number,

@@ -3,8 +3,13 @@ ghost use Rattle.std.specs.Prelude.{◌≡◌, ◌≤◌, length, Some, IfOk};
 ghost use Rattle.hc_memory.specs.Memory.{copied};
 
 use bytes::Bytes;
+use hc_types::FlashConfig;
 use std::alloc::{AllocError, Allocator, Global};
 use std::marker::Model;
+
+/// A value that comes from flash is copied where it has fewer pages than these: shared, it would keep all pages alive with which it
+/// was read, up to two more than it fills. So a value in memory keeps at most a tenth more alive than it is long.
+pub const SHARED_PAGES: u64 = 20;
 
 /// The value of an item: at most `VALUE_MAX` bytes, which those who read it share. Contracts see it as its bytes.
 #[derive(Drop)]
@@ -62,6 +67,22 @@ impl<A: Allocator> ItemValue<A> {
     {
         let ItemValue { bytes } = self;
         bytes
+    }
+}
+
+/// The value that was read from this flash, apart from its pages, unless it fills most of them.
+pub(crate) fn apart<A: Allocator + Clone>(
+    alloc: &A,
+    flash: &Option<FlashConfig>,
+    value: Bytes<A>,
+) -> Result<Bytes<A>, AllocError>
+    ensures { IfOk result (λ own. own ≡ value) }
+{
+    match flash {
+        Some(flash) if value.len() as u64 / SHARED_PAGES < flash.page => {
+            Bytes::copy_from_slice(alloc.clone()?, value.as_slice())
+        }
+        _ => Ok(value),
     }
 }
 

@@ -30,7 +30,7 @@ bring-requires-clause-bytes g c =
     let none = rw (← c.self.view_is) at c.requires.absent in
     let view : Memory = record { flash = c.self.inside.flash; pools = c.self.inside.pools.items; charges = c.self.inside.charges.charges; made = c.self.inside.made } in
     let at = there-at c.self.inside.pools.items c.args.pool c.from.result c.index_mut.result.now lt c.from.ensures c.index_mut.ensures.value in
-    subst (λ (v : List ℕ). bytes_of c.index_mut.result.now.items + charge_of c.args.key (length v) < 2 ^ 64) (sym c.new.ensures) (brought-small view c.args.pool c.args.key c.args.value c.args.expiry c.index_mut.result.now c.self.invariant.0 at none room)
+    subst (λ (v : List ℕ). bytes_of c.index_mut.result.now.items + charge_of c.args.key (length v) < 2 ^ 64) (sym (c.new.ensures ∙ c.in_ok-value.ensures)) (brought-small view c.args.pool c.args.key c.args.value c.args.expiry c.index_mut.result.now c.self.invariant.0 at none room)
 
 pub bring-requires-clause-some : goal.bring-requires-clause-some
 bring-requires-clause-some g c =
@@ -68,7 +68,7 @@ invariant_of-self-2 g c =
     let x : Item = item_by true (handle_for view c.args.pool c.args.key c.args.value c.args.expiry) in
     let numbered : c.in-Some.number ≡ c.self.inside.made + 1 = omega (arith, c.in-Some.ensures) in
     let is : c.bring.new.self ≡ record { size = c.index_mut.result.now.size; items = drop c.args.count c.index_mut.result.now.items ++ item_by true (handle_for view c.args.pool c.args.key c.args.value c.args.expiry) ∷ [] } =
-    c.in_ok-bring.ensures.items ∙ (λ j. record { size = c.index_mut.result.now.size; items = drop c.args.count c.index_mut.result.now.items ++ record { number = numbered j; pool = c.args.pool; key = c.args.key; value = c.new.ensures j; expiry = c.args.expiry; clean = true } ∷ [] }) in
+    c.in_ok-bring.ensures.items ∙ (λ j. record { size = c.index_mut.result.now.size; items = drop c.args.count c.index_mut.result.now.items ++ record { number = numbered j; pool = c.args.pool; key = c.args.key; value = (c.new.ensures ∙ c.in_ok-value.ensures) j; expiry = c.args.expiry; clean = true } ∷ [] }) in
     let set = brought-set c.self.inside.pools.items c.from.result c.args.pool want c.args.count (usage_of c.args.pool c.self.inside.charges.charges) there c.bring.new.self x c.from.ensures is count in
     let listed = listed-more c.self.inside.flash c.self.inside.clean c.list.new.self c.self.inside.pools.items i.3 c.list.ensures.stay in
     let unmissed : is_missed c.self.inside.flash c.list.new.self x ≡ false = (λ j. not (is_listed c.self.inside.flash c.list.new.self c.args.key (sym c.len-len.ensures.value j))) ∙ ap not c.in_ok-list.ensures.listed in
@@ -108,7 +108,7 @@ returns-clause-pools g c =
     let x : Item = item_by true (handle_for view c.args.pool c.args.key c.args.value c.args.expiry) in
     let numbered : c.in-Some.number ≡ c.self.inside.made + 1 = omega (arith, c.in-Some.ensures) in
     let is : c.bring.new.self ≡ record { size = c.index_mut.result.now.size; items = drop c.args.count c.index_mut.result.now.items ++ item_by true (handle_for view c.args.pool c.args.key c.args.value c.args.expiry) ∷ [] } =
-    c.in_ok-bring.ensures.items ∙ (λ j. record { size = c.index_mut.result.now.size; items = drop c.args.count c.index_mut.result.now.items ++ record { number = numbered j; pool = c.args.pool; key = c.args.key; value = c.new.ensures j; expiry = c.args.expiry; clean = true } ∷ [] }) in
+    c.in_ok-bring.ensures.items ∙ (λ j. record { size = c.index_mut.result.now.size; items = drop c.args.count c.index_mut.result.now.items ++ record { number = numbered j; pool = c.args.pool; key = c.args.key; value = (c.new.ensures ∙ c.in_ok-value.ensures) j; expiry = c.args.expiry; clean = true } ∷ [] }) in
     let set = brought-set c.self.inside.pools.items c.from.result c.args.pool want c.args.count (usage_of c.args.pool c.self.inside.charges.charges) there c.bring.new.self x c.from.ensures is count in
     let after = brought view c.args.pool c.args.key c.args.value c.args.expiry there i.0 at none in
     rw (← c.self.view_is) ((λ j. record { flash = c.self.inside.flash; pools = set j; charges = c.self.inside.charges.charges; made = numbered j }) ∙ sym after)
