@@ -43,11 +43,11 @@ pub(crate) struct Stage<'a> {
 impl<'a> Drop for Stage<'a> {
     fn drop(self) {
         let Stage {
+            core,
+            twins,
+            device,
+            results,
             heap: _,
-            core: _,
-            twins: _,
-            device: _,
-            results: _,
             due: _,
             fails_in: _,
             operations: _,
@@ -62,6 +62,10 @@ impl<'a> Drop for Stage<'a> {
             wrong: _,
             counts: _,
         } = self;
+        drop(core);
+        drop(twins);
+        drop(device);
+        drop(results);
     }
 }
 
