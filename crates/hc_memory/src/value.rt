@@ -8,8 +8,8 @@ use std::alloc::{AllocError, Allocator, Global};
 use std::marker::Model;
 
 /// A value that comes from flash is copied where it has fewer pages than these: shared, it would keep all pages alive with which it
-/// was read, up to two more than it fills. So a value in memory keeps at most a tenth more alive than it is long.
-pub const SHARED_PAGES: u64 = 20;
+/// was read, up to two more than it fills. So a value in memory keeps some tenth more alive than it is long, at the most.
+const SHARED_PAGES: u64 = 20;
 
 /// The value of an item: at most `VALUE_MAX` bytes, which those who read it share. Contracts see it as its bytes.
 #[derive(Drop)]
