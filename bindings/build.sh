@@ -3,6 +3,7 @@
 #
 #   bindings/build.sh            library, C checks (under valgrind where there is one), cargo test
 #   bindings/build.sh --speed    also the comparison with other caches, where Debian's crate `lru` (librust-lru-dev) is installed
+#   bindings/build.sh --memory   also what a cache with flash keeps in memory, beside what its pool says
 #
 # What it makes lies in bindings/out, as in a prefix: lib, lib/pkgconfig and include. PREFIX is what the file for pkg-config
 # names, where the three are to be copied elsewhere. What a machine lacks is skipped, and said so.
@@ -68,6 +69,9 @@ if has cargo; then
         else
             echo "skipped: no crate lru (Debian's librust-lru-dev)"
         fi
+    fi
+    if [ "${1-}" = --memory ]; then
+        (cd "$here/rust" && CARGO_TARGET_DIR="$out/target" cargo run --offline --quiet --release --example resident)
     fi
 else
     echo "skipped: no cargo"
