@@ -1,5 +1,5 @@
 -- What is told of an item that is stored, where the log isn't kept.
-use Rattle.std.proofs.Common.{◌≡◌, ℕ, ◌++◌, Bool, false, List, [], ◌∷◌, Option, Some, None, refl, sym, ap, ◌∙◌, length}
+use Rattle.std.proofs.Common.{◌≡◌, ℕ, ◌++◌, false, List, [], ◌∷◌, Option, Some, None, refl, sym, ap, ◌∙◌, length}
 use Rattle.hc_types.specs.Charge.{charge_of}
 use Rattle.hc_memory.specs.Item.{Item, Handle}
 use Rattle.hc_memory.specs.Memory.{Memory, linked_at}

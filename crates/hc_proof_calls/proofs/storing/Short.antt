@@ -1,22 +1,22 @@
 -- A value that is stored where there is no flash: the steps of a set come to one short step.
-use Rattle.std.proofs.Common.{◌≡◌, ℕ, ◌+◌, ◌++◌, Bool, true, false, List, [], ◌∷◌, length, Option, Some, None, refl, sym, ap, ◌∙◌, subst, arith, cond, eq-eqb, not, ◌&&◌, append_assoc, append-nil}
+use Rattle.std.proofs.Common.{◌≡◌, ℕ, ◌+◌, ◌++◌, Bool, true, false, List, [], ◌∷◌, length, Option, None, refl, sym, ap, ◌∙◌, subst, arith, cond, eq-eqb, not, ◌&&◌, append_assoc, append-nil}
 use Rattle.hc_types.proofs.Tallies.{find-none}
 use Rattle.hc_types.specs.Charge.{charge_of}
 use Rattle.hc_types.specs.Loss as loss
 use Rattle.hc_types.specs.declared.refusal.Refusal.{Refusal}
 use Rattle.hc_types.specs.declared.refusal.Refusal.TheVariants.{ForeignHandle}
-use Rattle.hc_memory.specs.Item.{Item, Open, Handle, item_by, charge_by}
+use Rattle.hc_memory.specs.Item.{Item, Open, Handle, charge_by}
 use Rattle.hc_memory.specs.Charges.{has_number, is_open, closed}
-use Rattle.hc_memory.specs.Memory.{Memory, linked_at, victims_of, after_room, after_put, handle_for}
+use Rattle.hc_memory.specs.Memory.{Memory, linked_at, victims_of, after_room, after_put}
 use Rattle.hc_memory.specs.Sound.{Sound}
 use Rattle.hc_memory.proofs.Bringing.{closed-push}
-use Rattle.hc_items.specs.Allocating.{refusal_of, expiry_of, cause_for}
+use Rattle.hc_items.specs.Allocating.{refusal_of, cause_for}
 use Rattle.hc_history.specs.Note.{Note, Lose, Freed, Stored, Insert, Charged, Begin, Linked, Did, End}
 use Rattle.hc_machine.specs.Nvm.{Nvm}
 use Rattle.hc_machine.specs.Cache.{Cache, Moved, Told, Opened, Discarded, Replied, Refused, stays, tells, behind, and_then, answers, with_memory}
-use Rattle.hc_machine.specs.Evicting.{leaves, leaves_for, all_leave, allocate, allocate_by, with_charge, charge}
+use Rattle.hc_machine.specs.Evicting.{leaves_for, all_leave, allocate, allocate_by, with_charge, charge}
 use Rattle.hc_machine.specs.Waiting.{freed_note, free}
-use Rattle.hc_machine.specs.Calls.{is_known, insert_or_replace, begin, store, discard}
+use Rattle.hc_machine.specs.Calls.{insert_or_replace, begin, store, discard}
 use Rattle.hc_machine.specs.World.{inserted, behind as moved_behind}
 use Rattle.hc_proof_calls.proofs.evicting.LinkedClean.{last_open}
 use Rattle.hc_proof_calls.specs.calls.Short.{leaving, handle_in, short_set, SetsAreShort, short_give_up, GivenUpIsShort}
