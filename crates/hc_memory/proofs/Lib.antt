@@ -1,6 +1,7 @@
 -- Items in their order, the charges that are open, and what changes of the pools keep.
 pub mod Books
 pub mod Places
+pub mod Putting
 pub mod Keyed
 pub mod Orders
 pub mod Rooms

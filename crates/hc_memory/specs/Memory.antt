@@ -112,6 +112,13 @@ after_link memory clean handle = record (after_free memory handle.number) {
   pools = change_at handle.pool (λ pool. record pool { items = pool.items ++ item_by clean handle ∷ [] }) (unlinked handle.key memory.pools);
 }
 
+-- the handle's item is charged and linked at once: its charge is never open
+abbrev pub after_put : Memory → Handle → Memory
+after_put memory handle = record memory {
+  pools = change_at handle.pool (λ pool. record pool { items = pool.items ++ item_by false handle ∷ [] }) (unlinked handle.key memory.pools);
+  made = handle.number;
+}
+
 -- the handles' items are linked, one after the other, and none is clean
 abbrev pub planted : List Handle → Memory → Memory
 planted [] memory = memory

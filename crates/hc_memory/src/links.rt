@@ -205,7 +205,11 @@ fn link_over<A: Allocator + Clone>(
 }
 
 /// The number of the pool with an item under this key, if it's another one than `own`, which isn't looked into.
-fn home_beside<A: Allocator>(pools: &[Pool<A>], own: usize, key: &Key<A>) -> Option<usize>
+pub(crate) fn home_beside<A: Allocator>(
+    pools: &[Pool<A>],
+    own: usize,
+    key: &Key<A>,
+) -> Option<usize>
     requires { items_at key.now pools.now ≤ 1 }
     ensures { result ≡ beside own (home_of key.now pools.now) }
 {
@@ -219,7 +223,7 @@ fn home_beside<A: Allocator>(pools: &[Pool<A>], own: usize, key: &Key<A>) -> Opt
 
 /// Links an item in its own pool, and takes the key's item out of another one, whose number is answered. On an error,
 /// for want of memory, nothing changed, and the item comes back.
-fn move_over<A: Allocator + Clone>(
+pub(crate) fn move_over<A: Allocator + Clone>(
     pools: &mut Vec<Pool<A>, A>,
     own: usize,
     at: usize,

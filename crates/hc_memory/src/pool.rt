@@ -1,7 +1,9 @@
 // One pool: the items that can be found, in the order of their use.
-ghost use Rattle.std.specs.Prelude.{◌≡◌, ℕ, ◌+◌, ◌-◌, ◌<◌, ◌≤◌, ◌^◌, ◌++◌, ◌∷◌, [], false, not, ◌&&◌, ◌||◌, ◌==◌, nat_lt, List, length, map, take, drop, slice_get, vec_len, vec_capacity, IfOk, IfErr, IfSome, OnOk, OnErr, IsOk, IsSome, is_some, option_map, None};
+ghost use Rattle.std.specs.Prelude.{◌≡◌, ℕ, ◌+◌, ◌-◌, ◌<◌, ◌≤◌, ◌^◌, ◌++◌, ◌∷◌, [], false, true, not, ◌&&◌, ◌||◌, ◌==◌, nat_lt, List, length, map, take, drop, slice_get, vec_len, vec_capacity, IfOk, IfErr, IfSome, OnOk, OnErr, IsOk, IsSome, is_some, option_map, None, Some};
 ghost use Rattle.std.specs.Option.{option_map_or};
-ghost use Rattle.lru.specs.LruCache.{lru_cache, last_entry};
+ghost use Rattle.std.specs.Map.{lookup};
+ghost use Rattle.std.specs.Str.{bytes_eq};
+ghost use Rattle.lru.specs.LruCache.{lru_cache, last_entry, put_entries};
 ghost use Rattle.hc_types.specs.Loss.{scope_of};
 ghost use Rattle.hc_memory.specs.Item.{cost as item_cost};
 ghost use Rattle.hc_memory.specs.Pool.{bytes_of, linked_usage, is_at, item_at, without, used, unmarked_where, is_covered, is_covered_at, is_full, kept, dropped, is_expired, unexpired, value_then};
@@ -14,6 +16,7 @@ use hc_types::{FlashConfig, Key, PoolSize, Scope};
 use lru::{DefaultHasher, LruCache};
 use std::alloc::{AllocError, AllocFailed, Allocator, Global};
 use std::marker::Model;
+use std::mem;
 
 /// The number of an item's charge, and the second at which it expires (0: never).
 #[derive(Clone, Copy, Debug)]
@@ -321,6 +324,52 @@ impl<A: Allocator + Clone> Pool<A> {
         Ok(number)
     }
 
+    /// Links an item under a key that has none, as the one that was used last. On an error, for want of memory, nothing
+    /// changed, and the item is dropped.
+    pub fn add(&mut self, key: Key<A>, held: Held<A>) -> Result<(), AllocError>
+        requires absent { item_at key self.old.items ≡ None }
+        requires bytes { bytes_of self.old.items + item_cost (item_of (key, held)) < 2 ^ 64 }
+        ensures items { OnOk result (self.new ≡ record { size = self.old.size; items = without key self.old.items ++ item_of (key, held) ∷ [] }) }
+        ensures err { OnErr result (self.new ≡ self.old) }
+    {
+        let _len = self.cache.len();
+        let cost = cost(&key, &held);
+        let fresh = last_fresh(held.expiry);
+        match put_new(&mut self.cache, key, held) {
+            Ok(()) => {
+                self.bytes += cost;
+                self.fresh_until = self.fresh_until.min(fresh);
+                Ok(())
+            }
+            Err(no_memory) => Err(no_memory),
+        }
+    }
+
+    /// Links an item under a key that has one, in place of that, as the one that was used last. Where the key has none,
+    /// nothing changes, and the item comes back.
+    pub fn replace(&mut self, key: &Key<A>, held: Held<A>) -> Result<(), Held<A>>
+        requires { bytes_of self.old.items + item_cost (item_of (key.now, held)) < 2 ^ 64 }
+        ensures some { OnOk result (is_some (item_at key.now self.old.items) ≡ true) }
+        ensures items { OnOk result (self.new ≡ record { size = self.old.size; items = without key.now self.old.items ++ item_of (key.now, held) ∷ [] }) }
+        ensures none { OnErr result (item_at key.now self.old.items ≡ None) }
+        ensures err { OnErr result (self.new ≡ self.old) }
+        ensures value_returned { IfErr result (λ back. back ≡ held) }
+    {
+        let _len = self.cache.len();
+        let key_len = key.len() as u64;
+        let cost = cost(key, &held);
+        let fresh = last_fresh(held.expiry);
+        match put_over(&mut self.cache, key, held) {
+            Ok(old) => {
+                let (_number, freed) = taken(key_len, Some(old));
+                self.bytes = self.bytes - freed + cost;
+                self.fresh_until = self.fresh_until.min(fresh);
+                Ok(())
+            }
+            Err(held) => Err(held),
+        }
+    }
+
     /// Links an item under its key, which has none, as the one that was used last, and takes out so many of those that
     /// were there, as `evict` does. On an error, for want of memory, nothing changed, and the item is dropped.
     pub fn bring(
@@ -341,6 +390,42 @@ impl<A: Allocator + Clone> Pool<A> {
         self.link(key, held)?;
         self.evict(count, victims);
         Ok(())
+    }
+}
+
+/// Puts what is held under a key that has something, in place of that, which is answered, as the entry that was used last.
+/// Where the key has nothing, nothing changes, and what was to be put comes back.
+fn put_over<A: Allocator>(
+    cache: &mut LruCache<Key<A>, Held<A>, DefaultHasher, A>,
+    key: &Key<A>,
+    held: Held<A>,
+) -> Result<Held<A>, Held<A>>
+    ensures old { IfOk result (λ old. Some old ≡ lookup (bytes_eq key.now) cache.old.entries) }
+    ensures entries { OnOk result (cache.new ≡ lru_cache (put_entries bytes_eq cache.old key.now held) cache.old.cap) }
+    ensures none { OnErr result (lookup (bytes_eq key.now) cache.old.entries ≡ None) }
+    ensures err { OnErr result (cache.new ≡ cache.old) }
+    ensures value_returned { IfErr result (λ back. back ≡ held) }
+{
+    match cache.get_mut(key) {
+        Some(place) => Ok(mem::replace(place, held)),
+        None => Err(held),
+    }
+}
+
+/// Puts what is held under a key that has nothing, as the entry that was used last. On an error, for want of memory, nothing
+/// changed.
+fn put_new<A: Allocator + Clone>(
+    cache: &mut LruCache<Key<A>, Held<A>, DefaultHasher, A>,
+    key: Key<A>,
+    held: Held<A>,
+) -> Result<(), AllocError>
+    requires { lookup (bytes_eq key) cache.old.entries ≡ None }
+    ensures entries { OnOk result (cache.new ≡ lru_cache (put_entries bytes_eq cache.old key held) cache.old.cap) }
+    ensures err { OnErr result (cache.new ≡ cache.old) }
+{
+    match cache.get_or_insert(key, move || held) {
+        Ok(_) => Ok(()),
+        Err(no_memory) => Err(no_memory),
     }
 }
 

@@ -35,6 +35,7 @@ pub mod Refusing
 pub mod Removes
 pub mod Served
 pub mod Serves
+pub mod Sets
 pub mod Stepping
 pub mod Stored
 pub mod Stores

@@ -18,6 +18,7 @@ pub mod Planned
 pub mod Preparing
 pub mod Removing
 pub mod Serving
+pub mod Setting
 pub mod Storing
 pub mod Telling
 pub mod Whole

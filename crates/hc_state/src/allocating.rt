@@ -30,7 +30,7 @@ pub(crate) struct Room<A: Allocator> {
 
 /// The second at which an item expires that is to live for `ttl` seconds from `now` on: never where `ttl` is 0, and at
 /// the last second at the latest.
-fn expiry_after(now: u64, ttl: u32) -> u64
+pub(crate) fn expiry_after(now: u64, ttl: u32) -> u64
     ensures { result ≡ expiry_of now ttl }
 {
     if ttl == 0 {
@@ -77,7 +77,7 @@ pub(crate) fn victims_for<A: Allocator>(
 
 impl<N: Notes<Note<A>>, A: Allocator + Clone + Copy> State<N, A> {
     /// Makes room for what so many items need as they leave, for one charge, and for giving up each that is open then.
-    fn reserve_to_charge(&mut self, count: usize) -> Result<(), AllocError>
+    pub(crate) fn reserve_to_charge(&mut self, count: usize) -> Result<(), AllocError>
         requires { count ≤ 1048576 }
         ensures same { Stays self.old self.new }
         ensures room { OnOk result (HasRoom (costs (2 * count + 2 + length self.old.cache.memory.charges) count 0 0) self.new) }

@@ -27,6 +27,7 @@ mod removing;
 mod replying;
 mod reserving;
 mod serving;
+mod setting;
 mod state;
 mod storing;
 mod tells;

@@ -1,0 +1,28 @@
+use Rattle.std.proofs.Common.{◌≡◌, ◌++◌, ◌∷◌, [], ◌∙◌, ap, slice_set}
+use Rattle.std.proofs.lemmas.Result.{on_ok_weaker}
+use Rattle.hc_memory.specs.Item.{Item}
+use Rattle.hc_memory.specs.Pool.{Pool, without}
+use Rattle.hc_memory.specs.Seen.{item_of}
+use Rattle.hc_memory.specs.Memory.{home_of, beside, change_at, unlinked}
+use Rattle.hc_memory.proofs.Handing.{replaced}
+use Rattle.hc_memory.proofs.Keys.{beside-some}
+use Rattle.hc_memory.proofs.Looking.{read-there}
+use Rattle.hc_memory.proofs.storing.store_new.Goals as goal
+
+pub move_over-requires-clause-home : goal.move_over-requires-clause-home
+move_over-requires-clause-home g c = (beside-some c.args.own c.in-Some.at (home_of c.args.key c.args.pools.now.items) (c.in-Some.ensures ∙ ap (λ ps. beside c.args.own (home_of c.args.key ps)) c.as_slice.ensures.value)).0
+
+pub add-requires-clause-absent : goal.add-requires-clause-absent
+add-requires-clause-absent g c = c.requires.absent c.index_mut.result.now (read-there c.args.pools.now.items c.args.own c.index_mut.result.now c.requires.place c.index_mut.ensures.value)
+
+pub add-requires-clause-bytes : goal.add-requires-clause-bytes
+add-requires-clause-bytes g c = c.requires.bytes c.index_mut.result.now (read-there c.args.pools.now.items c.args.own c.index_mut.result.now c.requires.place c.index_mut.ensures.value)
+
+pub returns-in-None-clause-pools : goal.returns-in-None-clause-pools
+returns-in-None-clause-pools g c =
+    let item : Item = item_of (c.args.key, c.args.held) in
+    let none = c.in-None.ensures ∙ ap (λ ps. beside c.args.own (home_of c.args.key ps)) c.as_slice.ensures.value in
+    let set = (replaced c.args.key c.args.pools.now.items c.args.own c.index_mut.result.now item none c.requires.place c.index_mut.ensures.value).set in
+    let after : c.add.new.self ≡ record { size = c.index_mut.result.now.size; items = without c.args.key c.index_mut.result.now.items ++ item ∷ [] } → slice_set c.args.pools.now.items c.args.own c.add.new.self ≡ change_at c.args.own (λ (p : Pool). record p { items = p.items ++ item ∷ [] }) (unlinked c.args.key c.args.pools.now.items) =
+    λ is. ap (λ p. slice_set c.args.pools.now.items c.args.own p) is ∙ set in
+    on_ok_weaker c.add.result after c.add.ensures.items
