@@ -1,6 +1,6 @@
 // What calls take of memory, where the log is counted.
 use crate::fixtures::{FLASH, Heap, counted};
-use hc_core::{Copied, Core, Counting, FlashConfig, Found};
+use hc_core::{Copied, Core, Counting, FlashConfig, Found, Refusal};
 use std::process::Abort;
 use test_allocator::Refusing;
 
@@ -60,6 +60,45 @@ fn a_value_is_replaced_with_two_growths(rt: HostRuntime) {
     let alloc = Refusing::new(rt.alloc(), 0);
     assert_replaced_with_two(&rt, &alloc, None);
     assert_replaced_with_two(&rt, &alloc, FLASH);
+}
+
+// Stores the key's value once none of its growths is refused: before, each is refused alone, which nobody counts as a call. How
+// many there are.
+fn growths_of<'a>(rt: &impl Abort, alloc: Heap<'a>, core: &mut Cache<'a>, key: &[u8]) -> u64 {
+    let calls = core.calls();
+    for nth in 1..20u64 {
+        let refused = alloc.refused();
+        alloc.refuse(nth);
+        let stored = core.set(0, key, &[b'x'; 400], 0);
+        alloc.refuse(0);
+        if stored == Ok(()) {
+            assert!(rt; alloc.refused() == refused);
+            return nth.wrapping_sub(1);
+        }
+        assert!(rt; stored == Err(Refusal::NoMemory) && alloc.refused() > refused);
+        assert!(rt; core.calls() == calls);
+    }
+    panic!(rt; "a set has no end of growths")
+}
+
+// That a set whose growths are refused does the same when it is made again: of a new key, of one that has a value, and of one
+// for which another goes.
+fn assert_set_again<'a>(rt: &impl Abort, alloc: Heap<'a>, flash: Option<FlashConfig>) {
+    let mut core = counted(rt, alloc, flash);
+    assert!(rt; growths_of(rt, alloc, &mut core, b"k") > 2);
+    assert!(rt; growths_of(rt, alloc, &mut core, b"k") == 2);
+    assert_gets(rt, &mut core);
+    assert!(rt; growths_of(rt, alloc, &mut core, b"a") > 2);
+    assert!(rt; growths_of(rt, alloc, &mut core, b"b") > 2);
+    assert!(rt; matches!(core.get(b"b"), Ok(Found::Hit(_))));
+}
+
+#[test]
+fn a_set_does_the_same_once_there_is_memory(rt: HostRuntime) {
+    let alloc = Refusing::new(rt.alloc(), 0);
+    assert_set_again(&rt, &alloc, None);
+    assert_set_again(&rt, &alloc, FLASH);
+    assert!(rt; alloc.is_even());
 }
 
 // How many growths so many rounds take. In each round three items come, of which two are in memory and one waits for flash, and
