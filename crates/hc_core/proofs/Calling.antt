@@ -1,12 +1,12 @@
 -- What a step of the state is of the cache as it is seen.
 use Rattle.std.proofs.Common.{◌≡◌, ◌⊎◌, inl, inr, List, ℕ, length, Option, Some, None, refl, sym, ap, ◌∙◌, subst}
-use Rattle.std.specs.Prelude.{Result, Ok, Err, IfOk, OnOk, OnErr}
+use Rattle.std.specs.Prelude.{Result, Ok, Err, IfOk, OnOk, OnErr, IfErr}
 use Rattle.hc_types.specs.declared.refusal.Refusal.{Refusal}
 use Rattle.hc_types.specs.declared.refusal.Refusal.TheVariants.{NoMemory}
 use Rattle.hc_memory.specs.Item.{Handle}
 use Rattle.hc_memory.specs.Memory.{handle_for}
 use Rattle.hc_items.specs.Allocating.{refusal_of, expiry_of}
-use Rattle.hc_machine.specs.Cache.{Cache, Moved, Answer, Opened}
+use Rattle.hc_machine.specs.Cache.{Cache, Moved, Answer, Opened, Discarded}
 use Rattle.hc_machine.specs.Evicting.{make_charge, allocate_by, allocate}
 use Rattle.hc_state.specs.Allocating.{Opens}
 use Rattle.hc_state.specs.Answering.{refusal_in, IsReason}
@@ -32,6 +32,13 @@ unchanged old new (Err e) err = λ i. record { cache = err.cache i; log = err.lo
 pub calm : {T E : Type 0} (old new : Whole) (result : Result T E) → OnErr result (Stays old new) → OnErr result (logged_of new ≡ logged_of old)
 calm old new (Ok x) err = tt
 calm old new (Err e) err = λ i. record { cache = err.cache i; log = err.log i }
+
+-- where room may have been made, and the item given up
+pub calm-or-given : {T : Type 0} (moved : Moved) (old new : Whole) (result : Result T Refusal) → IfErr result (λ refusal. Stays old new ⊎ (IsStep moved Discarded old new × (refusal ≡ NoMemory)))
+    → IfErr result (λ refusal. (logged_of new ≡ logged_of old) ⊎ (IsCall moved Discarded (logged_of old) (logged_of new) × (refusal ≡ NoMemory)))
+calm-or-given moved old new (Ok x) err = tt
+calm-or-given moved old new (Err refusal) (inl stays) = inl (λ i. record { cache = stays.cache i; log = stays.log i })
+calm-or-given moved old new (Err refusal) (inr given) = inr (is_call moved Discarded old new given.0, given.1)
 
 -- ---- an item is allocated
 

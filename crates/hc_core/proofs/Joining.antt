@@ -138,11 +138,21 @@ module _ (pool : ℕ) (key bytes value : List ℕ) (ttl : ℕ) (handle : Handle)
   then-why-new (Err refusal) fits (inl h) = inr (fits, inr (inl h.1))
   then-why-new (Err refusal) fits (inr h) = inr (fits, inr (inr h.1))
 
--- what fits a key is refused for want of memory
-pub memory-why : {T : Type 0} (bytes : List ℕ) (answer : Answer) (result : Result T Refusal) → key_refusal bytes ≡ None → IfErr result (λ refusal. refusal ≡ NoMemory)
-    → IfErr result (λ refusal. (key_refusal bytes ≡ Some refusal) ⊎ ((key_refusal bytes ≡ None) × MayRefuse answer refusal))
-memory-why bytes answer (Ok x) fits h = tt
-memory-why bytes answer (Err refusal) fits h = inr (fits, inr h)
+-- ---- a value is stored under the bytes of a key
+
+module _ (pool : ℕ) (key bytes value : List ℕ) (ttl : ℕ) (old new : Logged) (is : key ≡ bytes) where
+  pub set-as : {T E : Type 0} (result : Result T E) → OnOk result (IsCall (set_step pool key value ttl old.cache) (Replied note.Stored) old new) → OnOk result (IsCall (set_step pool bytes value ttl old.cache) (Replied note.Stored) old new)
+  set-as result done = on_ok_weaker result (subst (λ (k : List ℕ). IsCall (set_step pool k value ttl old.cache) (Replied note.Stored) old new) is) done
+
+  pub left-as : {T : Type 0} (result : Result T Refusal) → IfErr result (λ refusal. (new ≡ old) ⊎ (IsCall (give_up_step pool key value ttl old.cache) Discarded old new × (refusal ≡ NoMemory)))
+      → IfErr result (λ refusal. (new ≡ old) ⊎ (IsCall (give_up_step pool bytes value ttl old.cache) Discarded old new × (refusal ≡ NoMemory)))
+  left-as result left =
+      subst (λ (k : List ℕ). IfErr result (λ refusal. (new ≡ old) ⊎ (IsCall (give_up_step pool k value ttl old.cache) Discarded old new × (refusal ≡ NoMemory)))) is left
+
+  pub why-as : {T : Type 0} (result : Result T Refusal) → key_refusal bytes ≡ None → IfErr result (λ refusal. MayRefuse (allocate pool key value ttl old.cache).answer refusal)
+      → IfErr result (λ refusal. (key_refusal bytes ≡ Some refusal) ⊎ ((key_refusal bytes ≡ None) × MayRefuse (allocate pool bytes value ttl old.cache).answer refusal))
+  why-as (Ok x) fits why = tt
+  why-as (Err refusal) fits why = inr (fits, subst (λ (k : List ℕ). MayRefuse (allocate pool k value ttl old.cache).answer refusal) is why)
 
 pub fits-so : {T E P : Type 0} (result : Result T E) → P → OnOk result P
 fits-so (Ok x) p = p

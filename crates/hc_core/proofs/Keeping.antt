@@ -1,16 +1,26 @@
 -- Each step keeps what holds of a cache.
-use Rattle.std.proofs.Common.{◌≡◌, ◌≤◌, [], length, None, refl, sym, subst, arith}
-use Rattle.std.specs.Prelude.{Result, Ok, Err, IfOk, OnOk, OnErr}
+use Rattle.std.proofs.Common.{◌≡◌, ◌⊎◌, inl, inr, ◌≤◌, ℕ, true, false, List, [], length, None, refl, sym, subst, arith}
+use Rattle.std.specs.Prelude.{Result, Ok, Err, IfOk, OnOk, OnErr, IfErr}
+use Rattle.hc_types.specs.declared.refusal.Refusal.{Refusal}
+use Rattle.hc_types.specs.declared.refusal.Refusal.TheVariants.{NoMemory}
+use Rattle.hc_memory.specs.Item.{Handle}
+use Rattle.hc_history.specs.Note.{Note, Stored}
 use Rattle.hc_types.specs.Config.{Config}
 use Rattle.hc_types.specs.Limits.{first_wrong}
-use Rattle.hc_history.specs.Told.{Heard, IfLog, told_more}
-use Rattle.hc_machine.specs.Cache.{Cache, Answer, new_cache}
+use Rattle.hc_history.specs.Told.{Heard, Nothing, Log, Counts, IfLog, is_log, told_more}
+use Rattle.hc_machine.specs.Cache.{Cache, Moved, Answer, Refused, Opened, Discarded, Replied, Waits, Moment, Took, Reclaimed, new_cache}
+use Rattle.hc_machine.specs.Evicting.{allocate}
+use Rattle.hc_machine.specs.Calls.{insert_or_replace, discard}
+use Rattle.hc_machine.specs.World.{then_inserted, inserted}
 use Rattle.hc_invariant.specs.Structure.{Structured}
+use Rattle.hc_proof_runs.specs.Lock.{Guarded}
 use Rattle.hc_proof_runs.specs.Events.{Event, Allocates, Inserts, Adds, Discards, Finds, Removes, Replies, Ticks, Writes, Fills, Reclaims, Finishes, act}
 use Rattle.hc_proof_structure.proofs.Calls as clients
 use Rattle.hc_proof_structure.proofs.Workers as workers
 use Rattle.hc_state.specs.Owing.{OwesBegun}
+use Rattle.hc_state.specs.Setting.{set_step, give_up_step, is_plain}
 use Rattle.hc_state.specs.Whole.{Whole, Stays, IsStep, IsUnchanged}
+use Rattle.hc_state.proofs.Sets.{plain-is}
 use Rattle.hc_state.proofs.Begun as calls
 use Rattle.hc_state.proofs.Finds.{stays-unchanged}
 use Rattle.hc_core.specs.Events.{EventFits}
@@ -95,3 +105,45 @@ module _ {T E : Type 0} (event : Event) (old new : Whole) (fits : EventFits even
   pub done-holds : (answer : Answer) (result : Result T E) → OnOk result (IsStep (act event old.cache) answer old new) → OnErr result (Stays old new) → Holds new
   done-holds answer (Ok x) ok err = step_holds event answer old new fits h ok
   done-holds answer (Err e) ok err = unchanged_holds old new h (stays-unchanged old new err)
+
+-- ---- an item is allocated, and something is done with its handle, in one step
+
+module _ (P : Cache → Type 0) (insert : Handle → Cache → Moved) (opened : Moved) (keeps : (handle : Handle) (cache : Cache) → P cache → P (insert handle cache).cache) (first : P opened.cache) where
+  both_keep : (answer : Answer) → P (then_inserted insert answer opened).cache
+  both_keep (Refused refusal) = first
+  both_keep (Opened handle) = keeps handle opened.cache first
+  both_keep Discarded = first
+  both_keep (Replied reply) = first
+  both_keep (Waits call) = first
+  both_keep (Moment now) = first
+  both_keep (Took take) = first
+  both_keep (Reclaimed region) = first
+
+-- a log that isn't kept has nothing to be legal
+unheard : (heard : Heard) (part : List Note) (P : List Note → Type 0) → is_log heard ≡ false → IfLog (told_more heard part) P
+unheard Nothing part P e = tt
+unheard (Log log) part P e = absurd cc
+unheard (Counts counts losses) part P e = tt
+
+module _ (pool : ℕ) (key value : List ℕ) (ttl : ℕ) (old new : Whole) (plain : is_plain old.log old.cache ≡ true) (h : Holds old) where
+  inserted_holds : (insert : Handle → Cache → Moved) (answer : Answer) → ((handle : Handle) (cache : Cache) → Structured cache → Structured (insert handle cache).cache) → ((handle : Handle) (cache : Cache) → OwesBegun cache → OwesBegun (insert handle cache).cache)
+      → ((handle : Handle) (cache : Cache) → AreShort cache.memory.charges → AreShort (insert handle cache).cache.memory.charges) → IsStep (inserted insert (allocate pool key value ttl old.cache)) answer old new → Holds new
+  inserted_holds insert answer s b a step =
+      let opened = allocate pool key value ttl old.cache in
+      let moved = inserted insert opened in
+      record {
+        structured = subst Structured (sym step.cache) (both_keep Structured insert opened s (clients.allocates old.cache pool key value ttl h.structured) opened.answer);
+        begun = subst OwesBegun (sym step.cache) (both_keep OwesBegun insert opened b (calls.allocate-begun pool key value ttl old.cache h.begun) opened.answer);
+        ready = step.ready;
+        short = subst (λ (c : Cache). AreShort c.memory.charges) (sym step.cache) (both_keep (λ (c : Cache). AreShort c.memory.charges) insert opened a (stays-short (Allocates pool key value ttl) old.cache h.short) opened.answer);
+        guarded = subst (λ (l : Heard). IfLog l (λ log. Guarded new.cache.config log new.cache)) (sym step.log) (unheard old.log moved.part (λ log. Guarded new.cache.config log new.cache) (plain-is old.log old.cache plain).1);
+      }
+
+  -- a value that is stored in one step, or given up
+  pub set-holds : {T : Type 0} (result : Result T Refusal) → OnOk result (IsStep (set_step pool key value ttl old.cache) (Replied Stored) old new)
+      → IfErr result (λ refusal. Stays old new ⊎ (IsStep (give_up_step pool key value ttl old.cache) Discarded old new × (refusal ≡ NoMemory))) → Holds new
+  set-holds (Ok x) ok err =
+      inserted_holds (insert_or_replace 0) (Replied Stored) (λ handle cache s. clients.inserts cache 0 handle s) (λ handle cache b. calls.insert-or-replace-begun 0 handle cache b) (λ handle cache a. stays-short (Inserts 0 handle) cache a) ok
+  set-holds (Err refusal) ok (inl stays) = unchanged_holds old new h (stays-unchanged old new stays)
+  set-holds (Err refusal) ok (inr given) =
+      inserted_holds discard Discarded (λ handle cache s. clients.discards cache handle s) (λ handle cache b. calls.discard-begun handle cache b) (λ handle cache a. stays-short (Discards handle) cache a) given.0

@@ -8,6 +8,7 @@ ghost use Rattle.hc_machine.specs.Cache.{Discarded, Opened, Replied, Refused};
 ghost use Rattle.hc_machine.specs.Evicting.{allocate as allocate_step};
 ghost use Rattle.hc_machine.specs.Calls.{is_known, discard as discard_step, insert_or_replace as insert_or_replace_step, find as find_step, remove as remove_step};
 ghost use Rattle.hc_machine.specs.World.{put_new};
+ghost use Rattle.hc_state.specs.Setting.{is_plain as is_plain_seen};
 ghost use Rattle.hc_core.specs.Answers.{IsReason, found_answer, copied_by, left_by, inserted_answer, removed_answer};
 ghost use Rattle.hc_core.specs.Logged.{IsCall};
 ghost use Rattle.hc_core.specs.Plain.{set_step, add_step, give_up_step, MayRefuse, MayRefuseNew};
@@ -79,7 +80,25 @@ fn link<N: Notes<Note<A>>, A: Allocator + Clone + Copy>(
     }
 }
 
-// The same where the key has no unexpired value. Where memory has one, the new item is given up.
+// Stores what `fill` says under the key: the item is allocated, and inserted by its handle. Never inlined, so that a caller
+// that stores in one step doesn't take the room for it.
+#[inline(never)]
+fn set_by_handle<N: Notes<Note<A>>, A: Allocator + Clone + Copy>(
+    core: &mut Core<N, A>,
+    pool: u8,
+    key: Key<A>,
+    fill: Fill<'_>,
+    ttl: u32,
+) -> Result<(), Refusal>
+    ensures ok { OnOk result (IsCall (set_step pool key (filled fill.entry) ttl core.old.cache) (Replied Stored) core.old core.new) }
+    ensures err { IfErr result (λ refusal. (core.new ≡ core.old) ⊎ (IsCall (give_up_step pool key (filled fill.entry) ttl core.old.cache) Discarded core.old core.new × (refusal ≡ Refusal.NoMemory))) }
+    ensures why { IfErr result (λ refusal. MayRefuse (allocate_step pool key (filled fill.entry) ttl core.old.cache).answer refusal) }
+{
+    let sealed = open_with(core, pool, key, fill, ttl)?;
+    link(core, sealed)
+}
+
+// Inserts an item of this cache where the key has no unexpired value. Where memory has one, the new item is given up.
 fn link_new<N: Notes<Note<A>>, A: Allocator + Clone + Copy>(
     core: &mut Core<N, A>,
     sealed: Sealed<A>,
@@ -98,6 +117,35 @@ fn link_new<N: Notes<Note<A>>, A: Allocator + Clone + Copy>(
 }
 
 impl<N: Notes<Note<A>>, A: Allocator + Clone + Copy> Core<N, A> {
+    // Stores what `fill` says under the key in one step.
+    fn set_short(&mut self, pool: u8, key: Key<A>, fill: Fill<'_>, ttl: u32) -> Result<(), Refusal>
+        requires plain { is_plain_seen self.old.log self.old.cache ≡ true }
+        ensures ok { OnOk result (IsCall (set_step pool key (filled fill.entry) ttl self.old.cache) (Replied Stored) self.old self.new) }
+        ensures err { IfErr result (λ refusal. (self.new ≡ self.old) ⊎ (IsCall (give_up_step pool key (filled fill.entry) ttl self.old.cache) Discarded self.old self.new × (refusal ≡ Refusal.NoMemory))) }
+        ensures why { IfErr result (λ refusal. MayRefuse (allocate_step pool key (filled fill.entry) ttl self.old.cache).answer refusal) }
+    {
+        self.state.set_short(pool, key, fill, ttl)
+    }
+
+    // Whether a value can be stored in one step.
+    fn is_plain(&self) -> bool
+        ensures { result ≡ is_plain_seen self.now.log self.now.cache }
+    {
+        self.state.is_plain()
+    }
+
+    // Stores what `fill` says under the key: in one step where there is no flash and notes aren't kept.
+    fn set_key(&mut self, pool: u8, key: Key<A>, fill: Fill<'_>, ttl: u32) -> Result<(), Refusal>
+        ensures ok { OnOk result (IsCall (set_step pool key (filled fill.entry) ttl self.old.cache) (Replied Stored) self.old self.new) }
+        ensures err { IfErr result (λ refusal. (self.new ≡ self.old) ⊎ (IsCall (give_up_step pool key (filled fill.entry) ttl self.old.cache) Discarded self.old self.new × (refusal ≡ Refusal.NoMemory))) }
+        ensures why { IfErr result (λ refusal. MayRefuse (allocate_step pool key (filled fill.entry) ttl self.old.cache).answer refusal) }
+    {
+        if self.is_plain() {
+            return self.set_short(pool, key, fill, ttl);
+        }
+        set_by_handle(self, pool, key, fill, ttl)
+    }
+
     /// Stores a copy of `value` under the key in the pool, in place of what the key has in whichever pool and on flash, for
     /// `ttl` seconds from now (0: for good). Room is made as `allocate` makes it. An item that is stored before the first
     /// `tick` expires as soon as the clock moves to the day's seconds: tick first.
@@ -128,8 +176,7 @@ impl<N: Notes<Note<A>>, A: Allocator + Clone + Copy> Core<N, A> {
         ensures why { IfErr result (λ refusal. (key_refusal key.now ≡ Some refusal) ⊎ ((key_refusal key.now ≡ None) × MayRefuse (allocate_step pool key.now (filled fill.entry) ttl self.old.cache).answer refusal)) }
     {
         let key = key_of(self.config(), key)?;
-        let sealed = open_with(self, pool, key, fill, ttl)?;
-        link(self, sealed)
+        self.set_key(pool, key, fill, ttl)
     }
 
     /// Stores a copy of `value` as `set` does, where the key has no unexpired value once room is made. Where memory has
