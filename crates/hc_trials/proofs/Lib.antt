@@ -1,0 +1,2 @@
+-- What a configuration says.
+mod Configured
