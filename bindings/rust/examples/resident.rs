@@ -71,11 +71,11 @@ fn read_all(cache: &mut HybridCache, device: &mut Pages, items: u64, value: u64)
             Found::Waits(call) => {
                 cache.work(device)?;
                 match cache.take_reply(call)? {
-                    Reply::Hit(found) => Some(found.len()),
+                    Reply::Hit(mut found) => Some(found.length()),
                     _ => None,
                 }
             }
-            Found::Hit(found) => Some(found.len()),
+            Found::Hit(mut found) => Some(found.length()),
             Found::Miss => None,
         };
         hits += u64::from(found == Some(value as usize));
