@@ -76,6 +76,17 @@ impl<A: Allocator + Clone> Key<A> {
 }
 
 impl<A: Allocator> Key<A> {
+    /// The key of these bytes, 1 to 46, which are copied: it takes no memory.
+    pub fn of_short(bytes: &[u8]) -> Key<A>
+        requires some { 1 ≤ length bytes.now }
+        requires short { length bytes.now ≤ 46 }
+        ensures { result ≡ bytes.now }
+    {
+        let digest = digest_of(bytes);
+        let bytes = KeyBytes::of_short(bytes);
+        Key { bytes, digest }
+    }
+
     /// The key of these bytes, which it shares where they are more than 46. Refused with `KeyEmpty` for no byte and
     /// with `KeyTooLong` for more than 255, and never for memory.
     pub fn from_bytes(bytes: Bytes<A>) -> Result<Key<A>, Refusal>
@@ -112,6 +123,26 @@ impl<A: Allocator> Key<A> {
         ensures { result.now ≡ self.now }
     {
         self.bytes.as_slice()
+    }
+
+    /// What a map is fed of it, the kit's fast hash of its bytes: kept with the key, so that it costs no step for a byte.
+    /// Equal keys have the same; of keys that differ it tells nearly all apart. It is not for flash, where `hash` stands.
+    pub fn digest(&self) -> u64
+        ensures { result ≡ digest_of self.now }
+    {
+        self.digest
+    }
+
+    /// Whether it is the other key. As `==`, but that digests are compared first, which tell nearly all keys that differ
+    /// without a look at their bytes: for who compares a key with many of which most are others. (A map has compared
+    /// digests already where it asks for `==`.)
+    pub fn is(&self, other: &Key<A>) -> bool
+        ensures { result ≡ pointwise nat_eq self.now other.now }
+    {
+        if self.digest != other.digest {
+            return false;
+        }
+        self.bytes == other.bytes
     }
 }
 

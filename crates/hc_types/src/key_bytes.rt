@@ -146,6 +146,16 @@ impl<A: Allocator> KeyBytes<A> {
         }
     }
 
+    /// These bytes, at most `SHORT_MAX`, which are copied.
+    pub(crate) fn of_short(bytes: &[u8]) -> KeyBytes<A>
+        requires { length bytes.now ≤ 46 }
+        ensures { result ≡ bytes.now }
+    {
+        KeyBytes {
+            place: Place::Short(Short::copy_of(bytes)),
+        }
+    }
+
     /// The bytes.
     pub(crate) fn as_slice(&self) -> &[u8]
         ensures { result.now ≡ self.now }
