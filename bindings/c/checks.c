@@ -273,7 +273,9 @@ static void check_words(void) {
     CHECK(strcmp(kilambosetry_strerror(0), "Done") == 0);
     CHECK(strcmp(kilambosetry_strerror(22), "NoMemory") == 0);
     CHECK(strcmp(kilambosetry_strerror(23), "TooManyClients") == 0);
-    CHECK(strcmp(kilambosetry_strerror(24), "Unknown") == 0);
+    CHECK(strcmp(kilambosetry_strerror(18), "Unknown") == 0);
+    CHECK(strcmp(kilambosetry_strerror(25), "WrongShard") == 0);
+    CHECK(strcmp(kilambosetry_strerror(26), "Unknown") == 0);
     CHECK(strcmp(kilambosetry_strerror(103), "Waits") == 0);
     CHECK(strcmp(kilambosetry_strerror(105), "Finished") == 0);
     CHECK(strcmp(kilambosetry_strerror(106), "Unknown") == 0);

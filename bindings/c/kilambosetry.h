@@ -200,7 +200,8 @@ static inline const char *kilambosetry_strerror(uint8_t status) {
     static const char *const refusals[] = {
         "Done", "KeyEmpty", "KeyTooLong", "BadPool", "BadPage", "BadBuckets", "BadRegions", "BadSmallMax",
         "BadQueue", "BadBits", "NoCleanRegion", "TooLarge", "OutOfItem", "NoPool", "ValueTooLong", "NoRoom",
-        "ForeignHandle", "Exists", "FlashOn", "UnknownCall", "NotReady", "UnknownJob", "NoMemory", "TooManyClients",
+        "ForeignHandle", "Exists", "Unknown", "UnknownCall", "NotReady", "UnknownJob", "NoMemory", "TooManyClients",
+        "BadShards", "WrongShard",
     };
     static const char *const others[] = {"Miss", "Empty", "Short", "Waits", "Idle", "Finished"};
     if (status < sizeof refusals / sizeof *refusals) return refusals[status];

@@ -6,7 +6,8 @@ use std::fmt;
 #[derive(Clone, Copy, Debug, PartialEq, Eq, Hash)]
 pub struct Refused(pub(crate) u8);
 
-const NAMES: [&str; 23] = [
+// (18 was given by an earlier version)
+const NAMES: [&str; 25] = [
     "KeyEmpty",
     "KeyTooLong",
     "BadPool",
@@ -24,12 +25,14 @@ const NAMES: [&str; 23] = [
     "NoRoom",
     "ForeignHandle",
     "Exists",
-    "FlashOn",
+    "Unknown",
     "UnknownCall",
     "NotReady",
     "UnknownJob",
     "NoMemory",
     "TooManyClients",
+    "BadShards",
+    "WrongShard",
 ];
 
 impl Refused {

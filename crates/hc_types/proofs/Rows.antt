@@ -11,7 +11,7 @@ use Rattle.hc_types.specs.Refusals.{refusal_text}
 use Rattle.hc_types.specs.declared.config.PoolSize.{PoolSize}
 use Rattle.hc_types.specs.declared.config.FlashConfig.{FlashConfig}
 use Rattle.hc_types.specs.declared.refusal.Refusal.{Refusal}
-use Rattle.hc_types.specs.declared.refusal.Refusal.TheVariants.{KeyEmpty, KeyTooLong, BadPool, BadPage, BadBuckets, BadRegions, BadSmallMax, BadQueue, BadBits, NoCleanRegion, TooLarge, OutOfItem, NoPool, ValueTooLong, NoRoom, ForeignHandle, Exists, FlashOn, UnknownCall, NotReady, UnknownJob, NoMemory, TooManyClients}
+use Rattle.hc_types.specs.declared.refusal.Refusal.TheVariants.{KeyEmpty, KeyTooLong, BadPool, BadPage, BadBuckets, BadRegions, BadSmallMax, BadQueue, BadBits, NoCleanRegion, TooLarge, OutOfItem, NoPool, ValueTooLong, NoRoom, ForeignHandle, Exists, UnknownCall, NotReady, UnknownJob, NoMemory, TooManyClients, BadShards, WrongShard}
 
 -- the function gives what each row of the table says
 abbrev Worked : {X Y : Type 0} → (X → Y) → List (X × Y) → Type 0
@@ -203,12 +203,13 @@ pub refusals : Worked refusal_text
     ∷ (NoRoom, codes "refused 15 NoRoom")
     ∷ (ForeignHandle, codes "refused 16 ForeignHandle")
     ∷ (Exists, codes "refused 17 Exists")
-    ∷ (FlashOn, codes "refused 18 FlashOn")
     ∷ (UnknownCall, codes "refused 19 UnknownCall")
     ∷ (NotReady, codes "refused 20 NotReady")
     ∷ (UnknownJob, codes "refused 21 UnknownJob")
     ∷ (NoMemory, codes "refused 22 NoMemory")
     ∷ (TooManyClients, codes "refused 23 TooManyClients")
+    ∷ (BadShards, codes "refused 24 BadShards")
+    ∷ (WrongShard, codes "refused 25 WrongShard")
     ∷ [])
 unfolding digits
 refusals = refl

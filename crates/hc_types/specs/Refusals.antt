@@ -2,7 +2,7 @@
 use Rattle.std.specs.Prelude.{ℕ, List, ◌++◌, codes}
 use Rattle.std.specs.Fmt.{decimal}
 use Rattle.hc_types.specs.declared.refusal.Refusal.{Refusal}
-use Rattle.hc_types.specs.declared.refusal.Refusal.TheVariants.{KeyEmpty, KeyTooLong, BadPool, BadPage, BadBuckets, BadRegions, BadSmallMax, BadQueue, BadBits, NoCleanRegion, TooLarge, OutOfItem, NoPool, ValueTooLong, NoRoom, ForeignHandle, Exists, FlashOn, UnknownCall, NotReady, UnknownJob, NoMemory, TooManyClients}
+use Rattle.hc_types.specs.declared.refusal.Refusal.TheVariants.{KeyEmpty, KeyTooLong, BadPool, BadPage, BadBuckets, BadRegions, BadSmallMax, BadQueue, BadBits, NoCleanRegion, TooLarge, OutOfItem, NoPool, ValueTooLong, NoRoom, ForeignHandle, Exists, UnknownCall, NotReady, UnknownJob, NoMemory, TooManyClients, BadShards, WrongShard}
 
 abbrev pub number_of : Refusal → ℕ
 number_of KeyEmpty = 1
@@ -22,12 +22,13 @@ number_of ValueTooLong = 14
 number_of NoRoom = 15
 number_of ForeignHandle = 16
 number_of Exists = 17
-number_of FlashOn = 18
 number_of UnknownCall = 19
 number_of NotReady = 20
 number_of UnknownJob = 21
 number_of NoMemory = 22
 number_of TooManyClients = 23
+number_of BadShards = 24
+number_of WrongShard = 25
 
 abbrev pub name_of : Refusal → List ℕ
 name_of KeyEmpty = codes "KeyEmpty"
@@ -47,12 +48,13 @@ name_of ValueTooLong = codes "ValueTooLong"
 name_of NoRoom = codes "NoRoom"
 name_of ForeignHandle = codes "ForeignHandle"
 name_of Exists = codes "Exists"
-name_of FlashOn = codes "FlashOn"
 name_of UnknownCall = codes "UnknownCall"
 name_of NotReady = codes "NotReady"
 name_of UnknownJob = codes "UnknownJob"
 name_of NoMemory = codes "NoMemory"
 name_of TooManyClients = codes "TooManyClients"
+name_of BadShards = codes "BadShards"
+name_of WrongShard = codes "WrongShard"
 
 -- how a refusal is printed
 abbrev pub refusal_text : Refusal → List ℕ

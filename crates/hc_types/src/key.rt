@@ -77,6 +77,7 @@ impl<A: Allocator + Clone> Key<A> {
 
 impl<A: Allocator> Key<A> {
     /// The key of these bytes, 1 to 46, which are copied: it takes no memory.
+    #[must_use]
     pub fn of_short(bytes: &[u8]) -> Key<A>
         requires some { 1 ≤ length bytes.now }
         requires short { length bytes.now ≤ 46 }
@@ -127,6 +128,7 @@ impl<A: Allocator> Key<A> {
 
     /// What a map is fed of it, the kit's fast hash of its bytes: kept with the key, so that it costs no step for a byte.
     /// Equal keys have the same; of keys that differ it tells nearly all apart. It is not for flash, where `hash` stands.
+    #[must_use]
     pub fn digest(&self) -> u64
         ensures { result ≡ digest_of self.now }
     {
@@ -136,6 +138,7 @@ impl<A: Allocator> Key<A> {
     /// Whether it is the other key. As `==`, but that digests are compared first, which tell nearly all keys that differ
     /// without a look at their bytes: for who compares a key with many of which most are others. (A map has compared
     /// digests already where it asks for `==`.)
+    #[must_use]
     pub fn is(&self, other: &Key<A>) -> bool
         ensures { result ≡ pointwise nat_eq self.now other.now }
     {

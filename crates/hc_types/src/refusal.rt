@@ -27,9 +27,9 @@ pub enum Refusal {
     BadQueue,
     /// A number of bits of the kept hash outside its limits.
     BadBits,
-    /// No region is clean.
+    /// No region is clean: the cause of a loss, and its number is kept. No call is refused with it.
     NoCleanRegion,
-    /// The entry is longer than a region.
+    /// The entry is longer than a region: it isn't written to flash. No call of the cache is refused with it.
     TooLarge,
     /// The bytes to be written pass the end of the item.
     OutOfItem,
@@ -43,8 +43,6 @@ pub enum Refusal {
     ForeignHandle,
     /// The key has an unexpired item.
     Exists,
-    /// The call is not there with flash.
-    FlashOn,
     /// The call never waited, or its reply was taken.
     UnknownCall,
     /// The reply of the call is not there yet.
@@ -55,10 +53,14 @@ pub enum Refusal {
     NoMemory,
     /// There are 64 clients.
     TooManyClients,
+    /// A number of shards outside its limits.
+    BadShards,
+    /// The key is another shard's.
+    WrongShard,
 }
 
 impl Refusal {
-    /// The number that it is known by.
+    /// The number that it is known by. No refusal has 18, which an earlier version gave.
     #[must_use]
     pub fn number(self) -> u8
         ensures { result ≡ number_of self }
@@ -81,12 +83,13 @@ impl Refusal {
             Refusal::NoRoom => 15,
             Refusal::ForeignHandle => 16,
             Refusal::Exists => 17,
-            Refusal::FlashOn => 18,
             Refusal::UnknownCall => 19,
             Refusal::NotReady => 20,
             Refusal::UnknownJob => 21,
             Refusal::NoMemory => 22,
             Refusal::TooManyClients => 23,
+            Refusal::BadShards => 24,
+            Refusal::WrongShard => 25,
         }
     }
 
@@ -113,12 +116,13 @@ impl Refusal {
             Refusal::NoRoom => "NoRoom",
             Refusal::ForeignHandle => "ForeignHandle",
             Refusal::Exists => "Exists",
-            Refusal::FlashOn => "FlashOn",
             Refusal::UnknownCall => "UnknownCall",
             Refusal::NotReady => "NotReady",
             Refusal::UnknownJob => "UnknownJob",
             Refusal::NoMemory => "NoMemory",
             Refusal::TooManyClients => "TooManyClients",
+            Refusal::BadShards => "BadShards",
+            Refusal::WrongShard => "WrongShard",
         }
     }
 }
