@@ -2,13 +2,11 @@
 use Rattle.hc_types.specs.FlashEntry.{entry_of}
 use Rattle.hc_bighash.specs.declared.ops.Op.{Op as Ops}
 use Rattle.hc_bighash.specs.declared.ops.Op.TheVariants as ops
-use Rattle.hc_bighash.specs.declared.ops.Order.{Order as Orders}
-use Rattle.hc_bighash.specs.declared.ops.Order.TheVariants as orders
-use Rattle.hc_bighash.specs.declared.ops.IoResult.{IoResult as Results}
-use Rattle.hc_bighash.specs.declared.ops.IoResult.TheVariants as results
+use Rattle.hc_bighash.specs.declared.ops.SharedOrder.{SharedOrder as Orders}
+use Rattle.hc_bighash.specs.declared.ops.SharedOrder.TheVariants as orders
 use Rattle.hc_bighash.specs.declared.ops.Answer.{Answer as AnswersGiven}
 use Rattle.hc_bighash.specs.declared.ops.Answer.TheVariants as answers
-use Rattle.hc_engines.specs.Engine.{Op, Put, Get, Delete, Flush, Reclaim, Order, Read, Write, IoResult, Page, Written, Failed, Answer, Nothing, Over, Absent, Found}
+use Rattle.hc_engines.specs.Engine.{Op, Put, Get, Delete, Flush, Reclaim, Order, Read, Write, Answer, Nothing, Over, Absent, Found}
 
 abbrev pub op_of : {A : Type 0} → Ops A → Op
 op_of (ops.Put e) = Put (entry_of e)
@@ -20,11 +18,6 @@ op_of ops.Reclaim = Reclaim
 abbrev pub order_of : {A : Type 0} → Orders A → Order
 order_of (orders.Read page) = Read page
 order_of (orders.Write page bytes) = Write page bytes
-
-abbrev pub result_of : {A : Type 0} → Results A → IoResult
-result_of (results.Page bytes) = Page bytes
-result_of results.Written = Written
-result_of results.Failed = Failed
 
 abbrev pub answer_of : {A : Type 0} → AnswersGiven A → Answer
 answer_of answers.Nothing = Nothing

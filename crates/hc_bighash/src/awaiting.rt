@@ -2,12 +2,12 @@
 ghost use Rattle.std.specs.Prelude.{◌≡◌, ℕ, is_some};
 ghost use Rattle.hc_engines.specs.Engine.{Op as Asked};
 ghost use Rattle.hc_engines.specs.small.BigHash.{resume as resume_step, went_on};
-ghost use Rattle.hc_bighash.specs.Seen.{result_of};
+ghost use Rattle.hc_flash.specs.Seen.{result_of};
 ghost use Rattle.hc_bighash.specs.Steps.{phase_of};
 
 use crate::big_hash::BigHash;
 use crate::jobs::{Job, Phase, job_of};
-use crate::ops::IoResult;
+use hc_flash::IoResult;
 use std::alloc::Allocator;
 
 impl<A: Allocator> Phase<A> {

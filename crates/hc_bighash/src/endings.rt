@@ -2,14 +2,15 @@
 ghost use Rattle.std.specs.Prelude.{◌≡◌, ◌<◌, IfOk, Option, Some, None, length};
 ghost use Rattle.hc_engines.specs.small.BigHash.{Phase as PhaseSeen, Plan as PlanSeen, place_of, resume as resume_step};
 ghost use Rattle.hc_bighash.specs.Endings.{IsEnding, IsPlanned};
-ghost use Rattle.hc_bighash.specs.Seen.{result_of};
+ghost use Rattle.hc_flash.specs.Seen.{result_of};
 ghost use Rattle.hc_bighash.specs.Steps.{plan_of, IsTurn};
 
 use crate::big_hash::BigHash;
 use crate::jobs::place;
-use crate::ops::{Answer, IoResult};
+use crate::ops::Answer;
 use crate::plans::Plan;
 use crate::turns::{Turn, turn_of};
+use hc_flash::IoResult;
 use hc_types::Entry;
 use std::alloc::{AllocError, Allocator, Global};
 

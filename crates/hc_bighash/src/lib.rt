@@ -21,7 +21,7 @@ mod words;
 
 pub use big_hash::BigHash;
 pub use endings::Ending;
-pub use ops::{Answer, IoResult, Loss, Next, Op, Order, Outcome};
+pub use ops::{Answer, Loss, Next, Op, Outcome, SharedOrder};
 pub use results::Handed;
 pub use resuming::Unresumed;
 pub use shared_page::SharedPage;

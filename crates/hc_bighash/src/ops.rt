@@ -6,7 +6,6 @@ ghost use Rattle.hc_engines.specs.Engine.{outcome_of};
 ghost use Rattle.hc_bighash.specs.Seen.{op_of, answer_of};
 
 use crate::shared_page::SharedPage;
-use bytes::Bytes;
 use hc_types::{Cause, Entry, Key, Scope};
 use std::alloc::{AllocError, Allocator, Global};
 use std::marker::Model;
@@ -26,24 +25,13 @@ pub enum Op<A: Allocator = Global> {
     Reclaim,
 }
 
-/// A device operation on one page, by the number of the page.
+/// A device operation on one page, by the number of the page, where a page that is to be written has two owners.
 #[derive(Drop)]
 #[must_use]
-pub enum Order<A: Allocator = Global> {
+pub enum SharedOrder<A: Allocator = Global> {
     Read(u32),
     /// The page is to have these bytes, as many as a page has.
     Write(u32, SharedPage<A>),
-}
-
-/// What came of a device operation.
-#[derive(Drop)]
-pub enum IoResult<A: Allocator = Global> {
-    /// The page was read, and has these bytes.
-    Page(Bytes<A>),
-    /// The page was written.
-    Written,
-    /// The device failed: nothing was read, or nothing is known any more of the page that was to be written.
-    Failed,
 }
 
 /// What an operation answers.
@@ -134,7 +122,7 @@ pub enum Next<A: Allocator = Global> {
     /// Another job is in the way. Nothing changed, and nothing is under way: the operation is to be started again later.
     Busy,
     /// This page is to be read or written, and what came of it handed in with `resume`. The outcome holds already.
-    Io(Order<A>, Outcome<A>),
+    Io(SharedOrder<A>, Outcome<A>),
     /// It is over.
     Done(Outcome<A>),
 }

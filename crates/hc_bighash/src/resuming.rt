@@ -3,12 +3,13 @@ ghost use Rattle.std.specs.Prelude.{◌≡◌, ◌⊎◌, IfOk, IfErr, OnErr, Is
 ghost use Rattle.hc_types.specs.declared.refusal.Refusal.TheVariants.{UnknownJob, NoMemory};
 ghost use Rattle.hc_engines.specs.small.BigHash.{carried, resume as resume_step};
 ghost use Rattle.hc_bighash.specs.Handed.{absent_plan, IsGet};
-ghost use Rattle.hc_bighash.specs.Seen.{result_of};
+ghost use Rattle.hc_flash.specs.Seen.{result_of};
 ghost use Rattle.hc_bighash.specs.Next.{next_seen};
 
 use crate::big_hash::BigHash;
-use crate::ops::{Answer, IoResult, Next, Outcome};
+use crate::ops::{Answer, Next, Outcome};
 use crate::results::Handed;
+use hc_flash::IoResult;
 use hc_types::Refusal;
 use std::alloc::{AllocError, Allocator, Global};
 

@@ -2,7 +2,7 @@
 ghost use Rattle.std.specs.Prelude.{◌≡◌, length, filter, is_some};
 
 use crate::big_hash::BigHash;
-use crate::ops::{IoResult, Order};
+use crate::ops::SharedOrder;
 use crate::resuming::Unresumed;
 use std::alloc::Allocator;
 use std::error::Error;
@@ -28,21 +28,11 @@ impl<A: Allocator> fmt::Debug for BigHash<A> {
     }
 }
 
-impl<A: Allocator> fmt::Debug for Order<A> {
+impl<A: Allocator> fmt::Debug for SharedOrder<A> {
     fn fmt<W: fmt::Write>(&self, f: &mut fmt::Formatter<W>) -> fmt::Result {
         match self {
-            Order::Read(page) => write!(f, "Read({page})"),
-            Order::Write(page, bytes) => write!(f, "Write({page}, {} bytes)", bytes.len()),
-        }
-    }
-}
-
-impl<A: Allocator> fmt::Debug for IoResult<A> {
-    fn fmt<W: fmt::Write>(&self, f: &mut fmt::Formatter<W>) -> fmt::Result {
-        match self {
-            IoResult::Page(bytes) => write!(f, "Page({} bytes)", bytes.len()),
-            IoResult::Written => f.write_str("Written"),
-            IoResult::Failed => f.write_str("Failed"),
+            SharedOrder::Read(page) => write!(f, "Read({page})"),
+            SharedOrder::Write(page, bytes) => write!(f, "Write({page}, {} bytes)", bytes.len()),
         }
     }
 }

@@ -10,7 +10,7 @@ ghost use Rattle.hc_bighash.specs.Next.{next_seen};
 ghost use Rattle.hc_bighash.specs.Steps.{plan_of, phase_of};
 
 use crate::jobs::Phase;
-use crate::ops::{Answer, Loss, Next, Op, Order, Outcome};
+use crate::ops::{Answer, Loss, Next, Op, Outcome, SharedOrder};
 use crate::plans::Plan;
 use crate::shared_page::SharedPage;
 use bytes::Bytes;
@@ -83,7 +83,7 @@ pub(crate) fn step_of<A: Allocator + Copy>(
 {
     match plan {
         Plan::Read => {
-            let next = Next::Io(Order::Read(bucket), nothing(alloc));
+            let next = Next::Io(SharedOrder::Read(bucket), nothing(alloc));
             let phase = Some(Phase::Reading);
             Ok(Step { next, phase })
         }
@@ -115,7 +115,7 @@ fn write_order<A: Allocator + Copy>(
 {
     let page = encode_page(alloc, entries, page_size)?;
     let page = SharedPage::new(Bytes::from_vec(page)?)?;
-    Ok(Next::Io(Order::Write(bucket, page), nothing(alloc)))
+    Ok(Next::Io(SharedOrder::Write(bucket, page), nothing(alloc)))
 }
 
 /// What holds where a bucket is given up.

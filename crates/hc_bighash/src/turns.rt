@@ -2,15 +2,15 @@
 ghost use Rattle.std.specs.Prelude.{◌≡◌, ◌<◌, ◌^◌, IfOk, OnErr, IsSome, option_map};
 ghost use Rattle.hc_engines.specs.small.BigHash.{went_on, next_of, waits};
 ghost use Rattle.hc_engines.specs.small.Sound.{HasRoom, CanPut, CanWrite};
-ghost use Rattle.hc_bighash.specs.Seen.{result_of};
+ghost use Rattle.hc_flash.specs.Seen.{result_of};
 ghost use Rattle.hc_bighash.specs.Next.{next_seen};
 ghost use Rattle.hc_bighash.specs.Steps.{IsTurn, TurnFits, plan_of, phase_of};
 
 use crate::jobs::{Job, Phase};
-use crate::ops::IoResult;
 use crate::pages::page_plan;
 use crate::plans::Plan;
 use crate::steps::{Step, step_of};
+use hc_flash::IoResult;
 use std::alloc::{AllocError, Allocator, Global};
 
 /// What a result means for a job.

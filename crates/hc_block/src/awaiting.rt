@@ -1,11 +1,11 @@
 // Whether an operation waits for a result: asked before it is handed in.
 ghost use Rattle.std.specs.Prelude.{◌≡◌, is_some};
-ghost use Rattle.hc_bighash.specs.Seen.{result_of};
+ghost use Rattle.hc_flash.specs.Seen.{result_of};
 ghost use Rattle.hc_block.specs.Moves.{resume_by};
 
 use crate::block_cache::BlockCache;
 use crate::turns::Turn;
-use hc_bighash::IoResult;
+use hc_flash::IoResult;
 use std::alloc::Allocator;
 
 impl<A: Allocator + Clone + Copy> BlockCache<A> {

@@ -16,7 +16,7 @@ ghost use Rattle.hc_block.specs.Going.{choice_seen, CanGoOut};
 use crate::block_cache::BlockCache;
 use crate::jobs::{Jobs, Work};
 use crate::reading::page_number;
-use hc_bighash::{Order, SharedPage};
+use hc_bighash::{SharedOrder, SharedPage};
 use hc_region::{
     Mark, Region, can_go_at, first_ready, mark_at, next_page_at, take_out, written_at,
 };
@@ -44,7 +44,7 @@ fn write_out<A: Allocator + Clone + Copy>(
     number: u64,
     r: u32,
     mark: Mark,
-) -> Result<Order<A>, AllocError>
+) -> Result<SharedOrder<A>, AllocError>
     requires there { r < length regions.old.items }
     requires few { length regions.old.items ≤ 65536 }
     requires page { flash.now.page ≤ 4096 }
@@ -68,7 +68,7 @@ fn write_out<A: Allocator + Clone + Copy>(
     };
     jobs.insert(number, work)?;
     mark_at(regions, r, mark);
-    Ok(Order::Write(page, shared))
+    Ok(SharedOrder::Write(page, shared))
 }
 
 /// A full page of the region in use, where it can go.
@@ -111,7 +111,7 @@ fn next_of<A: Allocator + Clone + Copy>(
 
 impl<A: Allocator + Clone + Copy> BlockCache<A> {
     /// A region's next page goes out.
-    fn go_out(&mut self, number: u64, r: u32, mark: Mark) -> Result<Order<A>, AllocError>
+    fn go_out(&mut self, number: u64, r: u32, mark: Mark) -> Result<SharedOrder<A>, AllocError>
         requires { CanGoOut self.old.flash number r (mark_seen mark) self.old.block }
         ensures ok { IfOk result (λ order. gone_out self.old.flash number r (mark_seen mark) self.old.block ≡ record { state = self.new.block; outcome = nothing; order = Some (order_of order) }) }
         ensures flash { self.new.flash ≡ self.old.flash }
@@ -140,7 +140,7 @@ impl<A: Allocator + Clone + Copy> BlockCache<A> {
 
     /// The next page of the region sealed first goes out, or else a full page of the region in use. Refused only where
     /// memory lacks.
-    pub(crate) fn flush(&mut self, number: u64) -> Result<Option<Order<A>>, AllocError>
+    pub(crate) fn flush(&mut self, number: u64) -> Result<Option<SharedOrder<A>>, AllocError>
         requires { IsFree number self.old.block }
         ensures ok { IfOk result (λ order. flush_seen self.old.flash number self.old.block ≡ record { state = self.new.block; outcome = nothing; order = option_map order_of order }) }
         ensures flash { self.new.flash ≡ self.old.flash }

@@ -18,7 +18,7 @@ use crate::jobs::{Jobs, Work};
 use crate::outcomes::read;
 use crate::reading::Reading;
 use crate::steps::Step;
-use hc_bighash::{Answer, Order, Outcome};
+use hc_bighash::{Answer, Outcome, SharedOrder};
 use hc_region::{Place, Region, buffered_at, pin_at, written_at};
 use hc_types::{FlashConfig, Key};
 use std::alloc::{AllocError, Allocator};
@@ -131,7 +131,7 @@ impl<A: Allocator + Clone + Copy> BlockCache<A> {
         let reading = self.begun(key, place)?;
         if reading.is_waiting() {
             let page = self.start_read(number, reading)?;
-            return Ok(Step::Io(Order::Read(page)));
+            return Ok(Step::Io(SharedOrder::Read(page)));
         }
         let came = self.came_now(reading)?;
         let hash = self.hash_of(key);

@@ -13,7 +13,7 @@ use crate::block_cache::BlockCache;
 use crate::endings::Ending;
 use crate::steps::Step;
 use bytes::Bytes;
-use hc_bighash::{Answer, Order, Outcome};
+use hc_bighash::{Answer, Outcome, SharedOrder};
 use std::alloc::{AllocError, Allocator};
 
 impl<A: Allocator + Clone + Copy> BlockCache<A> {
@@ -83,7 +83,7 @@ impl<A: Allocator + Clone + Copy> BlockCache<A> {
         match self.read_next(number) {
             Some(order) => {
                 self.read_on(number, page)?;
-                Ok(Step::Io(Order::Read(order)))
+                Ok(Step::Io(SharedOrder::Read(order)))
             }
             None => {
                 let came = self.last_came(number, page)?;

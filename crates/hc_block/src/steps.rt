@@ -4,14 +4,14 @@ ghost use Rattle.hc_bighash.specs.Next.{next_seen};
 ghost use Rattle.hc_block.specs.Moves.{next_in};
 
 use crate::outcomes::nothing;
-use hc_bighash::{Next, Order, Outcome};
+use hc_bighash::{Next, Outcome, SharedOrder};
 use std::alloc::{Allocator, Global};
 
 /// What comes next of an operation.
 #[derive(Drop)]
 pub(crate) enum Step<A: Allocator = Global> {
     /// This page is to be read or written.
-    Io(Order<A>),
+    Io(SharedOrder<A>),
     /// It is over.
     Done(Outcome<A>),
 }

@@ -1,10 +1,10 @@
 // What a result that is handed in means for an operation.
-ghost use Rattle.hc_bighash.specs.Seen.{result_of};
+ghost use Rattle.hc_flash.specs.Seen.{result_of};
 ghost use Rattle.hc_block.specs.Works.{work_seen};
 ghost use Rattle.hc_block.specs.Turns.{IsTurn};
 
 use crate::jobs::Work;
-use hc_bighash::IoResult;
+use hc_flash::IoResult;
 use std::alloc::Allocator;
 
 /// What a result means for an operation.

@@ -17,7 +17,7 @@ use crate::jobs::{Jobs, Work};
 use crate::outcomes::settled;
 use crate::reading::page_number;
 use crate::steps::Step;
-use hc_bighash::{Order, SharedPage};
+use hc_bighash::{SharedOrder, SharedPage};
 use hc_region::{Region, Stage, page_after_at, settle_at, stage_at, written_at};
 use hc_types::FlashConfig;
 use std::alloc::{AllocError, Allocator};
@@ -41,7 +41,7 @@ fn write_more<A: Allocator + Clone + Copy>(
     flash: &FlashConfig,
     number: u64,
     r: u32,
-) -> Result<Order<A>, AllocError>
+) -> Result<SharedOrder<A>, AllocError>
     requires job { is_some (work_of number jobs.old) ≡ true }
     requires there { r < length regions.old.items }
     requires small { r < 65536 }
@@ -65,7 +65,7 @@ fn write_more<A: Allocator + Clone + Copy>(
         bytes: copy,
     };
     jobs.replace(number, work);
-    Ok(Order::Write(page, shared))
+    Ok(SharedOrder::Write(page, shared))
 }
 
 impl<A: Allocator + Clone + Copy> BlockCache<A> {
@@ -79,7 +79,7 @@ impl<A: Allocator + Clone + Copy> BlockCache<A> {
     }
 
     /// The flush goes on with the region's next page.
-    fn go_on(&mut self, number: u64, r: u32) -> Result<Order<A>, AllocError>
+    fn go_on(&mut self, number: u64, r: u32) -> Result<SharedOrder<A>, AllocError>
         requires { CanSettle self.old.flash number r More self.old.block }
         ensures ok { IfOk result (λ order. settled_by self.old.flash number r More (end_job number self.old.block) ≡ record { state = self.new.block; outcome = nothing; order = Some (order_of order) }) }
         ensures flash { self.new.flash ≡ self.old.flash }

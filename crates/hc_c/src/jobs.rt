@@ -1,9 +1,10 @@
 // Each call of a worker, and the status that it answers.
 ghost use Rattle.std.specs.Prelude.{◌≡◌};
-ghost use Rattle.hc_bighash.specs.Seen.{result_of};
+ghost use Rattle.hc_flash.specs.Seen.{result_of};
 ghost use Rattle.hc_machine.specs.World.{order_in};
 ghost use Rattle.hc_machine.specs.Workers.{writer_take as writer_step, filler_take as filler_step};
-ghost use Rattle.hc_nvm.specs.Seen.{take_of, order_of};
+ghost use Rattle.hc_nvm.specs.Seen.{take_of};
+ghost use Rattle.hc_flash.specs.Seen.{order_of};
 ghost use Rattle.hc_c.specs.Jobs.{TellsTake, Takes, Reclaims, Finishes, TellsOrder, IsOrdered};
 
 use crate::calls::copy;

@@ -14,11 +14,11 @@ pub use giving_up::{give_up, give_up_blank};
 pub use laws::{steps_are_legal, unread_logs_are_honest};
 
 // The types of the calls' signatures, so that a caller needs no other crate.
-pub use hc_bighash::IoResult;
+pub use hc_flash::{IoResult, Order};
 pub use hc_history::{
     Counting, Kept, Kind, Listener, Note, Notes, Op, Reply, Said, Says, Silent, Stats,
 };
 pub use hc_memory::{Blank, Fill, PoolUsage, Pools, ReadHandle, Sealed, Uncharged, Usage};
-pub use hc_nvm::{Order, Take, Unfinished};
+pub use hc_nvm::{Take, Unfinished};
 pub use hc_state::{Copied, Found, Inserted, Removed, Unlinked};
 pub use hc_types::{Cause, Config, FlashConfig, Key, PoolSize, Refusal, Scope, Why};

@@ -6,13 +6,13 @@ ghost use Rattle.hc_history.specs.Told.{Log, IfLog, losses_taken};
 ghost use Rattle.hc_machine.specs.Nvm.{is_job};
 ghost use Rattle.hc_machine.specs.Quiet.{jobs_in};
 ghost use Rattle.hc_machine.specs.World.{order_in};
-ghost use Rattle.hc_nvm.specs.Seen.{order_of};
+ghost use Rattle.hc_flash.specs.Seen.{order_of};
 ghost use Rattle.hc_proof_runs.specs.Lock.{Guarded};
 
 use crate::cache::Core;
+use hc_flash::Order;
 use hc_history::{Counting, Kept, Listener};
 use hc_memory::Pools;
-use hc_nvm::Order;
 use hc_types::Config;
 use std::alloc::Allocator;
 

@@ -1,14 +1,14 @@
 // The calls of workers.
 ghost use Rattle.std.specs.Prelude.{◌≡◌, IfOk, OnErr, IfErr};
 ghost use Rattle.hc_machine.specs.Cache.{Took, Reclaimed};
-ghost use Rattle.hc_bighash.specs.Seen.{result_of};
+ghost use Rattle.hc_flash.specs.Seen.{result_of};
 ghost use Rattle.hc_machine.specs.Workers.{writer_take as writer_step, filler_take as filler_step, finish as finish_step, reclaim as reclaim_step};
 ghost use Rattle.hc_nvm.specs.Seen.{take_of};
 ghost use Rattle.hc_state.specs.Answering.{IsReason};
 ghost use Rattle.hc_core.specs.Logged.{IsCall};
 
 use crate::cache::Core;
-use hc_bighash::IoResult;
+use hc_flash::IoResult;
 use hc_history::{Note, Notes};
 use hc_nvm::{Take, Unfinished};
 use hc_types::Refusal;

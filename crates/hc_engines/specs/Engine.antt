@@ -5,6 +5,8 @@ use Rattle.std.specs.Str.{bytes_eq}
 use Rattle.hc_types.specs.declared.config.FlashConfig.{FlashConfig}
 use Rattle.hc_types.specs.Loss.{Scope, Cause, NoCleanRegion, covers}
 use Rattle.hc_types.specs.FlashEntry.{FlashEntry}
+-- (the words of a device, for whoever speaks of an engine)
+pub use Rattle.hc_flash.specs.Operations.{Order, Read, Write, IoResult, Page, Written, Failed, Pages, with_page, pages_after}
 
 -- an operation
 pub data Op : Type 0 where
@@ -15,17 +17,6 @@ pub data Op : Type 0 where
   Flush : Op
   -- the oldest region on flash is given up
   Reclaim : Op
-
--- a device operation
-pub data Order : Type 0 where
-  Read : (page : ℕ) → Order
-  Write : (page : ℕ) (bytes : List ℕ) → Order
-
--- what came of it
-pub data IoResult : Type 0 where
-  Page : (bytes : List ℕ) → IoResult
-  Written : IoResult
-  Failed : IoResult
 
 pub data Answer : Type 0 where
   -- there was nothing to do, or it isn't over yet
@@ -65,20 +56,6 @@ abbrev pub nothing : Outcome
 nothing = outcome_of Nothing []
 
 -- ---- the device, as the log tells of it
-
--- each page as it was last written, where it is known
-abbrev pub Pages : Type 0
-Pages = ℕ → Option (List ℕ)
-
-abbrev pub with_page : Pages → ℕ → Option (List ℕ) → Pages
-with_page pages page bytes other = if page == other then bytes else pages other
-
--- the pages once this result of this order was handed in
-abbrev pub pages_after : Order → IoResult → Pages → Pages
-pages_after (Write page bytes) Written pages = with_page pages page (Some bytes)
-pages_after (Write page bytes) Failed pages = with_page pages page None
-pages_after (Write page bytes) (Page read) pages = pages
-pages_after (Read page) result pages = pages
 
 -- a page that was read has the bytes that were last written
 abbrev pub IsHonest : Order → IoResult → Pages → Type 0

@@ -1,23 +1,17 @@
--- How contracts see jobs, their orders, and what a take answers.
-use Rattle.hc_engines.specs.Engine.{Order, Read, Write}
+-- How contracts see jobs, and what a take answers.
+use Rattle.hc_flash.specs.Seen.{order_of}
 use Rattle.hc_machine.specs.Nvm.{Task, Putting, Deleting, Filling, Flushing}
 use Rattle.hc_machine.specs.Takes.{Take, Idle, Finished, Work}
 use Rattle.hc_nvm.specs.declared.settling.Take.{Take as Answers}
 use Rattle.hc_nvm.specs.declared.settling.Take.TheVariants as answers
 use Rattle.hc_nvm.specs.declared.jobs.Task.{Task as Tasks}
 use Rattle.hc_nvm.specs.declared.jobs.Task.TheVariants as tasks
-use Rattle.hc_nvm.specs.declared.orders.Order.{Order as Orders}
-use Rattle.hc_nvm.specs.declared.orders.Order.TheVariants as orders
 
 abbrev pub task_of : {A : Type 0} → Tasks A → Task
 task_of (tasks.Put key) = Putting key
 task_of (tasks.Delete key) = Deleting key
 task_of tasks.Fill = Filling
 task_of tasks.Flush = Flushing
-
-abbrev pub order_of : {A : Type 0} → Orders A → Order
-order_of (orders.Read page) = Read page
-order_of (orders.Write page bytes) = Write page bytes
 
 abbrev pub take_of : {A : Type 0} → Answers A → Take
 take_of answers.Idle = Idle

@@ -8,25 +8,28 @@ ghost use Rattle.hc_engines.specs.Engine.{Read, Write, Io, Done, IoResult as Cam
 ghost use Rattle.hc_engines.specs.pair.Pair.{Moved, resume as resume_step};
 ghost use Rattle.hc_bighash.specs.Found.{losses_of};
 ghost use Rattle.hc_bighash.specs.Next.{next_seen};
-ghost use Rattle.hc_bighash.specs.Seen.{order_of as order_asked, result_of};
+ghost use Rattle.hc_bighash.specs.Seen.{order_of as order_asked};
+ghost use Rattle.hc_flash.specs.Seen.{result_of};
 ghost use Rattle.hc_history.specs.Note.{Wrote};
 ghost use Rattle.hc_history.specs.Told.{told_more};
 ghost use Rattle.hc_machine.specs.Nvm.{Fill, Job as Waits, fill_at, fill_by, is_job, job_at};
 ghost use Rattle.hc_machine.specs.Takes.{finish as finish_step, goes_on, result_note, told_before};
 ghost use Rattle.hc_nvm.specs.Filled.{filled_of, over_of};
 ghost use Rattle.hc_nvm.specs.Finishing.{IsFinished, IsHandedIn, place, brought_key, left_by, waiters_by};
-ghost use Rattle.hc_nvm.specs.Seen.{order_of, take_of, task_of};
+ghost use Rattle.hc_nvm.specs.Seen.{take_of, task_of};
+ghost use Rattle.hc_flash.specs.Seen.{order_of};
 ghost use Rattle.hc_nvm.specs.Starting.{IsRefused, KeepsRoom};
 ghost use Rattle.hc_nvm.specs.Taking.{IsTaken};
 
 use crate::filler::{Filled, Taken, over_with};
 use crate::jobs::{Job, Task};
 use crate::nvm::Nvm;
-use crate::orders::{Order, twice};
+use crate::orders::twice;
 use crate::settling::{Take, hold, settle};
 use crate::starting::in_all;
 use bytes::Bytes;
-use hc_bighash::{IoResult, Next, Outcome};
+use hc_bighash::{Next, Outcome, SharedOrder};
+use hc_flash::{IoResult, Order};
 use hc_history::{Note, Notes, Said};
 use hc_memory::Pools;
 use hc_types::{Entry, Key, Refusal};
@@ -271,7 +274,7 @@ impl<A: Allocator + Clone + Copy> Nvm<A> {
         &mut self,
         number: u64,
         at: usize,
-        order: hc_bighash::Order<A>,
+        order: SharedOrder<A>,
         outcome: Outcome<A>,
         came: IoResult<A>,
         notes: &mut N,

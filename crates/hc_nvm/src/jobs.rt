@@ -1,7 +1,7 @@
 // The jobs: operations on flash that are under way.
 ghost use Rattle.std.specs.Prelude.{◌≡◌};
 
-use crate::orders::Order;
+use hc_flash::Order;
 use hc_types::Key;
 use std::alloc::{Allocator, Global};
 use std::marker::Model;
@@ -29,7 +29,8 @@ pub(crate) struct Job<A: Allocator = Global> {
 
 impl<A: Allocator> Model for Job<A> {
     ghost use Rattle.hc_machine.specs.Nvm.{Job as Machine};
-    ghost use Rattle.hc_nvm.specs.Seen.{task_of, order_of};
+    ghost use Rattle.hc_nvm.specs.Seen.{task_of};
+    ghost use Rattle.hc_flash.specs.Seen.{order_of};
 
     ghost Value = { Machine };
 

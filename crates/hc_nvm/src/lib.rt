@@ -23,6 +23,5 @@ pub use endings::Ending;
 pub use filler::{Filled, Taken};
 pub use finishing::Unfinished;
 pub use nvm::Nvm;
-pub use orders::Order;
 pub use outdating::Outdating;
 pub use settling::Take;

@@ -7,13 +7,13 @@ ghost use Rattle.hc_engines.specs.pair.Pair.{could_have as could_have_seen, hash
 ghost use Rattle.hc_machine.specs.Nvm.{Job as Waits, fill_at, is_job, job_at, put_at, puts as puts_seen, is_buried as is_buried_seen, is_due as is_due_seen, is_written_now as is_written_now_seen, may_come as may_come_seen};
 ghost use Rattle.hc_machine.specs.Calls.{must_wait_in};
 ghost use Rattle.hc_nvm.specs.Asked.{calls_of};
-ghost use Rattle.hc_nvm.specs.Seen.{order_of};
+ghost use Rattle.hc_flash.specs.Seen.{order_of};
 ghost use Rattle.hc_waiting.specs.Fills.{is_kept_in};
 
 use crate::finishing::{has_number, place_of};
 use crate::jobs::{Job, Task};
 use crate::nvm::Nvm;
-use crate::orders::Order;
+use hc_flash::Order;
 use hc_types::{Entry, FlashConfig, Key};
 use hc_waiting::Waiter;
 use std::alloc::{AllocError, Allocator};

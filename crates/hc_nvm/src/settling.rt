@@ -11,10 +11,11 @@ ghost use Rattle.hc_nvm.specs.After.{after, by_bucket, raised, standing, held_le
 ghost use Rattle.hc_nvm.specs.Seen.{task_of, take_of};
 
 use crate::jobs::{Job, Task};
-use crate::orders::{Order, twice};
+use crate::orders::twice;
 use crate::raising::{raise_bucket, raise_key};
 use crate::telling;
 use hc_bighash::{Answer, Loss, Next, Outcome};
+use hc_flash::Order;
 use hc_history::{Note, Notes};
 use hc_memory::Pools;
 use hc_types::{Entry, Scope};

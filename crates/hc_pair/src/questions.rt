@@ -4,11 +4,11 @@ ghost use Rattle.hc_types.specs.Places.{is_small_by};
 ghost use Rattle.hc_engines.specs.Engine.{Flush, Done, nothing};
 ghost use Rattle.hc_engines.specs.small.BigHash.{is_busy as is_busy_seen};
 ghost use Rattle.hc_engines.specs.pair.Pair.{bucket_in, hash_in, is_indexed as is_indexed_seen, start as start_step, resume as resume_step};
-ghost use Rattle.hc_bighash.specs.Seen.{result_of};
+ghost use Rattle.hc_flash.specs.Seen.{result_of};
 ghost use Rattle.hc_pair.specs.Found.{is_io};
 
 use crate::pair::Pair;
-use hc_bighash::IoResult;
+use hc_flash::IoResult;
 use hc_types::{Entry, FlashConfig, Key, is_small};
 use std::alloc::Allocator;
 

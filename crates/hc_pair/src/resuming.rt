@@ -7,15 +7,16 @@ ghost use Rattle.hc_engines.specs.large.Laws.{IsFree};
 ghost use Rattle.hc_engines.specs.large.Steps.{get};
 ghost use Rattle.hc_engines.specs.pair.Pair.{resume as resume_step};
 ghost use Rattle.hc_bighash.specs.Handed.{absent_plan, IsGet, op_in};
-ghost use Rattle.hc_bighash.specs.Seen.{result_of};
+ghost use Rattle.hc_flash.specs.Seen.{result_of};
 ghost use Rattle.hc_bighash.specs.Next.{next_seen};
 ghost use Rattle.hc_block.specs.Moves.{stepped};
 ghost use Rattle.hc_pair.specs.Joined.{losses_of};
 
 use crate::joining::behind;
 use crate::pair::Pair;
-use hc_bighash::{BigHash, Handed, IoResult, Next, Unresumed};
+use hc_bighash::{BigHash, Handed, Next, Unresumed};
 use hc_block::BlockCache;
+use hc_flash::IoResult;
 use hc_types::Refusal;
 use std::alloc::{AllocError, Allocator};
 

@@ -1,13 +1,11 @@
 // Operations of the device in memory.
 ghost use Rattle.std.specs.Prelude.{false, true, IfOk};
-ghost use Rattle.hc_bighash.specs.Seen.{result_of};
-ghost use Rattle.hc_nvm.specs.Seen.{order_of};
+ghost use Rattle.hc_flash.specs.Seen.{result_of};
+ghost use Rattle.hc_flash.specs.Seen.{order_of};
 ghost use Rattle.hc_engines.specs.Engine.{Read, Write};
 ghost use Rattle.hc_player.specs.Devices.{Comes};
 
-use hc_bighash::IoResult;
-use hc_flash::{Flash, FlashError, MemFlash};
-use hc_nvm::Order;
+use hc_flash::{Flash, FlashError, IoResult, MemFlash, Order};
 use std::alloc::AllocError;
 
 /// The page is read. It fails where nothing is known of the page.

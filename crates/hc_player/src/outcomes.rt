@@ -2,7 +2,7 @@
 ghost use Rattle.std.specs.Prelude.{◌≡◌, ◌≢◌, Some, IfOk};
 ghost use Rattle.hc_types.specs.declared.refusal.Refusal.TheVariants.{NoMemory};
 ghost use Rattle.hc_history.specs.Seen.{reply_of};
-ghost use Rattle.hc_bighash.specs.Seen.{result_of};
+ghost use Rattle.hc_flash.specs.Seen.{result_of};
 ghost use Rattle.hc_nvm.specs.Seen.{take_of};
 ghost use Rattle.hc_machine.specs.Cache as machine;
 ghost use Rattle.hc_core.specs.Answers.{found_answer, inserted_answer, removed_answer};
@@ -10,10 +10,10 @@ ghost use Rattle.hc_replayed.specs.Actions.{answer_of, reply_answer, take_answer
 ghost use Rattle.hc_player.specs.Seen.{answer_seen};
 
 use crate::answers::Answer;
-use hc_bighash::IoResult;
 use hc_core::{Found, Inserted, Removed};
+use hc_flash::{IoResult, Order};
 use hc_history::Reply;
-use hc_nvm::{Order, Take};
+use hc_nvm::Take;
 use hc_types::Refusal;
 use std::alloc::AllocError;
 

@@ -1,6 +1,6 @@
 // What a worker does, the device with a job, or a client that waited.
 ghost use Rattle.std.specs.Prelude.{IfOk};
-ghost use Rattle.hc_bighash.specs.Seen.{result_of};
+ghost use Rattle.hc_flash.specs.Seen.{result_of};
 ghost use Rattle.hc_machine.specs.Workers.{finish as finish_step};
 ghost use Rattle.hc_lines.specs.Seen.{work_seen};
 ghost use Rattle.hc_lines.specs.Steps.{Writer, Filler, Reclaim, Io, Finish, Reply};
@@ -12,7 +12,7 @@ use crate::answers::Answer;
 use crate::device::operate;
 use crate::outcomes::{made, reclaimed, refused, replied, taken};
 use crate::player::Player;
-use hc_bighash::IoResult;
+use hc_flash::IoResult;
 use hc_history::{Note, Notes};
 use hc_lines::Work;
 use hc_nvm::Unfinished;

@@ -4,8 +4,8 @@ use Rattle.std.specs.Prelude.{if◌then◌else◌, is_some}
 use Rattle.std.specs.Borrow.{Bor}
 use Rattle.std.specs.Map.{lookup}
 use Rattle.std.specs.Option.{option_copied}
-use Rattle.hc_bighash.specs.declared.ops.IoResult.{IoResult}
-use Rattle.hc_bighash.specs.Seen.{result_of}
+use Rattle.hc_flash.specs.declared.operation.IoResult.{IoResult}
+use Rattle.hc_flash.specs.Seen.{result_of}
 use Rattle.hc_engines.specs.Engine as engine
 use Rattle.hc_machine.specs.World.{result_at}
 use Rattle.hc_results.specs.Waiting.{results_of}

@@ -1,7 +1,7 @@
 -- Results that wait, and for how many more there is room.
 use Rattle.std.specs.Prelude.{ℕ, List, map}
-use Rattle.hc_bighash.specs.declared.ops.IoResult.{IoResult}
-use Rattle.hc_bighash.specs.Seen.{result_of}
+use Rattle.hc_flash.specs.declared.operation.IoResult.{IoResult}
+use Rattle.hc_flash.specs.Seen.{result_of}
 use Rattle.hc_machine.specs.World.{Result}
 
 -- a result that waits, with its job

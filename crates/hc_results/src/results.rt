@@ -1,10 +1,10 @@
 // Results of device operations, until they are handed in.
 ghost use Rattle.std.specs.Prelude.{◌≡◌, ◌==◌, ◌≤◌, ℕ, [], None, Some, option_map, is_some, if◌then◌else◌, IfOk, OnOk};
-ghost use Rattle.hc_bighash.specs.Seen.{result_of};
+ghost use Rattle.hc_flash.specs.Seen.{result_of};
 ghost use Rattle.hc_machine.specs.World.{result_at};
 
 use bytes::Bytes;
-use hc_bighash::IoResult;
+use hc_flash::IoResult;
 use std::alloc::{AllocError, Allocator, Global};
 use std::collections::HashMap;
 use std::hash::{BuildHasherDefault, FoldHasher};

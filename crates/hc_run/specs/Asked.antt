@@ -1,6 +1,6 @@
 -- How the code's steps, answers and slots are seen.
 use Rattle.std.specs.Prelude.{ℕ, Option, Some, None}
-use Rattle.hc_bighash.specs.Seen.{result_of}
+use Rattle.hc_flash.specs.Seen.{result_of}
 use Rattle.hc_memory.specs.Item.{Handle}
 use Rattle.hc_history.specs.Seen.{reply_of}
 use Rattle.hc_nvm.specs.Seen.{take_of}

@@ -1,14 +1,11 @@
 // Operations of a device.
 ghost use Rattle.std.specs.Prelude.{◌≡◌, false, true, IfOk, OnErr};
-ghost use Rattle.hc_bighash.specs.Seen.{result_of};
-ghost use Rattle.hc_nvm.specs.Seen.{order_of};
-ghost use Rattle.hc_engines.specs.Engine.{Page, Read, Write};
+ghost use Rattle.hc_flash.specs.Operations.{Page};
+ghost use Rattle.hc_flash.specs.Seen.{order_of, result_of};
 ghost use Rattle.hc_run.specs.Devices.{Comes, IsSame};
 
 use bytes::Bytes;
-use hc_bighash::IoResult;
-use hc_flash::{Flash, FlashError};
-use hc_nvm::Order;
+use hc_flash::{Flash, IoResult, Order, perform};
 use std::alloc::{AllocError, Allocator};
 
 /// What came of an operation, for two owners: one hands it in later, one is told.
@@ -29,45 +26,26 @@ fn page_twice<A: Allocator>(bytes: Bytes<A>) -> Result<Came<A>, AllocError>
     })
 }
 
-/// The device reads the page. Where memory lacks, nothing is read.
-pub(crate) fn read<A: Allocator, D: Flash<A>>(
+/// The device does the operation. Where memory lacks, nothing is read or written.
+pub(crate) fn make<A: Allocator, D: Flash<A>>(
     device: &mut D,
-    page: u32,
+    order: &Order<A>,
 ) -> Result<Came<A>, AllocError>
-    ensures ok { IfOk result (λ came. Comes (record { held = D.held; failed = D.failed }) (Read page) false device.old (result_of came.kept) device.new) }
+    ensures ok { IfOk result (λ came. Comes (record { held = D.held; failed = D.failed }) (order_of order.now) false device.old (result_of came.kept) device.new) }
     ensures told { IfOk result (λ came. result_of came.told ≡ result_of came.kept) }
     ensures err { OnErr result (IsSame (record { held = D.held; failed = D.failed }) device.old device.new) }
 {
-    match device.read(page) {
-        Ok(bytes) => page_twice(bytes),
-        Err(FlashError::Device) => Ok(Came {
-            kept: IoResult::Failed,
-            told: IoResult::Failed,
-        }),
-        Err(FlashError::NoMemory) => Err(AllocError),
-    }
-}
-
-/// The device writes the page. Where memory lacks, nothing is written.
-pub(crate) fn write<A: Allocator, D: Flash<A>>(
-    device: &mut D,
-    page: u32,
-    bytes: &[u8],
-) -> Result<Came<A>, AllocError>
-    ensures ok { IfOk result (λ came. Comes (record { held = D.held; failed = D.failed }) (Write page bytes.now) false device.old (result_of came.kept) device.new) }
-    ensures told { IfOk result (λ came. result_of came.told ≡ result_of came.kept) }
-    ensures err { OnErr result (IsSame (record { held = D.held; failed = D.failed }) device.old device.new) }
-{
-    match device.write(page, bytes) {
-        Ok(()) => Ok(Came {
+    match perform(device, order) {
+        Ok(IoResult::Page(bytes)) => page_twice(bytes),
+        Ok(IoResult::Written) => Ok(Came {
             kept: IoResult::Written,
             told: IoResult::Written,
         }),
-        Err(FlashError::Device) => Ok(Came {
+        Ok(IoResult::Failed) => Ok(Came {
             kept: IoResult::Failed,
             told: IoResult::Failed,
         }),
-        Err(FlashError::NoMemory) => Err(AllocError),
+        Err(no_memory) => Err(no_memory),
     }
 }
 
@@ -87,8 +65,5 @@ pub(crate) fn operate<A: Allocator, D: Flash<A>>(
             told: IoResult::Failed,
         });
     }
-    match order {
-        Order::Read(page) => read(device, *page),
-        Order::Write(page, bytes) => write(device, *page, bytes.as_slice()),
-    }
+    make(device, order)
 }

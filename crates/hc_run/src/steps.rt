@@ -1,6 +1,6 @@
 // What is asked of a cache in a schedule, and what is answered.
 use bytes::Bytes;
-use hc_bighash::IoResult;
+use hc_flash::IoResult;
 use hc_history::Reply;
 use hc_nvm::Take;
 use hc_types::{Key, Refusal};

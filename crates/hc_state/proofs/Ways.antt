@@ -2,7 +2,7 @@
 use Rattle.std.proofs.Common.{◌≡◌, ℕ, List, Option, Some, None, inr, refl, sym, ap, ◌∙◌, subst, arith}
 use Rattle.std.specs.Prelude.{option_map, IsSome}
 use Rattle.hc_types.specs.declared.refusal.Refusal.TheVariants.{NoMemory}
-use Rattle.hc_bighash.specs.Seen.{result_of}
+use Rattle.hc_flash.specs.Seen.{result_of}
 use Rattle.hc_memory.specs.Memory.{linked_at}
 use Rattle.hc_machine.specs.Nvm.{Nvm, Waiter, fill_at}
 use Rattle.hc_machine.specs.Takes as flash

@@ -3,7 +3,7 @@ use Rattle.std.specs.Prelude.{◌≡◌, ℕ, ◌+◌, ◌*◌, true, false, Lis
 use Rattle.hc_types.specs.Charge.{charge_of}
 use Rattle.hc_types.specs.FlashEntry.{FlashEntry}
 use Rattle.hc_engines.specs.Engine.{IoResult, Loss}
-use Rattle.hc_bighash.specs.Seen.{result_of}
+use Rattle.hc_flash.specs.Seen.{result_of}
 use Rattle.hc_memory.specs.Memory.{Memory, victims_of, oldest_keys}
 use Rattle.hc_memory.specs.Sound.{Sound}
 use Rattle.hc_history.specs.Told.{is_log, where_kept}

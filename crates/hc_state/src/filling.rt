@@ -1,6 +1,6 @@
 // A fill ends: what it brings is linked, where it can be, and the calls that wait for its key are served.
 ghost use Rattle.std.specs.Prelude.{◌≡◌, ℕ, ◌+◌, ◌≤◌, List, None, Some, length, option_map, IsSome};
-ghost use Rattle.hc_bighash.specs.Seen.{result_of};
+ghost use Rattle.hc_flash.specs.Seen.{result_of};
 ghost use Rattle.hc_machine.specs.Cache.{Took};
 ghost use Rattle.hc_machine.specs.Takes.{Filled as Over};
 ghost use Rattle.hc_machine.specs.Workers.{finish as finish_step};
@@ -11,7 +11,7 @@ ghost use Rattle.hc_state.specs.Ends.{taken_by, EndsBy, IsOverBy};
 ghost use Rattle.hc_state.specs.Whole.{IsStep};
 
 use crate::state::State;
-use hc_bighash::IoResult;
+use hc_flash::IoResult;
 use hc_history::{Note, Notes};
 use hc_nvm::{Ending, Filled, Take, Taken};
 use hc_waiting::Waiter;

@@ -1,6 +1,6 @@
 // Results of device operations are handed in.
 ghost use Rattle.std.specs.Prelude.{◌≡◌, ◌+◌, ◌≤◌, None, Some, length, IfOk, IfSome, OnErr, IfErr};
-ghost use Rattle.hc_bighash.specs.Seen.{result_of};
+ghost use Rattle.hc_flash.specs.Seen.{result_of};
 ghost use Rattle.hc_machine.specs.Cache.{Took};
 ghost use Rattle.hc_machine.specs.Workers.{finish as finish_step};
 ghost use Rattle.hc_invariant.specs.Structure.{Structured};
@@ -12,7 +12,7 @@ ghost use Rattle.hc_state.specs.Whole.{IsReady, IsStep, Stays};
 
 use crate::filling::Way;
 use crate::state::State;
-use hc_bighash::IoResult;
+use hc_flash::IoResult;
 use hc_history::{Note, Notes};
 use hc_nvm::{Ending, Take, Taken, Unfinished};
 use hc_types::{Key, Refusal};

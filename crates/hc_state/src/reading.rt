@@ -6,12 +6,12 @@ ghost use Rattle.hc_history.specs.Told.{Log, losses_taken};
 ghost use Rattle.hc_machine.specs.Nvm.{is_job};
 ghost use Rattle.hc_machine.specs.Quiet.{jobs_in};
 ghost use Rattle.hc_machine.specs.World.{order_in};
-ghost use Rattle.hc_nvm.specs.Seen.{order_of};
+ghost use Rattle.hc_flash.specs.Seen.{order_of};
 
 use crate::state::State;
+use hc_flash::Order;
 use hc_history::{Counting, Kept, Listener};
 use hc_memory::Pools;
-use hc_nvm::Order;
 use hc_types::Config;
 use std::alloc::Allocator;
 

@@ -1,9 +1,6 @@
 // The workers' end of a device.
 
-use hc_bighash::IoResult;
-use hc_device::perform;
-use hc_flash::Flash;
-use hc_nvm::Order;
+use hc_flash::{Flash, IoResult, Order, perform};
 use std::alloc::{AllocError, Global};
 use std::sync::{Mutex, Wait};
 
@@ -21,7 +18,7 @@ impl<F: Flash<Global>> Port<F> {
         }
     }
 
-    /// Makes the operation of the order, as `hc_device::perform` says, and holds the device's lock for it alone.
+    /// Makes the operation of the order, as `hc_flash::perform` says, and holds the device's lock for it alone.
     pub fn perform<R: Wait>(&self, rt: &R, order: &Order) -> Result<IoResult, AllocError> {
         perform(&mut *self.device.lock(rt), order)
     }

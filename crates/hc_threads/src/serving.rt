@@ -4,11 +4,8 @@ ghost use Rattle.std.specs.Prelude.{◌≡◌, IfOk, IfErr};
 use crate::gate::{Gate, Point, Worker};
 use crate::port::Port;
 use crate::shared::{Shared, Stage};
-use hc_bighash::IoResult;
-use hc_device::page_of;
-use hc_flash::Flash;
+use hc_flash::{Flash, IoResult, Order};
 use hc_history::{Listener, Note, Notes};
-use hc_nvm::Order;
 use hc_types::Refusal;
 use std::alloc::{AllocError, Global};
 use std::sync::Wait;
@@ -113,7 +110,7 @@ impl<'x, N: Notes<Note>, F: Flash<Global>, G: Gate> Post<'x, N, F, G> {
             let Some(order) = next else {
                 return;
             };
-            let page = page_of(&order);
+            let page = order.page();
             self.gate.pass(Point::BeforeIo(worker, page));
             let came = self.perform(rt, &order);
             self.gate.pass(Point::AfterIo(worker, page));

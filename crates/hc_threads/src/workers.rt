@@ -2,10 +2,10 @@
 
 use crate::gate::Worker;
 use crate::shared::{Shared, Stage};
-use hc_bighash::IoResult;
 use hc_core::Core;
+use hc_flash::{IoResult, Order};
 use hc_history::{Note, Notes};
-use hc_nvm::{Order, Take, Unfinished};
+use hc_nvm::{Take, Unfinished};
 use hc_types::Refusal;
 use std::sync::Wait;
 

@@ -1,5 +1,5 @@
 use Rattle.std.proofs.Common.{Bool, sym, subst}
-use Rattle.hc_nvm.specs.Seen.{order_of}
+use Rattle.hc_flash.specs.Seen.{order_of}
 use Rattle.hc_engines.specs.Engine.{Failed}
 use Rattle.hc_run.specs.Devices.{Comes}
 use Rattle.hc_run.proofs.Devices.{unreached}

@@ -1,6 +1,6 @@
 use Rattle.std.proofs.Common.{◌≡◌, None, sym}
 use Rattle.hc_engines.specs.small.BigHash.{BigHash, place_of}
-use Rattle.hc_bighash.specs.Seen.{result_of}
+use Rattle.hc_flash.specs.Seen.{result_of}
 use Rattle.hc_bighash.proofs.Peeks.{none_ends}
 use Rattle.hc_bighash.proofs.big_hash.BigHash.ending.Goals as goal
 

@@ -1,6 +1,6 @@
 use Rattle.std.proofs.Common.{sym, ◌∙◌}
 use Rattle.hc_engines.specs.small.BigHash.{BigHash, went_on}
-use Rattle.hc_bighash.specs.Seen.{result_of}
+use Rattle.hc_flash.specs.Seen.{result_of}
 use Rattle.hc_bighash.proofs.Places.{At, job_here}
 use Rattle.hc_bighash.proofs.Handing.{room_there, put_there}
 use Rattle.hc_bighash.proofs.Peeks.{other_ends, planned_ends}

@@ -1,7 +1,7 @@
 use Rattle.std.proofs.Common.{◌≡◌, Option, Some, None, sym, ap, ◌∙◌, subst}
 use Rattle.std.specs.Prelude.{IsSome, is_some}
 use Rattle.hc_engines.specs.small.BigHash.{BigHash, Moved, went_on, resume, carried, kept_job, job_at}
-use Rattle.hc_bighash.specs.Seen.{result_of}
+use Rattle.hc_flash.specs.Seen.{result_of}
 use Rattle.hc_bighash.specs.Handed.{IsHanded}
 use Rattle.hc_bighash.specs.Steps.{plan_of, IsKept}
 use Rattle.hc_bighash.proofs.Places.{At, job_here}

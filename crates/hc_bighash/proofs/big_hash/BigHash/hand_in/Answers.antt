@@ -1,6 +1,6 @@
 use Rattle.std.proofs.Common.{◌≡◌, Option, None, sym, ap}
 use Rattle.hc_engines.specs.small.BigHash.{BigHash, Job, place_of, resume_job, resume}
-use Rattle.hc_bighash.specs.Seen.{result_of}
+use Rattle.hc_flash.specs.Seen.{result_of}
 use Rattle.hc_bighash.proofs.Places.{place_none}
 use Rattle.hc_bighash.proofs.big_hash.BigHash.hand_in.Goals as goal
 

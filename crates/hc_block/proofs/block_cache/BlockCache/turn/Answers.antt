@@ -1,7 +1,7 @@
 use Rattle.std.proofs.Common.{◌∙◌, sym, ap, subst}
 use Rattle.std.specs.Prelude.{option_map}
 use Rattle.hc_engines.specs.large.Block.{Block}
-use Rattle.hc_bighash.specs.Seen.{result_of}
+use Rattle.hc_flash.specs.Seen.{result_of}
 use Rattle.hc_block.specs.Large.{Large}
 use Rattle.hc_block.specs.Works.{work_seen}
 use Rattle.hc_block.specs.Turns.{IsTurnOf}

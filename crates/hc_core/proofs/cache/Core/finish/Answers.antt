@@ -1,4 +1,4 @@
-use Rattle.hc_bighash.specs.Seen.{result_of}
+use Rattle.hc_flash.specs.Seen.{result_of}
 use Rattle.hc_machine.specs.Cache.{Took}
 use Rattle.hc_nvm.specs.Seen.{take_of}
 use Rattle.hc_proof_runs.specs.Events.{Finishes}

@@ -2,7 +2,7 @@ use Rattle.std.proofs.Common.{◌≡◌, ◌∙◌, [], ◌∷◌, Some, slice_g
 use Rattle.std.specs.Prelude.{option_map}
 use Rattle.hc_types.specs.FlashEntry.{entry_of}
 use Rattle.hc_engines.specs.Engine.{Order, Done}
-use Rattle.hc_bighash.specs.Seen.{result_of}
+use Rattle.hc_flash.specs.Seen.{result_of}
 use Rattle.hc_history.specs.Told.{told_more}
 use Rattle.hc_machine.specs.Nvm.{Nvm, Fill, Job, fill_at, fill_by, job_at}
 use Rattle.hc_machine.specs.Takes.{Finished, goes_on, result_note, told_before}

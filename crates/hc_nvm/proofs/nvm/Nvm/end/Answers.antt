@@ -1,7 +1,7 @@
 use Rattle.std.proofs.Common.{◌≡◌, ◌∙◌, Some, None, Option, false, true, is_some, refl, sym, ap, subst}
 use Rattle.std.specs.Prelude.{option_map, Ok}
 use Rattle.hc_engines.specs.Engine.{Outcome, Done}
-use Rattle.hc_bighash.specs.Seen.{result_of}
+use Rattle.hc_flash.specs.Seen.{result_of}
 use Rattle.hc_machine.specs.Nvm.{Nvm, Job, job_at}
 use Rattle.hc_machine.specs.Takes.{finish}
 use Rattle.hc_nvm.specs.Endings.{Ending, EndsFill}

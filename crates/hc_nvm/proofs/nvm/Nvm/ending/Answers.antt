@@ -1,6 +1,6 @@
 use Rattle.std.proofs.Common.{◌≡◌, ◌∙◌, Some, None, true, is_some, sym, ap, subst}
 use Rattle.hc_engines.specs.pair.Pair.{resume}
-use Rattle.hc_bighash.specs.Seen.{result_of}
+use Rattle.hc_flash.specs.Seen.{result_of}
 use Rattle.hc_machine.specs.Nvm.{Nvm}
 use Rattle.hc_machine.specs.Takes.{finish}
 use Rattle.hc_nvm.specs.Finishing.{place}

@@ -2,7 +2,7 @@ use Rattle.std.proofs.Common.{◌≡◌, ◌+◌, ◌≤◌, Option, Some, None,
 use Rattle.hc_engines.specs.Engine.{IoResult, Done}
 use Rattle.hc_engines.specs.pair.Pair.{Moved, resume}
 use Rattle.hc_bighash.specs.Found.{losses_of}
-use Rattle.hc_bighash.specs.Seen.{result_of}
+use Rattle.hc_flash.specs.Seen.{result_of}
 use Rattle.hc_pair.specs.Endings.{Ending, Ends, IsEnding, left_by}
 use Rattle.hc_machine.specs.Nvm.{Nvm, Job}
 use Rattle.hc_machine.specs.Takes.{Taken, finish}

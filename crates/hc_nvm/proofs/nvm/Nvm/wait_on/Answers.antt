@@ -1,12 +1,13 @@
 use Rattle.std.proofs.Common.{◌≡◌, ◌∙◌, [], ◌∷◌, Some, None, set, slice_get, sym, ap, subst}
 use Rattle.hc_engines.specs.Engine.{Order, Io}
-use Rattle.hc_bighash.specs.Seen.{order_of as order_asked, result_of}
+use Rattle.hc_bighash.specs.Seen.{order_of as order_asked}
+use Rattle.hc_flash.specs.Seen.{result_of}
 use Rattle.hc_history.specs.Told.{told_more}
 use Rattle.hc_machine.specs.Nvm.{Nvm, Job, job_at}
 use Rattle.hc_machine.specs.Takes.{Work, goes_on, result_note, told_before}
 use Rattle.hc_nvm.specs.Fetching.{AreServed}
 use Rattle.hc_nvm.specs.Finishing.{place}
-use Rattle.hc_nvm.specs.Seen.{order_of}
+use Rattle.hc_flash.specs.Seen.{order_of}
 use Rattle.hc_nvm.specs.Stock.{Stock, AreNumbered}
 use Rattle.hc_nvm.specs.Taking.{IsTaken}
 use Rattle.hc_nvm.proofs.Finished.{waits_on, stands, job_stands, numbered_ordered, place_within}

@@ -1,7 +1,7 @@
 use Rattle.std.proofs.Common.{◌≡◌, None, Option, sym, subst}
 use Rattle.hc_engines.specs.pair.Pair.{Pair}
 use Rattle.hc_bighash.specs.Handed.{op_in}
-use Rattle.hc_bighash.specs.Seen.{result_of}
+use Rattle.hc_flash.specs.Seen.{result_of}
 use Rattle.hc_pair.specs.Endings.{Ending, IsEnding}
 use Rattle.hc_pair.proofs.Closing.{large_ends}
 use Rattle.hc_pair.proofs.pair.Pair.large_ending.Goals as goal

@@ -1,6 +1,6 @@
 use Rattle.std.proofs.Common.{Some, ap}
 use Rattle.std.proofs.lemmas.Result.{IfOk-weaker}
-use Rattle.hc_bighash.specs.Seen.{result_of}
+use Rattle.hc_flash.specs.Seen.{result_of}
 use Rattle.hc_lines.specs.Steps.{Answer}
 use Rattle.hc_machine.specs.Cache.{Took}
 use Rattle.hc_machine.specs.Workers.{finish}

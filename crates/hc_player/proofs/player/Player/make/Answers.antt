@@ -1,8 +1,8 @@
 use Rattle.std.proofs.Common.{◌==◌, Option, Some, refl, sym, ap, ◌∙◌}
 use Rattle.std.specs.Prelude.{if◌then◌else◌}
-use Rattle.hc_bighash.specs.Seen.{result_of}
+use Rattle.hc_flash.specs.Seen.{result_of}
 use Rattle.hc_engines.specs.Engine.{IoResult}
-use Rattle.hc_nvm.specs.Seen.{order_of}
+use Rattle.hc_flash.specs.Seen.{order_of}
 use Rattle.hc_player.proofs.Acting.{acts-made, not-there}
 use Rattle.hc_player.proofs.player.Player.make.Goals as goal
 

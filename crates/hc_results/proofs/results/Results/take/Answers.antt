@@ -1,5 +1,5 @@
 use Rattle.std.proofs.Common.{None, ap, sym, ◌∙◌, option_map}
-use Rattle.hc_bighash.specs.Seen.{result_of}
+use Rattle.hc_flash.specs.Seen.{result_of}
 use Rattle.hc_results.proofs.Resulting.{set-at, seen-at}
 use Rattle.hc_results.proofs.results.Results.take.Goals as goal
 

@@ -1,5 +1,5 @@
 use Rattle.std.proofs.Common.{Some, refl, sym, ap, ◌∙◌}
-use Rattle.hc_bighash.specs.Seen.{result_of}
+use Rattle.hc_flash.specs.Seen.{result_of}
 use Rattle.hc_nvm.specs.Seen.{take_of}
 use Rattle.hc_machine.specs.Cache.{Took}
 use Rattle.hc_run.proofs.Answering.{but-memory}

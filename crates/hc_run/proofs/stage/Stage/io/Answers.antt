@@ -1,7 +1,7 @@
 use Rattle.std.proofs.Common.{◌-◌, ◌==◌, ℕ, Option, Some, inl, inr, refl, sym, ap, ◌∙◌}
 use Rattle.std.specs.Prelude.{is_some, if◌then◌else◌}
-use Rattle.hc_bighash.specs.Seen.{result_of}
-use Rattle.hc_nvm.specs.Seen.{order_of}
+use Rattle.hc_flash.specs.Seen.{result_of}
+use Rattle.hc_flash.specs.Seen.{order_of}
 use Rattle.hc_engines.specs.Engine.{IoResult}
 use Rattle.hc_machine.specs.World.{Made}
 use Rattle.hc_machine.specs.Schedule.{Tells}

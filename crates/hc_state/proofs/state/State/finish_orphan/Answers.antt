@@ -1,4 +1,4 @@
-use Rattle.hc_bighash.specs.Seen.{result_of}
+use Rattle.hc_flash.specs.Seen.{result_of}
 use Rattle.hc_state.proofs.FillDone.{orphan-step}
 use Rattle.hc_state.proofs.state.State.finish_orphan.Goals as goal
 
