@@ -37,6 +37,10 @@ number_at w bytes = if nat_lt (length bytes) (byte_len w) then None else Some (f
 abbrev pub key_at : List ℕ → Option (List ℕ)
 key_at bytes = if length bytes == 0 then None else Some bytes
 
+-- a key of so many bytes, and the bytes behind it
+abbrev pub key_behind : ℕ → List ℕ → Option (List ℕ × List ℕ)
+key_behind n bytes = part_at n bytes >>= λ text. key_at text.0 >>= λ key. Some (key, text.1)
+
 unfoldable pub entry_at : List ℕ → Option (FlashEntry × List ℕ)
 entry_at bytes = do
   k ← byte_at bytes

@@ -4,7 +4,7 @@ ghost use Rattle.std.specs.List.{list_any, list_all};
 ghost use Rattle.std.specs.Cmp.Lexicographic.{pointwise};
 ghost use Rattle.hc_types.specs.FlashEntry.{FlashEntry, entry_of, entries_of};
 ghost use Rattle.hc_bucket.specs.Page.{distinct, Fits, IsPage};
-ghost use Rattle.hc_bucket.specs.Reading.{Gives, key_at, entry_at, entries_at, body_at, keys_differ, whole_at, content_at, page_at};
+ghost use Rattle.hc_bucket.specs.Reading.{Gives, key_at, key_behind, entry_at, entries_at, body_at, keys_differ, whole_at, content_at, page_at};
 
 use crate::fields::{take_part, take_u8, take_u16, take_u64};
 use crate::read_error::ReadError;
@@ -15,6 +15,9 @@ use std::alloc::{AllocError, Allocator};
 /// The fewest bytes of an entry.
 const LEAST_ENTRY: usize = 13;
 
+/// The most bytes of a key that stands in its own place.
+const SHORT_KEY: usize = 46;
+
 /// The entry at the front.
 #[tactic(auto, unfolding(crate::specs::Reading::entry_at))]
 fn take_entry<A: Allocator>(rest: &mut Bytes<A>) -> Result<Entry<A>, ReadError>
@@ -24,15 +27,39 @@ fn take_entry<A: Allocator>(rest: &mut Bytes<A>) -> Result<Entry<A>, ReadError>
     let pool = take_u8(rest)?;
     let value_len = take_u16(rest)?;
     let expiry = take_u64(rest)?;
-    let key = take_part(rest, key_len as usize)?;
+    let key = take_key(rest, key_len as usize)?;
     let value = take_part(rest, value_len as usize)?;
-    let key = key_of(key)?;
     Ok(Entry {
         key,
         value,
         pool,
         expiry,
     })
+}
+
+/// The key of so many bytes. A short one is copied, and takes no share of the page that it would give back.
+fn take_key<A: Allocator>(rest: &mut Bytes<A>, len: usize) -> Result<Key<A>, ReadError>
+    requires { len ≤ 255 }
+    ensures { Gives (λ key. (key, rest.new)) result (key_behind len rest.old) }
+{
+    if len > SHORT_KEY {
+        return take_long_key(rest, len);
+    }
+    if len == 0 || rest.len() < len {
+        return Err(ReadError::NoPage);
+    }
+    let key = Key::of_short(&rest.as_slice()[..len]);
+    rest.advance(len);
+    Ok(key)
+}
+
+/// The same of a key that shares the page.
+fn take_long_key<A: Allocator>(rest: &mut Bytes<A>, len: usize) -> Result<Key<A>, ReadError>
+    requires { len ≤ 255 }
+    ensures { Gives (λ key. (key, rest.new)) result (key_behind len rest.old) }
+{
+    let bytes = take_part(rest, len)?;
+    key_of(bytes)
 }
 
 fn key_of<A: Allocator>(bytes: Bytes<A>) -> Result<Key<A>, ReadError>
@@ -81,7 +108,7 @@ fn keys_differ<A: Allocator>(entries: &[Entry<A>]) -> bool
 fn has_key<A: Allocator>(entries: &[Entry<A>], key: &Key<A>) -> bool
     ensures { result ≡ list_any (λ other. pointwise nat_eq other.key key.now) entries.now }
 {
-    entries.iter().any(|entry| entry.key == *key)
+    entries.iter().any(|entry| entry.key.is(key))
 }
 
 fn is_zero(bytes: &[u8]) -> bool
