@@ -9,14 +9,11 @@ ghost use Rattle.hc_bucket.specs.Reading.{Gives, key_at, key_behind, entry_at, e
 use crate::fields::{take_part, take_u8, take_u16, take_u64};
 use crate::read_error::ReadError;
 use bytes::Bytes;
-use hc_types::{Entry, Key};
+use hc_types::{Entry, Key, SHORT_KEY_MAX};
 use std::alloc::{AllocError, Allocator};
 
 /// The fewest bytes of an entry.
 const LEAST_ENTRY: usize = 13;
-
-/// The most bytes of a key that stands in its own place.
-const SHORT_KEY: usize = 46;
 
 /// The entry at the front.
 #[tactic(auto, unfolding(crate::specs::Reading::entry_at))]
@@ -42,7 +39,7 @@ fn take_key<A: Allocator>(rest: &mut Bytes<A>, len: usize) -> Result<Key<A>, Rea
     requires { len ≤ 255 }
     ensures { Gives (λ key. (key, rest.new)) result (key_behind len rest.old) }
 {
-    if len > SHORT_KEY {
+    if len > SHORT_KEY_MAX {
         return take_long_key(rest, len);
     }
     if len == 0 || rest.len() < len {

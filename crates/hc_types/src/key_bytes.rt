@@ -9,16 +9,16 @@ use std::alloc::{AllocError, Allocator, Global};
 use std::marker::Model;
 use std::simd::prelude::*;
 
-/// The most bytes that stand in place. With their length and the enum's mark they take 48 bytes, as a `Bytes` does with
-/// its mark, so that a key takes 56 with its hash.
-const SHORT_MAX: usize = 46;
+/// The most bytes of a key that stand in the key itself: it and its copies take no memory. With their length and the enum's
+/// mark they take 48 bytes, as a `Bytes` does with its mark, so that a key takes 56 with its digest.
+pub const SHORT_KEY_MAX: usize = 46;
 
-/// At most `SHORT_MAX` bytes in place, and 0 in the rest of the room. So two are compared by their whole rooms, with no
+/// At most `SHORT_KEY_MAX` bytes in place, and 0 in the rest of the room. So two are compared by their whole rooms, with no
 /// step that depends on their length.
 #[derive(Drop)]
 struct Short {
     len: u8,
-    bytes: [u8; SHORT_MAX],
+    bytes: [u8; SHORT_KEY_MAX],
 }
 
 impl Model for Short {
@@ -37,7 +37,7 @@ impl Short {
         requires { length bytes.now ≤ 46 }
         ensures { result ≡ bytes.now }
     {
-        let mut room = [0; SHORT_MAX];
+        let mut room = [0; SHORT_KEY_MAX];
         room[..bytes.len()].copy_from_slice(bytes);
         Short {
             len: bytes.len() as u8,
@@ -73,10 +73,10 @@ impl PartialEq for Short {
 
 /// Whether two rooms hold the same: 16 bytes at a time, of which the last overlap those before. By `&` and not `&&`, so
 /// that it is one test.
-fn are_equal(a: &[u8; SHORT_MAX], b: &[u8; SHORT_MAX]) -> bool
+fn are_equal(a: &[u8; SHORT_KEY_MAX], b: &[u8; SHORT_KEY_MAX]) -> bool
     ensures { result ≡ pointwise nat_eq a.now b.now }
 {
-    are_equal_at(a, b, 0) & are_equal_at(a, b, 16) & are_equal_at(a, b, SHORT_MAX - 16)
+    are_equal_at(a, b, 0) & are_equal_at(a, b, 16) & are_equal_at(a, b, SHORT_KEY_MAX - 16)
 }
 
 /// Whether the 16 bytes from `at` on are the same.
@@ -96,7 +96,7 @@ enum Place<A: Allocator> {
     Long(Bytes<A>),
 }
 
-/// Bytes that stand in place where they are at most `SHORT_MAX`, and else in a block that their copies share.
+/// Bytes that stand in place where they are at most `SHORT_KEY_MAX`, and else in a block that their copies share.
 #[derive(Drop)]
 pub(crate) struct KeyBytes<A: Allocator = Global> {
     place: Place<A>,
@@ -114,13 +114,13 @@ impl<A: Allocator> Model for KeyBytes<A> {
 }
 
 impl<A: Allocator + Clone> KeyBytes<A> {
-    /// These bytes, which are copied once. At most `SHORT_MAX` take no memory.
+    /// These bytes, which are copied once. At most `SHORT_KEY_MAX` take no memory.
     #[inline(always)]
     pub(crate) fn copy_of(alloc: A, bytes: &[u8]) -> Result<KeyBytes<A>, AllocError>
         ensures ok { IfOk result (λ copy. copy ≡ bytes.now) }
         ensures short { length bytes.now ≤ 46 → IsOk result }
     {
-        if bytes.len() <= SHORT_MAX {
+        if bytes.len() <= SHORT_KEY_MAX {
             return Ok(KeyBytes {
                 place: Place::Short(Short::copy_of(bytes)),
             });
@@ -132,11 +132,11 @@ impl<A: Allocator + Clone> KeyBytes<A> {
 }
 
 impl<A: Allocator> KeyBytes<A> {
-    /// These bytes, which it shares. At most `SHORT_MAX` are copied instead, so that they don't keep a larger block.
+    /// These bytes, which it shares. At most `SHORT_KEY_MAX` are copied instead, so that they don't keep a larger block.
     pub(crate) fn from_bytes(bytes: Bytes<A>) -> KeyBytes<A>
         ensures { result ≡ bytes }
     {
-        if bytes.len() <= SHORT_MAX {
+        if bytes.len() <= SHORT_KEY_MAX {
             return KeyBytes {
                 place: Place::Short(Short::copy_of(bytes.as_slice())),
             };
@@ -146,7 +146,7 @@ impl<A: Allocator> KeyBytes<A> {
         }
     }
 
-    /// These bytes, at most `SHORT_MAX`, which are copied.
+    /// These bytes, at most `SHORT_KEY_MAX`, which are copied.
     pub(crate) fn of_short(bytes: &[u8]) -> KeyBytes<A>
         requires { length bytes.now ≤ 46 }
         ensures { result ≡ bytes.now }
