@@ -1,4 +1,5 @@
 pub mod Distinct
+pub mod Heads
 pub mod Loop
 pub mod Numbers
 pub mod Pages

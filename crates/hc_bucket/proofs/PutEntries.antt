@@ -18,9 +18,9 @@ values_fit (e ∷ es) fits = (fits.0.value, values_fit es fits.1)
 pub each_value_fits : {A : Type 0} (es : List (Entry A)) → AllByRecursion IsSmall (entries_of es) → All (λ e. length e.value < 2 ^ 16) es
 each_value_fits es fits = All-from_recursion (λ e. length e.value < 2 ^ 16) es (values_fit es fits)
 
--- the six fields, appended one after the other
-pub six_fields : (old : List ℕ) (k p : ℕ) (v x key value : List ℕ) → (((((old ++ k ∷ []) ++ p ∷ []) ++ v) ++ x) ++ key) ++ value ≡ old ++ (k ∷ p ∷ (v ++ (x ++ (key ++ value))))
-six_fields old k p v x key value = simp append_assoc
+-- what stands before the key, the key and the value, appended one after the other
+pub three_parts : (old : List ℕ) (k p : ℕ) (v x key value : List ℕ) → ((old ++ (k ∷ p ∷ (v ++ x))) ++ key) ++ value ≡ old ++ (k ∷ p ∷ (v ++ (x ++ (key ++ value))))
+three_parts old k p v x key value = simp append_assoc
 
 flat_map-one : (e : FlashEntry) → entries_bytes (e ∷ []) ≡ entry_bytes e
 flat_map-one e = flat_map-cons entry_bytes e [] ∙ append-nil (entry_bytes e)

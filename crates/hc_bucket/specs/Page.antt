@@ -6,6 +6,10 @@ use Rattle.std.specs.Int.{w16, w64, to_be_bytes}
 use Rattle.std.specs.Cmp.Lexicographic.{pointwise}
 use Rattle.hc_types.specs.FlashEntry.{FlashEntry}
 
+-- what stands before an entry's key: key length, pool, value length, expiry
+abbrev pub head_bytes : FlashEntry → List ℕ
+head_bytes e = length e.key ∷ e.pool ∷ (to_be_bytes w16 (length e.value) ++ to_be_bytes w64 e.expiry)
+
 -- the bytes of an entry: key length, pool, value length, expiry, key, value
 abbrev pub entry_bytes : FlashEntry → List ℕ
 entry_bytes e = length e.key ∷ e.pool ∷ (to_be_bytes w16 (length e.value) ++ (to_be_bytes w64 e.expiry ++ (e.key ++ e.value)))

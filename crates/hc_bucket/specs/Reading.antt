@@ -4,6 +4,7 @@ use Rattle.std.specs.List.{list_all, list_any}
 use Rattle.std.specs.Int.{Width, w16, w64, byte_len, from_be_bytes}
 use Rattle.std.specs.Cmp.Lexicographic.{pointwise}
 use Rattle.hc_types.specs.declared.entry.Entry.{Entry}
+use Rattle.hc_bucket.specs.declared.fields.Head.{Head}
 use Rattle.hc_bucket.specs.declared.read_error.ReadError.{ReadError}
 use Rattle.hc_bucket.specs.declared.read_error.ReadError.TheVariants.{NoMemory, NoPage}
 use Rattle.hc_types.specs.FlashEntry.{FlashEntry}
@@ -37,9 +38,19 @@ number_at w bytes = if nat_lt (length bytes) (byte_len w) then None else Some (f
 abbrev pub key_at : List ℕ → Option (List ℕ)
 key_at bytes = if length bytes == 0 then None else Some bytes
 
+-- what stands before an entry's key
+abbrev pub head_at : List ℕ → Option (Head × List ℕ)
+head_at bytes =
+    byte_at bytes >>= λ k. byte_at k.1 >>= λ p. number_at w16 p.1 >>= λ v. number_at w64 v.1 >>= λ x. Some (record { key_len = k.0; pool = p.0; value_len = v.0; expiry = x.0 }, x.1)
+
 -- a key of so many bytes, and the bytes behind it
 abbrev pub key_behind : ℕ → List ℕ → Option (List ℕ × List ℕ)
 key_behind n bytes = part_at n bytes >>= λ text. key_at text.0 >>= λ key. Some (key, text.1)
+
+-- the entry with this head
+abbrev pub headed_at : Head → List ℕ → Option (FlashEntry × List ℕ)
+headed_at head bytes =
+    part_at head.key_len bytes >>= λ text. part_at head.value_len text.1 >>= λ value. key_at text.0 >>= λ key. Some (record { key = key; value = value.0; pool = head.pool; expiry = head.expiry }, value.1)
 
 unfoldable pub entry_at : List ℕ → Option (FlashEntry × List ℕ)
 entry_at bytes = do

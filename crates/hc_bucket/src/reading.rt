@@ -4,9 +4,9 @@ ghost use Rattle.std.specs.List.{list_any, list_all};
 ghost use Rattle.std.specs.Cmp.Lexicographic.{pointwise};
 ghost use Rattle.hc_types.specs.FlashEntry.{FlashEntry, entry_of, entries_of};
 ghost use Rattle.hc_bucket.specs.Page.{distinct, Fits, IsPage};
-ghost use Rattle.hc_bucket.specs.Reading.{Gives, key_at, key_behind, entry_at, entries_at, body_at, keys_differ, whole_at, content_at, page_at};
+ghost use Rattle.hc_bucket.specs.Reading.{Gives, key_at, key_behind, headed_at, entry_at, entries_at, body_at, keys_differ, whole_at, content_at, page_at};
 
-use crate::fields::{take_part, take_u8, take_u16, take_u64};
+use crate::fields::{Head, take_head, take_part, take_u16};
 use crate::read_error::ReadError;
 use bytes::Bytes;
 use hc_types::{Entry, Key, SHORT_KEY_MAX};
@@ -16,21 +16,24 @@ use std::alloc::{AllocError, Allocator};
 const LEAST_ENTRY: usize = 13;
 
 /// The entry at the front.
-#[tactic(auto, unfolding(crate::specs::Reading::entry_at))]
 fn take_entry<A: Allocator>(rest: &mut Bytes<A>) -> Result<Entry<A>, ReadError>
     ensures { Gives (λ entry. (entry_of entry, rest.new)) result (entry_at rest.old) }
 {
-    let key_len = take_u8(rest)?;
-    let pool = take_u8(rest)?;
-    let value_len = take_u16(rest)?;
-    let expiry = take_u64(rest)?;
-    let key = take_key(rest, key_len as usize)?;
-    let value = take_part(rest, value_len as usize)?;
+    let head = take_head(rest)?;
+    take_headed(rest, &head)
+}
+
+/// The rest of an entry with this head.
+fn take_headed<A: Allocator>(rest: &mut Bytes<A>, head: &Head) -> Result<Entry<A>, ReadError>
+    ensures { Gives (λ entry. (entry_of entry, rest.new)) result (headed_at head.now rest.old) }
+{
+    let key = take_key(rest, head.key_len as usize)?;
+    let value = take_part(rest, head.value_len as usize)?;
     Ok(Entry {
         key,
         value,
-        pool,
-        expiry,
+        pool: head.pool,
+        expiry: head.expiry,
     })
 }
 

@@ -1,28 +1,26 @@
 // Entries written as a page.
 ghost use Rattle.std.specs.Prelude.{◌≡◌, ◌<◌, ◌≤◌, ◌^◌, ◌++◌, length, drop, OnOk, IfOk};
 ghost use Rattle.std.specs.List.{AllByRecursion};
-ghost use Rattle.std.specs.Int.{w16, w64, to_be_bytes};
+ghost use Rattle.std.specs.Int.{w16, to_be_bytes};
 ghost use Rattle.hc_types.specs.FlashEntry.{entry_of, entries_of};
-ghost use Rattle.hc_bucket.specs.Page.{entry_bytes, entries_bytes, page_bytes, IsSmall, Fits};
+ghost use Rattle.hc_bucket.specs.Page.{head_bytes, entry_bytes, entries_bytes, page_bytes, IsSmall, Fits};
 
+use crate::fields::HEAD;
 use byteorder::{BigEndian, ByteOrder};
 use hc_types::Entry;
 use std::alloc::{AllocError, Allocator};
 
-fn put_u16<A: Allocator + Clone>(page: &mut Vec<u8, A>, number: u16) -> Result<(), AllocError>
-    ensures { OnOk result (page.new.items ≡ page.old.items ++ to_be_bytes w16 number) }
+/// What stands before the key of this entry.
+fn head_of<A: Allocator>(entry: &Entry<A>) -> [u8; HEAD]
+    requires { length entry.now.value < 2 ^ 16 }
+    ensures { result ≡ head_bytes (entry_of entry.now) }
 {
-    let mut bytes = [0; 2];
-    BigEndian::write_u16(&mut bytes, number);
-    page.extend_from_slice(&bytes)
-}
-
-fn put_u64<A: Allocator + Clone>(page: &mut Vec<u8, A>, number: u64) -> Result<(), AllocError>
-    ensures { OnOk result (page.new.items ≡ page.old.items ++ to_be_bytes w64 number) }
-{
-    let mut bytes = [0; 8];
-    BigEndian::write_u64(&mut bytes, number);
-    page.extend_from_slice(&bytes)
+    let mut head = [0; HEAD];
+    head[0] = entry.key.len() as u8;
+    head[1] = entry.pool;
+    BigEndian::write_u16(&mut head[2..], entry.value.len() as u16);
+    BigEndian::write_u64(&mut head[4..], entry.expiry);
+    head
 }
 
 fn put_entry<A: Allocator + Clone>(
@@ -32,10 +30,7 @@ fn put_entry<A: Allocator + Clone>(
     requires { length entry.now.value < 2 ^ 16 }
     ensures { OnOk result (page.new.items ≡ page.old.items ++ entry_bytes (entry_of entry.now)) }
 {
-    page.push(entry.key.len() as u8)?;
-    page.push(entry.pool)?;
-    put_u16(page, entry.value.len() as u16)?;
-    put_u64(page, entry.expiry)?;
+    page.extend_from_slice(&head_of(entry))?;
     page.extend_from_slice(entry.key.as_slice())?;
     page.extend_from_slice(entry.value.as_slice())?;
     Ok(())
