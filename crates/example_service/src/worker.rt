@@ -1,19 +1,13 @@
 // The worker of a cache: it takes jobs, does their operations on the device, and hands in what came of them.
 use hc_core::{Core, Counting, IoResult, Order, Refusal, Take, Unfinished};
-use hc_flash::{Flash, MemFlash};
+use hc_flash::{MemFlash, perform};
 use std::alloc::{AllocError, Global};
 
-// The device does one operation. One that it can't do, for want of memory too, has failed: the cache does without it.
+// The device does one operation. One that it can't do for want of memory has failed: the cache does without it.
 fn operate(device: &mut MemFlash, order: &Order) -> IoResult {
-    match order {
-        Order::Read(page) => match device.read(*page) {
-            Ok(bytes) => IoResult::Page(bytes),
-            Err(_) => IoResult::Failed,
-        },
-        Order::Write(page, bytes) => match device.write(*page, bytes.as_slice()) {
-            Ok(()) => IoResult::Written,
-            Err(_) => IoResult::Failed,
-        },
+    match perform(device, order) {
+        Ok(came) => came,
+        Err(_) => IoResult::Failed,
     }
 }
 
