@@ -26,6 +26,7 @@ static void check_empty(void) {
     kilambosetry_cache cache = KILAMBOSETRY_NONE;
     kilambosetry_value value = KILAMBOSETRY_NONE;
     kilambosetry_counts_t counts;
+    kilambosetry_losses_t losses;
     kilambosetry_usage_t usage;
     uint8_t out[4];
     kilambosetry_operation operation = {7, false};
@@ -39,6 +40,7 @@ static void check_empty(void) {
     CHECK(kilambosetry_tick(&cache, 1) == KILAMBOSETRY_EMPTY);
     CHECK(kilambosetry_calls(&cache, &calls) == KILAMBOSETRY_EMPTY);
     CHECK(kilambosetry_counts(&cache, &counts) == KILAMBOSETRY_EMPTY);
+    CHECK(kilambosetry_losses(&cache, &losses) == KILAMBOSETRY_EMPTY);
     CHECK(kilambosetry_usage(&cache, 0, &usage) == KILAMBOSETRY_EMPTY);
     CHECK(kilambosetry_value_length(&value, &len) == KILAMBOSETRY_EMPTY);
     CHECK(kilambosetry_value_copy(&value, 0, out, sizeof out, &len) == KILAMBOSETRY_EMPTY);
@@ -102,10 +104,17 @@ static void check_items(void) {
     kilambosetry_free(&cache);
 }
 
+/* The losses of all reasons. */
+static uint64_t all(const kilambosetry_losses_t *losses) {
+    return losses->no_flash + losses->tombstone + losses->not_admitted + losses->too_large + losses->queue_full + losses->expired
+           + losses->bucket_full + losses->reclaimed + losses->no_clean_region + losses->collision + losses->fault;
+}
+
 /* Five items in a pool for four: the one that was used longest ago goes, and each count is told. */
 static void check_counts(void) {
     kilambosetry_cache cache = KILAMBOSETRY_NONE;
     kilambosetry_counts_t counts;
+    kilambosetry_losses_t losses;
     kilambosetry_usage_t usage;
     const char *keys[] = {"a", "b", "c", "d", "e"};
     uint8_t out[8];
@@ -121,6 +130,8 @@ static void check_counts(void) {
     CHECK(kilambosetry_counts(&cache, &counts) == KILAMBOSETRY_DONE);
     CHECK(counts.stored == 5 && counts.hits == 1 && counts.misses == 1 && counts.removes == 1);
     CHECK(counts.losses == 1 && counts.reads == 0 && counts.writes == 0);
+    CHECK(kilambosetry_losses(&cache, &losses) == KILAMBOSETRY_DONE);
+    CHECK(losses.no_flash == 1 && all(&losses) == 1);
     CHECK(kilambosetry_usage(&cache, 0, &usage) == KILAMBOSETRY_DONE);
     CHECK(usage.limit_bytes == 200 && usage.limit_items == 4 && usage.bytes == 3 * 34 && usage.items == 3);
     CHECK(usage.open_bytes == 0 && usage.open_items == 0);
@@ -245,6 +256,7 @@ static void check_adds_and_faults(void) {
     kilambosetry_cache cache = KILAMBOSETRY_NONE;
     kilambosetry_value value = KILAMBOSETRY_NONE;
     kilambosetry_counts_t counts;
+    kilambosetry_losses_t losses;
     uint8_t out[8] = {0};
     size_t len = 0;
     uint64_t call = 0;
@@ -266,6 +278,22 @@ static void check_adds_and_faults(void) {
     CHECK(kilambosetry_take_reply(&cache, call, &value) == KILAMBOSETRY_MISS && !value.full);
     CHECK(kilambosetry_counts(&cache, &counts) == KILAMBOSETRY_DONE);
     CHECK(counts.losses >= 1 && counts.reads >= 1 && counts.writes >= 1);
+    CHECK(kilambosetry_losses(&cache, &losses) == KILAMBOSETRY_DONE);
+    CHECK(losses.fault >= 1 && losses.no_flash == 0 && all(&losses) == counts.losses);
+    kilambosetry_free(&cache);
+}
+
+/* Items that find the queue full are told apart from those that a device loses. */
+static void check_full_queue(void) {
+    kilambosetry_cache cache = KILAMBOSETRY_NONE;
+    kilambosetry_flash short_queue = flash;
+    kilambosetry_losses_t losses;
+    const char *keys[] = {"a", "b", "c", "d"};
+    short_queue.queue = 1;
+    CHECK(kilambosetry_new_with_flash(&cache, one_item, 1, &short_queue) == KILAMBOSETRY_DONE);
+    for (int i = 0; i < 4; i++) CHECK(kilambosetry_set(&cache, 0, BYTES(keys[i]), BYTES("v"), 0) == KILAMBOSETRY_DONE);
+    CHECK(kilambosetry_losses(&cache, &losses) == KILAMBOSETRY_DONE);
+    CHECK(losses.queue_full == 2 && all(&losses) == 2);
     kilambosetry_free(&cache);
 }
 
@@ -290,6 +318,7 @@ int main(void) {
     check_new_with_flash();
     check_flash();
     check_adds_and_faults();
+    check_full_queue();
     check_words();
     printf("%d checks, %d failed\n", checks, failures);
     return failures == 0 ? 0 : 1;

@@ -77,6 +77,21 @@ typedef struct {
     uint64_t writes;
 } kilambosetry_counts_t;
 
+/* How many losses came of each reason, together those of the counts. A loss is an item, or what stood on a page of flash. */
+typedef struct {
+    uint64_t no_flash;        /* evicted to make room: there is no flash */
+    uint64_t tombstone;       /* evicted: its key waits to be deleted from flash */
+    uint64_t not_admitted;    /* evicted: shorter or longer than what is admitted to flash */
+    uint64_t too_large;       /* evicted: longer than a region */
+    uint64_t queue_full;      /* evicted: as many items as may be wait for flash */
+    uint64_t expired;         /* evicted when it was expired */
+    uint64_t bucket_full;     /* pushed out of a bucket's page by a newer item */
+    uint64_t reclaimed;       /* lost with a region that was given up to be written anew */
+    uint64_t no_clean_region; /* not written: no region was clean */
+    uint64_t collision;       /* another key of the same kept hash was written or deleted */
+    uint64_t fault;           /* the device failed */
+} kilambosetry_losses_t;
+
 /* The limits of a pool, what its items take, and what is taken by items that aren't in it yet: none, between two calls. */
 typedef struct {
     uint64_t limit_bytes;
@@ -191,6 +206,9 @@ uint8_t kilambosetry_calls(kilambosetry_cache *cache, uint64_t *calls);
 
 /* Tells the seven counts. */
 uint8_t kilambosetry_counts(kilambosetry_cache *cache, kilambosetry_counts_t *counts);
+
+/* Tells how many losses came of each reason. */
+uint8_t kilambosetry_losses(kilambosetry_cache *cache, kilambosetry_losses_t *losses);
 
 /* Tells the usage of a pool. */
 uint8_t kilambosetry_usage(kilambosetry_cache *cache, uint8_t pool, kilambosetry_usage_t *usage);

@@ -1,5 +1,5 @@
 use crate::library::{self, Handle};
-use crate::{done, found, Cache, Counts, Pool, Refused, Usage, Value};
+use crate::{done, found, Cache, Counts, Losses, Pool, Refused, Usage, Value};
 use std::io;
 
 const WAITS: u8 = 103;
@@ -222,6 +222,11 @@ impl HybridCache {
     /// What was done so far.
     pub fn counts(&mut self) -> Counts {
         self.cache.counts()
+    }
+
+    /// How many losses came of each reason.
+    pub fn losses(&mut self) -> Losses {
+        self.cache.losses()
     }
 
     /// The usage of the pool with this number.

@@ -78,6 +78,35 @@ pub struct Counts {
     pub writes: u64,
 }
 
+/// How many losses came of each reason, together those of [`Counts`]. A loss is an item, or what stood on a page of flash.
+#[repr(C)]
+#[derive(Clone, Copy, Debug, Default, PartialEq, Eq)]
+#[must_use]
+pub struct Losses {
+    /// Evicted to make room: there is no flash.
+    pub no_flash: u64,
+    /// Evicted: its key waits to be deleted from flash.
+    pub tombstone: u64,
+    /// Evicted: shorter or longer than what is admitted to flash.
+    pub not_admitted: u64,
+    /// Evicted: longer than a region.
+    pub too_large: u64,
+    /// Evicted: as many items as may be wait for flash.
+    pub queue_full: u64,
+    /// Evicted when it was expired.
+    pub expired: u64,
+    /// Pushed out of a bucket's page by a newer item.
+    pub bucket_full: u64,
+    /// Lost with a region that was given up to be written anew.
+    pub reclaimed: u64,
+    /// Not written: no region was clean.
+    pub no_clean_region: u64,
+    /// Another key of the same kept hash was written or deleted.
+    pub collision: u64,
+    /// The device failed.
+    pub fault: u64,
+}
+
 /// The limits of a pool, what its items take, and what is taken by items that aren't in it yet: none, between two calls.
 #[repr(C)]
 #[derive(Clone, Copy, Debug, Default, PartialEq, Eq)]
@@ -252,6 +281,23 @@ impl Cache {
         // SAFETY: as in `calls`.
         unsafe { library::kilambosetry_counts(&mut self.0, &mut counts) };
         counts
+    }
+
+    /// How many losses came of each reason.
+    ///
+    /// ```
+    /// # use kilambosetry::{Cache, Pool, Refused};
+    /// # let mut cache = Cache::new(&[Pool { bytes: 1000, items: 1 }])?;
+    /// cache.set(0, b"one", b"value", 0)?;
+    /// cache.set(0, b"two", b"value", 0)?;
+    /// assert_eq!(cache.losses().no_flash, 1);
+    /// # Ok::<(), Refused>(())
+    /// ```
+    pub fn losses(&mut self) -> Losses {
+        let mut losses = Losses::default();
+        // SAFETY: as in `calls`.
+        unsafe { library::kilambosetry_losses(&mut self.0, &mut losses) };
+        losses
     }
 
     /// The usage of the pool with this number.

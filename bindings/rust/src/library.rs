@@ -91,5 +91,6 @@ extern "C" {
     pub fn kilambosetry_value_free(value: *mut Handle);
     pub fn kilambosetry_calls(cache: *mut Handle, calls: *mut u64) -> u8;
     pub fn kilambosetry_counts(cache: *mut Handle, counts: *mut crate::Counts) -> u8;
+    pub fn kilambosetry_losses(cache: *mut Handle, losses: *mut crate::Losses) -> u8;
     pub fn kilambosetry_usage(cache: *mut Handle, pool: u8, usage: *mut crate::Usage) -> u8;
 }

@@ -1,5 +1,5 @@
 //! What the wrapper answers.
-use kilambosetry::{Added, Cache, Came, Device, Flash, Found, HybridCache, Operation, Pool, Refused, Reply, Take};
+use kilambosetry::{Added, Cache, Came, Device, Flash, Found, HybridCache, Losses, Operation, Pool, Refused, Reply, Take};
 use std::error::Error;
 use std::io;
 use std::sync::{Arc, Mutex};
@@ -34,6 +34,7 @@ fn items_that_were_used_longest_ago_go() {
     assert!(cache.get(b"a").unwrap().is_some());
     let counts = cache.counts();
     assert_eq!((counts.stored, counts.hits, counts.misses, counts.losses), (5, 2, 1, 1));
+    assert_eq!(cache.losses(), Losses { no_flash: 1, ..Losses::default() });
     assert_eq!(cache.calls(), 8);
 }
 
@@ -183,6 +184,8 @@ fn what_a_device_loses_is_a_miss_and_a_loss() {
     cache.work(&mut device).unwrap();
     assert!(matches!(cache.take_reply(call).unwrap(), Reply::Miss));
     assert!(cache.counts().losses >= 1);
+    assert!(cache.losses().fault >= 1);
+    assert_eq!(cache.losses().queue_full, 0);
 }
 
 #[test]

@@ -1,27 +1,16 @@
--- What each call on a cache does, by the status that it answers. The losses that it tells are counted, and kept no longer.
+-- What each call on a cache does, by the status that it answers. What it tells is counted, and its losses by their reasons too.
 use Rattle.std.specs.Prelude.{◌≡◌, ◌≢◌, ◌⊎◌, ◌<◌, ℕ, List, [], ◌++◌, length, drop, Option, Some, None}
 use Rattle.hc_types.specs.Limits.{key_refusal}
 use Rattle.hc_types.specs.declared.refusal.Refusal.{Refusal}
 use Rattle.hc_types.specs.declared.refusal.Refusal.TheVariants.{Exists, NoMemory, NoPool}
 use Rattle.hc_history.specs.Note as note
-use Rattle.hc_history.specs.Told.{told_more, losses_taken}
-use Rattle.hc_machine.specs.Cache.{Cache, Moved, Answer, Replied, Refused as RefusedBy, Waits as WaitsFor, Moment, Discarded}
+use Rattle.hc_machine.specs.Cache.{Moved, Replied, Refused as RefusedBy, Waits as WaitsFor, Moment, Discarded}
 use Rattle.hc_machine.specs.Evicting.{allocate}
 use Rattle.hc_machine.specs.Calls.{find, remove, tick}
 use Rattle.hc_core.specs.Logged.{Logged, IsCall}
 use Rattle.hc_core.specs.Plain.{set_step, add_step, give_up_step, MayRefuse, MayRefuseNew}
 use Rattle.hc_c.specs.declared.status.Status.{Status}
 use Rattle.hc_c.specs.declared.status.Status.TheVariants.{Done, Refused, Miss, Short, Waits}
-
--- the losses were taken
-abbrev pub forgotten : Logged → Logged
-forgotten logged = record logged { log = losses_taken logged.log }
-
--- a call is the machine's step, and the losses that it told were taken
-pub record Forgets (moved : Moved) (answer : Answer) (old new : Logged) : Type 0 where
-  pub cache : new.cache ≡ moved.cache
-  pub answer_is : answer ≡ moved.answer
-  pub log : new.log ≡ losses_taken (told_more old.log moved.part)
 
 -- why a call by a key is refused that needs nothing else
 abbrev pub WhyKey : List ℕ → Refusal → Type 0
@@ -31,10 +20,10 @@ WhyKey key refusal = (key_refusal key ≡ Some refusal) ⊎ ((key_refusal key �
 
 abbrev pub SetRefused : ℕ → List ℕ → List ℕ → ℕ → Refusal → Logged → Logged → Type 0
 SetRefused pool key value ttl refusal old new =
-    (new ≡ forgotten old) ⊎ (Forgets (give_up_step pool key value ttl old.cache) Discarded old new × (refusal ≡ NoMemory))
+    (new ≡ old) ⊎ (IsCall (give_up_step pool key value ttl old.cache) Discarded old new × (refusal ≡ NoMemory))
 
 abbrev pub Sets : ℕ → List ℕ → List ℕ → ℕ → Status → Logged → Logged → Type 0
-Sets pool key value ttl Done old new = Forgets (set_step pool key value ttl old.cache) (Replied note.Stored) old new × (key_refusal key ≡ None)
+Sets pool key value ttl Done old new = IsCall (set_step pool key value ttl old.cache) (Replied note.Stored) old new × (key_refusal key ≡ None)
 Sets pool key value ttl (Refused refusal) old new =
     SetRefused pool key value ttl refusal old new
     × ((key_refusal key ≡ Some refusal) ⊎ ((key_refusal key ≡ None) × MayRefuse (allocate pool key value ttl old.cache).answer refusal))
@@ -43,16 +32,16 @@ Sets pool key value ttl status old new = ⊥
 -- a call of an add that waits
 pub record AddWaits (moved : Moved) (old new : Logged) : Type 0 where
   pub call : ℕ
-  pub waits : Forgets moved (WaitsFor call) old new
+  pub waits : IsCall moved (WaitsFor call) old new
 
 abbrev pub AddRefused : ℕ → List ℕ → List ℕ → ℕ → Refusal → Logged → Logged → Type 0
 AddRefused pool key value ttl refusal old new =
-    ((new ≡ forgotten old) × (refusal ≢ Exists))
-    ⊎ ((Forgets (add_step pool key value ttl old.cache) (RefusedBy Exists) old new × (refusal ≡ Exists))
-    ⊎ (Forgets (give_up_step pool key value ttl old.cache) Discarded old new × (refusal ≡ NoMemory)))
+    ((new ≡ old) × (refusal ≢ Exists))
+    ⊎ ((IsCall (add_step pool key value ttl old.cache) (RefusedBy Exists) old new × (refusal ≡ Exists))
+    ⊎ (IsCall (give_up_step pool key value ttl old.cache) Discarded old new × (refusal ≡ NoMemory)))
 
 abbrev pub Adds : ℕ → List ℕ → List ℕ → ℕ → Status → Logged → Logged → Type 0
-Adds pool key value ttl Done old new = Forgets (add_step pool key value ttl old.cache) (Replied note.Stored) old new × (key_refusal key ≡ None)
+Adds pool key value ttl Done old new = IsCall (add_step pool key value ttl old.cache) (Replied note.Stored) old new × (key_refusal key ≡ None)
 Adds pool key value ttl Waits old new = AddWaits (add_step pool key value ttl old.cache) old new × (key_refusal key ≡ None)
 Adds pool key value ttl (Refused refusal) old new =
     AddRefused pool key value ttl refusal old new
@@ -97,9 +86,9 @@ Gets key was is status old new = FindsNone key status old new × (is ≡ was)
 -- ---- delete
 
 abbrev pub Deletes : List ℕ → Status → Logged → Logged → Type 0
-Deletes key Done old new = Forgets (remove 0 key old.cache) (Replied note.FoundInMemory) old new
-Deletes key Miss old new = Forgets (remove 0 key old.cache) (Replied note.NotInMemory) old new
-Deletes key (Refused refusal) old new = (new ≡ forgotten old) × WhyKey key refusal
+Deletes key Done old new = IsCall (remove 0 key old.cache) (Replied note.FoundInMemory) old new
+Deletes key Miss old new = IsCall (remove 0 key old.cache) (Replied note.NotInMemory) old new
+Deletes key (Refused refusal) old new = (new ≡ old) × WhyKey key refusal
 Deletes key status old new = ⊥
 
 -- ---- the clock

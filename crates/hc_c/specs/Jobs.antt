@@ -8,9 +8,9 @@ use Rattle.hc_machine.specs.Takes as takes
 use Rattle.hc_machine.specs.Takes.{Take, Work}
 use Rattle.hc_machine.specs.Workers.{reclaim, finish}
 use Rattle.hc_machine.specs.World.{order_in}
-use Rattle.hc_core.specs.Logged.{Logged}
+use Rattle.hc_core.specs.Logged.{Logged, IsCall}
 use Rattle.hc_core.specs.Plain.{MayRefuse}
-use Rattle.hc_c.specs.Calls.{Forgets, Buffer, Copies}
+use Rattle.hc_c.specs.Calls.{Buffer, Copies}
 use Rattle.hc_c.specs.declared.jobs.Operation.{Operation}
 use Rattle.hc_c.specs.declared.status.Status.{Status}
 use Rattle.hc_c.specs.declared.status.Status.TheVariants.{Done, Refused, Idle, Finished}
@@ -24,23 +24,23 @@ TellsTake (Work job order) was is status = (status ≡ Done) × (is ≡ job)
 -- a job waits for an order
 pub record Works (moved : Moved) (job : ℕ) (old new : Logged) : Type 0 where
   pub order : Order
-  pub call : Forgets moved (Took (Work job order)) old new
+  pub call : IsCall moved (Took (Work job order)) old new
 
 -- what a worker takes: the number of the job that goes on is told
 abbrev pub Takes : (Cache → Moved) → ℕ → ℕ → Status → Logged → Logged → Type 0
 Takes step was is Done old new = Works (step old.cache) is old new
-Takes step was is Idle old new = Forgets (step old.cache) (Took takes.Idle) old new × (is ≡ was)
-Takes step was is Finished old new = Forgets (step old.cache) (Took takes.Finished) old new × (is ≡ was)
+Takes step was is Idle old new = IsCall (step old.cache) (Took takes.Idle) old new × (is ≡ was)
+Takes step was is Finished old new = IsCall (step old.cache) (Took takes.Finished) old new × (is ≡ was)
 Takes step was is (Refused refusal) old new = (new ≡ old) × ((refusal ≡ NoMemory) × (is ≡ was))
 Takes step was is status old new = ⊥
 
 pub record GivesUp (old new : Logged) : Type 0 where
   pub region : ℕ
-  pub call : Forgets (reclaim old.cache) (Reclaimed (Some region)) old new
+  pub call : IsCall (reclaim old.cache) (Reclaimed (Some region)) old new
 
 abbrev pub Reclaims : Status → Logged → Logged → Type 0
 Reclaims Done old new = GivesUp old new
-Reclaims Idle old new = Forgets (reclaim old.cache) (Reclaimed None) old new
+Reclaims Idle old new = IsCall (reclaim old.cache) (Reclaimed None) old new
 Reclaims (Refused refusal) old new = (new ≡ old) × (refusal ≡ NoMemory)
 Reclaims status old new = ⊥
 
@@ -52,8 +52,8 @@ pub record GoesOn (moved : Moved) (old new : Logged) : Type 0 where
 -- what comes of a result that is handed in
 abbrev pub Finishes : ℕ → IoResult → Status → Logged → Logged → Type 0
 Finishes job came Done old new = GoesOn (finish job came old.cache) old new
-Finishes job came Idle old new = Forgets (finish job came old.cache) (Took takes.Idle) old new
-Finishes job came Finished old new = Forgets (finish job came old.cache) (Took takes.Finished) old new
+Finishes job came Idle old new = IsCall (finish job came old.cache) (Took takes.Idle) old new
+Finishes job came Finished old new = IsCall (finish job came old.cache) (Took takes.Finished) old new
 Finishes job came (Refused refusal) old new = (new ≡ old) × MayRefuse (finish job came old.cache).answer refusal
 Finishes job came status old new = ⊥
 

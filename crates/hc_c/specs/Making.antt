@@ -1,12 +1,13 @@
 -- What a new cache is.
-use Rattle.std.specs.Prelude.{◌≡◌, ◌⊎◌, ℕ, List, [], map, Option, Some, None}
+use Rattle.std.specs.Prelude.{◌≡◌, ◌⊎◌, ℕ, List, map, Option, Some, None}
 use Rattle.hc_types.specs.Config.{Config}
 use Rattle.hc_types.specs.Limits.{first_wrong}
 use Rattle.hc_types.specs.declared.config.FlashConfig.{FlashConfig}
 use Rattle.hc_types.specs.declared.config.PoolSize.{PoolSize}
 use Rattle.hc_types.specs.declared.refusal.Refusal.{Refusal}
 use Rattle.hc_types.specs.declared.refusal.Refusal.TheVariants.{NoMemory}
-use Rattle.hc_history.specs.Told.{Counts, no_counts}
+use Rattle.hc_history.specs.Losses.{no_losses}
+use Rattle.hc_history.specs.Told.{Sums, no_counts}
 use Rattle.hc_machine.specs.Cache.{new_cache}
 use Rattle.hc_c.specs.declared.cache.Cache.{Cache}
 use Rattle.hc_c.specs.declared.making.Flash.{Flash}
@@ -37,7 +38,7 @@ config_of pools flash = record { pools = map size_of pools; flash = flash }
 
 -- an empty cache, of whose log nothing was told
 abbrev pub fresh : Config → Cache
-fresh config = record { core = record { cache = new_cache config; log = Counts no_counts [] } }
+fresh config = record { core = record { cache = new_cache config; log = Sums no_counts no_losses } }
 
 -- why none is made: for the first number that is wrong, or for want of memory
 abbrev pub MayNotMake : Config → Refusal → Type 0

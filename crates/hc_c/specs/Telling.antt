@@ -1,12 +1,15 @@
 -- What a cache tells of itself.
 use Rattle.std.specs.Prelude.{◌≡◌, ℕ, List, Option, Some, None}
 use Rattle.hc_types.specs.declared.refusal.Refusal.TheVariants.{NoPool}
-use Rattle.hc_history.specs.Told.{Heard, Counts as HeardCounts}
+use Rattle.hc_history.specs.Losses.{total_lost}
+use Rattle.hc_history.specs.Told.{Heard, Sums}
+use Rattle.hc_history.specs.declared.losses.Losses.{Losses}
 use Rattle.hc_history.specs.declared.stats.Stats.{Stats}
 use Rattle.hc_memory.specs.declared.usage.PoolUsage.{PoolUsage}
 use Rattle.hc_memory.specs.Memory.{pool_usage}
 use Rattle.hc_core.specs.Logged.{Logged}
 use Rattle.hc_c.specs.declared.telling.Counts.{Counts}
+use Rattle.hc_c.specs.declared.telling.LossCounts.{LossCounts}
 use Rattle.hc_c.specs.declared.telling.Usage.{Usage}
 use Rattle.hc_c.specs.declared.status.Status.{Status}
 use Rattle.hc_c.specs.declared.status.Status.TheVariants.{Done, Refused}
@@ -24,12 +27,36 @@ counts_of counts = record {
 
 -- the log was counted so
 abbrev pub AreCounts : Heard → Stats → Type 0
-AreCounts (HeardCounts counts losses) stats = stats ≡ counts
+AreCounts (Sums counts losses) stats = stats ≡ counts
 AreCounts heard stats = ⊥
 
 abbrev pub Counted : Counts → Status → Logged → Logged → Type 0
 Counted counts Done old new = (new ≡ old) × AreCounts old.log (counts_of counts)
 Counted counts status old new = ⊥
+
+abbrev pub losses_of : LossCounts → Losses
+losses_of losses = record {
+  no_flash = losses.no_flash;
+  tombstone = losses.tombstone;
+  not_admitted = losses.not_admitted;
+  too_large = losses.too_large;
+  queue_full = losses.queue_full;
+  expired = losses.expired;
+  bucket_full = losses.bucket_full;
+  reclaimed = losses.reclaimed;
+  no_clean_region = losses.no_clean_region;
+  collision = losses.collision;
+  fault = losses.fault;
+}
+
+-- the losses of the log came of these reasons, and of no other
+abbrev pub AreLosses : Heard → Losses → Type 0
+AreLosses (Sums counts losses) told = (told ≡ losses) × (total_lost told ≡ counts.losses)
+AreLosses heard told = ⊥
+
+abbrev pub CountedLosses : LossCounts → Status → Logged → Logged → Type 0
+CountedLosses losses Done old new = (new ≡ old) × AreLosses old.log (losses_of losses)
+CountedLosses losses status old new = ⊥
 
 abbrev pub Called : ℕ → Status → Logged → Logged → Type 0
 Called calls Done old new = (new ≡ old) × (calls ≡ old.cache.calls)

@@ -1,9 +1,9 @@
 // What is in the box that C holds.
-use hc_core::{Core, Counting};
+use hc_core::{Core, Totals};
 
-/// A cache whose log is counted.
+/// A cache whose log is counted, and its losses by their reasons.
 pub struct Cache {
-    pub core: Core<Counting>,
+    pub core: Core<Totals>,
 }
 
 impl Drop for Cache {

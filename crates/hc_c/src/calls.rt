@@ -3,14 +3,13 @@ ghost use Rattle.std.specs.Prelude.{◌≡◌, ◌<◌, ◌≤◌};
 ghost use Rattle.hc_c.specs.Calls.{Sets, Adds, Gets, Copies, Deletes, MovesTo};
 
 use crate::status::Status;
-use hc_core::{Copied, Core, Counting, Inserted, Removed};
+use hc_core::{Copied, Core, Inserted, Removed, Totals};
 
 /// Stores a value in place of the key's.
-pub fn set(core: &mut Core<Counting>, pool: u8, key: &[u8], value: &[u8], ttl: u32) -> Status
+pub fn set(core: &mut Core<Totals>, pool: u8, key: &[u8], value: &[u8], ttl: u32) -> Status
     ensures { Sets pool key.now value.now ttl result core.old core.new }
 {
     let done = core.set(pool, key, value, ttl);
-    core.forget_losses();
     match done {
         Ok(()) => Status::Done,
         Err(refusal) => Status::Refused(refusal),
@@ -18,11 +17,10 @@ pub fn set(core: &mut Core<Counting>, pool: u8, key: &[u8], value: &[u8], ttl: u
 }
 
 /// Stores a value where the key has none.
-pub fn add(core: &mut Core<Counting>, pool: u8, key: &[u8], value: &[u8], ttl: u32) -> Status
+pub fn add(core: &mut Core<Totals>, pool: u8, key: &[u8], value: &[u8], ttl: u32) -> Status
     ensures { Adds pool key.now value.now ttl result core.old core.new }
 {
     let done = core.add(pool, key, value, ttl);
-    core.forget_losses();
     match done {
         Ok(Inserted::Stored) => Status::Done,
         Ok(Inserted::Waiting(_)) => Status::Waits,
@@ -57,7 +55,7 @@ fn tell(value: usize, room: usize, len: &mut usize) -> Status
 }
 
 /// Copies the value under the key to the head of a buffer, and tells its length.
-pub fn get(core: &mut Core<Counting>, key: &[u8], out: &mut [u8], len: &mut usize) -> Status
+pub fn get(core: &mut Core<Totals>, key: &[u8], out: &mut [u8], len: &mut usize) -> Status
     ensures { Gets key.now (record { bytes = out.old; len = len.old }) (record { bytes = out.new; len = len.new }) result core.old core.new }
 {
     match core.get_into(key, out) {
@@ -69,11 +67,10 @@ pub fn get(core: &mut Core<Counting>, key: &[u8], out: &mut [u8], len: &mut usiz
 }
 
 /// Takes the key's item out of the cache, and says whether there was one.
-pub fn delete(core: &mut Core<Counting>, key: &[u8]) -> Status
+pub fn delete(core: &mut Core<Totals>, key: &[u8]) -> Status
     ensures { Deletes key.now result core.old core.new }
 {
     let done = core.delete(key);
-    core.forget_losses();
     match done {
         Ok(Removed::FoundInMemory) => Status::Done,
         Ok(Removed::NotInMemory) => Status::Miss,
@@ -82,7 +79,7 @@ pub fn delete(core: &mut Core<Counting>, key: &[u8]) -> Status
 }
 
 /// Moves the clock on to the moment.
-pub fn tick(core: &mut Core<Counting>, moment: u64) -> Status
+pub fn tick(core: &mut Core<Totals>, moment: u64) -> Status
     ensures { MovesTo moment result core.old core.new }
 {
     match core.tick(moment) {

@@ -9,7 +9,7 @@ ghost use Rattle.hc_c.specs.Jobs.{TellsTake, Takes, Reclaims, Finishes, TellsOrd
 
 use crate::calls::copy;
 use crate::status::Status;
-use hc_core::{Core, Counting, IoResult, Order, Refusal, Take, Unfinished};
+use hc_core::{Core, IoResult, Order, Refusal, Take, Totals, Unfinished};
 
 /// A device operation on a page of flash.
 #[repr(C)]
@@ -36,55 +36,42 @@ fn tell_take(take: Take, job: &mut u64) -> Status
 }
 
 /// The writer takes what is next, and is told the job's number.
-pub fn writer_take(core: &mut Core<Counting>, job: &mut u64) -> Status
+pub fn writer_take(core: &mut Core<Totals>, job: &mut u64) -> Status
     ensures { Takes writer_step job.old job.new result core.old core.new }
 {
     match core.writer_take() {
-        Ok(take) => {
-            core.forget_losses();
-            tell_take(take, job)
-        }
+        Ok(take) => tell_take(take, job),
         Err(refusal) => Status::Refused(refusal),
     }
 }
 
 /// The filler takes what is next, and is told the job's number.
-pub fn filler_take(core: &mut Core<Counting>, job: &mut u64) -> Status
+pub fn filler_take(core: &mut Core<Totals>, job: &mut u64) -> Status
     ensures { Takes filler_step job.old job.new result core.old core.new }
 {
     match core.filler_take() {
-        Ok(take) => {
-            core.forget_losses();
-            tell_take(take, job)
-        }
+        Ok(take) => tell_take(take, job),
         Err(refusal) => Status::Refused(refusal),
     }
 }
 
 /// Gives up the region that was written first, where too few are clean.
-pub fn reclaim(core: &mut Core<Counting>) -> Status
+pub fn reclaim(core: &mut Core<Totals>) -> Status
     ensures { Reclaims result core.old core.new }
 {
     match core.reclaim() {
-        Ok(Some(_)) => {
-            core.forget_losses();
-            Status::Done
-        }
-        Ok(None) => {
-            core.forget_losses();
-            Status::Idle
-        }
+        Ok(Some(_)) => Status::Done,
+        Ok(None) => Status::Idle,
         Err(refusal) => Status::Refused(refusal),
     }
 }
 
 /// Hands in what came of the operation for which the job waits.
-pub fn finish(core: &mut Core<Counting>, job: u64, came: IoResult) -> Status
+pub fn finish(core: &mut Core<Totals>, job: u64, came: IoResult) -> Status
     ensures { Finishes job (result_of came) result core.old core.new }
 {
     match core.finish(job, came) {
         Ok(take) => {
-            core.forget_losses();
             let mut next = job;
             tell_take(take, &mut next)
         }
@@ -119,7 +106,7 @@ fn tell_order(order: &Order, told: &mut Operation, out: &mut [u8], len: &mut usi
 
 /// Tells the operation for which the job waits.
 pub fn order(
-    core: &Core<Counting>,
+    core: &Core<Totals>,
     job: u64,
     told: &mut Operation,
     out: &mut [u8],

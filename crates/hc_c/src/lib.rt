@@ -29,7 +29,8 @@ pub use making::{Flash, Pool, kilambosetry_free, kilambosetry_new, kilambosetry_
 pub use reading::Reading;
 pub use status::Status;
 pub use telling::{
-    Counts, Usage, kilambosetry_calls, kilambosetry_counts, kilambosetry_tick, kilambosetry_usage,
+    Counts, LossCounts, Usage, kilambosetry_calls, kilambosetry_counts, kilambosetry_losses,
+    kilambosetry_tick, kilambosetry_usage,
 };
 pub use value_handle::ValueHandle;
 pub use values::{

@@ -8,7 +8,7 @@ ghost use Rattle.hc_c.specs.Statuses.{Says};
 use crate::cache::Cache;
 use crate::cache_handle::CacheHandle;
 use crate::status::Status;
-use hc_core::{Config, Core, Counting, FlashConfig, PoolSize, Refusal};
+use hc_core::{Config, Core, FlashConfig, PoolSize, Refusal, Totals};
 use std::alloc::{AllocError, Global};
 
 /// The limits of a pool: 64 to 4,294,967,296 bytes, and 1 to 1,048,576 items.
@@ -74,7 +74,7 @@ fn boxed(alloc: Global, config: &Config) -> Result<Box<Cache>, Refusal>
     ensures fits { OnOk result (first_wrong config.now ≡ None) }
     ensures err { IfErr result (λ refusal. MayNotMake config.now refusal) }
 {
-    let core = Core::new(alloc, config, Counting::new(alloc))?;
+    let core = Core::new(alloc, config, Totals::new())?;
     match Box::new(alloc, Cache { core }) {
         Ok(cache) => Ok(cache),
         Err(_) => Err(Refusal::NoMemory),

@@ -1,13 +1,13 @@
 // What a cache tells of itself, and its clock.
 ghost use Rattle.std.specs.Prelude.{◌≡◌};
 ghost use Rattle.hc_c.specs.Calls.{MovesTo};
-ghost use Rattle.hc_c.specs.Telling.{Counted, Called, Used, counts_of, IsUsage};
+ghost use Rattle.hc_c.specs.Telling.{Counted, CountedLosses, Called, Used, counts_of, losses_of, IsUsage};
 ghost use Rattle.hc_c.specs.Statuses.{OnCache};
 
 use crate::cache_handle::CacheHandle;
 use crate::calls;
 use crate::status::Status;
-use hc_core::{Core, Counting, PoolUsage, Stats};
+use hc_core::{Core, Losses, PoolUsage, Stats, Totals};
 use hc_types::Refusal;
 use std::alloc::Global;
 
@@ -41,6 +41,44 @@ impl Counts {
     }
 }
 
+/// How many losses came of each reason: items that were evicted and have no copy on flash (`no_flash` to `expired`), and
+/// forgettings on flash. They add up to the losses of the counts.
+#[repr(C)]
+#[derive(Clone, Copy)]
+pub struct LossCounts {
+    pub no_flash: u64,
+    pub tombstone: u64,
+    pub not_admitted: u64,
+    pub too_large: u64,
+    pub queue_full: u64,
+    pub expired: u64,
+    pub bucket_full: u64,
+    pub reclaimed: u64,
+    pub no_clean_region: u64,
+    pub collision: u64,
+    pub fault: u64,
+}
+
+impl LossCounts {
+    fn of(losses: Losses) -> LossCounts
+        ensures { losses_of result ≡ losses }
+    {
+        LossCounts {
+            no_flash: losses.no_flash,
+            tombstone: losses.tombstone,
+            not_admitted: losses.not_admitted,
+            too_large: losses.too_large,
+            queue_full: losses.queue_full,
+            expired: losses.expired,
+            bucket_full: losses.bucket_full,
+            reclaimed: losses.reclaimed,
+            no_clean_region: losses.no_clean_region,
+            collision: losses.collision,
+            fault: losses.fault,
+        }
+    }
+}
+
 /// The limits of a pool, what its items are charged, and what is charged for items that aren't in it yet.
 #[repr(C)]
 #[derive(Clone, Copy)]
@@ -68,21 +106,28 @@ impl Usage {
     }
 }
 
-fn tell_calls(core: &Core<Counting>, calls: &mut u64) -> Status
+fn tell_calls(core: &Core<Totals>, calls: &mut u64) -> Status
     ensures { Called calls.new result core.now core.now }
 {
     *calls = core.calls();
     Status::Done
 }
 
-fn tell_counts(core: &Core<Counting>, counts: &mut Counts) -> Status
+fn tell_counts(core: &Core<Totals>, counts: &mut Counts) -> Status
     ensures { Counted counts.new result core.now core.now }
 {
-    *counts = Counts::of(core.notes().counts);
+    *counts = Counts::of(core.notes().counts());
     Status::Done
 }
 
-fn tell_usage(core: &Core<Counting>, pool: u8, usage: &mut Usage) -> Status
+fn tell_losses(core: &Core<Totals>, losses: &mut LossCounts) -> Status
+    ensures { CountedLosses losses.new result core.now core.now }
+{
+    *losses = LossCounts::of(core.notes().losses());
+    Status::Done
+}
+
+fn tell_usage(core: &Core<Totals>, pool: u8, usage: &mut Usage) -> Status
     ensures { Used pool usage.old usage.new result core.now core.now }
 {
     let pools = core.pools();
@@ -132,6 +177,23 @@ pub extern "C" fn kilambosetry_counts(
         return Status::Empty.number();
     };
     let status = tell_counts(&cache.core, counts);
+    handle.put(cache);
+    status.number()
+}
+
+/// Tells how many losses came of each reason.
+#[unsafe(no_mangle)]
+pub extern "C" fn kilambosetry_losses(
+    alloc: Global,
+    handle: &mut CacheHandle,
+    losses: &mut LossCounts,
+) -> u8
+    ensures { OnCache handle.old.seat.cache handle.new.seat.cache result (CountedLosses losses.new) }
+{
+    let Some(cache) = handle.take(alloc) else {
+        return Status::Empty.number();
+    };
+    let status = tell_losses(&cache.core, losses);
     handle.put(cache);
     status.number()
 }

@@ -9,7 +9,7 @@ use crate::reading::Reading;
 use crate::status::Status;
 use crate::value_handle::ValueHandle;
 use bytes::Bytes;
-use hc_core::{Core, Counting, Found, Refusal, Reply};
+use hc_core::{Core, Found, Refusal, Reply, Totals};
 use std::alloc::Global;
 
 // Room for what is handed out: it is made first, so that what a call brought isn't lost for want of memory.
@@ -31,7 +31,7 @@ fn hand_out(value: &mut ValueHandle, mut room: Box<Reading>, bytes: Bytes)
     *value = ValueHandle::of(room);
 }
 
-fn read(core: &mut Core<Counting>, alloc: Global, key: &[u8], value: &mut ValueHandle) -> Status
+fn read(core: &mut Core<Totals>, alloc: Global, key: &[u8], value: &mut ValueHandle) -> Status
     ensures { Reads key.now value.old.seat.value value.new.seat.value result core.old core.new }
 {
     let room = match make_room(alloc) {
@@ -49,7 +49,7 @@ fn read(core: &mut Core<Counting>, alloc: Global, key: &[u8], value: &mut ValueH
     }
 }
 
-fn reply(core: &mut Core<Counting>, alloc: Global, call: u64, value: &mut ValueHandle) -> Status
+fn reply(core: &mut Core<Totals>, alloc: Global, call: u64, value: &mut ValueHandle) -> Status
     ensures { Replies call value.old.seat.value value.new.seat.value result core.old core.new }
 {
     let room = match make_room(alloc) {

@@ -8,7 +8,7 @@ use Rattle.hc_memory.specs.Item.{Open, Handle, charge_by}
 use Rattle.hc_memory.specs.Charges.{is_open}
 use Rattle.hc_memory.proofs.Books.{is_open-found, count-closed}
 use Rattle.hc_history.specs.Note.{Note, Insert, Stored}
-use Rattle.hc_history.specs.Told.{Heard, Nothing, Log, Counts, IfLog, told_more}
+use Rattle.hc_history.specs.Told.{Heard, Nothing, Log, Counts, Sums, IfLog, told_more}
 use Rattle.hc_machine.specs.Cache.{Cache, Moved, new_cache, Refused, Replied, answers, stays, and_then}
 use Rattle.hc_machine.specs.Waiting.{live}
 use Rattle.hc_machine.specs.Calls.{begin, is_known, is_kept_in, store, insert_or_replace, in_memory, add, insert}
@@ -99,6 +99,7 @@ IsGuarded heard cache = IfLog heard (λ log. Guarded cache.config log cache)
 pub stays-guarded : (event : Event) (heard : Heard) (cache : Cache) → EventFits event → AreShort cache.memory.charges → IsGuarded heard cache → IsGuarded (told_more heard (act event cache).part) (act event cache).cache
 stays-guarded event Nothing cache fits short g = tt
 stays-guarded event (Counts counts losses) cache fits short g = tt
+stays-guarded event (Sums counts losses) cache fits short g = tt
 stays-guarded event (Log log) cache fits short g = each event log cache fits short g
 
 pub guarded-as : (heard heard' : Heard) (cache cache' : Cache) → heard' ≡ heard → cache' ≡ cache → IsGuarded heard cache → IsGuarded heard' cache'
@@ -107,4 +108,5 @@ guarded-as heard heard' cache cache' h c g = subst (λ (x : Cache). IsGuarded he
 pub new-guarded : (config : Config) (heard : Heard) → first_wrong config ≡ None → IfLog heard (λ log. log ≡ []) → IsGuarded heard (new_cache config)
 new-guarded config Nothing right empty = tt
 new-guarded config (Counts counts losses) right empty = tt
+new-guarded config (Sums counts losses) right empty = tt
 new-guarded config (Log log) right empty = subst (λ (l : List Note). Guarded config l (new_cache config)) (sym empty) (theorem.new_stands config right)

@@ -7,7 +7,7 @@ use Rattle.hc_memory.specs.Item.{Handle}
 use Rattle.hc_history.specs.Note.{Note, Stored}
 use Rattle.hc_types.specs.Config.{Config}
 use Rattle.hc_types.specs.Limits.{first_wrong}
-use Rattle.hc_history.specs.Told.{Heard, Nothing, Log, Counts, IfLog, is_log, told_more}
+use Rattle.hc_history.specs.Told.{Heard, Nothing, Log, Counts, Sums, IfLog, is_log, told_more}
 use Rattle.hc_machine.specs.Cache.{Cache, Moved, Answer, Refused, Opened, Discarded, Replied, Waits, Moment, Took, Reclaimed, new_cache}
 use Rattle.hc_machine.specs.Evicting.{allocate}
 use Rattle.hc_machine.specs.Calls.{insert_or_replace, discard}
@@ -124,6 +124,7 @@ unheard : (heard : Heard) (part : List Note) (P : List Note → Type 0) → is_l
 unheard Nothing part P e = tt
 unheard (Log log) part P e = absurd cc
 unheard (Counts counts losses) part P e = tt
+unheard (Sums counts losses) part P e = tt
 
 module _ (pool : ℕ) (key value : List ℕ) (ttl : ℕ) (old new : Whole) (plain : is_plain old.log old.cache ≡ true) (h : Holds old) where
   inserted_holds : (insert : Handle → Cache → Moved) (answer : Answer) → ((handle : Handle) (cache : Cache) → Structured cache → Structured (insert handle cache).cache) → ((handle : Handle) (cache : Cache) → OwesBegun cache → OwesBegun (insert handle cache).cache)

@@ -16,7 +16,8 @@ pub use laws::{steps_are_legal, unread_logs_are_honest};
 // The types of the calls' signatures, so that a caller needs no other crate.
 pub use hc_flash::{IoResult, Order};
 pub use hc_history::{
-    Counting, Kept, Kind, Listener, Note, Notes, Op, Reply, Said, Says, Silent, Stats,
+    Counting, Kept, Kind, Listener, Losses, Note, Notes, Op, Reason, Reply, Said, Says, Silent,
+    Stats, Totals,
 };
 pub use hc_memory::{Blank, Fill, PoolUsage, Pools, ReadHandle, Sealed, Uncharged, Usage};
 pub use hc_nvm::{Take, Unfinished};

@@ -1,7 +1,6 @@
 -- A step's part that is lawful by the books of a legal log extends it.
 use Rattle.std.proofs.Common.{◌≡◌, inl, inr, ℕ, Bool, true, false, List, [], ◌∷◌, ◌++◌, Option, Some, None, refl, subst, sym}
 use Rattle.std.specs.Prelude.{IsSomeAnd, not, ◌||◌}
-use Rattle.std.specs.List.{list_all}
 use Rattle.hc_types.specs.Config.{Config}
 use Rattle.hc_types.specs.declared.config.FlashConfig.{FlashConfig}
 use Rattle.hc_types.specs.Loss as loss

@@ -8,7 +8,9 @@ use Rattle.hc_history.specs.Note.{Op, Note, Begin, Charged, Did, Reply, Stored, 
 use Rattle.hc_history.specs.Stats.{is_stored, is_hit, is_miss, is_removed, is_loss, is_read, is_write}
 use Rattle.hc_history.specs.declared.stats.Stats.{Stats}
 use Rattle.hc_history.specs.declared.stats.Kind.{Kind}
-use Rattle.hc_history.specs.Told.{Heard, Nothing, Log, Counts, told_more, told_count, counts_more, counts_one, kind_of, is_log, losses_of, where_kept}
+use Rattle.hc_history.specs.declared.losses.Losses.{Losses}
+use Rattle.hc_history.specs.Losses.{losses_more, losses_if, reason_in}
+use Rattle.hc_history.specs.Told.{Heard, Nothing, Log, Counts, Sums, told_more, told_count, counts_more, counts_one, kind_of, is_log, losses_of, losses_count, where_kept}
 
 -- ---- counts
 
@@ -48,6 +50,10 @@ pub losses-append : (xs ys : List Note) → losses_of (xs ++ ys) ≡ losses_of x
 losses-append [] ys = refl
 losses-append (note ∷ xs) ys = losses_step note xs ys (is_loss note) (losses-append xs ys)
 
+pub losses-twice : (losses : Losses) (a b : List Note) → losses_more (losses_more losses a) b ≡ losses_more losses (a ++ b)
+losses-twice losses [] b = refl
+losses-twice losses (note ∷ a) b = losses-twice (losses_if losses (reason_in note)) a b
+
 -- ---- what is heard
 
 -- one part after another
@@ -55,12 +61,14 @@ pub told-twice : (heard : Heard) (a b : List Note) → told_more (told_more hear
 told-twice Nothing a b = refl
 told-twice (Log log) a b = ap (λ ns. Log ns) (append_assoc log a b)
 told-twice (Counts counts losses) a b = λ i. Counts (counts-twice counts a b i) ((append_assoc losses (losses_of a) (losses_of b) ∙ ap (λ ns. losses ++ ns) (sym (losses-append a b))) i)
+told-twice (Sums counts losses) a b = λ i. Sums (counts-twice counts a b i) (losses-twice losses a b i)
 
 -- nothing is told
 pub told-nothing : (heard : Heard) → told_more heard [] ≡ heard
 told-nothing Nothing = refl
 told-nothing (Log log) = ap (λ ns. Log ns) (append-nil log)
 told-nothing (Counts counts losses) = λ i. Counts (counts-none counts i) (append-nil losses i)
+told-nothing (Sums counts losses) = ap (λ s. Sums s losses) (counts-none counts)
 
 none_first : (n m : ℕ) → n + m ≡ n + (0 + m)
 none_first n m = omega arith
@@ -95,6 +103,8 @@ told-begin Nothing call client op rest = refl
 told-begin (Log log) call client op rest = ap (λ ns. Log ns) (append_assoc log (Begin call client op ∷ []) rest)
 told-begin (Counts counts losses) call client op rest =
     ap (λ h. told_more h rest) (told-nothing (Counts counts losses)) ∙ ap (λ s. Counts s (losses ++ losses_of rest)) (counts-begin counts call client op rest)
+told-begin (Sums counts losses) call client op rest =
+    ap (λ h. told_more h rest) (told-nothing (Sums counts losses)) ∙ ap (λ s. Sums s (losses_more losses rest)) (counts-begin counts call client op rest)
 
 -- ---- answers
 
@@ -173,8 +183,26 @@ counts-kind counts call reply kind e = ap (counts_if counts) (sym e) ∙ counts-
 none_lost : (call : ℕ) (reply : Reply) → [] ≡ losses_of (Did call reply ∷ [])
 none_lost call reply = refl
 
+-- what is counted of the losses, of an answer
+abbrev losses_count_if : Losses → Option Kind → Losses
+losses_count_if losses None = losses
+losses_count_if losses (Some kind) = losses_count losses kind
+
+-- nothing, for an answer is no loss
+none_counted : (losses : Losses) (reply : Reply) → losses_count_if losses (kind_of reply) ≡ losses
+none_counted losses Stored = refl
+none_counted losses Exists = refl
+none_counted losses (Hit value) = refl
+none_counted losses Miss = refl
+none_counted losses FoundInMemory = refl
+none_counted losses NotInMemory = refl
+
+answer_no_loss : (losses : Losses) (reply : Reply) (kind : Kind) → kind_of reply ≡ Some kind → losses_count losses kind ≡ losses
+answer_no_loss losses reply kind e = ap (losses_count_if losses) (sym e) ∙ none_counted losses reply
+
 -- and heard so, where its note isn't kept
 pub told-did : (heard : Heard) (call : ℕ) (reply : Reply) (kind : Kind) → is_log heard ≡ false → kind_of reply ≡ Some kind → told_count heard kind ≡ told_more heard (Did call reply ∷ [])
 told-did Nothing call reply kind e is = refl
 told-did (Log log) call reply kind e is = absurd cc
 told-did (Counts counts losses) call reply kind e is = λ i. Counts (counts-kind counts call reply kind is i) ((sym (append-nil losses) ∙ ap (λ ns. losses ++ ns) (none_lost call reply)) i)
+told-did (Sums counts losses) call reply kind e is = λ i. Sums (counts-kind counts call reply kind is i) (answer_no_loss losses reply kind is i)

@@ -8,4 +8,5 @@ pub mod Lawful
 pub mod Honest
 pub mod Stats
 pub mod Counts
+pub mod Losses
 pub mod Told

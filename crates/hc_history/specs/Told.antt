@@ -1,5 +1,5 @@
 -- What is heard of a log, which may not be kept.
-use Rattle.std.specs.Prelude.{ℕ, ◌+◌, ◌-◌, ◌^◌, Bool, true, false, List, [], ◌++◌, filter, Option, Some, None}
+use Rattle.std.specs.Prelude.{◌≡◌, ℕ, ◌+◌, ◌-◌, ◌^◌, Bool, true, false, List, [], ◌++◌, filter, Option, Some, None}
 use Rattle.hc_types.specs.Tally.{count}
 use Rattle.hc_history.specs.Note.{Note, Reply}
 use Rattle.hc_history.specs.Note as note
@@ -7,6 +7,8 @@ use Rattle.hc_history.specs.Stats.{is_stored, is_hit, is_miss, is_removed, is_lo
 use Rattle.hc_history.specs.declared.stats.Stats.{Stats}
 use Rattle.hc_history.specs.declared.stats.Kind.{Kind}
 use Rattle.hc_history.specs.declared.stats.Kind.TheVariants.{Stored, Hit, Miss, Removed, Lost, Read, Written}
+use Rattle.hc_history.specs.declared.losses.Losses.{Losses}
+use Rattle.hc_history.specs.Losses.{losses_more, losses_one, total_lost}
 
 pub data Heard : Type 0 where
   -- nothing
@@ -15,6 +17,8 @@ pub data Heard : Type 0 where
   Log : (log : List Note) → Heard
   -- its counts, and the losses that weren't taken yet
   Counts : (counts : Stats) (losses : List Note) → Heard
+  -- its counts, and how many losses came of each reason
+  Sums : (counts : Stats) (losses : Losses) → Heard
 
 -- these counts, and those of a part
 abbrev pub counts_more : Stats → List Note → Stats
@@ -37,6 +41,7 @@ abbrev pub told_more : Heard → List Note → Heard
 told_more Nothing part = Nothing
 told_more (Log log) part = Log (log ++ part)
 told_more (Counts counts losses) part = Counts (counts_more counts part) (losses ++ losses_of part)
+told_more (Sums counts losses) part = Sums (counts_more counts part) (losses_more losses part)
 
 -- one more of this kind
 abbrev pub counts_one : Stats → Kind → Stats
@@ -44,7 +49,7 @@ counts_one counts Stored = record counts { stored = counts.stored + 1 }
 counts_one counts Hit = record counts { hits = counts.hits + 1 }
 counts_one counts Miss = record counts { misses = counts.misses + 1 }
 counts_one counts Removed = record counts { removes = counts.removes + 1 }
-counts_one counts Lost = record counts { losses = counts.losses + 1 }
+counts_one counts (Lost reason) = record counts { losses = counts.losses + 1 }
 counts_one counts Read = record counts { reads = counts.reads + 1 }
 counts_one counts Written = record counts { writes = counts.writes + 1 }
 
@@ -57,15 +62,27 @@ kind_of note.Miss = Some Miss
 kind_of note.FoundInMemory = Some Removed
 kind_of note.NotInMemory = Some Removed
 
+-- the losses by their reasons, once something of this kind is counted
+abbrev pub losses_count : Losses → Kind → Losses
+losses_count losses (Lost reason) = losses_one losses reason
+losses_count losses kind = losses
+
 -- what is heard once something of this kind is counted, where its note isn't kept
 abbrev pub told_count : Heard → Kind → Heard
 told_count (Counts counts losses) kind = Counts (counts_one counts kind) losses
+told_count (Sums counts losses) kind = Sums (counts_one counts kind) (losses_count losses kind)
 told_count heard kind = heard
 
 -- the whole log is kept
 abbrev pub is_log : Heard → Bool
 is_log (Log log) = true
 is_log heard = false
+
+-- the note of a loss is kept: a loss isn't only counted
+abbrev pub keeps_losses : Heard → Bool
+keeps_losses (Log log) = true
+keeps_losses (Counts counts losses) = true
+keeps_losses heard = false
 
 -- something is heard of it
 abbrev pub Hears : Heard → Type 0
@@ -97,3 +114,12 @@ left_to_count counts = 2 ^ 64 - 1 - total counts
 
 abbrev pub no_counts : Stats
 no_counts = record { stored = 0; hits = 0; misses = 0; removes = 0; losses = 0; reads = 0; writes = 0 }
+
+-- counts, and the losses in them by their reasons
+pub record Summed : Type 0 where
+  pub counts : Stats
+  pub losses : Losses
+
+-- the reasons add up to the losses
+abbrev pub AddUp : Summed → Type 0
+AddUp summed = total_lost summed.losses ≡ summed.counts.losses

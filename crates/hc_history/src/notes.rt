@@ -1,9 +1,13 @@
 // Whom the notes are told.
 ghost use Rattle.std.specs.Prelude.{◌≡◌, ℕ, ◌+◌, ◌-◌, ◌^◌, ◌<◌, ◌≤◌, List, [], ◌∷◌, ◌++◌, min, OnOk, OnErr, IfOk, vec_len, vec_capacity};
-ghost use Rattle.hc_history.specs.Told.{Heard, Nothing, Log, Counts, told_more, told_count, is_log, Hears, left_to_count, no_counts};
+ghost use Rattle.hc_types.specs.Loss.{scope_of, cause_of};
+ghost use Rattle.hc_history.specs.Note.{Lose};
+ghost use Rattle.hc_history.specs.Told.{Heard, Nothing, Log, Counts, told_more, told_count, is_log, keeps_losses as are_losses_kept, Hears, left_to_count, no_counts};
 
-use crate::note::{Note, Says};
+use crate::losses::Reason;
+use crate::note::{Note, Said, Says};
 use crate::stats::{Kind, Stats, is_loss};
+use hc_types::{Cause, Scope};
 use std::alloc::{AllocError, Allocator, Global};
 use std::fmt;
 use std::marker::PhantomData;
@@ -20,6 +24,10 @@ pub trait Listener: Drop {
     /// Whether notes are kept. Where they aren't, those that copy a key or a value need not be made.
     fn keeps(&self) -> bool
         ensures { result ≡ is_log (told self.now) };
+
+    /// Whether losses are kept. Where they aren't, a loss is counted, and its note need not be made.
+    fn keeps_losses(&self) -> bool
+        ensures { result ≡ are_losses_kept (told self.now) };
 
     /// Makes room for `n` notes, and takes none away. It fails only where something is heard.
     fn reserve(&mut self, n: usize) -> Result<(), AllocError>
@@ -42,6 +50,22 @@ pub trait Notes<T: Says>: Listener {
         requires { 0 < Self.room self.old }
         ensures told { Self.told self.new ≡ told_more (Self.told self.old) (T.says note ∷ []) }
         ensures room { Self.room self.old ≤ Self.room self.new + 1 };
+}
+
+/// Tells that the covered keys are forgotten, and why: by a note where losses are kept, else by a count.
+pub fn tell_loss<A: Allocator, N: Notes<Note<A>>>(notes: &mut N, scope: Scope<A>, cause: Cause<A>)
+    requires { 0 < N.room notes.old }
+    ensures told { N.told notes.new ≡ told_more (N.told notes.old) (Lose (scope_of scope) (cause_of cause) ∷ []) }
+    ensures room { N.room notes.old ≤ N.room notes.new + 1 }
+{
+    if notes.keeps_losses() {
+        notes.note(Note::new(Said::Lose { scope, cause }));
+        return;
+    }
+    let reason = Reason::of(&cause);
+    drop(cause);
+    drop(scope);
+    notes.count(Kind::Lost(reason));
 }
 
 /// Keeps every note. A call takes some 480 bytes for its notes, and a find looks its value up twice, since its note
@@ -69,6 +93,10 @@ impl<A: Allocator> Listener for Kept<A> {
     ghost room = { λ k. vec_capacity k.notes - vec_len k.notes };
 
     fn keeps(&self) -> bool {
+        true
+    }
+
+    fn keeps_losses(&self) -> bool {
         true
     }
 
@@ -117,6 +145,10 @@ impl<A: Allocator> Listener for Silent<A> {
     ghost room = { λ _. 2 ^ 64 };
 
     fn keeps(&self) -> bool {
+        false
+    }
+
+    fn keeps_losses(&self) -> bool {
         false
     }
 
@@ -169,6 +201,10 @@ impl<A: Allocator> Listener for Counting<A> {
 
     fn keeps(&self) -> bool {
         false
+    }
+
+    fn keeps_losses(&self) -> bool {
+        true
     }
 
     fn reserve(&mut self, n: usize) -> Result<(), AllocError> {

@@ -6,6 +6,7 @@ ghost use Rattle.hc_history.specs.Seen.{reply_of};
 ghost use Rattle.hc_history.specs.Stats as spec;
 ghost use Rattle.hc_history.specs.Stats.{counts_of};
 
+use crate::losses::Reason;
 use crate::note::{Note, Reply, Said};
 use crate::notes::Kept;
 use std::alloc::Allocator;
@@ -61,7 +62,8 @@ pub enum Kind {
     Hit,
     Miss,
     Removed,
-    Lost,
+    /// Something is forgotten, for this reason.
+    Lost(Reason),
     Read,
     Written,
 }
@@ -91,7 +93,7 @@ impl Stats {
             Kind::Hit => self.hits += 1,
             Kind::Miss => self.misses += 1,
             Kind::Removed => self.removes += 1,
-            Kind::Lost => self.losses += 1,
+            Kind::Lost(_) => self.losses += 1,
             Kind::Read => self.reads += 1,
             Kind::Written => self.writes += 1,
         }
@@ -116,7 +118,7 @@ impl Stats {
     {
         match &note.said {
             Said::Did { reply, .. } => self.answered(reply),
-            Said::Lose { .. } => self.count(Kind::Lost),
+            Said::Lose { cause, .. } => self.count(Kind::Lost(Reason::of(cause))),
             Said::Read { .. } => self.count(Kind::Read),
             Said::Wrote { .. } => self.count(Kind::Written),
             _ => {}

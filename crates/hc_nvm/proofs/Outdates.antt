@@ -4,7 +4,7 @@ use Rattle.std.specs.Prelude.{is_some}
 use Rattle.hc_engines.specs.large.Index.{Indexed, place_at, without}
 use Rattle.hc_engines.specs.pair.Pair.{Pair, hash_in, take_index}
 use Rattle.hc_engines.proofs.large.Lists.{place_at-without}
-use Rattle.hc_history.specs.Told.{Heard, Nothing, Log, Counts, told_more, is_log}
+use Rattle.hc_history.specs.Told.{Heard, Nothing, Log, Counts, Sums, told_more, is_log}
 use Rattle.hc_history.specs.Note.{Note}
 use Rattle.hc_history.proofs.Telling.{told-nothing}
 use Rattle.hc_machine.specs.Nvm.{Nvm, is_due}
@@ -21,6 +21,7 @@ pub log_more : (heard : Heard) (part : List Note) → is_log (told_more heard pa
 log_more Nothing part = refl
 log_more (Log log) part = refl
 log_more (Counts counts losses) part = refl
+log_more (Sums counts losses) part = refl
 
 -- ---- a plan goes on serving where puts come or go
 

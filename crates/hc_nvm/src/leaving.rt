@@ -16,7 +16,7 @@ ghost use Rattle.hc_nvm.specs.Leaving.{unqueued};
 use crate::nvm::Nvm;
 use crate::telling::{lost, tell};
 use hc_bighash::Loss;
-use hc_history::{Note, Notes, Said};
+use hc_history::{Note, Notes, Said, tell_loss};
 use hc_memory::Pools;
 use hc_types::{Cause, Entry, Key, Scope, Why};
 use std::alloc::Allocator;
@@ -129,7 +129,7 @@ impl<A: Allocator + Clone + Copy> Nvm<A> {
                 drop(note);
                 drop(entry);
                 let scope = Scope::Key(copy);
-                notes.note(Note::new(Said::Lose { scope, cause }));
+                tell_loss(notes, scope, cause);
             }
             None => {
                 self.queue.push(copy, entry);

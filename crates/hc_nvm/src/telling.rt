@@ -8,7 +8,7 @@ ghost use Rattle.hc_machine.specs.Takes.{region_note, loss_notes};
 ghost use Rattle.hc_memory.specs.Memory.{after_unmark};
 
 use hc_bighash::Loss;
-use hc_history::{Note, Notes, Said};
+use hc_history::{Note, Notes, Said, tell_loss};
 use hc_memory::Pools;
 use hc_types::Key;
 use std::alloc::Allocator;
@@ -88,7 +88,7 @@ pub(crate) fn lost<A: Allocator + Clone, N: Notes<Note<A>>>(
 {
     let Loss { scope, cause } = loss;
     pools.unmark(&scope);
-    notes.note(Note::new(Said::Lose { scope, cause }));
+    tell_loss(notes, scope, cause);
 }
 
 /// Tells these losses, in order.

@@ -10,7 +10,8 @@ use Rattle.hc_types.proofs.Tallies.{find-none}
 use Rattle.hc_types.specs.Charge.{charge_of}
 use Rattle.hc_history.specs.Note.{Note, Charged}
 use Rattle.hc_history.specs.declared.stats.Stats.{Stats}
-use Rattle.hc_history.specs.Told.{Heard, Nothing, Log, Counts, told_more, where_kept, counts_more, losses_of}
+use Rattle.hc_history.specs.Losses.{losses_more}
+use Rattle.hc_history.specs.Told.{Heard, Nothing, Log, Counts, Sums, told_more, where_kept, counts_more, losses_of}
 use Rattle.hc_history.proofs.Telling.{told-twice, told-nothing, counts-charged}
 use Rattle.hc_memory.specs.Item.{Item, Open, Handle, charge_by}
 use Rattle.hc_memory.specs.Pool.{Pool, dropped}
@@ -78,6 +79,10 @@ charged-kept (Log log) number pool bytes key part = told-twice (Log log) part (C
 charged-kept (Counts counts losses) number pool bytes key part =
     told-nothing (told_more (Counts counts losses) part) ∙ charged_counts (counts_more counts part) (losses ++ losses_of part) number pool bytes key
     ∙ told-twice (Counts counts losses) part (Charged number key pool bytes ∷ [])
+charged-kept (Sums counts losses) number pool bytes key part =
+    told-nothing (told_more (Sums counts losses) part)
+    ∙ ap (λ (s : Stats). Sums s (losses_more losses part)) (sym (counts-charged (counts_more counts part) number pool bytes key))
+    ∙ told-twice (Sums counts losses) part (Charged number key pool bytes ∷ [])
 
 -- ---- the charge is open
 

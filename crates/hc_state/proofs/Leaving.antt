@@ -5,7 +5,7 @@ use mathlib.Core.Bool.{cond}
 use Rattle.hc_memory.specs.Item.{Item}
 use Rattle.hc_memory.specs.Memory.{Memory}
 use Rattle.hc_history.specs.Note.{Note, Freed, Queued}
-use Rattle.hc_history.specs.Told.{Heard, Nothing, Log, Counts, told_more, where_kept}
+use Rattle.hc_history.specs.Told.{Heard, Nothing, Log, Counts, Sums, told_more, where_kept}
 use Rattle.hc_history.proofs.Telling.{told-twice, told-nothing}
 use Rattle.hc_machine.specs.Nvm.{Nvm, put_at}
 use Rattle.hc_machine.specs.Cache.{Cache, Told, tells, with_memory}
@@ -52,6 +52,7 @@ pub kept-told : {X : Type 0} (heard : Heard) (part : List Note) (thing : X) → 
 kept-told Nothing part thing = refl
 kept-told (Log log) part thing = refl
 kept-told (Counts counts losses) part thing = refl
+kept-told (Sums counts losses) part thing = refl
 
 flash_by : (nvm : Option Nvm) (pool want : ℕ) (item : Item) (cache : Cache) → cache.nvm ≡ nvm → is_some (leaves_for nvm pool want item cache).cache.nvm ≡ is_some nvm
 flash_by None pool want item cache is = ap is_some is

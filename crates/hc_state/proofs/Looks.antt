@@ -6,7 +6,7 @@ use Rattle.hc_memory.specs.Item.{Item}
 use Rattle.hc_memory.specs.Pool.{Pool, item_at, unexpired, is_expired, used}
 use Rattle.hc_memory.specs.Memory.{Memory, has, linked_at, value_at, change_home, after_find}
 use Rattle.hc_history.specs.Note.{Note, Reply, Begin, Did, End, Find}
-use Rattle.hc_history.specs.Told.{Heard, Nothing, Log, Counts, told_more, kind_of, where_kept}
+use Rattle.hc_history.specs.Told.{Heard, Nothing, Log, Counts, Sums, told_more, kind_of, where_kept}
 use Rattle.hc_history.specs.declared.stats.Kind.{Kind}
 use Rattle.hc_history.proofs.Telling.{told-begin, told-did, told-nothing, told-twice}
 use Rattle.hc_machine.specs.Nvm.{Nvm}
@@ -53,6 +53,11 @@ told_found (Counts counts losses) call client key reply kind is =
     ap (λ h. told_more h (End call ∷ [])) (told-did heard call reply kind refl (sym is))
     ∙ told-twice heard (Did call reply ∷ []) (End call ∷ [])
     ∙ told-begin (Counts counts losses) call client (Find key) (Did call reply ∷ End call ∷ [])
+told_found (Sums counts losses) call client key reply kind is =
+    let heard : Heard = told_more (Sums counts losses) [] in
+    ap (λ h. told_more h (End call ∷ [])) (told-did heard call reply kind refl (sym is))
+    ∙ told-twice heard (Did call reply ∷ []) (End call ∷ [])
+    ∙ told-begin (Sums counts losses) call client (Find key) (Did call reply ∷ End call ∷ [])
 
 pub found-log : (log mid new : Heard) (begin did : Option Note) (call client : ℕ) (key : List ℕ) (reply : Reply) (kind : Kind) → mid ≡ log
     → begin ≡ where_kept mid (Begin call client (Find key)) → did ≡ where_kept mid (Did call reply) → Some kind ≡ kind_of reply

@@ -16,7 +16,7 @@ use Rattle.hc_memory.proofs.Making.{known, drop-dropped}
 use Rattle.hc_memory.proofs.Putting.{IsRoomy, room-made}
 use Rattle.hc_items.specs.Allocating.{refusal_of}
 use Rattle.hc_history.specs.Note.{Note, Stored}
-use Rattle.hc_history.specs.Told.{Heard, Nothing, Log, Counts, told_more, told_count, is_log}
+use Rattle.hc_history.specs.Told.{Heard, Nothing, Log, Counts, Sums, told_more, told_count, is_log}
 use Rattle.hc_history.specs.declared.stats.Kind.TheVariants as kind
 use Rattle.hc_history.proofs.Telling.{told-nothing}
 use Rattle.hc_machine.specs.Nvm.{Nvm, put_at}
@@ -38,6 +38,7 @@ plain_step : (nvm : Option Nvm) (log : Heard) → (not (is_some nvm) && not (is_
 plain_step None Nothing e = (refl, refl)
 plain_step None (Log log) e = absurd cc
 plain_step None (Counts counts losses) e = (refl, refl)
+plain_step None (Sums counts losses) e = (refl, refl)
 plain_step (Some nvm) log e = absurd cc
 
 pub plain-is : (log : Heard) (cache : Cache) → is_plain log cache ≡ true → (cache.nvm ≡ None) × (is_log log ≡ false)

@@ -1,7 +1,7 @@
 -- What a plan serves stays so while the key's put leaves, and what is kept of the log stays so.
 use Rattle.std.proofs.Common.{◌≡◌, ℕ, List, refl, ap, ◌∙◌, sym, subst}
 use Rattle.hc_history.specs.Note.{Note}
-use Rattle.hc_history.specs.Told.{Heard, Nothing, Log, Counts, told_more, is_log}
+use Rattle.hc_history.specs.Told.{Heard, Nothing, Log, Counts, Sums, told_more, is_log}
 use Rattle.hc_machine.specs.Cache.{Cache, Told}
 use Rattle.hc_nvm.specs.declared.outdating.Outdating.{Outdating}
 use Rattle.hc_state.specs.Outdating.{ServesIn}
@@ -11,6 +11,7 @@ log-stays : (heard : Heard) (part : List Note) → is_log (told_more heard part)
 log-stays Nothing part = refl
 log-stays (Log log) part = refl
 log-stays (Counts counts losses) part = refl
+log-stays (Sums counts losses) part = refl
 
 -- whether notes are kept doesn't change
 pub does-log : (told : Told) (cost : Costs) (old new : Whole) → Does told cost old new → is_log new.log ≡ is_log old.log

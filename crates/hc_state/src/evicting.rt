@@ -15,7 +15,7 @@ ghost use Rattle.hc_state.specs.Leaving.{leave_of, AreFor, keys_of, NoneWaits, o
 
 use crate::state::State;
 use crate::tells;
-use hc_history::{Note, Notes, Said};
+use hc_history::{Note, Notes, Said, tell_loss};
 use hc_memory::Item;
 use hc_types::{Cause, Config, Entry, Key, Scope, Why};
 use std::alloc::{AllocError, Allocator};
@@ -97,8 +97,7 @@ fn forgotten<A: Allocator, N: Notes<Note<A>>>(
         expiry: _,
         clean: _,
     } = item;
-    let scope = Scope::Key(key);
-    notes.note(Note::new(Said::Lose { scope, cause }));
+    tell_loss(notes, Scope::Key(key), cause);
 }
 
 /// The item as flash has it.

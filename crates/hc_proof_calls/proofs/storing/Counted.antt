@@ -4,7 +4,7 @@ use Rattle.hc_types.specs.Charge.{charge_of}
 use Rattle.hc_memory.specs.Item.{Item, Handle}
 use Rattle.hc_memory.specs.Memory.{Memory, linked_at}
 use Rattle.hc_history.specs.Note.{Note, Op, Insert, Stored, Freed, Charged, Begin, Linked, Did, End}
-use Rattle.hc_history.specs.Told.{Heard, Nothing, Log, Counts, told_more, told_count, is_log}
+use Rattle.hc_history.specs.Told.{Heard, Nothing, Log, Counts, Sums, told_more, told_count, is_log}
 use Rattle.hc_history.specs.declared.stats.Kind.TheVariants as kind
 use Rattle.hc_history.proofs.Telling.{told-twice, told-nothing, told-did}
 use Rattle.hc_machine.specs.Waiting.{freed_note}
@@ -14,26 +14,31 @@ told-charged : (heard : Heard) → is_log heard ≡ false → (n pool bytes : �
 told-charged Nothing e n pool bytes key = refl
 told-charged (Log log) e n pool bytes key = absurd cc
 told-charged (Counts counts losses) e n pool bytes key = told-nothing (Counts counts losses)
+told-charged (Sums counts losses) e n pool bytes key = told-nothing (Sums counts losses)
 
 told-begun : (heard : Heard) → is_log heard ≡ false → (call client : ℕ) (op : Op) → told_more heard (Begin call client op ∷ []) ≡ heard
 told-begun Nothing e call client op = refl
 told-begun (Log log) e call client op = absurd cc
 told-begun (Counts counts losses) e call client op = told-nothing (Counts counts losses)
+told-begun (Sums counts losses) e call client op = told-nothing (Sums counts losses)
 
 told-linked : (heard : Heard) → is_log heard ≡ false → (n : ℕ) → told_more heard (Linked n ∷ []) ≡ heard
 told-linked Nothing e n = refl
 told-linked (Log log) e n = absurd cc
 told-linked (Counts counts losses) e n = told-nothing (Counts counts losses)
+told-linked (Sums counts losses) e n = told-nothing (Sums counts losses)
 
 told-ended : (heard : Heard) → is_log heard ≡ false → (n : ℕ) → told_more heard (End n ∷ []) ≡ heard
 told-ended Nothing e n = refl
 told-ended (Log log) e n = absurd cc
 told-ended (Counts counts losses) e n = told-nothing (Counts counts losses)
+told-ended (Sums counts losses) e n = told-nothing (Sums counts losses)
 
 told-freed-one : (heard : Heard) → is_log heard ≡ false → (n : ℕ) → told_more heard (Freed n ∷ []) ≡ heard
 told-freed-one Nothing e n = refl
 told-freed-one (Log log) e n = absurd cc
 told-freed-one (Counts counts losses) e n = told-nothing (Counts counts losses)
+told-freed-one (Sums counts losses) e n = told-nothing (Sums counts losses)
 
 told-freed : (heard : Heard) → is_log heard ≡ false → (o : Option Item) → told_more heard (freed_note o) ≡ heard
 told-freed heard e None = told-nothing heard
@@ -43,6 +48,7 @@ still : (heard : Heard) → is_log heard ≡ false → is_log (told_count heard 
 still Nothing e = refl
 still (Log log) e = absurd cc
 still (Counts counts losses) e = refl
+still (Sums counts losses) e = refl
 
 -- a part of which nothing is heard
 past : (heard : Heard) (a rest : List Note) → told_more heard a ≡ heard → told_more heard (a ++ rest) ≡ told_more heard rest
@@ -67,6 +73,7 @@ pub more-quiet : (heard : Heard) (part : List Note) → is_log heard ≡ false �
 more-quiet Nothing part e = refl
 more-quiet (Log log) part e = absurd cc
 more-quiet (Counts counts losses) part e = refl
+more-quiet (Sums counts losses) part e = refl
 
 pub stored-after : (heard : Heard) (gone : List Note) (memory : Memory) (handle : Handle) (call : ℕ) → is_log heard ≡ false → told_count (told_more heard gone) kind.Stored ≡ told_more heard (gone ++ storing memory handle call)
 stored-after heard gone memory handle call e =

@@ -11,7 +11,6 @@ returns-clause-told g c =
     let log = g.N.Listener.told c.args.notes.now in
     let is = c.item.inside in
     let cause = cause_for c.args.now c.args.pool c.args.want c.args.item in
-    c.note.ensures.told
-    ∙ (λ i. told_more log (c.new.ensures i ∷ []))
+    c.tell_loss.ensures.told
     ∙ (λ i. told_more log (Lose (loss.Key is.key) (c.cause_for-cause.ensures i) ∷ []))
     ∙ ap (λ (x : Item). told_more log (Lose (loss.Key x.key) cause ∷ [])) c.item.view_is
