@@ -5,7 +5,7 @@ use Rattle.hc_types.specs.declared.refusal.Refusal.{Refusal}
 use Rattle.hc_types.specs.declared.refusal.Refusal.TheVariants.{NoMemory}
 use Rattle.hc_memory.specs.Item.{Handle}
 use Rattle.hc_memory.specs.Memory.{handle_for}
-use Rattle.hc_items.specs.Allocating.{refusal_of, expiry_of}
+use Rattle.hc_machine.specs.items.Allocating.{refusal_of, expiry_of}
 use Rattle.hc_machine.specs.Cache.{Cache, Moved, Answer, Opened, Discarded}
 use Rattle.hc_machine.specs.Evicting.{make_charge, allocate_by, allocate}
 use Rattle.hc_state.specs.Allocating.{Opens}

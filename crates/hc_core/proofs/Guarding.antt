@@ -13,10 +13,10 @@ use Rattle.hc_machine.specs.Cache.{Cache, Moved, new_cache, Refused, Replied, an
 use Rattle.hc_machine.specs.Waiting.{live}
 use Rattle.hc_machine.specs.Calls.{begin, is_known, is_kept_in, store, insert_or_replace, in_memory, add, insert}
 use Rattle.hc_invariant.specs.Good.{IsSized}
-use Rattle.hc_proof_calls.proofs.calls.Adds.{and_both}
-use Rattle.hc_proof_runs.specs.Events.{Event, EventSized, Allocates, Inserts, Adds, Discards, Finds, Removes, Replies, Ticks, Writes, Fills, Reclaims, Finishes, act}
-use Rattle.hc_proof_runs.specs.Lock.{Stands, Guarded}
-use Rattle.hc_theorem.proofs.WholeRuns as theorem
+use Rattle.hc_proof.proofs.calls.Adds.{and_both}
+use Rattle.hc_theorem.specs.runs.Events.{Event, EventSized, Allocates, Inserts, Adds, Discards, Finds, Removes, Replies, Ticks, Writes, Fills, Reclaims, Finishes, act}
+use Rattle.hc_theorem.specs.runs.Lock.{Stands, Guarded}
+use Rattle.hc_theorem.proofs.headlines.WholeRuns as theorem
 use Rattle.hc_core.specs.Events.{EventFits}
 use Rattle.hc_core.specs.Holds.{is_long, AreShort}
 

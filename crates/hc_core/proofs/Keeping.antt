@@ -13,10 +13,10 @@ use Rattle.hc_machine.specs.Evicting.{allocate}
 use Rattle.hc_machine.specs.Calls.{insert_or_replace, discard}
 use Rattle.hc_machine.specs.World.{then_inserted, inserted}
 use Rattle.hc_invariant.specs.Structure.{Structured}
-use Rattle.hc_proof_runs.specs.Lock.{Guarded}
-use Rattle.hc_proof_runs.specs.Events.{Event, Allocates, Inserts, Adds, Discards, Finds, Removes, Replies, Ticks, Writes, Fills, Reclaims, Finishes, act}
-use Rattle.hc_proof_structure.proofs.Calls as clients
-use Rattle.hc_proof_structure.proofs.Workers as workers
+use Rattle.hc_theorem.specs.runs.Lock.{Guarded}
+use Rattle.hc_theorem.specs.runs.Events.{Event, Allocates, Inserts, Adds, Discards, Finds, Removes, Replies, Ticks, Writes, Fills, Reclaims, Finishes, act}
+use Rattle.hc_proof.proofs.structure.Calls as clients
+use Rattle.hc_proof.proofs.structure.Workers as workers
 use Rattle.hc_state.specs.Owing.{OwesBegun}
 use Rattle.hc_state.specs.Setting.{set_step, give_up_step, is_plain}
 use Rattle.hc_state.specs.Whole.{Whole, Stays, IsStep, IsUnchanged}

@@ -6,8 +6,8 @@ use Rattle.hc_types.specs.Tally.{count}
 use Rattle.hc_memory.specs.Item.{Handle, charge_by}
 use Rattle.hc_memory.specs.Charges.{has_number}
 use Rattle.hc_memory.specs.Memory.{Memory, handle_for}
-use Rattle.hc_items.specs.Items.{items_of}
-use Rattle.hc_items.specs.Allocating.{expiry_of}
+use Rattle.hc_machine.specs.items.Items.{items_of}
+use Rattle.hc_machine.specs.items.Allocating.{expiry_of}
 use Rattle.hc_machine.specs.Nvm.{Nvm, Wish, ToFind, ToAdd, Waiter, Fill, adds}
 use Rattle.hc_machine.specs.Cache.{Cache}
 use Rattle.hc_machine.specs.Waiting.{free}
@@ -16,10 +16,10 @@ use Rattle.hc_machine.specs.Calls.{is_kept_in, is_known}
 use Rattle.hc_invariant.specs.Jobs.{WishHolds, AllWish, AllWishes}
 use Rattle.hc_invariant.specs.Good.{fills_of}
 use Rattle.hc_invariant.specs.Structure.{Structured, queue_of}
-use Rattle.hc_proof_calls.proofs.evicting.LinkedClean.{not_it}
-use Rattle.hc_proof_structure.specs.Parts.{all_of}
-use Rattle.hc_proof_structure.proofs.Parts.{parts_of, next_open}
-use Rattle.hc_proof_structure.proofs.Rooms.{charge_stands}
+use Rattle.hc_proof.proofs.evicting.LinkedClean.{not_it}
+use Rattle.hc_proof.specs.structure.Parts.{all_of}
+use Rattle.hc_proof.proofs.structure.Parts.{parts_of, next_open}
+use Rattle.hc_proof.proofs.structure.Rooms.{charge_stands}
 use Rattle.hc_state.specs.Allocating.{Opens}
 use Rattle.hc_state.specs.Whole.{Whole}
 

@@ -12,7 +12,7 @@ use Rattle.hc_memory.specs.Charges.{closed}
 use Rattle.hc_memory.specs.Memory.{Memory, linked_at, victims_of, after_room, after_link, after_unmark}
 use Rattle.hc_memory.proofs.Making.{closed-less}
 use Rattle.hc_history.specs.Note.{Note, Insert, Add, Reply, Stored, Linked, Lose}
-use Rattle.hc_items.specs.Allocating.{refusal_of}
+use Rattle.hc_machine.specs.items.Allocating.{refusal_of}
 use Rattle.hc_machine.specs.Nvm.{Nvm, Waiter, Wish, ToFind, ToAdd, Fill, fill_at, without_fill}
 use Rattle.hc_machine.specs.Leaving.{Changed, unqueue, outdate}
 use Rattle.hc_machine.specs.Takes as takes
@@ -22,8 +22,8 @@ use Rattle.hc_machine.specs.Evicting.{leaves_for, leaves, all_leave, make_room, 
 use Rattle.hc_machine.specs.Waiting.{freed_note, clear, uproot, plant, free, live, find_reply, serve, there_after, serve_all, serve_fill, end_fill_of, end_fill, entry_of_handle}
 use Rattle.hc_machine.specs.Calls.{begin, replies_then, wait_in, wait_for, is_known, discard, store, insert_or_replace, in_memory, must_wait, add, insert, used, find_now, find, remove, take_of, take_reply}
 use Rattle.hc_machine.specs.Workers.{can_link, link_clean, bring, fill, after_take, take_on, reclaim_on, reclaim, after_finish, finish_on, finish}
-use Rattle.hc_proof_runs.specs.Events.{Event, Allocates, Inserts, Adds, Discards, Finds, Removes, Replies, Ticks, Writes, Fills, Reclaims, Finishes, act}
-use Rattle.hc_proof_runs.proofs.Running.{short_value}
+use Rattle.hc_theorem.specs.runs.Events.{Event, Allocates, Inserts, Adds, Discards, Finds, Removes, Replies, Ticks, Writes, Fills, Reclaims, Finishes, act}
+use Rattle.hc_theorem.proofs.runs.Running.{short_value}
 use Rattle.hc_core.specs.Holds.{is_long, AreShort}
 
 -- a part of a step opens no charge for a longer item

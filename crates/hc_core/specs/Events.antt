@@ -1,7 +1,7 @@
 -- What is known of each call's arguments by their types.
 use Rattle.std.specs.Prelude.{[]}
 use Rattle.hc_invariant.specs.Good.{IsSized}
-use Rattle.hc_proof_runs.specs.Events.{Event, Allocates, Inserts, Adds}
+use Rattle.hc_theorem.specs.runs.Events.{Event, Allocates, Inserts, Adds}
 
 -- its key is within its limits, and its item expires at a second
 abbrev pub EventFits : Event → Type 0

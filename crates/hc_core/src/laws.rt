@@ -3,8 +3,8 @@ ghost use Rattle.std.specs.Prelude.{◌≡◌, List};
 ghost use Rattle.hc_history.specs.Honest.{Honest};
 ghost use Rattle.hc_history.specs.Note.{Note as Meaning};
 ghost use Rattle.hc_history.specs.Stats.{counts_of};
-ghost use Rattle.hc_proof_runs.specs.Lock.{CallsStayGuarded};
-ghost use Rattle.hc_theorem.specs.Headline.{NewStands};
+ghost use Rattle.hc_theorem.specs.runs.Lock.{CallsStayGuarded};
+ghost use Rattle.hc_theorem.specs.headlines.Headline.{NewStands};
 
 /// The law that the log of any steps is legal where it is honest, also where nobody keeps it: a new cache has the empty
 /// log, and each step of the machine leads to a cache whose log is the one before with the step's part behind it. So

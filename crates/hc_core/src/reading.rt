@@ -7,7 +7,7 @@ ghost use Rattle.hc_machine.specs.Nvm.{is_job};
 ghost use Rattle.hc_machine.specs.Quiet.{jobs_in};
 ghost use Rattle.hc_machine.specs.World.{order_in};
 ghost use Rattle.hc_flash.specs.Seen.{order_of};
-ghost use Rattle.hc_proof_runs.specs.Lock.{Guarded};
+ghost use Rattle.hc_theorem.specs.runs.Lock.{Guarded};
 
 use crate::cache::Core;
 use hc_flash::Order;

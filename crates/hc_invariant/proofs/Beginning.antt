@@ -19,8 +19,8 @@ use Rattle.hc_memory.specs.Pool.{Pool}
 use Rattle.hc_memory.specs.Memory.{Memory, empty_pool, linked_at}
 use Rattle.hc_memory.proofs.Making.{sound-new}
 use Rattle.hc_types.specs.Limits.{first_wrong}
-use Rattle.hc_items.specs.Items.{items_of}
-use Rattle.hc_items.specs.Allocating.{empty_memory}
+use Rattle.hc_machine.specs.items.Items.{items_of}
+use Rattle.hc_machine.specs.items.Allocating.{empty_memory}
 use Rattle.hc_history.specs.Pages.{bytes_at}
 use Rattle.hc_machine.specs.Nvm.{new_nvm}
 use Rattle.hc_machine.specs.Cache.{new_cache}

@@ -10,17 +10,17 @@ use Rattle.hc_types.specs.FlashEntry.{FlashEntry}
 use Rattle.hc_memory.specs.Item.{Item, Open, cost}
 use Rattle.hc_memory.specs.Pool.{is_at, item_at}
 use Rattle.hc_memory.specs.Memory.{linked_at}
-use Rattle.hc_items.specs.Items.{items_of}
-use Rattle.hc_items.proofs.Items.{bytes_eq-refl, bytes_eq-sym}
-use Rattle.hc_items.proofs.Flat.{linked-flat}
-use Rattle.hc_items.proofs.Same.{eqb-same}
+use Rattle.hc_machine.specs.items.Items.{items_of}
+use Rattle.hc_machine.proofs.items.Items.{bytes_eq-refl, bytes_eq-sym}
+use Rattle.hc_machine.proofs.items.Flat.{linked-flat}
+use Rattle.hc_machine.proofs.items.Same.{eqb-same}
 use Rattle.hc_history.specs.Note.{Note}
 use Rattle.hc_history.specs.Books.{Charge, Entry, charges, waiting, entry_at, is_linked}
 use Rattle.hc_history.specs.Lawful.{is_backed, is_stray, AtEnd, Legal, past}
 use Rattle.hc_machine.specs.Nvm.{Nvm, put_at}
 use Rattle.hc_machine.specs.Cache.{Cache}
 use Rattle.hc_invariant.specs.Standing.{map_of, map_of_item, Placed}
-use Rattle.hc_items.specs.Items.{charge_at, open_at}
+use Rattle.hc_machine.specs.items.Items.{charge_at, open_at}
 use Rattle.hc_invariant.specs.Tells.{keys_of, ChargesTell}
 use Rattle.hc_machine.specs.World.{World}
 use Rattle.hc_invariant.specs.Good.{Agrees, GoodRun, FlashPart}

@@ -11,8 +11,8 @@ use Rattle.hc_types.specs.FlashEntry.{FlashEntry}
 use Rattle.hc_memory.specs.Item.{Item}
 use Rattle.hc_memory.specs.Pool.{is_at, item_at}
 use Rattle.hc_memory.specs.Memory.{linked_at}
-use Rattle.hc_items.specs.Items.{items_of}
-use Rattle.hc_items.proofs.Flat.{linked-flat}
+use Rattle.hc_machine.specs.items.Items.{items_of}
+use Rattle.hc_machine.proofs.items.Flat.{linked-flat}
 use Rattle.hc_history.specs.Note.{Note}
 use Rattle.hc_history.specs.Books.{Entry, charges, waiting, is_among, is_linked, is_held, entry_at}
 use Rattle.hc_history.specs.Pages.{bytes_at}

@@ -8,9 +8,9 @@ use Rattle.hc_memory.specs.Item.{Item}
 use Rattle.hc_memory.specs.Pool.{Pool, is_at, item_at, unmarked_where}
 use Rattle.hc_memory.specs.Memory.{linked_at, unlinked}
 use Rattle.hc_memory.proofs.Keyed.{same_bytes}
-use Rattle.hc_items.specs.Items.{items_of}
-use Rattle.hc_items.proofs.Items.{bytes_eq-sym, item_at-other}
-use Rattle.hc_items.proofs.Flat.{linked-flat, unlinked-flat}
+use Rattle.hc_machine.specs.items.Items.{items_of}
+use Rattle.hc_machine.proofs.items.Items.{bytes_eq-sym, item_at-other}
+use Rattle.hc_machine.proofs.items.Flat.{linked-flat, unlinked-flat}
 use Rattle.hc_machine.specs.Nvm.{put_at, without_put, Tombstone, is_stone_of}
 use Rattle.hc_invariant.specs.Standing.{first_of}
 

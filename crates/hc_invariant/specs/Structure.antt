@@ -10,7 +10,7 @@ use Rattle.hc_engines.specs.pair.Pair.{Pair}
 use Rattle.hc_memory.specs.Item.{Item}
 use Rattle.hc_memory.specs.Pool.{is_at}
 use Rattle.hc_memory.specs.Memory.{Memory}
-use Rattle.hc_items.specs.Items.{items_of, item_has, open_has}
+use Rattle.hc_machine.specs.items.Items.{items_of, item_has, open_has}
 use Rattle.hc_machine.specs.Nvm.{Nvm, Tombstone, Fill, Job, is_put_of, is_stone_of, is_job, is_fill_of, is_brought_by, adds}
 use Rattle.hc_machine.specs.Cache.{Cache}
 use Rattle.hc_invariant.specs.Tells.{waiters_of}

@@ -8,7 +8,7 @@ use Rattle.hc_memory.specs.Item.{Item, Open}
 use Rattle.hc_memory.specs.Pool.{Pool, is_at}
 use Rattle.hc_memory.specs.Memory.{Memory}
 use Rattle.hc_memory.specs.Sound.{Sound}
-use Rattle.hc_items.specs.Items.{items_of}
+use Rattle.hc_machine.specs.items.Items.{items_of}
 use Rattle.hc_history.specs.Note.{Note, Op, Find, Add, Reply}
 use Rattle.hc_history.specs.Books.{Charge, Call, Answer, charges, waiting, writing, buried, is_among, begun, open_calls, open_call, owed}
 use Rattle.hc_history.specs.Regions.{in_use, is_one_of, flushed, open_region, filling, Filing, filed}
@@ -18,7 +18,7 @@ use Rattle.hc_engines.specs.large.Block.{Block}
 use Rattle.hc_machine.specs.Nvm.{Nvm, Wish, ToFind, ToAdd, Waiter, Fill, Job, is_put_of, is_stone_of, is_buried, puts, is_written_now}
 use Rattle.hc_machine.specs.Leaving.{is_too_large}
 use Rattle.hc_machine.specs.Cache.{Owed, is_owed, owed_at}
-use Rattle.hc_items.specs.Items.{charge_at, open_at, item_has, open_has}
+use Rattle.hc_machine.specs.items.Items.{charge_at, open_at, item_has, open_has}
 
 -- ---- charges
 

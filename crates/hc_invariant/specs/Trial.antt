@@ -11,7 +11,7 @@ use Rattle.hc_memory.specs.Item.{Item, Open as OpenCharge}
 use Rattle.hc_memory.specs.Pool.{Pool, is_at, bytes_of}
 use Rattle.hc_memory.specs.Charges.{usage_of}
 use Rattle.hc_memory.specs.Memory.{Memory, linked_at}
-use Rattle.hc_items.specs.Items.{items_of}
+use Rattle.hc_machine.specs.items.Items.{items_of}
 use Rattle.hc_history.specs.Note.{Note, Begin, Charged}
 use Rattle.hc_history.specs.Books.{Entry, Charge, Call, Answer, charges, waiting, writing, buried, is_among, begun, open_calls, open_call, owed, entry_at, now_at}
 use Rattle.hc_history.specs.Pages.{bytes_at}
@@ -23,7 +23,7 @@ use Rattle.hc_machine.specs.Evicting.{entry_of_item}
 use Rattle.hc_machine.specs.Cache.{Cache, Owed, is_owed, owed_at}
 use Rattle.hc_machine.specs.World.{World, Result, order_in, Line, Stepped, step, new_world}
 use Rattle.hc_invariant.specs.Standing.{map_of, map_of_item, queued_at, written_at, buried_at, small_at, large_at}
-use Rattle.hc_items.specs.Items.{charge_at, open_at, item_has, open_has}
+use Rattle.hc_machine.specs.items.Items.{charge_at, open_at, item_has, open_has}
 use Rattle.hc_invariant.specs.Tells.{waiters_of, asked_in, reply_in, is_call, is_unanswered, reply_of}
 use Rattle.hc_invariant.specs.Good.{fills_of, pages_behind}
 use Rattle.hc_invariant.specs.Alike.{is_same, all_same, both, same_map, same_entry, same_bytes, same_size, same_charge, same_op, same_reply, below}

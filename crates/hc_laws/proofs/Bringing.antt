@@ -11,7 +11,7 @@ use Rattle.hc_memory.specs.Pool.{Pool, is_at, item_at, is_full, kept}
 use Rattle.hc_memory.specs.Charges.{usage_of}
 use Rattle.hc_memory.specs.Memory.{Memory, linked_at, change_at, is_hopeless}
 use Rattle.hc_memory.proofs.Keyed.{item_at-pushed}
-use Rattle.hc_items.specs.Allocating.{refusal_of}
+use Rattle.hc_machine.specs.items.Allocating.{refusal_of}
 
 -- ---- one pool of all
 

@@ -8,7 +8,7 @@ use Rattle.hc_types.specs.declared.refusal.Refusal.TheVariants.{ForeignHandle, E
 use Rattle.hc_types.specs.FlashEntry.{FlashEntry}
 use Rattle.hc_memory.specs.Item.{Item, Handle}
 use Rattle.hc_memory.specs.Memory.{victims_of, after_room}
-use Rattle.hc_items.specs.Allocating.{refusal_of}
+use Rattle.hc_machine.specs.items.Allocating.{refusal_of}
 use Rattle.hc_engines.specs.pair.Pair.{is_indexed}
 use Rattle.hc_history.specs.Note.{Insert, Add, Reply, Stored}
 use Rattle.hc_machine.specs.Nvm.{Nvm, Wish, ToFind, ToAdd, Waiter, Fill, is_stone_of, is_buried, is_due, put_at, fill_at, without_fill}

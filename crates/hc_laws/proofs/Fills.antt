@@ -10,8 +10,8 @@ use Rattle.hc_memory.specs.Pool.{Pool, kept}
 use Rattle.hc_memory.specs.Charges.{usage_of}
 use Rattle.hc_memory.specs.Memory.{Memory, linked_at, change_at, unlinked, victims_of, after_room}
 use Rattle.hc_engines.specs.Engine.{Outcome}
-use Rattle.hc_items.specs.Allocating.{refusal_of}
-use Rattle.hc_items.proofs.Items.{bytes_eq-refl}
+use Rattle.hc_machine.specs.items.Allocating.{refusal_of}
+use Rattle.hc_machine.proofs.items.Items.{bytes_eq-refl}
 use Rattle.hc_machine.specs.Nvm.{Nvm, Wish, ToFind, ToAdd, Waiter, Fill, Task, Filling, fill_by, without_job}
 use Rattle.hc_machine.specs.Leaving.{Changed, is_over}
 use Rattle.hc_machine.specs.Takes.{Taken, Filled, bucket_lost, raise_all, settled, found_in, fill_out, ends, goes_on, finish_job, resumed}

@@ -7,7 +7,7 @@ use Rattle.hc_engines.specs.Engine.{IoResult, Outcome, Done}
 use Rattle.hc_engines.specs.pair.Pair as pairs
 use Rattle.hc_engines.specs.pair.Pair.{resume}
 use Rattle.hc_memory.specs.Memory.{linked_at}
-use Rattle.hc_items.specs.Allocating.{refusal_of}
+use Rattle.hc_machine.specs.items.Allocating.{refusal_of}
 use Rattle.hc_history.specs.Note.{Note, Reply, Exists, Hit, Did, Freed}
 use Rattle.hc_machine.specs.Nvm.{Nvm, Wish, ToFind, ToAdd, Waiter, Fill, Filling, Job, job_at, fill_by}
 use Rattle.hc_machine.specs.Leaving.{is_over}

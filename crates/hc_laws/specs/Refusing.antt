@@ -3,7 +3,7 @@ use Rattle.std.specs.Prelude.{◌≡◌, ◌≢◌, ℕ, List, length, Option, S
 use Rattle.hc_types.specs.declared.refusal.Refusal.{Refusal}
 use Rattle.hc_types.specs.declared.refusal.Refusal.TheVariants.{ForeignHandle, Exists, UnknownCall, NotReady, UnknownJob}
 use Rattle.hc_memory.specs.Item.{Handle}
-use Rattle.hc_items.specs.Allocating.{refusal_of}
+use Rattle.hc_machine.specs.items.Allocating.{refusal_of}
 use Rattle.hc_engines.specs.Engine.{IoResult, Awaits}
 use Rattle.hc_engines.specs.pair.Held.{under_way}
 use Rattle.hc_history.specs.Note.{Reply}

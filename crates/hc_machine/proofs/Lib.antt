@@ -1,4 +1,5 @@
 -- What is computed and proved of the machine.
+pub mod items
 pub mod Tables
 pub mod MemoryRows
 pub mod SmallRows

@@ -4,7 +4,7 @@ use Rattle.hc_types.specs.Config.{Config}
 use Rattle.hc_types.specs.declared.refusal.Refusal.{Refusal}
 use Rattle.hc_memory.specs.Item.{Handle}
 use Rattle.hc_memory.specs.Memory.{Memory, after_unmark}
-use Rattle.hc_items.specs.Allocating.{empty_memory}
+use Rattle.hc_machine.specs.items.Allocating.{empty_memory}
 use Rattle.hc_history.specs.Note.{Note, Reply, Lose}
 use Rattle.hc_machine.specs.Nvm.{Nvm, new_nvm}
 use Rattle.hc_machine.specs.Leaving.{Changed}

@@ -6,8 +6,8 @@ use Rattle.hc_types.specs.declared.refusal.Refusal.{Refusal}
 use Rattle.hc_types.specs.FlashEntry.{FlashEntry}
 use Rattle.hc_memory.specs.Item.{Item, Handle}
 use Rattle.hc_memory.specs.Memory.{Memory, victims_of, after_room, blank_of}
-use Rattle.hc_items.specs.Allocating.{refusal_of}
-use Rattle.hc_items.specs.Allocating.{expiry_of, cause_for}
+use Rattle.hc_machine.specs.items.Allocating.{refusal_of}
+use Rattle.hc_machine.specs.items.Allocating.{expiry_of, cause_for}
 use Rattle.hc_history.specs.Note.{Lose, Freed, Charged}
 use Rattle.hc_machine.specs.Nvm.{Nvm}
 use Rattle.hc_machine.specs.Leaving.{Changed, evicted}

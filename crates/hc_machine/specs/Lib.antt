@@ -1,4 +1,5 @@
 -- The cache with flash as one machine.
+pub mod items
 pub mod Nvm
 pub mod Leaving
 pub mod Takes

@@ -6,7 +6,7 @@ use Rattle.std.specs.Prelude.{option_map, is_some}
 use Rattle.hc_types.specs.declared.config.FlashConfig.{FlashConfig}
 use Rattle.hc_memory.specs.Memory.{Memory}
 use Rattle.hc_engines.proofs.Keys.{same-true}
-use Rattle.hc_items.proofs.Items.{bytes_eq-refl}
+use Rattle.hc_machine.proofs.items.Items.{bytes_eq-refl}
 use Rattle.hc_engines.specs.Engine.{Op, Get, Next, Busy, Io, Done}
 use Rattle.hc_engines.specs.pair.Pair.{Pair, Moved, start, is_busy_for}
 use Rattle.hc_engines.proofs.pair.Waiting.{busy_is_true}

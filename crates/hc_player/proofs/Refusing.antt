@@ -5,7 +5,7 @@ use Rattle.hc_types.specs.declared.refusal.Refusal.{Refusal}
 use Rattle.hc_types.specs.declared.refusal.Refusal.TheVariants.{UnknownJob, UnknownCall, NotReady, Exists, KeyEmpty, KeyTooLong}
 use Rattle.hc_engines.specs.Engine.{IoResult}
 use Rattle.hc_history.specs.Note.{Reply}
-use Rattle.hc_items.specs.Allocating.{refusal_of}
+use Rattle.hc_machine.specs.items.Allocating.{refusal_of}
 use Rattle.hc_machine.specs.Nvm.{Nvm}
 use Rattle.hc_machine.specs.Takes as flash
 use Rattle.hc_machine.specs.Takes.{Taken}

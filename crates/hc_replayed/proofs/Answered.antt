@@ -3,7 +3,7 @@ use Rattle.std.proofs.Common.{Bool, true, false, List, Option, None, Some, is_so
 use Rattle.hc_types.specs.declared.refusal.Refusal.{Refusal}
 use Rattle.hc_engines.specs.Engine.{IoResult, Order}
 use Rattle.hc_memory.specs.Item.{Handle}
-use Rattle.hc_items.specs.Allocating.{refusal_of}
+use Rattle.hc_machine.specs.items.Allocating.{refusal_of}
 use Rattle.hc_history.specs.Note.{Reply, Find}
 use Rattle.hc_machine.specs.Nvm.{Nvm}
 use Rattle.hc_machine.specs.Takes as flash

@@ -10,8 +10,8 @@ use Rattle.hc_machine.specs.World as world
 use Rattle.hc_machine.specs.World.{World, Line, step, run_from}
 use Rattle.hc_invariant.specs.Good.{IsSized}
 use Rattle.hc_invariant.specs.Laws.{LineSized}
-use Rattle.hc_proof_runs.specs.Runs.{AllLineSized}
-use Rattle.hc_theorem.proofs.WholeRuns.{headline}
+use Rattle.hc_theorem.specs.runs.Runs.{AllLineSized}
+use Rattle.hc_theorem.proofs.headlines.WholeRuns.{headline}
 use Rattle.hc_replayed.specs.Actions.{Action, Do, Serve, Deed, Acts, Barred, unless, step_deed, work_line, deed_of, done}
 use Rattle.hc_replayed.specs.Trace.{fresh, notes_of}
 use Rattle.hc_replayed.specs.Promise.{LogsAreRight}

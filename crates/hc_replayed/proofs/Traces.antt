@@ -6,8 +6,8 @@ use Rattle.hc_machine.specs.World as world
 use Rattle.hc_machine.specs.World.{World, Line}
 use Rattle.hc_machine.specs.Schedule.{Step, Scene, step, run_from, run, all_of, ended}
 use Rattle.hc_invariant.specs.Laws.{LineSized}
-use Rattle.hc_proof_runs.specs.Schedule.{AllStepSized}
-use Rattle.hc_theorem.proofs.WholeRuns.{headline_of_schedules}
+use Rattle.hc_theorem.specs.runs.Schedule.{AllStepSized}
+use Rattle.hc_theorem.proofs.headlines.WholeRuns.{headline_of_schedules}
 use Rattle.hc_replayed.specs.Actions.{Action, Deed, Acts, Barred, deed_of, done, act}
 use Rattle.hc_replayed.specs.Trace.{fresh, notes_of}
 use Rattle.hc_replayed.specs.Runs.{line_steps, deed_steps, steps_of, at_rest, TracesAreRuns}

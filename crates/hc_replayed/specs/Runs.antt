@@ -7,7 +7,7 @@ use Rattle.hc_machine.specs.World as world
 use Rattle.hc_machine.specs.World.{World, Line}
 use Rattle.hc_machine.specs.Schedule as schedule
 use Rattle.hc_machine.specs.Schedule.{Step, Scene, Told, Tells, Filled, run_from, run, all_of, log_of}
-use Rattle.hc_theorem.specs.Headline.{Promised}
+use Rattle.hc_theorem.specs.headlines.Headline.{Promised}
 use Rattle.hc_replayed.specs.Actions.{Action, Deed, Acts, Barred, said_answer, deed_of}
 use Rattle.hc_replayed.specs.Trace.{fresh, notes_of}
 

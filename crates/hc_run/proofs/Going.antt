@@ -8,7 +8,7 @@ use Rattle.hc_history.specs.Told.{Heard, Log, told_more}
 use Rattle.hc_machine.specs.Cache.{Cache, new_cache}
 use Rattle.hc_machine.specs.World.{result_at}
 use Rattle.hc_machine.specs.Schedule.{Step, Slot, Told, Ran, new_scene, run, all_of, given_up, log_of}
-use Rattle.hc_proof_runs.specs.Schedule.{DeedSized, AllStepSized}
+use Rattle.hc_theorem.specs.runs.Schedule.{DeedSized, AllStepSized}
 use Rattle.hc_run.specs.Steps.{breaking}
 use Rattle.hc_run.specs.Shows.{Stage, Sight, AreOwn, Moves, Waits}
 use Rattle.hc_run.specs.Runs.{ends_from, IsRunOf}

@@ -10,10 +10,10 @@ use Rattle.hc_machine.specs.Calls as calls
 use Rattle.hc_machine.specs.Calls.{is_known}
 use Rattle.hc_machine.specs.Schedule.{Slot, is_slot, slot_at}
 use Rattle.hc_invariant.specs.Good.{fills_of}
-use Rattle.hc_proof_frames.proofs.frames.ByNumber.{same_number}
-use Rattle.hc_proof_follows.specs.slots.Opens.{holds, adds_in}
-use Rattle.hc_proof_follows.proofs.slots.Opens.{other_goes}
-use Rattle.hc_proof_follows.proofs.slots.Calls.{open_in, not_kept}
+use Rattle.hc_proof.proofs.frames.ByNumber.{same_number}
+use Rattle.hc_theorem.specs.slots.Opens.{holds, adds_in}
+use Rattle.hc_theorem.proofs.slots.Opens.{other_goes}
+use Rattle.hc_theorem.proofs.slots.Calls.{open_in, not_kept}
 use Rattle.hc_run.specs.Shows.{AreOwn}
 
 own_number : (n : ℕ) → ◌≡◌ {A = ℕ} (cond (n == n) 1 0) 1

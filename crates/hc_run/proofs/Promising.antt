@@ -7,8 +7,8 @@ use Rattle.hc_history.specs.Honest.{Honest}
 use Rattle.hc_machine.specs.Schedule.{Step, Scene, Told, Ran, run, ended, all_of}
 use Rattle.hc_follows.specs.Desk.{Desk, new_desk}
 use Rattle.hc_follows.specs.Follows.{FollowsFrom, desk_after}
-use Rattle.hc_proof_follows.specs.slots.BetweenScene.{BetweenScene}
-use Rattle.hc_theorem.proofs.WholeRuns.{headline_of_schedules, schedules_stand}
+use Rattle.hc_theorem.specs.slots.BetweenScene.{BetweenScene}
+use Rattle.hc_theorem.proofs.headlines.WholeRuns.{headline_of_schedules, schedules_stand}
 use Rattle.hc_run.specs.Steps.{breaking}
 use Rattle.hc_run.specs.Laws.{ChainsAreRuns, RunsStand, RunsKeepPromise}
 use Rattle.hc_run.proofs.Chaining as chaining

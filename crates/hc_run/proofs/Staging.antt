@@ -15,7 +15,7 @@ use Rattle.hc_machine.specs.Workers as workers
 use Rattle.hc_machine.specs.World.{Result, Says, Made, by_call, done_of, order_in, result_at, without_result}
 use Rattle.hc_machine.specs.Schedule.{Deed, Open, Put, PutNew, Discard, Reply, Io, Finish, Step, Slot, Scene, Told, Tells, NoSlot, Filled, Done, slot_at, without_slot, with_slot, left_after, in_world, fills, opens, puts, puts_new, discards, step}
 use Rattle.hc_invariant.specs.Good.{IsSized}
-use Rattle.hc_proof_runs.specs.Schedule.{DeedSized}
+use Rattle.hc_theorem.specs.runs.Schedule.{DeedSized}
 use Rattle.hc_run.specs.Steps.{Goes, IsCalm, failed_more, operates}
 use Rattle.hc_run.specs.Shows.{Stage, Sight, IsWithin, Shows, IsReadable, Leads, Moves, Waits}
 use Rattle.hc_run.specs.Devices.{CanRead, Comes, IsSame}

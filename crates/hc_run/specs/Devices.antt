@@ -2,7 +2,7 @@
 use Rattle.std.specs.Prelude.{◌≡◌, ℕ, Bool, ◌||◌}
 use Rattle.hc_engines.specs.Engine.{Pages, Order, Read, Write, IoResult, pages_after}
 use Rattle.hc_machine.specs.World.{result_of}
-use Rattle.hc_proof_runs.specs.Between.{IsKnown}
+use Rattle.hc_theorem.specs.runs.Between.{IsKnown}
 use Rattle.hc_run.specs.Steps.{failed_more}
 use Rattle.hc_run.specs.Shows.{Sight}
 use Rattle.hc_run.specs.Shows.{IsWithin}

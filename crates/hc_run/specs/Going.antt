@@ -4,7 +4,7 @@ use Rattle.hc_types.specs.Config.{Config}
 use Rattle.hc_history.specs.Note.{Note}
 use Rattle.hc_history.specs.Told.{Heard, Log}
 use Rattle.hc_machine.specs.Schedule.{Step, Scene, Told, all_of}
-use Rattle.hc_proof_runs.specs.Schedule.{AllStepSized}
+use Rattle.hc_theorem.specs.runs.Schedule.{AllStepSized}
 use Rattle.hc_run.specs.Shows.{Stage, Sight, Shows, Moves}
 use Rattle.hc_run.specs.Runs.{IsRun, ends_from}
 

@@ -7,7 +7,7 @@ use Rattle.hc_history.specs.Lawful.{Legal}
 use Rattle.hc_history.specs.Honest.{Honest}
 use Rattle.hc_machine.specs.Schedule.{Step, Scene, Told, new_scene, all_of}
 use Rattle.hc_follows.specs.Follows.{Follows, StopsAt}
-use Rattle.hc_proof_runs.specs.Schedule.{AllStepSized}
+use Rattle.hc_theorem.specs.runs.Schedule.{AllStepSized}
 use Rattle.hc_run.specs.Runs.{Chain, IsRun, ends_from, IsRunOf}
 use Rattle.hc_run.specs.Shows.{Stands}
 

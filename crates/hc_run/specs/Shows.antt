@@ -7,9 +7,9 @@ use Rattle.hc_machine.specs.Cache.{Cache}
 use Rattle.hc_machine.specs.World.{Result, order_in, result_at}
 use Rattle.hc_machine.specs.Schedule.{Slot, Scene, Step, Told}
 use Rattle.hc_invariant.specs.Good.{fills_of}
-use Rattle.hc_proof_runs.specs.Between.{IsKnown}
-use Rattle.hc_proof_runs.specs.Schedule.{DeedSized}
-use Rattle.hc_proof_follows.specs.slots.Opens.{Opens, adds_in}
+use Rattle.hc_theorem.specs.runs.Between.{IsKnown}
+use Rattle.hc_theorem.specs.runs.Schedule.{DeedSized}
+use Rattle.hc_theorem.specs.slots.Opens.{Opens, adds_in}
 use Rattle.hc_run.specs.Steps.{Goes}
 
 -- The cache and what is heard of its log, the device, how often that had failed before the first step, the results that wait,

@@ -8,7 +8,7 @@ use Rattle.hc_engines.specs.Engine.{IoResult}
 use Rattle.hc_memory.specs.Item.{Item, Handle}
 use Rattle.hc_memory.specs.Memory.{linked_at, victims_of, after_room, after_unlink, after_link}
 use Rattle.hc_history.specs.Note.{Insert, Add, Reply, Stored, Exists, Linked}
-use Rattle.hc_items.specs.Allocating.{refusal_of}
+use Rattle.hc_machine.specs.items.Allocating.{refusal_of}
 use Rattle.hc_machine.specs.Nvm.{Nvm, Waiter, Wish, ToFind, ToAdd, Fill, fill_at, without_fill}
 use Rattle.hc_machine.specs.Leaving.{Changed, unqueue, outdate}
 use Rattle.hc_machine.specs.Takes as takes
@@ -19,7 +19,7 @@ use Rattle.hc_machine.specs.Evicting.{leaves_for, leaves, all_leave, make_room, 
 use Rattle.hc_machine.specs.Waiting.{freed_note, clear, uproot, plant, free, live, find_reply, answer, serve, there_after, serve_all, serve_fill, end_fill_of, end_fill, entry_of_handle}
 use Rattle.hc_machine.specs.Calls.{begin, replies_then, wait_in, wait_for, is_known, discard, store, insert_or_replace, in_memory, must_wait, add, insert, used, find_now, find, remove, take_of, take_reply, tick}
 use Rattle.hc_machine.specs.Workers.{can_link, link_clean, bring, fill, after_take, take_on, writer_take, filler_take, reclaim_on, reclaim, after_finish, finish_on, finish}
-use Rattle.hc_replies.specs.Replies.{AreBefore}
+use Rattle.hc_waiting.specs.Replies.{AreBefore}
 use Rattle.hc_state.specs.Owing.{OwesBegun}
 use Rattle.hc_state.proofs.Owed.{before-more, before-with, before-less, before-anew}
 

@@ -24,7 +24,7 @@ use Rattle.hc_machine.specs.Nvm.{put_at}
 use Rattle.hc_machine.specs.Cache.{Cache, Told, with_memory, and_then}
 use Rattle.hc_machine.specs.Evicting.{all_leave, charge, make_charge}
 use Rattle.hc_invariant.specs.Structure.{Structured, queue_of}
-use Rattle.hc_proof_structure.specs.Steps.{EvictedNeverWaits}
+use Rattle.hc_proof.specs.structure.Steps.{EvictedNeverWaits}
 use Rattle.hc_state.specs.Whole.{Whole, HasRoom, Stays, Does, costs}
 use Rattle.hc_state.specs.Leaving.{leave_of, AreFor, keys_of, NoneWaits}
 use Rattle.hc_state.specs.declared.evicting.Leave.{Leave}

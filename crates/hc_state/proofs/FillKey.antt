@@ -7,18 +7,18 @@ use Rattle.hc_engines.specs.Engine.{Loss}
 use Rattle.hc_memory.specs.Pool.{is_at}
 use Rattle.hc_memory.specs.Memory.{Memory, linked_at, victims_of, after_room}
 use Rattle.hc_memory.proofs.Keyed.{count-none}
-use Rattle.hc_items.specs.Items.{items_of}
-use Rattle.hc_items.proofs.Flat.{linked-flat}
+use Rattle.hc_machine.specs.items.Items.{items_of}
+use Rattle.hc_machine.proofs.items.Flat.{linked-flat}
 use Rattle.hc_machine.specs.Nvm.{Nvm, Waiter, Fill, is_put_of, is_fill_of, fill_at, put_at, adds}
 use Rattle.hc_machine.specs.Takes.{Filled, Taken, loss_notes}
 use Rattle.hc_machine.specs.Cache.{Cache, Told, with_memory, unmarked_by, takes_in}
 use Rattle.hc_invariant.specs.Tells.{waiters_of}
 use Rattle.hc_invariant.specs.Structure.{Structured, queue_of}
-use Rattle.hc_proof_structure.specs.Parts.{Held, FewerFills, FewerWait}
-use Rattle.hc_proof_structure.specs.Takes.{FilledSo, Leaves}
-use Rattle.hc_proof_structure.proofs.Parts.{parts_of, whole_of, same_items, same_puts, held_less}
-use Rattle.hc_proof_structure.proofs.Pieces.{held_marks}
-use Rattle.hc_proof_structure.proofs.Rooms.{evicted_waits}
+use Rattle.hc_proof.specs.structure.Parts.{Held, FewerFills, FewerWait}
+use Rattle.hc_proof.specs.structure.Takes.{FilledSo, Leaves}
+use Rattle.hc_proof.proofs.structure.Parts.{parts_of, whole_of, same_items, same_puts, held_less}
+use Rattle.hc_proof.proofs.structure.Pieces.{held_marks}
+use Rattle.hc_proof.proofs.structure.Rooms.{evicted_waits}
 use Rattle.hc_state.specs.Leaving.{NoneWaits}
 use Rattle.hc_state.specs.Filling.{all_marked_by}
 use Rattle.hc_state.proofs.Leaving.{all_leave-memory}

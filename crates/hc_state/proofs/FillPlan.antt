@@ -10,7 +10,7 @@ use Rattle.hc_memory.specs.Charges.{has_number}
 use Rattle.hc_memory.specs.Memory.{Memory, is_hopeless}
 use Rattle.hc_memory.specs.Sound.{Sound}
 use Rattle.hc_memory.proofs.Bringing.{closed-push}
-use Rattle.hc_items.specs.Allocating.{refusal_of}
+use Rattle.hc_machine.specs.items.Allocating.{refusal_of}
 use Rattle.hc_machine.specs.Cache.{Cache}
 use Rattle.hc_machine.specs.Waiting.{live}
 use Rattle.hc_machine.specs.Workers.{can_link}

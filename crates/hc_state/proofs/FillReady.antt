@@ -14,8 +14,8 @@ use Rattle.hc_machine.specs.Cache.{Cache, tells, and_then, with_memory, takes_in
 use Rattle.hc_machine.specs.Evicting.{all_leave, make_charge, handle_for}
 use Rattle.hc_machine.specs.Waiting.{clear, live, serve, there_after, serve_all}
 use Rattle.hc_machine.specs.Workers.{can_link, link_clean, bring, fill, after_take}
-use Rattle.hc_proof_frames.proofs.shapes.Asides.{unmarked_charges}
-use Rattle.hc_proof_structure.proofs.Pieces.{clear_passes}
+use Rattle.hc_proof.proofs.shapes.Asides.{unmarked_charges}
+use Rattle.hc_proof.proofs.structure.Pieces.{clear_passes}
 use Rattle.hc_state.proofs.Leaving.{all_leave-stays}
 
 ones : (charges : List Open) → tally (λ (c : Open). 1) charges ≡ length charges

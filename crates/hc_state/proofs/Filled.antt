@@ -13,7 +13,7 @@ use Rattle.hc_engines.specs.Engine.{Loss}
 use Rattle.hc_memory.specs.Item.{Item}
 use Rattle.hc_memory.specs.Pool.{Pool, unmarked_where, is_covered}
 use Rattle.hc_memory.specs.Memory.{Memory, linked_at, victims_of, after_room, after_unmark, early}
-use Rattle.hc_items.specs.Allocating.{refusal_of}
+use Rattle.hc_machine.specs.items.Allocating.{refusal_of}
 use Rattle.hc_history.specs.Note.{Note, Lose, Charged, Linked}
 use Rattle.hc_machine.specs.Nvm.{Nvm, Waiter, Wish, ToFind, ToAdd}
 use Rattle.hc_machine.specs.Leaving.{is_over}

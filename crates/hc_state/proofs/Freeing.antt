@@ -11,7 +11,7 @@ use Rattle.hc_memory.proofs.Making.{closed-less}
 use Rattle.hc_machine.specs.Nvm.{Waiter, Wish, ToFind, ToAdd, adds}
 use Rattle.hc_machine.specs.Waiting.{live, there_after}
 use Rattle.hc_invariant.specs.Jobs.{AllWish, WishHolds}
-use Rattle.hc_proof_frames.proofs.frames.OpenCharges.{stays_open}
+use Rattle.hc_proof.proofs.frames.OpenCharges.{stays_open}
 use Rattle.hc_state.specs.Serving.{stored_by, all_stored}
 use Rattle.hc_state.specs.Courses.{IsCourse, AreCourses, MayFree, AllMayFree, charges_as, ended}
 use Rattle.hc_state.specs.declared.serving.Course.{Course}

@@ -2,7 +2,7 @@
 use Rattle.std.proofs.Common.{◌≡◌, ℕ, ◌<◌, ◌≤◌, ◌==◌, Bool, true, false, List, [], ◌∷◌, refl, ap, arith}
 use Rattle.hc_history.specs.Note.{Reply}
 use Rattle.hc_machine.specs.Cache.{Owed, is_owed, owed_anew, owed_with, owed_less}
-use Rattle.hc_replies.specs.Replies.{AreBefore}
+use Rattle.hc_waiting.specs.Replies.{AreBefore}
 
 pub before-more : (n m : ℕ) (owed : List Owed) → n ≤ m → AreBefore n owed → AreBefore m owed
 before-more n m [] le h = h

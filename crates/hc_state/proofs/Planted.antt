@@ -23,9 +23,9 @@ use Rattle.hc_invariant.specs.Jobs.{WishHolds, AllWish, AllWishes}
 use Rattle.hc_invariant.specs.Good.{fills_of}
 use Rattle.hc_invariant.specs.Structure.{Structured}
 use Rattle.hc_invariant.specs.Tells.{waiters_of}
-use Rattle.hc_proof_frames.proofs.frames.Fills.{wishes_at}
-use Rattle.hc_proof_frames.proofs.frames.OpenCharges.{wishes_stay}
-use Rattle.hc_proof_calls.proofs.calls.Adds.{unkept_none, and_both}
+use Rattle.hc_proof.proofs.frames.Fills.{wishes_at}
+use Rattle.hc_proof.proofs.frames.OpenCharges.{wishes_stay}
+use Rattle.hc_proof.proofs.calls.Adds.{unkept_none, and_both}
 use Rattle.hc_state.specs.Chosen.{all_stored_as}
 use Rattle.hc_state.specs.Courses.{AreCourses, AllFit, AllMayFree, ended}
 use Rattle.hc_state.specs.Serving.{all_stored, clear_by, planted_by, ended_by, store_by, unstore_by, waiters_at, without_calls}

@@ -6,7 +6,7 @@ use Rattle.hc_types.specs.Charge.{charge_of}
 use Rattle.hc_types.specs.declared.refusal.Refusal.{Refusal}
 use Rattle.hc_types.specs.declared.refusal.Refusal.TheVariants.{NoPool, ValueTooLong, NoRoom}
 use Rattle.hc_memory.specs.Memory.{Memory, is_hopeless}
-use Rattle.hc_items.specs.Allocating.{refusal_of}
+use Rattle.hc_machine.specs.items.Allocating.{refusal_of}
 
 abbrev reason : Bool → Bool → Bool → Option Refusal
 reason there long hopeless = cond (not there) (Some NoPool) (cond long (Some ValueTooLong) (cond hopeless (Some NoRoom) None))

@@ -14,7 +14,7 @@ use Rattle.hc_memory.specs.Sound.{Sound}
 use Rattle.hc_memory.proofs.Handing.{untouched}
 use Rattle.hc_memory.proofs.Making.{known, drop-dropped}
 use Rattle.hc_memory.proofs.Putting.{IsRoomy, room-made}
-use Rattle.hc_items.specs.Allocating.{refusal_of}
+use Rattle.hc_machine.specs.items.Allocating.{refusal_of}
 use Rattle.hc_history.specs.Note.{Note, Stored}
 use Rattle.hc_history.specs.Told.{Heard, Nothing, Log, Counts, Sums, told_more, told_count, is_log}
 use Rattle.hc_history.specs.declared.stats.Kind.TheVariants as kind
@@ -22,9 +22,9 @@ use Rattle.hc_history.proofs.Telling.{told-nothing}
 use Rattle.hc_machine.specs.Nvm.{Nvm, put_at}
 use Rattle.hc_machine.specs.Cache.{Cache, Told, Moved, Answer, Replied, Discarded, with_memory, tells}
 use Rattle.hc_machine.specs.Evicting.{all_leave, allocate, allocate_by}
-use Rattle.hc_proof_calls.specs.calls.Short.{leaving, handle_in, short_set, short_give_up}
-use Rattle.hc_proof_calls.proofs.storing.Short.{short, given-up, all-go}
-use Rattle.hc_proof_calls.proofs.storing.Counted.{stored-after, given-after}
+use Rattle.hc_proof.specs.calls.Short.{leaving, handle_in, short_set, short_give_up}
+use Rattle.hc_proof.proofs.storing.Short.{short, given-up, all-go}
+use Rattle.hc_proof.proofs.storing.Counted.{stored-after, given-after}
 use Rattle.hc_invariant.specs.Structure.{queue_of}
 use Rattle.hc_state.specs.Answering.{refusal_in}
 use Rattle.hc_state.specs.Leaving.{NoneWaits}

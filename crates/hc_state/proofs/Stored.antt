@@ -24,7 +24,7 @@ use Rattle.hc_memory.proofs.Linking.{gone}
 use Rattle.hc_memory.proofs.Handing.{length-home}
 use Rattle.hc_memory.proofs.Commuting.{unmark-early, unmark-unlink}
 use Rattle.hc_memory.proofs.Early.{early-same, unlinked-none}
-use Rattle.hc_proof_frames.proofs.fresh.Calming.{fill_key}
+use Rattle.hc_proof.proofs.fresh.Calming.{fill_key}
 use Rattle.hc_state.specs.Serving.{all_stored, all_served, waiters_at, without_calls, ended_by, stored_with, stored_without, store_by, unstore_by}
 use Rattle.hc_state.specs.Linked.{removed_early}
 use Rattle.hc_state.proofs.Served.{Fits, AllFit, number_at, clear-over, plant-over, stored-keys, served-over, clear-now, fits-clear, fits-link, linked-last}

@@ -10,9 +10,9 @@ use Rattle.hc_machine.specs.Takes.{Taken, Filled}
 use Rattle.hc_machine.specs.Cache.{Cache, Answer}
 use Rattle.hc_machine.specs.Workers.{after_take, after_finish, take_on, finish_on}
 use Rattle.hc_invariant.specs.Structure.{Structured}
-use Rattle.hc_proof_structure.specs.Takes.{Leaves}
-use Rattle.hc_proof_structure.proofs.Parts.{parts_of}
-use Rattle.hc_proof_structure.proofs.Takes.{finish_leaves, filler_leaves}
+use Rattle.hc_proof.specs.structure.Takes.{Leaves}
+use Rattle.hc_proof.proofs.structure.Parts.{parts_of}
+use Rattle.hc_proof.proofs.structure.Takes.{finish_leaves, filler_leaves}
 use Rattle.hc_nvm.specs.Endings.{Ending, Shows}
 use Rattle.hc_nvm.specs.Filled.{filled_of}
 use Rattle.hc_nvm.specs.declared.filler.Filled as ended

@@ -2,7 +2,7 @@
 use Rattle.std.specs.Prelude.{ℕ, ◌+◌, Bool, false, List, Option, Some, None}
 use Rattle.hc_machine.specs.Nvm.{Nvm, Waiter, fill_at, joined_by}
 use Rattle.hc_machine.specs.Cache.{Owed, Cache, owed_anew}
-use Rattle.hc_replies.specs.Replies.{AreBefore}
+use Rattle.hc_waiting.specs.Replies.{AreBefore}
 use Rattle.hc_waiting.specs.Fills.{is_kept_in}
 
 -- each reply is owed to a call that was begun

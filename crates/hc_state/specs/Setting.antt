@@ -11,7 +11,7 @@ use Rattle.hc_machine.specs.Cache.{Cache, Moved, Answer, with_memory}
 use Rattle.hc_machine.specs.World.{inserted}
 use Rattle.hc_machine.specs.Evicting.{allocate}
 use Rattle.hc_machine.specs.Calls.{insert_or_replace, discard}
-use Rattle.hc_proof_calls.specs.calls.Short.{leaving}
+use Rattle.hc_proof.specs.calls.Short.{leaving}
 use Rattle.hc_state.specs.Answering.{refusal_in}
 use Rattle.hc_state.specs.Whole.{Whole, HasRoom, costs}
 use Rattle.hc_state.specs.declared.setting.SetPlan.{SetPlan}

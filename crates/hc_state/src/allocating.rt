@@ -3,7 +3,7 @@ ghost use Rattle.std.specs.Prelude.{◌≡◌, ◌+◌, ◌*◌, ◌≤◌, ◌�
 ghost use Rattle.hc_types.specs.Charge.{charge_of};
 ghost use Rattle.hc_memory.specs.Memory.{victims_of, handle_for};
 ghost use Rattle.hc_memory.specs.Seen.{filled};
-ghost use Rattle.hc_items.specs.Allocating.{refusal_of, expiry_of};
+ghost use Rattle.hc_machine.specs.items.Allocating.{refusal_of, expiry_of};
 ghost use Rattle.hc_history.specs.Told.{where_kept};
 ghost use Rattle.hc_machine.specs.Evicting.{make_charge};
 ghost use Rattle.hc_invariant.specs.Structure.{Structured};
@@ -15,7 +15,7 @@ use crate::state::State;
 use crate::tells;
 use hc_history::{Note, Notes};
 use hc_memory::{Blank, Charged, Fill, Pools, Uncharged};
-use hc_proof_structure::evicted_never_waits;
+use hc_proof::evicted_never_waits;
 use hc_types::{Key, Refusal, VALUE_MAX, charge};
 use std::alloc::{AllocError, Allocator};
 

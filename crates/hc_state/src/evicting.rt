@@ -3,7 +3,7 @@ ghost use Rattle.std.specs.Prelude.{◌≡◌, ◌+◌, ◌*◌, ◌<◌, ◌≤
 ghost use Rattle.hc_types.specs.Loss.{cause_of};
 ghost use Rattle.hc_types.specs.Loss as loss;
 ghost use Rattle.hc_types.specs.FlashEntry.{entry_of};
-ghost use Rattle.hc_items.specs.Allocating as items;
+ghost use Rattle.hc_machine.specs.items.Allocating as items;
 ghost use Rattle.hc_memory.specs.Memory.{oldest_keys};
 ghost use Rattle.hc_history.specs.Note.{Lose, Queued};
 ghost use Rattle.hc_history.specs.Told.{told_more, where_kept};

@@ -6,7 +6,7 @@ ghost use Rattle.hc_machine.specs.Nvm.{ToAdd, put_at};
 ghost use Rattle.hc_machine.specs.Cache.{Replied};
 ghost use Rattle.hc_machine.specs.Calls.{is_known as is_known_seen, must_wait as must_wait_seen, in_memory, waiting_at, insert_or_replace as insert_or_replace_step, insert as insert_step, add as add_step};
 ghost use Rattle.hc_machine.specs.Waiting.{live};
-ghost use Rattle.hc_replies.specs.Replies.{AreBefore};
+ghost use Rattle.hc_waiting.specs.Replies.{AreBefore};
 ghost use Rattle.hc_state.specs.Answering.{IsReason};
 ghost use Rattle.hc_state.specs.Finding.{stands_in};
 ghost use Rattle.hc_state.specs.Inserting.{inserted_answer, is_add, AwaitsAdd};

@@ -3,7 +3,7 @@ ghost use Rattle.std.specs.Prelude.{◌≡◌, ◌+◌, ◌*◌, ◌<◌, ◌≤
 ghost use Rattle.hc_types.specs.Charge.{charge_of};
 ghost use Rattle.hc_memory.specs.Memory.{is_hopeless, victims_of};
 ghost use Rattle.hc_memory.specs.Seen.{filled};
-ghost use Rattle.hc_items.specs.Allocating.{refusal_of};
+ghost use Rattle.hc_machine.specs.items.Allocating.{refusal_of};
 ghost use Rattle.hc_history.specs.Note.{Stored};
 ghost use Rattle.hc_machine.specs.Cache.{Discarded, Replied};
 ghost use Rattle.hc_machine.specs.Evicting.{allocate as allocate_step};

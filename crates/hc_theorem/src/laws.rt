@@ -1,10 +1,10 @@
 // Each kind of step keeps the invariant, and what follows for whole runs. A function here does nothing: its contract is the law.
 ghost use Rattle.hc_invariant.specs.Good.{Good};
 ghost use Rattle.hc_invariant.specs.Laws.{AllocateKeeps, InsertKeeps, AddKeeps, DiscardKeeps, FindKeeps, RemoveKeeps, ReplyKeeps, TickKeeps, WriterKeeps, FillerKeeps, ReclaimKeeps, FinishKeeps, StepKeeps};
-ghost use Rattle.hc_proof_runs.specs.Events.{FinishIfHonest};
-ghost use Rattle.hc_proof_runs.specs.Between.{RunsAreBetween};
-ghost use Rattle.hc_proof_runs.specs.Lock.{CallsStayGuarded};
-ghost use Rattle.hc_theorem.specs.Headline.{Headline, HeadlineOfSchedules, HeadlineOfQuietSchedules, SchedulesStand, HeadlineOfLogs, NewStands};
+ghost use Rattle.hc_theorem.specs.runs.Events.{FinishIfHonest};
+ghost use Rattle.hc_theorem.specs.runs.Between.{RunsAreBetween};
+ghost use Rattle.hc_theorem.specs.runs.Lock.{CallsStayGuarded};
+ghost use Rattle.hc_theorem.specs.headlines.Headline.{Headline, HeadlineOfSchedules, HeadlineOfQuietSchedules, SchedulesStand, HeadlineOfLogs, NewStands};
 
 /// Room is made for an item, and it is charged.
 pub fn allocate_keeps()

@@ -6,3 +6,4 @@ pub mod Stones
 pub mod Filling
 pub mod Led
 pub mod Apart
+pub mod Owing

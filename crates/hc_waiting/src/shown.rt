@@ -1,6 +1,7 @@
 // How what waits is shown: by how much there is.
 use crate::fills::Fills;
 use crate::puts::Puts;
+use crate::replies::Replies;
 use crate::tombstones::Tombstones;
 use std::alloc::Allocator;
 use std::fmt;
@@ -20,5 +21,11 @@ impl<A: Allocator> fmt::Debug for Tombstones<A> {
 impl<A: Allocator> fmt::Debug for Fills<A> {
     fn fmt<W: fmt::Write>(&self, f: &mut fmt::Formatter<W>) -> fmt::Result {
         write!(f, "Fills {{ keys: {} }}", self.len())
+    }
+}
+
+impl<A: Allocator> fmt::Debug for Replies<A> {
+    fn fmt<W: fmt::Write>(&self, f: &mut fmt::Formatter<W>) -> fmt::Result {
+        write!(f, "Replies {{ owed: {} }}", self.len())
     }
 }

@@ -1,4 +1,4 @@
-use Rattle.hc_theorem.proofs.WholeRuns as theorem
+use Rattle.hc_theorem.proofs.headlines.WholeRuns as theorem
 use Rattle.hc_core.proofs.laws.steps_are_legal.Goals as goal
 
 pub returns-clause-new : goal.returns-clause-new

@@ -3,7 +3,7 @@ use Rattle.hc_types.specs.Loss as loss
 use Rattle.hc_memory.specs.Item.{Item}
 use Rattle.hc_history.specs.Note.{Lose}
 use Rattle.hc_history.specs.Told.{told_more}
-use Rattle.hc_items.specs.Allocating.{cause_for}
+use Rattle.hc_machine.specs.items.Allocating.{cause_for}
 use Rattle.hc_state.proofs.evicting.forgotten.Goals as goal
 
 pub returns-clause-told : goal.returns-clause-told

@@ -1,4 +1,4 @@
-use Rattle.hc_proof_runs.proofs.Betweens as by
+use Rattle.hc_theorem.proofs.runs.Betweens as by
 use Rattle.hc_theorem.proofs.laws.between.Goals as goal
 
 pub returns : goal.returns

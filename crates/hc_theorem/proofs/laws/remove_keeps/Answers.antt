@@ -1,4 +1,4 @@
-use Rattle.hc_theorem.proofs.EachStep as by
+use Rattle.hc_theorem.proofs.headlines.EachStep as by
 use Rattle.hc_theorem.proofs.laws.remove_keeps.Goals as goal
 
 pub returns : goal.returns

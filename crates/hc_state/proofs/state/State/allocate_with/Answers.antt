@@ -7,7 +7,7 @@ use Rattle.hc_memory.specs.Sound.{Sound}
 use Rattle.hc_memory.specs.Seen.{filled}
 use Rattle.hc_history.specs.Note.{Charged}
 use Rattle.hc_history.specs.Told.{told_more}
-use Rattle.hc_items.specs.Allocating.{refusal_of, expiry_of}
+use Rattle.hc_machine.specs.items.Allocating.{refusal_of, expiry_of}
 use Rattle.hc_machine.specs.Cache.{Cache}
 use Rattle.hc_invariant.specs.Structure.{Structured}
 use Rattle.hc_state.specs.Whole.{Whole, spare_of, nvm_of}

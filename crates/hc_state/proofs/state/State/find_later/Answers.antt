@@ -2,7 +2,7 @@ use Rattle.std.proofs.Common.{◌≡◌, ◌+◌, true, refl, sym, ap, ◌∙◌
 use Rattle.std.specs.Prelude.{ℕ}
 use Rattle.hc_machine.specs.Cache.{Cache}
 use Rattle.hc_machine.specs.Calls.{must_wait}
-use Rattle.hc_replies.specs.Replies.{AreBefore}
+use Rattle.hc_waiting.specs.Replies.{AreBefore}
 use Rattle.hc_state.specs.Owing.{OwesBegun}
 use Rattle.hc_state.specs.Whole.{Whole, nvm_of}
 use Rattle.hc_state.proofs.Looks.{waits-log}

@@ -2,7 +2,7 @@ use Rattle.std.proofs.Common.{◌+◌, ◌*◌, length, sym, ap, subst, arith, �
 use Rattle.hc_types.specs.Charge.{charge_of}
 use Rattle.hc_memory.specs.Memory.{victims_of}
 use Rattle.hc_memory.specs.Seen.{filled}
-use Rattle.hc_items.specs.Allocating.{refusal_of}
+use Rattle.hc_machine.specs.items.Allocating.{refusal_of}
 use Rattle.hc_machine.specs.Cache.{Cache}
 use Rattle.hc_state.specs.Whole.{Whole, HasRoom, costs}
 use Rattle.hc_state.proofs.Refusing.{may-be}

@@ -3,7 +3,7 @@ use Rattle.hc_types.specs.Charge.{charge_of}
 use Rattle.hc_memory.specs.Item.{Handle}
 use Rattle.hc_memory.specs.Sound.{Sound}
 use Rattle.hc_memory.specs.Seen.{filled}
-use Rattle.hc_items.specs.Allocating.{refusal_of, expiry_of}
+use Rattle.hc_machine.specs.items.Allocating.{refusal_of, expiry_of}
 use Rattle.hc_machine.specs.Cache.{Cache}
 use Rattle.hc_state.specs.Whole.{Whole}
 use Rattle.hc_state.proofs.Sets.{SetSteps, left-roomy, set-done, set-given-up}

@@ -1,5 +1,0 @@
-pub mod Items
-pub mod Flat
-pub mod Same
-pub mod Numbers
-pub mod FullPool

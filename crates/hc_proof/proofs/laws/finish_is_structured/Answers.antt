@@ -1,0 +1,5 @@
+use Rattle.hc_proof.proofs.structure.Workers as by
+use Rattle.hc_proof.proofs.laws.finish_is_structured.Goals as goal
+
+pub returns : goal.returns
+returns c = by.finishes

@@ -1,0 +1,5 @@
+use Rattle.hc_proof.proofs.structure.Calls as by
+use Rattle.hc_proof.proofs.laws.tick_is_structured.Goals as goal
+
+pub returns : goal.returns
+returns c = by.ticks

@@ -1,3 +1,0 @@
-pub mod calls
-pub mod storing
-pub mod evicting

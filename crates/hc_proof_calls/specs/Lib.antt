@@ -1,2 +1,0 @@
-pub mod calls
-pub mod evicting

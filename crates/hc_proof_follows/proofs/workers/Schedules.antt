@@ -1,8 +1,0 @@
--- Every schedule's run follows its steps.
-use Rattle.hc_invariant.specs.Laws.{Laws}
-use Rattle.hc_proof_follows.specs.clients.Deeds.{SchedulesFollow}
-use Rattle.hc_proof_follows.proofs.clients.Walking as walking
-use Rattle.hc_proof_follows.proofs.workers.Workers.{workers_follow}
-
-pub schedules_follow : Laws → SchedulesFollow
-schedules_follow laws = walking.schedules_follow laws workers_follow

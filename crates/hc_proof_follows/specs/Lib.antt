@@ -1,3 +1,0 @@
-pub mod idle
-pub mod slots
-pub mod clients

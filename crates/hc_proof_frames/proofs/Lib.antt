@@ -1,4 +1,0 @@
-pub mod frames
-pub mod shapes
-pub mod losses
-pub mod fresh

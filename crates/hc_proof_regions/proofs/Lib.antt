@@ -1,4 +1,0 @@
-pub mod books
-pub mod writes
-pub mod reads
-pub mod jobs

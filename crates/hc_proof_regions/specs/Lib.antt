@@ -1,2 +1,0 @@
-pub mod books
-pub mod jobs

@@ -1,5 +1,0 @@
-use Rattle.hc_proof_structure.proofs.Calls as by
-use Rattle.hc_proof_structure.proofs.laws.allocate_is_structured.Goals as goal
-
-pub returns : goal.returns
-returns c = by.allocates

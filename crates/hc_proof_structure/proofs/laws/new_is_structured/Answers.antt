@@ -1,5 +1,0 @@
-use Rattle.hc_proof_structure.proofs.Workers as by
-use Rattle.hc_proof_structure.proofs.laws.new_is_structured.Goals as goal
-
-pub returns : goal.returns
-returns c = by.begins

@@ -1,3 +1,0 @@
-pub mod writer
-pub mod fills
-pub mod buckets

@@ -1,2 +1,0 @@
--- What is proved of the replies that are owed.
-pub mod Owing

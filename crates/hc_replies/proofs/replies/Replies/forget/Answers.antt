@@ -1,7 +1,0 @@
-use Rattle.std.proofs.Common.{ap, ◌∙◌}
-use Rattle.hc_replies.specs.Replies.{owed_of}
-use Rattle.hc_replies.proofs.Owing.{less-is}
-use Rattle.hc_replies.proofs.replies.Replies.forget.Goals as goal
-
-pub returns : goal.returns
-returns g c = rw (← c.self.view_is) (ap owed_of c.remove.ensures.entries ∙ less-is c.args.call c.self.inside.owed.entries c.len-len.ensures.ordered)

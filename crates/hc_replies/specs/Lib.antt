@@ -1,2 +1,0 @@
--- The replies that are owed, as contracts see them.
-pub mod Replies

@@ -1,0 +1,142 @@
+// The replies that are owed to calls that wait.
+ghost use Rattle.std.specs.Prelude.{◌≡◌, ◌==◌, [], length, None, Some, true, option_map, is_some, IfOk, OnOk, IfErr, OnErr};
+ghost use Rattle.hc_history.specs.Seen.{reply_of};
+ghost use Rattle.hc_machine.specs.Cache.{owed_at, owed_anew, owed_with, owed_less};
+ghost use Rattle.hc_waiting.specs.Replies.{AreBefore, is_answered};
+ghost use Rattle.hc_waiting.specs.declared.replies.Untaken.TheVariants.{Unknown, NotReady};
+
+use hc_history::Reply;
+use hc_types::Refusal;
+use std::alloc::{AllocError, Allocator, Global};
+use std::collections::BTreeMap;
+use std::marker::Model;
+
+/// Why a reply can't be taken.
+#[derive(Clone, Copy, Debug, PartialEq, Eq)]
+pub enum Untaken {
+    /// The call doesn't wait: there is none, it was answered at once, or its reply was taken.
+    Unknown,
+    /// The call still waits.
+    NotReady,
+}
+
+impl From<Untaken> for Refusal {
+    ghost use Rattle.hc_waiting.specs.Replies.{refusal_of};
+
+    ghost from_gives = { λ untaken refusal. refusal ≡ refusal_of untaken };
+
+    fn from(untaken: Untaken) -> Refusal {
+        match untaken {
+            Untaken::Unknown => Refusal::UnknownCall,
+            Untaken::NotReady => Refusal::NotReady,
+        }
+    }
+}
+
+/// The calls that wait or waited, in the order of their numbers, and the reply of each, once there is one, until it is
+/// taken. A call costs the logarithm of how many are owed.
+#[derive(Drop)]
+pub struct Replies<A: Allocator = Global> {
+    owed: BTreeMap<u64, Option<Reply<A>>, A>,
+}
+
+impl<A: Allocator> Model for Replies<A> {
+    ghost use Rattle.std.specs.Prelude.{List};
+    ghost use Rattle.hc_machine.specs.Cache.{Owed};
+    ghost use Rattle.hc_waiting.specs.Replies.{owed_of};
+
+    ghost Value = { List Owed };
+
+    ghost view = { λ r. owed_of r.owed.entries };
+}
+
+impl<A: Allocator> Replies<A> {
+    /// No reply is owed.
+    #[must_use]
+    pub fn new(alloc: A) -> Replies<A>
+        ensures { result ≡ [] }
+    {
+        Replies {
+            owed: BTreeMap::new(alloc),
+        }
+    }
+
+    /// How many are owed.
+    #[must_use]
+    pub fn len(&self) -> usize
+        ensures { result ≡ length self.now }
+    {
+        self.owed.len()
+    }
+
+    /// Whether none is owed.
+    #[must_use]
+    pub fn is_empty(&self) -> bool
+        ensures { result ≡ (length self.now == 0) }
+    {
+        self.owed.len() == 0
+    }
+
+    /// Whether the call has its reply; none where none is owed to it.
+    #[must_use]
+    pub fn is_ready(&self, call: u64) -> Option<bool>
+        ensures { result ≡ option_map is_answered (owed_at call self.now) }
+    {
+        match self.owed.get(&call) {
+            Some(reply) => Some(reply.is_some()),
+            None => None,
+        }
+    }
+
+    /// The call that waits is answered.
+    pub fn answer(&mut self, call: u64, reply: Reply<A>)
+        ensures { self.new ≡ owed_with call (reply_of reply) self.old }
+    {
+        let Some(place) = self.owed.get_mut(&call) else {
+            return;
+        };
+        *place = Some(reply);
+    }
+
+    /// No reply is owed to the call any longer, whether it had one or not.
+    pub fn forget(&mut self, call: u64)
+        ensures { self.new ≡ owed_less call self.old }
+    {
+        let _len = self.owed.len();
+        let _ = self.owed.remove(&call);
+    }
+
+    /// Takes the reply of the call that waited. Where there is none, nothing changes.
+    pub fn take(&mut self, call: u64) -> Result<Reply<A>, Untaken>
+        ensures ok { IfOk result (λ reply. owed_at call self.old ≡ Some (record { call = call; reply = Some (reply_of reply) })) }
+        ensures left { OnOk result (self.new ≡ owed_less call self.old) }
+        ensures unknown { IfErr result (λ untaken. untaken ≡ Unknown → owed_at call self.old ≡ None) }
+        ensures waits { IfErr result (λ untaken. untaken ≡ NotReady → owed_at call self.old ≡ Some (record { call = call; reply = None })) }
+        ensures err { OnErr result (self.new ≡ self.old) }
+    {
+        let _len = self.owed.len();
+        match self.is_ready(call) {
+            None => Err(Untaken::Unknown),
+            Some(false) => Err(Untaken::NotReady),
+            Some(true) => match self.owed.remove(&call) {
+                Some(Some(reply)) => Ok(reply),
+                Some(None) => unreachable!(),
+                None => unreachable!(),
+            },
+        }
+    }
+}
+
+impl<A: Allocator + Clone> Replies<A> {
+    /// A reply is owed to a call that comes after all that one is owed to. Refused only where memory lacks.
+    pub fn expect(&mut self, call: u64) -> Result<(), AllocError>
+        requires { AreBefore call self.old }
+        ensures ok { OnOk result (self.new ≡ owed_anew call self.old) }
+        ensures err { OnErr result (self.new ≡ self.old) }
+    {
+        match self.owed.insert(call, None) {
+            Ok(_) => Ok(()),
+            Err(_) => Err(AllocError),
+        }
+    }
+}
