@@ -22,3 +22,4 @@ pub mod Ending
 pub mod Commuting
 pub mod Early
 pub mod Bringing
+pub mod Evicting

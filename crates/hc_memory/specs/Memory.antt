@@ -70,6 +70,14 @@ victims_of memory number want = option_map_or (λ pool. dropped pool.size (usage
 abbrev pub oldest_keys : Memory → ℕ → ℕ → List (List ℕ)
 oldest_keys memory number count = option_map_or (λ pool. map (λ (item : Item). item.key) (take count pool.items)) (slice_get memory.pools number) []
 
+-- the item of a pool that was used longest ago
+abbrev pub oldest_of : Memory → ℕ → Option Item
+oldest_of memory number = option_map_or (λ pool. slice_get pool.items 0) (slice_get memory.pools number) None
+
+-- it is taken out
+abbrev pub after_evict : Memory → ℕ → Memory
+after_evict memory number = record memory { pools = change_at number (λ pool. record pool { items = drop 1 pool.items }) memory.pools }
+
 abbrev pub after_room : Memory → ℕ → ℕ → Memory
 after_room memory number want = record memory {
   pools = change_at number (λ pool. record pool { items = kept pool.size (usage_of number memory.charges) want pool.items }) memory.pools;

@@ -180,7 +180,7 @@ impl<A: Allocator> Pool<A> {
     }
 
     /// Takes out the item that was used longest ago.
-    fn evict_first(&mut self) -> Option<Item<A>>
+    pub fn evict_first(&mut self) -> Option<Item<A>>
         ensures value { result ≡ slice_get self.old.items 0 }
         ensures items { self.new ≡ record { size = self.old.size; items = drop 1 self.old.items } }
     {

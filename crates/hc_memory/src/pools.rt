@@ -6,7 +6,7 @@ ghost use Rattle.hc_memory.specs.Planned.{IsPlanned};
 ghost use Rattle.hc_memory.specs.Pool.{is_full, kept, dropped};
 ghost use Rattle.hc_memory.specs.Sound.{Sound, FlashFits, IsWithin};
 ghost use Rattle.hc_memory.specs.Seen.{item_of, filled, glance_of};
-ghost use Rattle.hc_memory.specs.Memory.{empty_pool, pool_usage, home_of, linked_at, value_at, copied, used_in, is_hopeless, victims_of, oldest_keys, handle_for, unlinked, after_room, after_charge, after_unlink, after_find};
+ghost use Rattle.hc_memory.specs.Memory.{empty_pool, pool_usage, home_of, linked_at, value_at, copied, used_in, is_hopeless, victims_of, oldest_keys, oldest_of, handle_for, unlinked, after_room, after_evict, after_charge, after_unlink, after_find};
 
 use crate::answers::{Charged, Uncharged};
 use crate::clean::{CleanIndex, forget_items};
@@ -301,6 +301,22 @@ impl<A: Allocator> Pools<A> {
         let usage = self.charges.usage(pool);
         victims_of_pool(&self.pools[usize::from(pool)], usage, want)
     }
+
+    /// Takes out the pool's item that was used longest ago: the first of those that go where room is made, as `victims` says how
+    /// many. It takes no memory.
+    pub fn evict_oldest(&mut self, pool: u8) -> Option<Item<A>>
+        requires { pool < length self.old.pools }
+        ensures value { result ≡ oldest_of self.old pool }
+        ensures pools { self.new ≡ after_evict self.old pool }
+    {
+        match self.pools[usize::from(pool)].evict_first() {
+            Some(item) => {
+                self.clean.forget(&self.flash, &item.key);
+                Some(item)
+            }
+            None => None,
+        }
+    }
 }
 
 impl<A: Allocator + Clone> Pools<A> {
@@ -311,26 +327,6 @@ impl<A: Allocator + Clone> Pools<A> {
         ensures { IfOk result (λ keys. keys.items ≡ oldest_keys self.now pool count) }
     {
         self.pools[usize::from(pool)].oldest_keys(self.pools.allocator(), count)
-    }
-
-    /// Makes room in the pool for `want` bytes and one more charge: the `count` items that were used longest ago go,
-    /// as `victims` says how many, and are answered in that order. Refused only where memory lacks. It costs what goes.
-    pub fn make_room(
-        &mut self,
-        pool: u8,
-        want: u64,
-        count: usize,
-    ) -> Result<Vec<Item<A>, A>, AllocError>
-        requires pool { pool < length self.old.pools }
-        requires count { count ≡ length (victims_of self.old pool want) }
-        ensures victims { IfOk result (λ victims. victims.items ≡ victims_of self.old pool want) }
-        ensures pools { OnOk result (self.new ≡ after_room self.old pool want) }
-        ensures err { OnErr result (self.new ≡ self.old) }
-    {
-        let mut victims = room_for(self.pools.allocator(), count)?;
-        self.pools[usize::from(pool)].evict(count, &mut victims);
-        forget_items(&mut self.clean, &self.flash, victims.as_slice());
-        Ok(victims)
     }
 }
 
