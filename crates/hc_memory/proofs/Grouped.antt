@@ -1,5 +1,6 @@
 -- The keys of each place, and the map's entries.
-use Rattle.std.proofs.Common.{◌≡◌, ℕ, ◌==◌, ◌++◌, Bool, true, false, List, [], ◌∷◌, Option, Some, None, IsSome, refl, sym, ap, ◌∙◌, arith, ◌+◌, ◌≤◌, ◌||◌, slice_get, swap_remove, ◌&&◌, not, length}
+use Rattle.std.proofs.Common.{◌≡◌, ℕ, ◌==◌, ◌++◌, Bool, true, false, List, [], ◌∷◌, Option, Some, None, IsSome, refl, sym, ap, ◌∙◌, arith, ◌+◌, ◌≤◌, ◌||◌, slice_get, swap_remove, ◌&&◌, length}
+use Rattle.std.specs.Prelude.{option_map}
 use Rattle.std.specs.Str.{bytes_eq}
 use Rattle.hc_types.specs.Tally.{count}
 use mathlib.Core.Bool.{cond}
@@ -10,7 +11,8 @@ use Rattle.std.specs.declared.vec.Vec.{Vec}
 use Rattle.std.proofs.lemmas.Bool.{eqb-true}
 use Rattle.std.proofs.lemmas.Slice.Eq.{bytes_eq-Decides}
 use Rattle.hc_memory.proofs.Keyed.{same_bytes}
-use Rattle.hc_memory.proofs.Places.{tally-removed}
+use Rattle.std.proofs.lemmas.Option.{slice_get_within}
+use Rattle.hc_memory.proofs.Places.{tally-removed, same_removed}
 use Rattle.hc_memory.specs.Clean.{groups_of, keys_at, with_key, has_key}
 
 at-is : (place q : ℕ) → is_at (nat_cmp place) q ≡ (q == place)
@@ -96,27 +98,21 @@ emptied place p k goes old mid new w keeps none is gone other h = ap (has_key k)
     go true e more = let nothing : mid ≡ [] = is ∙ ap (λ b. cond b w (keys_at p old)) e ∙ none in let bad : has_key k [] ≡ true = rw nothing at more in bad
     go false e more = more
 
-not-false : (b : Bool) → not b ≡ false → b ≡ true
-not-false true h = refl
-not-false false h = absurd cc
+read_step : (f : List ℕ → Bool) (o : Option (List ℕ)) → option_map f o ≡ Some true → (x : List ℕ) × (o ≡ Some x) × (f x ≡ true)
+read_step f None e = absurd cc
+read_step f (Some x) e = (x, refl, cc)
 
--- the key alone is left
-pub kept-one : (key k : List ℕ) (w : List (List ℕ)) → w ≡ key ∷ [] → not (bytes_eq key k) ≡ false → has_key k w ≡ true
-kept-one key k w is h =
-    let same = same_bytes key k (not-false (bytes_eq key k) h) in
-    ap (has_key k) is ∙ ap (λ b. b || false) ((bytes_eq-Decides k key).1 (sym same))
+differ_step : (f : List ℕ → Bool) (k x : List ℕ) (b : Bool) → bytes_eq k x ≡ b → f k ≡ false → f x ≡ true → b ≡ false
+differ_step f k x true e away goes = let same : k ≡ x = same_bytes k x e in absurd (let bad : false ≡ true = sym away ∙ ap f same ∙ goes in cc)
+differ_step f k x false e away goes = refl
 
--- where the place hasn't the key, it goes
-pub others-go : (place p : ℕ) (key k : List ℕ) (old : List (ℕ × List (List ℕ))) (mid new : List (List ℕ)) → has_key key (keys_at place old) ≡ false → mid ≡ keys_at p old → new ≡ cond (p == place) [] mid
-    → ((p == place) && not (bytes_eq key k)) ≡ false → has_key k (keys_at p old) ≡ true → has_key k new ≡ true
-others-go place p key k old mid new none same is other h = ap (has_key k) is ∙ go (p == place) refl other
-  where
-    go : (b : Bool) → (p == place) ≡ b → (b && not (bytes_eq key k)) ≡ false → has_key k (cond b [] mid) ≡ true
-    go true e other =
-        let one = same_bytes key k (not-false (bytes_eq key k) other) in
-        let there : has_key key (keys_at place old) ≡ true = ap (λ q. has_key q (keys_at place old)) one ∙ sym (ap (λ q. has_key k (keys_at q old)) (eqb-true p place e)) ∙ h in
-        absurd (let bad : true ≡ false = sym there ∙ none in cc)
-    go false e other = ap (has_key k) same ∙ h
+-- where a key of a kind is taken out, those of no such kind stay
+pub stays-other : (f : List ℕ → Bool) (k : List ℕ) (xs : List (List ℕ)) (at : ℕ) (d : List ℕ) → option_map f (slice_get xs at) ≡ Some true → f k ≡ false → has_key k xs ≡ true → has_key k (swap_remove xs at d) ≡ true
+stays-other f k xs at d found away h =
+    let r = read_step f (slice_get xs at) found in
+    let within = slice_get_within xs at r.0 r.1 in
+    let same = same_removed xs at d r.0 (omega (arith, within)) in
+    ap (has_key k) same ∙ stays k xs at r.0 r.1 (differ_step f k r.0 (bytes_eq k r.0) refl away r.2) h
 
 pub no-length : (xs : List (List ℕ)) → length xs ≡ 0 → xs ≡ []
 no-length [] h = refl

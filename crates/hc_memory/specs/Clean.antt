@@ -1,10 +1,10 @@
 -- The keys of the clean items, listed by where their copies stand on flash.
-use Rattle.std.specs.Prelude.{◌≡◌, ℕ, ◌==◌, ◌&&◌, not, Bool, true, false, List, [], ◌∷◌, ◌++◌, Option, Some, None, map, length, if◌then◌else◌}
+use Rattle.std.specs.Prelude.{◌≡◌, ℕ, ◌*◌, ◌-◌, ◌%◌, ◌^◌, ◌==◌, ◌&&◌, not, max, min, Bool, true, false, List, [], ◌∷◌, ◌++◌, Option, Some, None, map, length, if◌then◌else◌}
 use Rattle.std.specs.List.{list_any}
 use Rattle.std.specs.Str.{bytes_eq}
 use Rattle.std.specs.declared.vec.Vec.{Vec}
 use Rattle.hc_types.specs.Tally.{tally, count}
-use Rattle.hc_types.specs.Loss.{Scope, Key, Bucket, Hash}
+use Rattle.hc_types.specs.Loss.{Scope, Key, Bucket, Hash, is_but}
 use Rattle.hc_types.specs.Places.{kept_of, bucket_at, is_small_by}
 use Rattle.hc_types.specs.declared.config.FlashConfig.{FlashConfig}
 use Rattle.hc_memory.specs.Item.{Item}
@@ -29,7 +29,19 @@ has_key key keys = list_any (bytes_eq key) keys
 abbrev pub with_key : List ℕ → List (List ℕ) → List (List ℕ)
 with_key key keys = if has_key key keys then keys else keys ++ key ∷ []
 
+-- the key's hash, kept by so many bits, is this one, and another key is named
+abbrev pub is_under : ℕ → ℕ → Option (List ℕ) → List ℕ → Bool
+is_under bits hash but key = (kept_of bits key == hash) && not (is_but but key)
+
 -- ---- the index
+
+-- how many places large items have: as many as pages in all regions
+abbrev pub large_places : FlashConfig → ℕ
+large_places flash = max (min (flash.regions * flash.region_pages) (2 ^ 64 - 1)) 1
+
+-- the place of a large item of this key
+abbrev pub large_at : FlashConfig → List ℕ → ℕ
+large_at flash key = kept_of flash.bits key % large_places flash
 
 -- the scope is a place, and not one key
 abbrev pub is_place : Scope → Bool
@@ -37,7 +49,7 @@ is_place (Key key) = false
 is_place (Bucket bucket) = true
 is_place (Hash kept but) = true
 
--- Keys by their bucket, those of small items, and by their kept hash, those of large ones.
+-- Keys by their bucket, those of small items, and by a place that their kept hash says, those of large ones.
 pub record Listing : Type 0 where
   pub small : List (ℕ × List (List ℕ))
   pub large : List (ℕ × List (List ℕ))
@@ -46,7 +58,7 @@ pub record Listing : Type 0 where
 -- place.
 abbrev pub is_listed : Option FlashConfig → Listing → List ℕ → ℕ → Bool
 is_listed None listing key len = true
-is_listed (Some flash) listing key len = if is_small_by flash key len then has_key key (keys_at (bucket_at flash key) listing.small) else has_key key (keys_at (kept_of flash.bits key) listing.large)
+is_listed (Some flash) listing key len = if is_small_by flash key len then has_key key (keys_at (bucket_at flash key) listing.small) else has_key key (keys_at (large_at flash key) listing.large)
 
 -- the item is clean and isn't listed
 abbrev pub is_missed : Option FlashConfig → Listing → Item → Bool

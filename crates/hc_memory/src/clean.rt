@@ -4,7 +4,7 @@ ghost use Rattle.std.specs.Str.{bytes_eq};
 ghost use Rattle.hc_types.specs.Loss.{scope_of, covers};
 ghost use Rattle.hc_types.specs.Tally.{count};
 ghost use Rattle.hc_memory.specs.Pool.{is_at};
-ghost use Rattle.hc_memory.specs.Clean.{has_key, is_listed, is_place};
+ghost use Rattle.hc_memory.specs.Clean.{has_key, is_listed, is_place, large_places, large_at};
 
 use crate::groups::KeyGroups;
 use crate::item::Item;
@@ -13,7 +13,8 @@ use std::alloc::{AllocError, Allocator, Global};
 use std::marker::Model;
 
 /// The keys of the clean items, each listed once, by where a copy of its item stands on flash: a small one in its bucket, a
-/// large one under its kept hash. Contracts see the keys of both kinds.
+/// large one in a place that its kept hash alone says, of which there are as many as pages in all regions. Contracts see the
+/// keys of both kinds.
 ///
 /// More keys may be listed than have clean items, so that only listing has to be certain.
 #[derive(Drop)]
@@ -50,7 +51,7 @@ impl<A: Allocator> CleanIndex<A> {
     {
         match (scope, flash) {
             (Scope::Bucket(bucket), Some(_)) => self.small.keys(u64::from(*bucket)),
-            (Scope::Hash { kept, .. }, Some(_)) => self.large.keys(*kept),
+            (Scope::Hash { kept, .. }, Some(flash)) => self.large.keys(*kept % places_in(flash)),
             (_, _) => &[],
         }
     }
@@ -67,7 +68,7 @@ impl<A: Allocator> CleanIndex<A> {
             return;
         };
         self.small.remove(bucket_of(key, flash), key);
-        self.large.remove(kept(key, flash.bits), key);
+        self.large.remove(large_place(key, flash), key);
     }
 
     /// What the scope covers isn't listed any more.
@@ -79,14 +80,10 @@ impl<A: Allocator> CleanIndex<A> {
         match (scope, flash) {
             (Scope::Key(key), _) => self.forget(flash, key),
             (Scope::Bucket(bucket), Some(_)) => self.small.remove_all(u64::from(*bucket)),
-            (Scope::Hash { kept, but: None }, Some(_)) => self.large.remove_all(*kept),
-            (
-                Scope::Hash {
-                    kept,
-                    but: Some(but),
-                },
-                Some(_),
-            ) => self.large.remove_others(*kept, but),
+            (Scope::Hash { kept, but }, Some(flash)) => {
+                let place = *kept % places_in(flash);
+                self.large.remove_under(place, flash.bits, *kept, but);
+            }
             (_, None) => {}
         }
     }
@@ -113,9 +110,25 @@ impl<A: Allocator + Clone> CleanIndex<A> {
         if is_small(key, len, flash) {
             self.small.add(alloc, bucket_of(key, flash), key)
         } else {
-            self.large.add(alloc, kept(key, flash.bits), key)
+            self.large.add(alloc, large_place(key, flash), key)
         }
     }
+}
+
+/// How many places large items have: as many as pages in all regions.
+fn places_in(flash: &FlashConfig) -> u64
+    ensures value { result ≡ large_places flash.now }
+    ensures least { 1 ≤ result }
+{
+    flash.regions.saturating_mul(flash.region_pages).max(1)
+}
+
+/// The place of a large item of this key.
+fn large_place<A: Allocator>(key: &Key<A>, flash: &FlashConfig) -> u64
+    requires { flash.now.bits ≤ 64 }
+    ensures { result ≡ large_at flash.now key.now }
+{
+    kept(key, flash.bits) % places_in(flash)
 }
 
 /// The keys of these items, which went, aren't listed any more. One that isn't clean may still be listed, if its item took the

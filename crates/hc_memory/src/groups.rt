@@ -1,17 +1,18 @@
 // Keys by their places.
-ghost use Rattle.std.specs.Prelude.{◌≡◌, ℕ, ◌==◌, ◌<◌, ◌&&◌, not, true, false, ◌++◌, ◌∷◌, [], List, length, slice_get, Some, None, IfSome, OnOk, OnErr, if◌then◌else◌};
+ghost use Rattle.std.specs.Prelude.{◌≡◌, ℕ, ◌==◌, ◌≤◌, ◌&&◌, true, false, ◌++◌, ◌∷◌, [], List, slice_get, option_map, Some, None, IfSome, OnOk, OnErr, if◌then◌else◌};
 ghost use Rattle.std.specs.Str.{bytes_eq};
-ghost use Rattle.hc_memory.specs.Clean.{keys_at, has_key, with_key};
+ghost use Rattle.hc_types.specs.Loss.{is_but};
+ghost use Rattle.hc_memory.specs.Clean.{keys_at, has_key, with_key, is_under};
 
-use hc_types::Key;
+use hc_types::{Key, kept};
 use std::alloc::{AllocError, Allocator, Global};
 use std::collections::BTreeMap;
 use std::marker::Model;
 
-/// Keys by their places, which are numbers: buckets, or kept hashes. Contracts see the keys of each place.
+/// Keys by their places, which are numbers: each is a page's worth of flash. Contracts see the keys of each place.
 ///
-/// Each call takes time in the logarithm of how many places have keys, and in how many keys the place has: at most as many as
-/// copies stand there on flash.
+/// Each call takes time in the logarithm of how many places have keys, and in how many keys the place has: about as many as
+/// copies fit into a page. A place's list has room for just the most keys that it had.
 #[derive(Drop)]
 pub(crate) struct KeyGroups<A: Allocator = Global> {
     groups: BTreeMap<u64, Vec<Key<A>, A>, A>,
@@ -68,16 +69,17 @@ impl<A: Allocator> KeyGroups<A> {
         let _ = self.groups.remove(&place);
     }
 
-    /// The place has no key any more but this one, if it has it.
-    pub(crate) fn remove_others(&mut self, place: u64, key: &Key<A>)
-        ensures { (p : ℕ) (k : List ℕ) → (p == place && not (bytes_eq key.now k)) ≡ false → has_key k (keys_at p self.old) ≡ true → has_key k (keys_at p self.new) ≡ true }
+    /// The place has none of the keys any more whose hash, kept by so many bits, is this one, but the one that is named.
+    pub(crate) fn remove_under(&mut self, place: u64, bits: u64, hash: u64, but: &Option<Key<A>>)
+        requires { bits ≤ 64 }
+        ensures { (p : ℕ) (k : List ℕ) → (p == place && is_under bits hash but.now k) ≡ false → has_key k (keys_at p self.old) ≡ true → has_key k (keys_at p self.new) ≡ true }
     {
         let Some(keys) = self.groups.get_mut(&place) else {
             return;
         };
-        match place_in(keys.as_slice(), key) {
-            Some(at) => keep_one(keys, at),
-            None => self.remove_all(place),
+        take_out_under(keys, bits, hash, but);
+        if keys.len() == 0 {
+            self.remove_all(place);
         }
     }
 }
@@ -146,23 +148,78 @@ fn take_out<A: Allocator>(keys: &mut Vec<Key<A>, A>, key: &Key<A>)
     }
 }
 
-/// Leaves the key at this place alone.
-fn keep_one<A: Allocator>(keys: &mut Vec<Key<A>, A>, at: usize)
-    requires { at < length keys.old.items }
-    ensures { (key : List ℕ) → slice_get keys.old.items at ≡ Some key → keys.new.items ≡ key ∷ [] }
+/// Whether the key is the one that is named.
+fn is_named<A: Allocator>(but: &Option<Key<A>>, key: &Key<A>) -> bool
+    ensures { result ≡ is_but but.now key.now }
 {
-    let kept = keys.swap_remove(at);
-    keys.clear();
-    keys.push_reserved(kept);
+    match but {
+        Some(named) => named == key,
+        None => false,
+    }
 }
 
-/// Puts the key behind those of the list. Refused only where memory lacks; then nothing changes.
+/// Whether the key's hash, kept by so many bits, is this one, and another key is named.
+pub(crate) fn stands_under<A: Allocator>(
+    key: &Key<A>,
+    bits: u64,
+    hash: u64,
+    but: &Option<Key<A>>,
+) -> bool
+    requires { bits ≤ 64 }
+    ensures { result ≡ is_under bits hash but.now key.now }
+{
+    kept(key, bits) == hash && !is_named(but, key)
+}
+
+/// Where the first of these keys stands that is under the hash and isn't named.
+fn place_under<A: Allocator>(
+    keys: &[Key<A>],
+    bits: u64,
+    hash: u64,
+    but: &Option<Key<A>>,
+) -> Option<usize>
+    requires { bits ≤ 64 }
+    ensures { IfSome result (λ at. option_map (is_under bits hash but.now) (slice_get keys.now at) ≡ Some true) }
+{
+    for (i, key) in keys.iter().enumerate() {
+        if stands_under(key, bits, hash, but) {
+            return Some(i);
+        }
+    }
+    None
+}
+
+/// Takes each key out of the list that is under the hash and isn't named. Mostly it is one.
+fn take_out_under<A: Allocator>(
+    keys: &mut Vec<Key<A>, A>,
+    bits: u64,
+    hash: u64,
+    but: &Option<Key<A>>,
+)
+    requires { bits ≤ 64 }
+    ensures { (k : List ℕ) → is_under bits hash but.now k ≡ false → has_key k keys.old.items ≡ true → has_key k keys.new.items ≡ true }
+{
+    for _ in 0..keys.len() {
+        match place_under(keys.as_slice(), bits, hash, but) {
+            Some(at) => {
+                let _ = keys.swap_remove(at);
+            }
+            None => return,
+        }
+    }
+}
+
+/// Puts the key behind those of the list, whose room grows by this one alone. Refused only where memory lacks; then nothing
+/// changes.
 fn push_key<A: Allocator + Clone>(keys: &mut Vec<Key<A>, A>, key: Key<A>) -> Result<(), AllocError>
     ensures ok { OnOk result (keys.new.items ≡ keys.old.items ++ key ∷ []) }
     ensures err { OnErr result (keys.new.items ≡ keys.old.items) }
 {
-    match keys.push(key) {
-        Ok(()) => Ok(()),
-        Err(_) => Err(AllocError),
+    match keys.reserve_exact(1) {
+        Ok(()) => {
+            keys.push_reserved(key);
+            Ok(())
+        }
+        Err(no_memory) => Err(no_memory),
     }
 }

@@ -1,12 +1,13 @@
 // The clean marks that a loss on flash takes.
-ghost use Rattle.std.specs.Prelude.{◌≡◌, ◌≤◌, map, IfSome, ◌∷◌, []};
-ghost use Rattle.hc_types.specs.Loss.{scope_of};
-ghost use Rattle.hc_memory.specs.Pool.{Pool as Order};
+ghost use Rattle.std.specs.Prelude.{◌≡◌, ◌≤◌, ℕ, false, map, IfSome, ◌∷◌, []};
+ghost use Rattle.hc_types.specs.Loss.{scope_of, covers};
+ghost use Rattle.hc_memory.specs.Pool.{Pool as Order, unmarked_where, is_covered_at};
 ghost use Rattle.hc_memory.specs.Memory.{all_unmarked, after_unmark};
 ghost use Rattle.hc_memory.specs.Clean.{Listed};
 ghost use Rattle.hc_memory.specs.Unmarks.{keys_unmarked};
 
 use crate::clean::CleanIndex;
+use crate::groups::stands_under;
 use crate::pool::Pool;
 use crate::pools::Pools;
 use hc_types::{FlashConfig, Key, Scope};
@@ -87,6 +88,34 @@ fn unmark_in<A: Allocator>(
     ensures { pool.new ≡ record { size = pool.old.size; items = keys_unmarked flash.now (scope_of scope.now) keys.now pool.old.items } }
 {
     for key in keys {
+        unmark_one(pool, flash, scope, key);
+    }
+}
+
+/// Takes the clean mark from the pool's item under this key, if the scope covers it. The key is looked up only where it may.
+fn unmark_one<A: Allocator>(
+    pool: &mut Pool<A>,
+    flash: &Option<FlashConfig>,
+    scope: &Scope<A>,
+    key: &Key<A>,
+)
+    requires bits { IfSome flash.now (λ f. f.bits ≤ 64) }
+    requires buckets { IfSome flash.now (λ f. 1 ≤ f.buckets) }
+    ensures { pool.new ≡ record { size = pool.old.size; items = unmarked_where (is_covered_at flash.now (scope_of scope.now) key.now) pool.old.items } }
+{
+    if may_cover(flash, scope, key) {
         pool.unmark_covered(flash, scope, key);
+    }
+}
+
+/// Whether the scope may cover an item of this key, whatever its value: else the key needn't be looked up. Keys of other kept
+/// hashes have the same place.
+fn may_cover<A: Allocator>(flash: &Option<FlashConfig>, scope: &Scope<A>, key: &Key<A>) -> bool
+    requires bits { IfSome flash.now (λ f. f.bits ≤ 64) }
+    ensures { (len : ℕ) → result ≡ false → covers flash.now (scope_of scope.now) key.now len ≡ false }
+{
+    match (scope, flash) {
+        (Scope::Hash { kept, but }, Some(flash)) => stands_under(key, flash.bits, *kept, but),
+        (_, _) => true,
     }
 }

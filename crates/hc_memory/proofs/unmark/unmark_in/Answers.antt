@@ -15,8 +15,8 @@ loop-key-preserved g c =
     let scope = scope_of c.args.scope.now in
     let here = drop_here c.args.keys.now c.loop-key.key-index c.key-item.result c.loop-key-test.true c.key-item.is in
     record {
-      size = ap (λ p. p.size) c.unmark_covered.ensures ∙ inv.size;
-      items = ap (λ p. keys_unmarked flash scope (drop (c.loop-key.key-index + 1) c.args.keys.now) p.items) c.unmark_covered.ensures ∙ sym (ap (λ ks. keys_unmarked flash scope ks c.loop-key.pool.items) here) ∙ inv.items;
+      size = ap (λ p. p.size) c.unmark_one.ensures ∙ inv.size;
+      items = ap (λ p. keys_unmarked flash scope (drop (c.loop-key.key-index + 1) c.args.keys.now) p.items) c.unmark_one.ensures ∙ sym (ap (λ ks. keys_unmarked flash scope ks c.loop-key.pool.items) here) ∙ inv.items;
     }
 
 pub returns : goal.returns

@@ -10,5 +10,5 @@ returns-then-is_small-clause-listed g c = rw c.in-Some.is (on_ok_weaker c.add.re
 
 pub returns-else-is_small-clause-listed : goal.returns-else-is_small-clause-listed
 returns-else-is_small-clause-listed g c = rw c.in-Some.is (on_ok_weaker c.add-else-is_small.result
-    (λ is. listed-large c.in-Some.flash (record { small = c.self.inside.small; large = c.add-else-is_small.new.self }) c.args.key.now c.args.len c.kept.result c.self.inside.large (sym c.is_small.ensures ∙ c.if-is_small.false) c.kept.ensures is)
+    (λ is. listed-large c.in-Some.flash (record { small = c.self.inside.small; large = c.add-else-is_small.new.self }) c.args.key.now c.args.len c.large_place.result c.self.inside.large (sym c.is_small.ensures ∙ c.if-is_small.false) c.large_place.ensures is)
     c.add-else-is_small.ensures.ok)
