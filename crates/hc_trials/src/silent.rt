@@ -29,6 +29,10 @@ impl Listener for Deaf {
         false
     }
 
+    fn keeps_losses(&self) -> bool {
+        false
+    }
+
     fn reserve(&mut self, _n: usize) -> Result<(), AllocError> {
         Ok(())
     }
