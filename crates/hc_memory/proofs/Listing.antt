@@ -1,14 +1,12 @@
 -- What is listed stays listed, whatever the pools do.
-use Rattle.std.proofs.Common.{◌≡◌, ℕ, ◌+◌, ◌≤◌, ◌==◌, ◌++◌, ◌&&◌, ◌||◌, ◌%◌, not, Bool, true, false, List, [], ◌∷◌, Option, Some, None, refl, ap, sym, ◌∙◌, arith, map, length, drop, slice_get, slice_set, eq-eqb, zero, suc, take}
-use Rattle.std.proofs.lemmas.Bool.{eqb-true}
+use Rattle.std.proofs.Common.{◌≡◌, ℕ, ◌+◌, ◌≤◌, ◌==◌, ◌++◌, ◌&&◌, ◌||◌, not, Bool, true, false, List, [], ◌∷◌, Option, Some, None, refl, ap, sym, ◌∙◌, arith, map, length, drop, slice_get, slice_set, eq-eqb, zero, suc, take}
 use mathlib.Core.Bool.{cond}
 use Rattle.std.specs.Option.{option_map_or}
 use Rattle.std.specs.Str.{bytes_eq}
 use Rattle.std.proofs.lemmas.Slice.Eq.{bytes_eq-Decides}
 use Rattle.std.proofs.lemmas.List.Folds.{list_any-append}
 use Rattle.hc_types.specs.Tally.{tally, count}
-use Rattle.hc_types.specs.Places.{kept_of, bucket_at, is_small_by}
-use Rattle.hc_types.specs.Loss.{Hash, covers, is_but}
+use Rattle.hc_types.specs.Places.{bucket_at, is_small_by}
 use Rattle.hc_types.proofs.Tallies.{tally-mono, tally-push, tally-set, tally-drop, tally-get}
 use Rattle.hc_types.specs.declared.config.PoolSize.{PoolSize}
 use Rattle.hc_types.specs.declared.config.FlashConfig.{FlashConfig}
@@ -16,7 +14,7 @@ use Rattle.hc_memory.specs.Sound.{items_at}
 use Rattle.hc_memory.specs.Item.{Item}
 use Rattle.hc_memory.specs.Pool.{Pool, item_at, without, used, is_at}
 use Rattle.hc_memory.specs.Memory.{empty_pool, home_of, change_at, unlinked}
-use Rattle.hc_memory.specs.Clean.{Listing, keys_at, has_key, with_key, is_under, large_places, large_at, is_listed, is_missed, Listed}
+use Rattle.hc_memory.specs.Clean.{Listing, keys_at, has_key, with_key, large_at, is_listed, is_missed, Listed}
 use Rattle.hc_memory.proofs.Homes.{home, away}
 use Rattle.hc_memory.proofs.Keyed.{less-without, tally-used}
 
@@ -123,36 +121,6 @@ listed-but flash old new key other n bucket hash e small large h = go (is_small_
         → cond b (has_key other (keys_at (bucket_at flash other) new.small)) (has_key other (keys_at (large_at flash other) new.large)) ≡ true
     go true h = small (bucket_at flash other) other (rw e (no_more (bucket_at flash other == bucket))) h
     go false h = large (large_at flash other) other (rw e (no_more (large_at flash other == hash))) h
-
-not_covered : (small under : Bool) → small ≡ false → (not small && under) ≡ false → under ≡ false
-not_covered true under e h = absurd cc
-not_covered false under e h = h
-
--- what is under a hash is forgotten
-pub listed-under : (flash : FlashConfig) (old new : Listing) (hash place : ℕ) (but : Option (List ℕ)) (key : List ℕ) (len : ℕ) → covers (Some flash) (Hash hash but) key len ≡ false → new.small ≡ old.small
-    → ((p : ℕ) (k : List ℕ) → ((p == place) && is_under flash.bits hash but k) ≡ false → has_key k (keys_at p old.large) ≡ true → has_key k (keys_at p new.large) ≡ true)
-    → is_listed (Some flash) old key len ≡ true → is_listed (Some flash) new key len ≡ true
-listed-under flash old new hash place but key len away same large h = go (is_small_by flash key len) refl h
-  where
-    go : (b : Bool) → is_small_by flash key len ≡ b → cond b (has_key key (keys_at (bucket_at flash key) old.small)) (has_key key (keys_at (large_at flash key) old.large)) ≡ true
-        → cond b (has_key key (keys_at (bucket_at flash key) new.small)) (has_key key (keys_at (large_at flash key) new.large)) ≡ true
-    go true e h = ap (λ groups. has_key key (keys_at (bucket_at flash key) groups)) same ∙ h
-    go false e h =
-        let other = not_covered (is_small_by flash key len) (is_under flash.bits hash but key) e away in
-        large (large_at flash key) key (rw other (no_more (large_at flash key == place))) h
-
-and_step : (a b c : Bool) → (not a && b && c) ≡ true → (a ≡ false) × (b ≡ true)
-and_step true b c h = absurd cc
-and_step false true c h = (refl, refl)
-and_step false false c h = absurd cc
-
--- what is listed where a hash has its place
-pub listed-there : (flash : FlashConfig) (listing : Listing) (hash : ℕ) (but : Option (List ℕ)) (key : List ℕ) (len : ℕ) → covers (Some flash) (Hash hash but) key len ≡ true → is_listed (Some flash) listing key len ≡ true
-    → has_key key (keys_at (hash % large_places flash) listing.large) ≡ true
-listed-there flash listing hash but key len c h =
-    let two = and_step (is_small_by flash key len) (kept_of flash.bits key == hash) (not (is_but but key)) c in
-    let there : has_key key (keys_at (large_at flash key) listing.large) ≡ true = rw two.0 at h in
-    ap (λ n. has_key key (keys_at (n % large_places flash) listing.large)) (sym (eqb-true (kept_of flash.bits key) hash two.1)) ∙ there
 
 at_step : (x : Item) (key : List ℕ) (b : Bool) (old new : Bool) → (b ≡ false → old ≡ true → new ≡ true) → cond (x.clean && not new) 1 0 ≤ cond (x.clean && not old) 1 0 + cond b 1 0
 at_step x key true old new h = one_at_most (x.clean && not new) (cond (x.clean && not old) 1 0)

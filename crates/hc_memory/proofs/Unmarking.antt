@@ -7,8 +7,7 @@ use Rattle.std.proofs.lemmas.Slice.Eq.{bytes_eq-Decides}
 use Rattle.std.proofs.lemmas.List.{length-map}
 use Rattle.std.proofs.lemmas.Option.{slice_get-map}
 use mathlib.Core.Bool.{cond}
-use Rattle.hc_types.specs.Loss.{Scope, Key, Hash, is_but, covers}
-use Rattle.hc_types.specs.Places.{kept_of, is_small_by}
+use Rattle.hc_types.specs.Loss.{Scope, Key, covers}
 use Rattle.hc_types.specs.Tally.{tally, count}
 use Rattle.hc_types.proofs.Tallies.{tally-mono, tally-get}
 use Rattle.hc_types.specs.declared.config.FlashConfig.{FlashConfig}
@@ -17,7 +16,7 @@ use Rattle.hc_memory.specs.Pool.{Pool, is_at, unmarked_where, is_covered, is_cov
 use Rattle.hc_memory.specs.Charges.{usage_of}
 use Rattle.hc_memory.specs.Memory.{all_unmarked}
 use Rattle.hc_memory.specs.Unmarks.{keys_unmarked}
-use Rattle.hc_memory.specs.Clean.{Listing, has_key, is_under, is_listed, is_missed, Listed}
+use Rattle.hc_memory.specs.Clean.{Listing, has_key, is_listed, is_missed, Listed}
 use Rattle.hc_memory.specs.Sound.{IsWithin, Sound, FlashFits, items_at}
 use Rattle.hc_memory.proofs.Keyed.{same_bytes, count-none, tally-unmarked, unmarked-none}
 use Rattle.hc_memory.proofs.Listing.{fewer_step, zero_one}
@@ -146,16 +145,6 @@ away_step flash scope key x false e away = refl
 pub uncovered-key : (flash : Option FlashConfig) (scope : Scope) (key : List ℕ) (items : List Item) → ((len : ℕ) → covers flash scope key len ≡ false) → unmarked_where (is_covered_at flash scope key) items ≡ items
 uncovered-key flash scope key [] away = refl
 uncovered-key flash scope key (x ∷ items) away = rw (away_step flash scope key x (is_at key x) refl away) (ap (λ ys. x ∷ ys) (uncovered-key flash scope key items away))
-
-not_more : (s a b : Bool) → (a && b) ≡ false → (s && a && b) ≡ false
-not_more true true true h = absurd cc
-not_more true true false h = refl
-not_more true false b h = refl
-not_more false a b h = refl
-
--- a key that isn't under the hash isn't covered
-pub not-under : (flash : FlashConfig) (hash : ℕ) (but : Option (List ℕ)) (key : List ℕ) (len : ℕ) → is_under flash.bits hash but key ≡ false → covers (Some flash) (Hash hash but) key len ≡ false
-not-under flash hash but key len h = not_more (not (is_small_by flash key len)) (kept_of flash.bits key == hash) (not (is_but but key)) h
 
 -- ---- all pools
 
