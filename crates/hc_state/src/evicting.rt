@@ -147,7 +147,7 @@ impl<N: Notes<Note<A>>, A: Allocator + Clone + Copy> State<N, A> {
 
     /// An item was evicted from the pool for `want` bytes: its charge is free, and where no copy of it stands on flash it
     /// waits for flash, or its key is forgotten.
-    fn leave(&mut self, pool: u8, want: u64, item: Item<A>, leave: Option<Leave<A>>)
+    pub(crate) fn leave(&mut self, pool: u8, want: u64, item: Item<A>, leave: Option<Leave<A>>)
         requires absent { put_at item.key (queue_of self.old.cache.nvm) ≡ None }
         requires leave { is_some self.old.cache.nvm ≡ true → leave ≡ Some (leave_of self.old.log item.key) }
         requires room { HasRoom (costs 2 1 0 0) self.old }

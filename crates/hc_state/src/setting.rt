@@ -1,22 +1,22 @@
 // A value is stored in one step, where there is no flash and notes aren't kept.
-ghost use Rattle.std.specs.Prelude.{◌≡◌, ◌+◌, ◌*◌, ◌<◌, ◌≤◌, ◌⊎◌, true, false, None, Some, length, IfOk, OnOk, OnErr, IfErr};
+ghost use Rattle.std.specs.Prelude.{◌≡◌, ◌+◌, ◌*◌, ◌<◌, ◌≤◌, ◌⊎◌, true, false, None, Some, length, IsSome, IfSome, IfOk, OnOk, OnErr, IfErr};
 ghost use Rattle.hc_types.specs.Charge.{charge_of};
-ghost use Rattle.hc_memory.specs.Memory.{is_hopeless, victims_of};
+ghost use Rattle.hc_memory.specs.Memory.{is_hopeless, victims_of, oldest_of, after_evict};
 ghost use Rattle.hc_memory.specs.Seen.{filled};
 ghost use Rattle.hc_machine.specs.items.Allocating.{refusal_of};
 ghost use Rattle.hc_history.specs.Note.{Stored};
-ghost use Rattle.hc_machine.specs.Cache.{Discarded, Replied};
+ghost use Rattle.hc_machine.specs.Cache.{Discarded, Replied, with_memory};
 ghost use Rattle.hc_machine.specs.Evicting.{allocate as allocate_step};
+ghost use Rattle.hc_state.specs.Leaving.{one_leaves};
 ghost use Rattle.hc_state.specs.Setting.{set_step, give_up_step, MayRefuse, is_plain as is_plain_seen, IsSetPlan, IsRoomed, IsPut, IsSkipped};
-ghost use Rattle.hc_state.specs.Whole.{IsStep, HasRoom, Stays, costs};
+ghost use Rattle.hc_state.specs.Whole.{IsStep, HasRoom, Does, Stays, costs};
 
 use crate::allocating::{expiry_after, victims_for};
-use crate::evicting::alloc_of;
 use crate::state::State;
 use hc_history::{Kind, Note, Notes};
 use hc_memory::{Fill, ItemValue};
 use hc_types::{Key, Refusal, charge};
-use std::alloc::{AllocError, Allocator};
+use std::alloc::Allocator;
 
 /// What a value that is stored in one step needs before anything changes: the number of its call and that of its charge, how
 /// many items go to make room, and the value.
@@ -58,51 +58,44 @@ impl<N: Notes<Note<A>>, A: Allocator + Clone + Copy> State<N, A> {
         })
     }
 
-    /// Makes room in the pool for `want` bytes: so many items go, and their keys are forgotten. Refused only where memory
-    /// lacks; then nothing changed. Never inlined, since most values are stored where there is room.
+    /// The item of the pool that was used longest ago goes, for `want` bytes, and its key is forgotten. Never inlined, since most
+    /// values are stored where there is room.
     #[inline(never)]
-    fn forget_oldest(&mut self, pool: u8, want: u64, count: usize) -> Result<(), AllocError>
+    fn forget_oldest(&mut self, pool: u8, want: u64)
+        requires flash { self.old.cache.nvm ≡ None }
+        requires pool { pool < length self.old.cache.memory.pools }
+        requires some { IsSome (oldest_of self.old.cache.memory pool) }
+        requires room { HasRoom (costs 2 1 0 0) self.old }
+        ensures { IfSome (oldest_of self.old.cache.memory pool) (λ item. Does (one_leaves pool want item (with_memory (after_evict self.old.cache.memory pool) self.old.cache)) (costs 2 1 0 0) self.old self.new) }
+    {
+        match self.pools.evict_oldest(pool) {
+            Some(item) => self.leave(pool, want, item, None),
+            None => unreachable!(),
+        }
+    }
+
+    /// Makes room in the pool for `want` bytes: so many items go, and their keys are forgotten. It takes no memory.
+    fn make_way(&mut self, pool: u8, want: u64, count: usize)
         requires flash { self.old.cache.nvm ≡ None }
         requires pool { pool < length self.old.cache.memory.pools }
         requires count { count ≡ length (victims_of self.old.cache.memory pool want) }
         requires room { HasRoom (costs (2 * count) count 0 0) self.old }
-        ensures ok { OnOk result (IsRoomed pool want count self.old self.new) }
-        ensures err { OnErr result (self.new ≡ self.old) }
+        ensures { IsRoomed pool want count self.old self.new }
     {
-        match self.pools.make_room(pool, want, count) {
-            Ok(victims) => {
-                let leaves = Vec::new(alloc_of(&self.config));
-                self.leave_all(pool, want, victims, leaves);
-                Ok(())
-            }
-            Err(no_memory) => Err(no_memory),
+        for _ in 0..count {
+            self.forget_oldest(pool, want);
         }
     }
 
-    /// The same, where there may be room.
-    fn make_way(&mut self, pool: u8, want: u64, count: usize) -> Result<(), AllocError>
-        requires flash { self.old.cache.nvm ≡ None }
-        requires pool { pool < length self.old.cache.memory.pools }
-        requires count { count ≡ length (victims_of self.old.cache.memory pool want) }
-        requires room { HasRoom (costs (2 * count) count 0 0) self.old }
-        ensures ok { OnOk result (IsRoomed pool want count self.old self.new) }
-        ensures err { OnErr result (self.new ≡ self.old) }
-    {
-        if count == 0 {
-            return Ok(());
-        }
-        self.forget_oldest(pool, want, count)
-    }
-
-    /// Puts the value of the plan under the key in the pool, which has room for it, and counts that. Where memory lacks, the
-    /// number of the charge is gone, and nothing else.
+    /// Puts the value of the plan under the key in the pool, which has room for it, and counts that. Refused only where memory
+    /// lacks; then the number of the charge is gone, and nothing else.
     fn put_planned(
         &mut self,
         pool: u8,
         key: Key<A>,
         expiry: u64,
         plan: SetPlan<A>,
-    ) -> Result<(), AllocError>
+    ) -> Result<(), Refusal>
         requires number { plan.number ≡ self.old.cache.memory.made + 1 }
         requires pool { pool < length self.old.cache.memory.pools }
         requires room { is_hopeless self.old.cache.memory pool (charge_of key (length plan.value)) ≡ false }
@@ -110,6 +103,7 @@ impl<N: Notes<Note<A>>, A: Allocator + Clone + Copy> State<N, A> {
         requires notes { 1 ≤ self.old.notes }
         ensures ok { OnOk result (IsPut plan.call (record { number = plan.number; pool = pool; key = key; expiry = expiry; value = plan.value }) self.old self.new) }
         ensures err { OnErr result (IsSkipped plan.number self.old self.new) }
+        ensures why { IfErr result (λ refusal. refusal ≡ Refusal.NoMemory) }
     {
         let SetPlan {
             call,
@@ -123,7 +117,7 @@ impl<N: Notes<Note<A>>, A: Allocator + Clone + Copy> State<N, A> {
                 self.notes.count(Kind::Stored);
                 Ok(())
             }
-            Err(no_memory) => Err(no_memory),
+            Err(_) => Err(Refusal::NoMemory),
         }
     }
 
@@ -147,16 +141,7 @@ impl<N: Notes<Note<A>>, A: Allocator + Clone + Copy> State<N, A> {
         let want = charge(&key, fill.len());
         let _sound = self.pools.len();
         let expiry = expiry_after(self.clock, ttl);
-        match self.make_way(pool, want, plan.count) {
-            Ok(()) => {}
-            Err(_) => {
-                drop(plan);
-                return Err(Refusal::NoMemory);
-            }
-        }
-        match self.put_planned(pool, key, expiry, plan) {
-            Ok(()) => Ok(()),
-            Err(_) => Err(Refusal::NoMemory),
-        }
+        self.make_way(pool, want, plan.count);
+        self.put_planned(pool, key, expiry, plan)
     }
 }

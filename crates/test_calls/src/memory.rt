@@ -62,6 +62,23 @@ fn a_value_is_replaced_with_two_growths(rt: HostRuntime) {
     assert_replaced_with_two(&rt, &alloc, FLASH);
 }
 
+// That a new value for which another goes is stored with three growths: its own two, and its entry's. No list is made of what
+// goes, and what counts the losses has room for them.
+fn assert_evicts_with_three<'a>(rt: &impl Abort, alloc: Heap<'a>) {
+    let mut core = stored(rt, alloc, None);
+    store(rt, &mut core, b"a");
+    store(rt, &mut core, b"b");
+    core.forget_losses();
+    let before = alloc.taken();
+    store(rt, &mut core, b"c");
+    assert!(rt; alloc.taken().wrapping_sub(before) == 3);
+}
+
+#[test]
+fn a_new_value_evicts_with_three_growths(rt: HostRuntime) {
+    assert_evicts_with_three(&rt, &Refusing::new(rt.alloc(), 0));
+}
+
 // Stores the key's value once none of its growths is refused: before, each is refused alone, which nobody counts as a call. How
 // many there are.
 fn growths_of<'a>(rt: &impl Abort, alloc: Heap<'a>, core: &mut Cache<'a>, key: &[u8]) -> u64 {

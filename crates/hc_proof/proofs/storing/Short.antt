@@ -23,17 +23,17 @@ use Rattle.hc_proof.specs.calls.Short.{leaving, handle_in, short_set, SetsAreSho
 
 -- ---- items go
 
-one_goes : (pool want : ℕ) (item : Item) (cache : Cache) → cache.nvm ≡ None → (b : Bool)
+pub one-goes : (pool want : ℕ) (item : Item) (cache : Cache) → cache.nvm ≡ None → (b : Bool)
     → cond b (tells [] cache) (leaves_for cache.nvm pool want item cache) ≡ tells (cond b [] (Lose (loss.Key item.key) (cause_for cache.now pool want item) ∷ [])) cache
-one_goes pool want item cache none true = refl
-one_goes pool want item cache none false = ap (λ (nvm : Option Nvm). leaves_for nvm pool want item cache) none
+one-goes pool want item cache none true = refl
+one-goes pool want item cache none false = ap (λ (nvm : Option Nvm). leaves_for nvm pool want item cache) none
 
-pub all-go : (pool want : ℕ) (items : List Item) (cache : Cache) → cache.nvm ≡ None → all_leave pool want items cache ≡ tells (leaving cache.now pool want items) cache
-all-go pool want [] cache none = refl
-all-go pool want (item ∷ items) cache none =
+all_go : (pool want : ℕ) (items : List Item) (cache : Cache) → cache.nvm ≡ None → all_leave pool want items cache ≡ tells (leaving cache.now pool want items) cache
+all_go pool want [] cache none = refl
+all_go pool want (item ∷ items) cache none =
     let lost : List Note = cond item.clean [] (Lose (loss.Key item.key) (cause_for cache.now pool want item) ∷ []) in
-    ap (λ (told : Told). behind (Freed item.number ∷ []) (and_then told (all_leave pool want items))) (one_goes pool want item cache none item.clean)
-    ∙ ap (λ (told : Told). behind (Freed item.number ∷ []) (behind lost told)) (all-go pool want items cache none)
+    ap (λ (told : Told). behind (Freed item.number ∷ []) (and_then told (all_leave pool want items))) (one-goes pool want item cache none item.clean)
+    ∙ ap (λ (told : Told). behind (Freed item.number ∷ []) (behind lost told)) (all_go pool want items cache none)
 
 -- ---- what is told
 
@@ -59,7 +59,7 @@ base pool key value ttl cache none s allowed =
     let told : Note = Charged h.number key pool want in
     let after : Cache = with_memory (with_charge roomed pool key (length value)) bare in
     let stored : Moved = answers (Replied Stored) (and_then (begin 0 (Insert h.key h.value h.expiry) after) (store h)) in
-    let first = all-go pool want (victims_of cache.memory pool want) (with_memory roomed bare) refl in
+    let first = all_go pool want (victims_of cache.memory pool want) (with_memory roomed bare) refl in
     ap (λ (o : Option Refusal). inserted (insert_or_replace 0) (allocate_by o pool key value ttl bare)) allowed
     ∙ ap (λ (told : Told). inserted (insert_or_replace 0) (answers (Opened h) (and_then told (charge pool key (length value))))) first
     ∙ ap (λ (b : Bool). moved_behind (gone ++ told ∷ []) (cond (b && not false) stored (stays (Refused ForeignHandle) after))) known
@@ -88,7 +88,7 @@ give_up_base pool key value ttl cache none s allowed =
     let told : Note = Charged h.number key pool want in
     let after : Cache = with_memory (with_charge roomed pool key (length value)) bare in
     let freed : Moved = answers Discarded (free h.number after) in
-    let first = all-go pool want (victims_of cache.memory pool want) (with_memory roomed bare) refl in
+    let first = all_go pool want (victims_of cache.memory pool want) (with_memory roomed bare) refl in
     ap (λ (o : Option Refusal). inserted discard (allocate_by o pool key value ttl bare)) allowed
     ∙ ap (λ (told : Told). inserted discard (answers (Opened h) (and_then told (charge pool key (length value))))) first
     ∙ ap (λ (b : Bool). moved_behind (gone ++ told ∷ []) (cond (b && not false) freed (stays (Refused ForeignHandle) after))) known
