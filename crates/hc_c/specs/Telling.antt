@@ -49,9 +49,9 @@ losses_of losses = record {
   fault = losses.fault;
 }
 
--- the losses of the log came of these reasons, and of no other
+-- the losses of the log came of these reasons, and they are as many as are counted
 abbrev pub AreLosses : Heard → Losses → Type 0
-AreLosses (Sums counts losses) told = (told ≡ losses) × (total_lost told ≡ counts.losses)
+AreLosses (Sums counts losses) told = (told ≡ losses) × (total_lost losses ≡ counts.losses)
 AreLosses heard told = ⊥
 
 abbrev pub CountedLosses : LossCounts → Status → Logged → Logged → Type 0
