@@ -1,5 +1,7 @@
 //! What the wrapper answers.
-use kilambosetry::{Added, Cache, Came, Device, Flash, Found, HybridCache, Losses, Operation, Pool, Refused, Reply, Take};
+use kilambosetry::{
+    Added, Cache, Came, Device, Flash, Found, HybridCache, Losses, Operation, Pool, Refused, Reply, Take,
+};
 use std::error::Error;
 use std::io;
 use std::sync::{Arc, Mutex};
