@@ -1,7 +1,8 @@
 -- Results that wait, and for how many more there is room.
-use Rattle.std.specs.Prelude.{ℕ, List, map}
+use Rattle.std.specs.Prelude.{ℕ, List, map, ⊤}
 use Rattle.hc_flash.specs.declared.operation.IoResult.{IoResult}
 use Rattle.hc_flash.specs.Seen.{result_of}
+use Rattle.hc_flash.specs.Operations.{IoResult as Came, Page}
 use Rattle.hc_machine.specs.World.{Result}
 
 -- a result that waits, with its job
@@ -14,3 +15,8 @@ results_of entries = map waits_for entries
 pub record Waiting : Type 0 where
   pub results : List Result
   pub room : ℕ
+
+-- a page was read
+abbrev pub IsPage : Came → Type 0
+IsPage (Page bytes) = ⊤
+IsPage result = ⊥

@@ -1,7 +1,8 @@
 // Results of device operations, until they are handed in.
-ghost use Rattle.std.specs.Prelude.{◌≡◌, ◌==◌, ◌≤◌, ℕ, [], None, Some, option_map, is_some, if◌then◌else◌, IfOk, OnOk};
+ghost use Rattle.std.specs.Prelude.{◌≡◌, ◌==◌, ◌≤◌, ℕ, [], None, Some, option_map, is_some, if◌then◌else◌, IfOk, OnOk, OnErr};
 ghost use Rattle.hc_flash.specs.Seen.{result_of};
 ghost use Rattle.hc_machine.specs.World.{result_at};
+ghost use Rattle.hc_results.specs.Waiting.{IsPage};
 
 use bytes::Bytes;
 use hc_flash::IoResult;
@@ -89,9 +90,10 @@ impl<A: Allocator + Clone> Results<A> {
     }
 }
 
-/// The same result, for another owner.
+/// The same result, for another owner. Only that of a page that was read may be refused, for want of memory.
 pub fn copy<A: Allocator>(came: &IoResult<A>) -> Result<IoResult<A>, AllocError>
-    ensures { IfOk result (λ copy. result_of copy ≡ result_of came.now) }
+    ensures ok { IfOk result (λ copy. result_of copy ≡ result_of came.now) }
+    ensures err { OnErr result (IsPage (result_of came.now)) }
 {
     match came {
         IoResult::Page(bytes) => {

@@ -4,6 +4,7 @@ use Rattle.std.specs.Prelude.{if◌then◌else◌, IfSome}
 use Rattle.std.proofs.lemmas.Bool.{eqb-true}
 use Rattle.hc_flash.specs.Operations.{Pages, Order, Read, Write, IoResult, Page, Written, Failed, with_page, pages_after, CameOf, failures_of}
 use Rattle.hc_machine.specs.World.{result_of, read_of}
+use Rattle.hc_results.specs.Waiting.{IsPage}
 use Rattle.hc_run.specs.Shows.{Sight, IsWithin}
 use Rattle.hc_run.specs.Devices.{CanRead, Comes, IsSame}
 
@@ -51,9 +52,11 @@ module _ {Device : Type 0} (sight : Sight Device) (old new : Device) where
   }
 
   -- a page that was read, and couldn't be told for want of memory, left the device as it was
-  pub read_again : (order : Order) (bytes : List ℕ) → CameOf (sight.held old) order (Page bytes) → ((page : ℕ) → sight.held new page ≡ pages_after order (Page bytes) (sight.held old) page) → sight.failed new ≡ sight.failed old + failures_of (Page bytes) → IsSame sight old new
-  read_again (Read page) bytes came pages counted = record { counted = counted ∙ counts (Page bytes) (sight.failed old); held = pages }
-  read_again (Write page written) bytes came pages counted = absurd came
+  pub unread : (order : Order) (result : IoResult) → CameOf (sight.held old) order result → ((page : ℕ) → sight.held new page ≡ pages_after order result (sight.held old) page) → sight.failed new ≡ sight.failed old + failures_of result → IsPage result → IsSame sight old new
+  unread (Read page) (Page bytes) came pages counted is = record { counted = counted ∙ counts (Page bytes) (sight.failed old); held = pages }
+  unread (Write page written) (Page bytes) came pages counted is = absurd came
+  unread order Written came pages counted is = absurd is
+  unread order Failed came pages counted is = absurd is
 
 -- the step fails it, and the device isn't reached
 module _ {Device : Type 0} (sight : Sight Device) (device : Device) where

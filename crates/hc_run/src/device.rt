@@ -1,11 +1,10 @@
 // Operations of a device.
-ghost use Rattle.std.specs.Prelude.{◌≡◌, false, true, IfOk, OnErr};
-ghost use Rattle.hc_flash.specs.Operations.{Page};
+ghost use Rattle.std.specs.Prelude.{◌≡◌, false, IfOk, OnErr};
 ghost use Rattle.hc_flash.specs.Seen.{order_of, result_of};
 ghost use Rattle.hc_run.specs.Devices.{Comes, IsSame};
 
-use bytes::Bytes;
 use hc_flash::{Flash, IoResult, Order, perform};
+use hc_results::copy;
 use std::alloc::{AllocError, Allocator};
 
 /// What came of an operation, for two owners: one hands it in later, one is told.
@@ -14,37 +13,15 @@ pub(crate) struct Came<A: Allocator> {
     pub(crate) told: IoResult<A>,
 }
 
-/// The page that was read, twice.
-fn page_twice<A: Allocator>(bytes: Bytes<A>) -> Result<Came<A>, AllocError>
-    ensures kept { IfOk result (λ came. result_of came.kept ≡ Page bytes) }
-    ensures told { IfOk result (λ came. result_of came.told ≡ Page bytes) }
-{
-    let copy = bytes.clone()?;
-    Ok(Came {
-        kept: IoResult::Page(bytes),
-        told: IoResult::Page(copy),
-    })
-}
-
-/// The device does the operation. Where memory lacks, nothing is read or written.
-pub(crate) fn make<A: Allocator, D: Flash<A>>(
-    device: &mut D,
-    order: &Order<A>,
-) -> Result<Came<A>, AllocError>
+/// The device does the operation. Where memory lacks, nothing is read or written, or what was read isn't told.
+fn make<A: Allocator, D: Flash<A>>(device: &mut D, order: &Order<A>) -> Result<Came<A>, AllocError>
     ensures ok { IfOk result (λ came. Comes (record { held = D.held; failed = D.failed }) (order_of order.now) false device.old (result_of came.kept) device.new) }
     ensures told { IfOk result (λ came. result_of came.told ≡ result_of came.kept) }
     ensures err { OnErr result (IsSame (record { held = D.held; failed = D.failed }) device.old device.new) }
 {
-    match perform(device, order) {
-        Ok(IoResult::Page(bytes)) => page_twice(bytes),
-        Ok(IoResult::Written) => Ok(Came {
-            kept: IoResult::Written,
-            told: IoResult::Written,
-        }),
-        Ok(IoResult::Failed) => Ok(Came {
-            kept: IoResult::Failed,
-            told: IoResult::Failed,
-        }),
+    let kept = perform(device, order)?;
+    match copy(&kept) {
+        Ok(told) => Ok(Came { kept, told }),
         Err(no_memory) => Err(no_memory),
     }
 }
