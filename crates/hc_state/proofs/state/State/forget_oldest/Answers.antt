@@ -28,4 +28,5 @@ returns g c =
 pub unreachable-requires : goal.unreachable-requires
 unreachable-requires g c =
     let some = rw (← c.self.view_is) at c.requires.some in
-    subst (λ (o : Option Item). IsSome o) (sym c.in-None.ensures.value) some
+    let none : IsSome {T = Item} None = subst (λ (o : Option Item). IsSome o) (sym c.in-None.ensures.value) some in
+    cc
