@@ -8,8 +8,8 @@ ghost use Rattle.hc_state.specs.Whole.{nvm_of};
 use hc_history::{Listener, Note, Notes};
 use hc_memory::Pools;
 use hc_nvm::Nvm;
-use hc_waiting::Replies;
 use hc_types::{Config, FlashConfig, Refusal};
+use hc_waiting::Replies;
 use std::alloc::{AllocError, Allocator, Global};
 use std::marker::Model;
 

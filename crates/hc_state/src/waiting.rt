@@ -13,9 +13,8 @@ use crate::state::State;
 use hc_history::{Note, Notes};
 use hc_memory::Pools;
 use hc_nvm::Nvm;
-use hc_waiting::Replies;
 use hc_types::Key;
-use hc_waiting::Waiter;
+use hc_waiting::{Replies, Waiter};
 use std::alloc::{AllocError, Allocator};
 
 /// Whether an item is linked under the key, expired or not.
