@@ -9,7 +9,7 @@ use Rattle.hc_run.specs.Shows.{Sight, IsWithin}
 use Rattle.hc_run.specs.Devices.{CanRead, Comes, IsSame}
 
 -- whether the device failed by itself
-broke : IoResult → Bool
+abbrev broke : IoResult → Bool
 broke Failed = true
 broke (Page bytes) = false
 broke Written = false
