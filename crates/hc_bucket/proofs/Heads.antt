@@ -1,11 +1,13 @@
 -- An entry is read in two steps: what stands before its key, and the rest.
-use Rattle.std.proofs.Common.{◌≡◌, ℕ, List, [], ◌∷◌, Option, Some, None, refl, ap, ◌∙◌}
-use Rattle.std.specs.Int.{w16, w64}
+use Rattle.std.proofs.Common.{◌≡◌, ℕ, ◌+◌, ◌==◌, true, false, List, [], ◌∷◌, ◌++◌, length, take, Option, Some, None, refl, sym, ap, ◌∙◌, arith}
+use Rattle.std.proofs.lemmas.List.{take_at, length-append}
+use Rattle.std.specs.Int.{w16, w64, to_be_bytes}
 use Rattle.hc_types.specs.FlashEntry.{FlashEntry}
 use Rattle.hc_bucket.specs.declared.fields.Head.{Head}
-use Rattle.hc_bucket.specs.declared.read_error.ReadError.{ReadError}
-use Rattle.hc_bucket.specs.declared.read_error.ReadError.TheVariants.{NoMemory, NoPage}
-use Rattle.hc_bucket.specs.Reading.{◌>>=◌, Fails, part_at, number_at, key_at, entry_at, head_at, headed_at}
+use Rattle.hc_bucket.specs.Page.{entry_bytes}
+use Rattle.hc_bucket.specs.Reading.{◌>>=◌, part_at, number_at, key_at, entry_at, head_at, headed_at}
+use Rattle.hc_bucket.proofs.Numbers.{IsBytes, wide16, wide64}
+use Rattle.hc_bucket.proofs.Pages.{entry_takes}
 
 abbrev headed : ℕ → ℕ → ℕ → ℕ → List ℕ → Option (Head × List ℕ)
 headed k p v x rest = Some (record { key_len = k; pool = p; value_len = v; expiry = x }, rest)
@@ -36,6 +38,27 @@ pub entry_is : (bytes : List ℕ) (head : Head) (rest : List ℕ) → head_at by
 entry_is bytes head rest h = entry-headed bytes ∙ ap behind h
 
 -- with no head there is no entry
-pub head_fails : (error : ReadError) (bytes : List ℕ) → Fails error (head_at bytes) → Fails error (entry_at bytes)
-head_fails NoMemory bytes h = tt
-head_fails NoPage bytes h = entry-headed bytes ∙ ap behind h
+pub head_none : (bytes : List ℕ) → head_at bytes ≡ None → entry_at bytes ≡ None
+head_none bytes h = entry-headed bytes ∙ ap behind h
+
+-- ---- an entry is read part by part
+
+pub no_key_part : (head : Head) (rest : List ℕ) → part_at head.key_len rest ≡ None → headed_at head rest ≡ None
+no_key_part head rest h = rw h refl
+
+pub no_value_part : (head : Head) (rest key behind-key : List ℕ) → part_at head.key_len rest ≡ Some (key, behind-key) → part_at head.value_len behind-key ≡ None → headed_at head rest ≡ None
+no_value_part head rest key behind-key k v = rw (k, v) refl
+
+pub key_empty : (head : Head) (rest key behind-key value after : List ℕ) → part_at head.key_len rest ≡ Some (key, behind-key) → part_at head.value_len behind-key ≡ Some (value, after) → true ≡ (length key == 0) → headed_at head rest ≡ None
+key_empty head rest key behind-key value after k v none = rw (k, v, ← none) refl
+
+pub all_parts : (head : Head) (rest key behind-key value after : List ℕ) → part_at head.key_len rest ≡ Some (key, behind-key) → part_at head.value_len behind-key ≡ Some (value, after) → false ≡ (length key == 0)
+    → headed_at head rest ≡ Some (record { key = key; value = value; pool = head.pool; expiry = head.expiry }, after)
+all_parts head rest key behind-key value after k v some = rw (k, v, ← some) refl
+
+-- the bytes of an entry that was read, by its length
+pub spelled_by : (bytes : List ℕ) (e : FlashEntry) (after : List ℕ) (len : ℕ) → IsBytes bytes → entry_at bytes ≡ Some (e, after) → len ≡ 12 + length e.key + length e.value → take len bytes ≡ entry_bytes e
+spelled_by bytes e after len fits read is =
+    let taken = entry_takes bytes (e, after) fits read in
+    let size : length (entry_bytes e) ≡ len = omega (arith, is, length-append (to_be_bytes w16 (length e.value)) (to_be_bytes w64 e.expiry ++ (e.key ++ e.value)), length-append (to_be_bytes w64 e.expiry) (e.key ++ e.value), length-append e.key e.value, wide16.len (length e.value), wide64.len e.expiry) in
+    ap (take len) taken.0.parts ∙ take_at (entry_bytes e) after len size

@@ -1,8 +1,6 @@
-pub mod Distinct
 pub mod Heads
-pub mod Loop
 pub mod Numbers
 pub mod Pages
 pub mod PutEntries
-pub mod Room
 pub mod Zeros
+pub mod Scanning

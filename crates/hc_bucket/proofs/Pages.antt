@@ -75,7 +75,7 @@ entry_again e rest fits =
     let regrouped : entry_bytes e ++ rest ≡ length e.key ∷ e.pool ∷ (to_be_bytes w16 (length e.value) ++ (to_be_bytes w64 e.expiry ++ (e.key ++ (e.value ++ rest)))) = ap (λ (z : List ℕ). length e.key ∷ e.pool ∷ z) (sym (regroup (to_be_bytes w16 (length e.value)) (to_be_bytes w64 e.expiry) e.key e.value rest)) in
     ap entry_at regrouped ∙ rw (number_again w16 (2 ^ 16) wide16 (length e.value) (to_be_bytes w64 e.expiry ++ (e.key ++ (e.value ++ rest))) fits.value, number_again w64 (2 ^ 64) wide64 e.expiry (e.key ++ (e.value ++ rest)) fits.expiry, part_again e.key (e.value ++ rest) (length e.key) refl, part_again e.value rest (length e.value) refl, positive (length e.key) fits.some_key) refl
 
-entries_take : (n : ℕ) (bytes : List ℕ) (x : List FlashEntry × List ℕ) → IsBytes bytes → entries_at n bytes ≡ Some x → Takes bytes (entries_bytes x.0) x.1 × (length x.0 ≡ n) × AllByRecursion IsSmall x.0
+pub entries_take : (n : ℕ) (bytes : List ℕ) (x : List FlashEntry × List ℕ) → IsBytes bytes → entries_at n bytes ≡ Some x → Takes bytes (entries_bytes x.0) x.1 × (length x.0 ≡ n) × AllByRecursion IsSmall x.0
 unfolding entries_at
 entries_take zero bytes x fits e =
     subst (λ (y : List FlashEntry × List ℕ). Takes bytes (entries_bytes y.0) y.1 × (length y.0 ≡ 0) × AllByRecursion IsSmall y.0) (some_is ([], bytes) x e) (record { parts = refl; rest_fits = fits }, refl, tt)

@@ -46,6 +46,10 @@ pub record Fits (size : ℕ) (es : List FlashEntry) : Type 0 where
   pub number : used es < 2 ^ 16
   pub room : used es ≤ size
 
+-- a page is begun: its front isn't written yet, and these entries stand behind it
+abbrev pub IsBegun : List FlashEntry → List ℕ → Type 0
+IsBegun es bytes = bytes ≡ replicate 4 0 ++ entries_bytes es
+
 -- these bytes are a page of this size that holds these entries
 abbrev pub IsPage : ℕ → List FlashEntry → List ℕ → Type 0
 IsPage size es bytes = Fits size es × (bytes ≡ page_bytes size es)

@@ -1,12 +1,8 @@
 -- Reading a page from left to right, as the code does.
-use Rattle.std.specs.Prelude.{◌≡◌, ℕ, zero, suc, ◌-◌, List, [], ◌∷◌, length, take, drop, Option, Some, None, Result, Ok, Err, nat_eq, nat_lt, Bool, true, not, ◌==◌, ◌&&◌, if◌then◌else◌}
-use Rattle.std.specs.List.{list_all, list_any}
+use Rattle.std.specs.Prelude.{ℕ, zero, suc, ◌-◌, List, [], ◌∷◌, length, take, drop, Option, Some, None, nat_lt, ◌==◌, ◌&&◌, if◌then◌else◌}
+use Rattle.std.specs.List.{list_all}
 use Rattle.std.specs.Int.{Width, w16, w64, byte_len, from_be_bytes}
-use Rattle.std.specs.Cmp.Lexicographic.{pointwise}
-use Rattle.hc_types.specs.declared.entry.Entry.{Entry}
 use Rattle.hc_bucket.specs.declared.fields.Head.{Head}
-use Rattle.hc_bucket.specs.declared.read_error.ReadError.{ReadError}
-use Rattle.hc_bucket.specs.declared.read_error.ReadError.TheVariants.{NoMemory, NoPage}
 use Rattle.hc_types.specs.FlashEntry.{FlashEntry}
 use Rattle.hc_bucket.specs.Page.{distinct}
 
@@ -14,15 +10,6 @@ infixl 10 ◌>>=◌
 abbrev pub ◌>>=◌ : {A B : Type 0} → Option A → (A → Option B) → Option B
 (Some x) >>= f = f x
 None >>= f = None
-
--- what a function returned, seen by `view`, is what reading gives, unless memory was refused
-abbrev pub Fails : {Y : Type 0} → ReadError → Option Y → Type 0
-Fails NoMemory read = Unit {0}
-Fails NoPage read = read ≡ None
-
-abbrev pub Gives : {X Y : Type 0} → (X → Y) → Result X ReadError → Option Y → Type 0
-Gives view (Ok x) read = read ≡ Some (view x)
-Gives view (Err e) read = Fails e read
 
 -- a field is a value and the bytes behind it
 abbrev pub byte_at : List ℕ → Option (ℕ × List ℕ)
@@ -42,10 +29,6 @@ key_at bytes = if length bytes == 0 then None else Some bytes
 abbrev pub head_at : List ℕ → Option (Head × List ℕ)
 head_at bytes =
     byte_at bytes >>= λ k. byte_at k.1 >>= λ p. number_at w16 p.1 >>= λ v. number_at w64 v.1 >>= λ x. Some (record { key_len = k.0; pool = p.0; value_len = v.0; expiry = x.0 }, x.1)
-
--- a key of so many bytes, and the bytes behind it
-abbrev pub key_behind : ℕ → List ℕ → Option (List ℕ × List ℕ)
-key_behind n bytes = part_at n bytes >>= λ text. key_at text.0 >>= λ key. Some (key, text.1)
 
 -- the entry with this head
 abbrev pub headed_at : Head → List ℕ → Option (FlashEntry × List ℕ)
@@ -69,11 +52,6 @@ entries_at (suc n) bytes = do
   first ← entry_at bytes
   others ← entries_at n first.1
   Some (first.0 ∷ others.0, others.1)
-
--- no key stands twice, of the code's entries
-abbrev pub keys_differ : {A : Type 0} → List (Entry A) → Bool
-keys_differ [] = true
-keys_differ (e ∷ es) = not (list_any (λ other. pointwise nat_eq other.key e.key) es) && keys_differ es
 
 -- the bytes that are used, and the rest
 unfoldable pub body_at : ℕ → List ℕ → Option (List ℕ × List ℕ)

@@ -1,29 +1,15 @@
-// The fields of a page, each taken from the front of the bytes that are left.
-ghost use Rattle.std.specs.Prelude.{◌≡◌, ◌<◌, ◌≤◌, length};
+// The fields of a page, each read at the front of the bytes that are left.
+ghost use Rattle.std.specs.Prelude.{◌≡◌, option_map};
 ghost use Rattle.std.specs.Int.{w16};
-ghost use Rattle.hc_bucket.specs.Reading.{Gives, head_at, part_at, number_at};
+ghost use Rattle.hc_bucket.specs.Reading.{head_at, number_at, part_at};
 
-use crate::read_error::ReadError;
 use byteorder::{BigEndian, ByteOrder};
-use bytes::Bytes;
-use std::alloc::Allocator;
 
 /// How many bytes stand before the key of an entry.
 pub(crate) const HEAD: usize = 12;
 
-pub(crate) fn take_u16<A: Allocator>(rest: &mut Bytes<A>) -> Result<u16, ReadError>
-    ensures { Gives (λ number. (number, rest.new)) result (number_at w16 rest.old) }
-{
-    if rest.len() < 2 {
-        return Err(ReadError::NoPage);
-    }
-    let number = BigEndian::read_u16(rest.as_slice());
-    rest.advance(2);
-    Ok(number)
-}
-
 /// What stands before the key of an entry.
-#[derive(Drop)]
+#[derive(Clone, Copy)]
 pub(crate) struct Head {
     pub(crate) key_len: u8,
     pub(crate) pool: u8,
@@ -31,13 +17,13 @@ pub(crate) struct Head {
     pub(crate) expiry: u64,
 }
 
-/// The head of an entry. That there are as many bytes is asked once.
-pub(crate) fn take_head<A: Allocator>(rest: &mut Bytes<A>) -> Result<Head, ReadError>
-    ensures { Gives (λ head. (head, rest.new)) result (head_at rest.old) }
+/// The head of the entry at the front, and the bytes behind it.
+#[inline(always)]
+pub(crate) fn head_in(bytes: &[u8]) -> Option<(Head, &[u8])>
+    ensures { option_map (λ read. (read.0, read.1.now)) result ≡ head_at bytes.now }
 {
-    let bytes = rest.as_slice();
     if bytes.len() < HEAD {
-        return Err(ReadError::NoPage);
+        return None;
     }
     let head = Head {
         key_len: bytes[0],
@@ -45,19 +31,27 @@ pub(crate) fn take_head<A: Allocator>(rest: &mut Bytes<A>) -> Result<Head, ReadE
         value_len: BigEndian::read_u16(&bytes[2..]),
         expiry: BigEndian::read_u64(&bytes[4..]),
     };
-    rest.advance(HEAD);
-    Ok(head)
+    Some((head, &bytes[HEAD..]))
 }
 
-/// So many bytes, which share the page.
-pub(crate) fn take_part<A: Allocator>(
-    rest: &mut Bytes<A>,
-    len: usize,
-) -> Result<Bytes<A>, ReadError>
-    ensures { Gives (λ part. (part, rest.new)) result (part_at len rest.old) }
+/// So many bytes at the front, and those behind them.
+#[inline(always)]
+pub(crate) fn part_in(bytes: &[u8], len: usize) -> Option<(&[u8], &[u8])>
+    ensures { option_map (λ read. (read.0.now, read.1.now)) result ≡ part_at len bytes.now }
 {
-    if rest.len() < len {
-        return Err(ReadError::NoPage);
+    if bytes.len() < len {
+        return None;
     }
-    Ok(rest.split_to(len)?)
+    Some(bytes.split_at(len))
+}
+
+/// The number at the front, and the bytes behind it.
+#[inline(always)]
+pub(crate) fn number_in(bytes: &[u8]) -> Option<(u16, &[u8])>
+    ensures { option_map (λ read. (read.0, read.1.now)) result ≡ number_at w16 bytes.now }
+{
+    if bytes.len() < 2 {
+        return None;
+    }
+    Some((BigEndian::read_u16(bytes), &bytes[2..]))
 }

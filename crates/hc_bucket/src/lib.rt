@@ -1,14 +1,16 @@
-//! The small engine's buckets: a page read into its entries, and entries written as a page.
+//! The small engine's buckets: the entries of a page, read where they stand, and entries written as a page.
 #![tactic(auto)]
 
+mod checking;
+mod decoding;
+mod entries;
 mod fields;
-mod fitting;
 mod laws;
-mod read_error;
-mod reading;
+mod placed;
 mod writing;
 
-pub use fitting::{entry_len, fits};
+pub use decoding::decode_page;
+pub use entries::Entries;
 pub use laws::one_list_a_page;
-pub use reading::{decode_page, decode_shared};
-pub use writing::encode_page;
+pub use placed::Placed;
+pub use writing::{begin_page, end_page, entry_len, put_entry};

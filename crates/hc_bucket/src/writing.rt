@@ -1,14 +1,23 @@
-// Entries written as a page.
-ghost use Rattle.std.specs.Prelude.{◌≡◌, ◌<◌, ◌≤◌, ◌^◌, ◌++◌, length, drop, OnOk, IfOk};
-ghost use Rattle.std.specs.List.{AllByRecursion};
+// Entries written as a page, one behind the other.
+ghost use Rattle.std.specs.Prelude.{◌≡◌, ◌<◌, ◌≤◌, ◌^◌, ◌++◌, ◌∷◌, [], ℕ, List, length, drop, replicate, OnOk, IfOk};
 ghost use Rattle.std.specs.Int.{w16, to_be_bytes};
-ghost use Rattle.hc_types.specs.FlashEntry.{entry_of, entries_of};
-ghost use Rattle.hc_bucket.specs.Page.{head_bytes, entry_bytes, entries_bytes, page_bytes, IsSmall, Fits};
+ghost use Rattle.hc_types.specs.FlashEntry.{FlashEntry, entry_of};
+ghost use Rattle.hc_bucket.specs.Page.{head_bytes, entry_bytes, page_bytes, IsBegun, IsSmall, Fits};
 
 use crate::fields::HEAD;
 use byteorder::{BigEndian, ByteOrder};
 use hc_types::Entry;
 use std::alloc::{AllocError, Allocator};
+
+/// How many bytes of a page this entry uses.
+pub fn entry_len<A: Allocator>(entry: &Entry<A>) -> usize
+    ensures value { result ≡ length (entry_bytes (entry_of entry.now)) }
+    ensures small { result < 2 ^ 16 → IsSmall (entry_of entry.now) }
+{
+    let _pool = entry.pool;
+    let _expiry = entry.expiry;
+    HEAD + entry.key.len() + entry.value.len()
+}
 
 /// What stands before the key of this entry.
 fn head_of<A: Allocator>(entry: &Entry<A>) -> [u8; HEAD]
@@ -23,7 +32,21 @@ fn head_of<A: Allocator>(entry: &Entry<A>) -> [u8; HEAD]
     head
 }
 
-fn put_entry<A: Allocator + Clone>(
+/// A page of `page_size` bytes is begun: its entries are put behind these 4 bytes, which `end_page` fills. Room is taken
+/// for all of it.
+pub fn begin_page<A: Allocator + Clone>(
+    alloc: A,
+    page_size: usize,
+) -> Result<Vec<u8, A>, AllocError>
+    ensures { IfOk result (λ page. IsBegun [] page.items) }
+{
+    let mut page = Vec::with_capacity(alloc, page_size)?;
+    page.resize(4, 0)?;
+    Ok(page)
+}
+
+/// The entry is put behind those of a page.
+pub fn put_entry<A: Allocator + Clone>(
     page: &mut Vec<u8, A>,
     entry: &Entry<A>,
 ) -> Result<(), AllocError>
@@ -36,19 +59,6 @@ fn put_entry<A: Allocator + Clone>(
     Ok(())
 }
 
-fn put_entries<A: Allocator + Clone>(
-    page: &mut Vec<u8, A>,
-    entries: &[Entry<A>],
-) -> Result<(), AllocError>
-    requires { AllByRecursion IsSmall (entries_of entries.now) }
-    ensures { OnOk result (page.new.items ≡ page.old.items ++ entries_bytes (entries_of entries.now)) }
-{
-    for entry in entries {
-        put_entry(page, entry)?;
-    }
-    Ok(())
-}
-
 /// Writes the two numbers at a page's front.
 fn put_front(page: &mut [u8], count: u16, used: u16)
     requires { 4 ≤ length page.old }
@@ -58,20 +68,18 @@ fn put_front(page: &mut [u8], count: u16, used: u16)
     BigEndian::write_u16(&mut page[2..], used);
 }
 
-/// The bytes of the page that holds these entries, the oldest first.
-pub fn encode_page<A: Allocator + Clone>(
-    alloc: A,
-    entries: &[Entry<A>],
+/// The bytes of the page that was begun, with so many entries: its front is filled, and the rest of it with zeros.
+pub fn end_page<A: Allocator + Clone>(
+    page: Vec<u8, A>,
+    count: usize,
     page_size: usize,
 ) -> Result<Vec<u8, A>, AllocError>
-    requires { Fits page_size (entries_of entries.now) }
-    ensures { IfOk result (λ page. page.items ≡ page_bytes page_size (entries_of entries.now)) }
+    requires { (es : List FlashEntry) × IsBegun es page.items × (count ≡ length es) × Fits page_size es }
+    ensures { (es : List FlashEntry) → IsBegun es page.items → count ≡ length es → Fits page_size es → IfOk result (λ whole. whole.items ≡ page_bytes page_size es) }
 {
-    let mut page = Vec::with_capacity(alloc, page_size)?;
-    page.resize(4, 0)?;
-    put_entries(&mut page, entries)?;
+    let mut page = page;
     let used = page.len();
-    put_front(&mut page, entries.len() as u16, used as u16);
+    put_front(&mut page, count as u16, used as u16);
     page.resize(page_size, 0)?;
     Ok(page)
 }

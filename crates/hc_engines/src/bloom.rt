@@ -1,9 +1,8 @@
 // The Bloom word of a bucket: 64 bits, of which each key of its page sets up to four.
 ghost use Rattle.std.specs.Prelude.{◌≡◌, ◌<◌};
-ghost use Rattle.hc_types.specs.FlashEntry.{entries_of};
-ghost use Rattle.hc_engines.specs.small.Bloom.{bit_of, bits_of, word_of as word_over, could_have as word_has};
+ghost use Rattle.hc_engines.specs.small.Bloom.{bit_of, bits_of as bits_set, could_have as word_has};
 
-use hc_types::{Entry, Key, hash};
+use hc_types::{Key, hash_of};
 use std::alloc::Allocator;
 
 /// The bit that the byte number `i` of the hash sets, counted from the lowest.
@@ -14,12 +13,13 @@ fn bit(hash: u64, i: u32) -> u64
     1 << ((hash >> (8 * i)) % 64)
 }
 
-/// The bits of a key.
+/// The bits that a key of these bytes sets. The word of a bucket is all that its keys set.
+#[must_use]
 #[tactic(auto, unfolding(crate::specs::small::Bloom::bits_of))]
-fn bits<A: Allocator>(key: &Key<A>) -> u64
-    ensures { result ≡ bits_of key.now }
+pub fn bits_of(key: &[u8]) -> u64
+    ensures { result ≡ bits_set key.now }
 {
-    let hash = hash(key);
+    let hash = hash_of(key);
     bit(hash, 0) | bit(hash, 1) | bit(hash, 2) | bit(hash, 3)
 }
 
@@ -27,17 +27,6 @@ fn bits<A: Allocator>(key: &Key<A>) -> u64
 pub fn could_have<A: Allocator>(word: u64, key: &Key<A>) -> bool
     ensures { result ≡ word_has word key.now }
 {
-    let bits = bits(key);
+    let bits = bits_of(key.as_slice());
     word & bits == bits
-}
-
-/// The word of these entries.
-pub fn word_of<A: Allocator>(entries: &[Entry<A>]) -> u64
-    ensures { result ≡ word_over (entries_of entries.now) }
-{
-    let mut word = 0;
-    for entry in entries {
-        word |= bits(&entry.key);
-    }
-    word
 }

@@ -178,7 +178,8 @@ pub fn bucket_of<A: Allocator>(key: &Key<A>, flash: &FlashConfig) -> u64
 }
 
 /// What a map is fed of a key of these bytes: the kit's fast hash of them, which takes 16 at a time.
-fn digest_of(bytes: &[u8]) -> u64
+#[must_use]
+pub fn digest_of(bytes: &[u8]) -> u64
     ensures { result ≡ digest_of bytes.now }
 {
     let mut hasher = FoldHasher::default();
@@ -186,8 +187,9 @@ fn digest_of(bytes: &[u8]) -> u64
     hasher.finish()
 }
 
-/// FNV-1a in 64 bits (Fowler, Noll and Vo).
-fn hash_of(bytes: &[u8]) -> u64
+/// The full hash of a key of these bytes: FNV-1a in 64 bits (Fowler, Noll and Vo).
+#[must_use]
+pub fn hash_of(bytes: &[u8]) -> u64
     ensures { result ≡ fnv_1a bytes.now }
 {
     let mut hash: u64 = 14_695_981_039_346_656_037;

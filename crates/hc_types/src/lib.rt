@@ -12,7 +12,7 @@ mod shown;
 
 pub use config::{Config, FlashConfig, PoolSize};
 pub use entry::{Entry, VALUE_MAX, charge, is_small};
-pub use key::{KEY_MAX, Key, bucket_of, hash, kept};
+pub use key::{KEY_MAX, Key, bucket_of, digest_of, hash, hash_of, kept};
 pub use key_bytes::SHORT_KEY_MAX;
 pub use loss::{Cause, Scope, Why};
 pub use refusal::Refusal;

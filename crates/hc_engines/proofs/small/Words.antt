@@ -9,20 +9,7 @@ use Rattle.hc_engines.specs.small.Bloom.{bits_of, word_of, could_have}
 use Rattle.hc_engines.specs.small.Entries.{under}
 use Rattle.hc_engines.specs.small.Held.{WordTells}
 use Rattle.hc_engines.proofs.Keys.{same-true}
-use Rattle.std.proofs.lemmas.Nat.Bits.{bit_at_or, bit_at_and, same_from_bits}
-use Rattle.std.specs.Int.{bit_at}
-
--- a bit that is set stays set when more are set
-stays : (word more bits : ℕ) → bit_and word bits ≡ bits → bit_and (bit_or word more) bits ≡ bits
-stays word more bits h = same_from_bits (bit_and (bit_or word more) bits) bits each
-  where
-    each : (i : ℕ) → bit_at (bit_and (bit_or word more) bits) i ≡ bit_at bits i
-    each i =
-        let here : bit_at (bit_and word bits) i ≡ bit_at bits i = ap (λ n. bit_at n i) h in
-        let a = bit_at_and word bits i in
-        let b = bit_at_and (bit_or word more) bits i in
-        let c = bit_at_or word more i in
-        grind (arith, here, a, b, c)
+use Rattle.hc_bucket.proofs.Scanning.{stays}
 
 word_cases : (e : FlashEntry) (es : List FlashEntry) (key : List ℕ) (t : Bool) → pointwise nat_eq e.key key ≡ t → is_some (under key (e ∷ es)) ≡ true
     → (is_some (under key es) ≡ true → could_have (word_of es) key ≡ true) → could_have (word_of (e ∷ es)) key ≡ true
