@@ -2,7 +2,7 @@
 pub mod Looping
 pub mod Fresh
 pub mod Reading
-pub mod Pushing
+pub mod Paging
 pub mod Places
 pub mod Handing
 pub mod Rows

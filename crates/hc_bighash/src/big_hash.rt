@@ -112,8 +112,8 @@ impl<A: Allocator + Copy> BigHash<A> {
         ensures ok { IfOk result (λ next. moved self.old number bucket (op_of op.now) (plan_begun (word_in self.old bucket) (op_of op.now)) ≡ record { state = self.new; next = next_seen next }) }
         ensures err { OnErr result (self.new ≡ self.old) }
     {
-        let plan = begun(self.alloc, word_at(&self.words, bucket), op)?;
         let page_size = self.flash.page as usize;
+        let plan = begun(self.alloc, page_size, word_at(&self.words, bucket), op)?;
         let Step { next, phase } = step_of(self.alloc, page_size, bucket, op, plan)?;
         add_job(&mut self.jobs, number, bucket, op, phase)?;
         Ok(next)

@@ -5,8 +5,8 @@ ghost use Rattle.hc_engines.specs.small.BigHash.{Job as UnderWay, is_busy as is_
 ghost use Rattle.hc_bighash.specs.Seen.{op_of};
 ghost use Rattle.hc_bighash.specs.Steps.{phase_of};
 
+use crate::new_page::NewPage;
 use crate::ops::{Loss, Op, copy_of_op};
-use hc_types::Entry;
 use std::alloc::{AllocError, Allocator, Global};
 use std::marker::Model;
 
@@ -15,9 +15,9 @@ use std::marker::Model;
 pub(crate) enum Phase<A: Allocator = Global> {
     /// Its bucket's page is being read.
     Reading,
-    /// Its bucket's page is being written, with these entries; once it is, this is lost.
+    /// This is being written as its bucket's page; once it is, this is lost.
     Writing {
-        entries: Vec<Entry<A>, A>,
+        page: NewPage<A>,
         losses: Vec<Loss<A>, A>,
     },
 }

@@ -7,6 +7,7 @@ mod awaiting;
 mod big_hash;
 mod endings;
 mod jobs;
+mod new_page;
 mod ops;
 mod pages;
 mod plans;

@@ -1,189 +1,195 @@
 // What an operation makes of the entries of its bucket's page.
-ghost use Rattle.std.specs.Prelude.{◌≡◌, ◌+◌, ◌<◌, ◌≤◌, ◌^◌, [], ◌∷◌, ◌++◌, length, take, drop, IfOk};
-ghost use Rattle.std.specs.Str.{bytes_eq};
-ghost use Rattle.std.specs.List.{list_any};
-ghost use Rattle.hc_types.specs.FlashEntry.{FlashEntry, entry_of, entries_of};
-ghost use Rattle.hc_bucket.specs.Page.{Fits, used as used_by};
+ghost use Rattle.std.specs.Prelude.{◌≡◌, ◌+◌, ◌<◌, ◌≤◌, ◌^◌, [], ◌∷◌, List, ℕ, length, is_some, IfOk, OnOk};
+ghost use Rattle.hc_types.specs.FlashEntry.{FlashEntry, entry_of};
+ghost use Rattle.hc_bucket.specs.Page.{IsPage, IsSmall, Fits, entries_bytes, used as used_by};
+ghost use Rattle.hc_bucket.specs.Placed.{entry_placed};
 ghost use Rattle.hc_bucket.specs.Reading.{page_at};
 ghost use Rattle.hc_engines.specs.Engine.{Put, Delete, found as answer_found};
-ghost use Rattle.hc_engines.specs.small.Sound.{HasRoom, CanPut, CanWrite};
-ghost use Rattle.hc_engines.specs.small.Entries.{under, without as entries_without, pushed_out, staying, full_losses as losses_of, size_of};
-ghost use Rattle.hc_engines.specs.small.BigHash.{ToWrite, was_read, read_as};
+ghost use Rattle.hc_engines.specs.small.Sound.{HasRoom, CanPut};
+ghost use Rattle.hc_engines.specs.small.Entries.{under, without as entries_without, staying, put_losses, full_losses as losses_of, size_of};
+ghost use Rattle.hc_engines.specs.small.BigHash.{was_read, read_as};
+ghost use Rattle.hc_bighash.specs.Paged.{IsValueAt};
 ghost use Rattle.hc_bighash.specs.Seen.{op_of, answer_of};
-ghost use Rattle.hc_bighash.specs.Steps.{plan_of};
+ghost use Rattle.hc_bighash.specs.Steps.{plan_of, PlanFits};
 
-use crate::ops::{Answer, Loss, Op, copy_of};
+use crate::new_page::NewPage;
+use crate::ops::{Answer, Loss, Op};
 use crate::plans::Plan;
 use bytes::Bytes;
-use hc_bucket::{decode_shared, entry_len};
+use hc_bucket::{Entries, Placed, entry_len};
 use hc_types::{Cause, Entry, Key, Scope};
 use std::alloc::{AllocError, Allocator};
 
-/// Whether this entry is under this key.
-fn is_under<A: Allocator>(entry: &Entry<A>, key: &Key<A>) -> bool
-    ensures { result ≡ bytes_eq (entry_of entry.now).key key.now }
-{
-    entry.key == *key
-}
-
-/// The entries but that of this key.
-fn without<A: Allocator>(
-    alloc: A,
-    entries: Vec<Entry<A>, A>,
+/// The entry that ends at this byte of its page, with which it shares its value.
+fn shared<A: Allocator>(
+    page: &Bytes<A>,
+    placed: &Placed<'_>,
+    end: usize,
     key: &Key<A>,
-) -> Result<Vec<Entry<A>, A>, AllocError>
-    ensures { IfOk result (λ rest. entries_of rest.items ≡ entries_without key.now (entries_of entries.items)) }
+) -> Result<Entry<A>, AllocError>
+    requires value { IsValueAt page.now end placed.now.value.now }
+    requires key { placed.now.key.now ≡ key.now }
+    ensures { IfOk result (λ entry. entry_of entry ≡ entry_placed placed.now) }
 {
-    let mut rest = Vec::with_capacity(alloc, entries.len())?;
-    for entry in entries {
-        if !is_under(&entry, key) {
-            rest.push(entry)?;
-        }
-    }
-    Ok(rest)
+    let value = page.slice(end - placed.value.len()..end)?;
+    Ok(Entry {
+        key: key.clone()?,
+        value,
+        pool: placed.pool,
+        expiry: placed.expiry,
+    })
 }
 
 /// What a get of this key answers.
-fn found<A: Allocator>(entries: &[Entry<A>], key: &Key<A>) -> Result<Answer<A>, AllocError>
-    ensures { IfOk result (λ answer. answer_of answer ≡ answer_found (under key.now (entries_of entries.now))) }
+fn found<A: Allocator>(
+    page: &Bytes<A>,
+    entries: Entries<'_>,
+    key: &Key<A>,
+) -> Result<Answer<A>, AllocError>
+    requires { (size : ℕ) × IsPage size entries page.now }
+    ensures { IfOk result (λ answer. answer_of answer ≡ answer_found (under key.now entries.entry)) }
 {
-    for entry in entries {
-        if is_under(entry, key) {
-            return Ok(Answer::Found(copy_of(entry)?));
+    let mut entries = entries;
+    let mut end = 4;
+    while let Some(placed) = entries.take_first() {
+        end += placed.bytes.len();
+        if placed.key == key.as_slice() {
+            return Ok(Answer::Found(shared(page, &placed, end, key)?));
         }
     }
     Ok(Answer::Absent)
 }
 
 /// Whether one of these entries is under this key.
-fn has<A: Allocator>(entries: &[Entry<A>], key: &Key<A>) -> bool
-    ensures { result ≡ list_any (λ entry. bytes_eq entry.key key.now) entries.now }
+fn has<A: Allocator>(entries: &Entries<'_>, key: &Key<A>) -> bool
+    ensures { result ≡ is_some (under key.now entries.now) }
 {
-    entries.iter().any(|entry| entry.key == *key)
+    let mut rest = entries.again();
+    while let Some(placed) = rest.take_first() {
+        if placed.key == key.as_slice() {
+            return true;
+        }
+    }
+    false
 }
 
-/// How many bytes of a page the entries use.
-fn used<A: Allocator>(entries: &[Entry<A>]) -> usize
-    requires { used_by (entries_of entries.now) < 2 ^ 16 }
-    ensures { result ≡ used_by (entries_of entries.now) }
+/// How many bytes of a page the entries use but that of this key.
+fn used_but(entries: &Entries<'_>, key: &[u8]) -> usize
+    requires { used_by entries.now < 2 ^ 16 }
+    ensures { result ≡ used_by (entries_without key.now entries.now) }
 {
+    let mut rest = entries.again();
     let mut used = 4;
-    for entry in entries {
-        used += entry_len(entry);
+    while let Some(placed) = rest.take_first() {
+        if placed.key != key {
+            used += placed.bytes.len();
+        }
     }
     used
 }
 
-/// How many of these entries, the oldest first, have to go until one of `len` bytes fits.
-fn surplus<A: Allocator>(entries: &[Entry<A>], len: usize, page_size: usize) -> usize
-    requires small { page_size < 2 ^ 16 }
-    requires fits { used_by (entries_of entries.now) ≤ page_size }
-    requires len { len ≤ page_size }
-    ensures most { result ≤ length entries.now }
-    ensures out { (e : FlashEntry) → size_of e ≡ len → take result (entries_of entries.now) ≡ pushed_out page_size e (entries_of entries.now) }
-    ensures rest { (e : FlashEntry) → size_of e ≡ len → drop result (entries_of entries.now) ≡ staying page_size e (entries_of entries.now) }
+/// What is lost with the entry of this key.
+fn full_loss<A: Allocator + Clone>(alloc: A, key: &[u8]) -> Result<Loss<A>, AllocError>
+    ensures { (e : FlashEntry) → e.key ≡ key.now → IfOk result (λ loss. loss ∷ [] ≡ losses_of (e ∷ [])) }
 {
-    let mut used = used(entries);
-    for (out, entry) in entries.iter().enumerate() {
-        if used + len <= page_size {
-            return out;
-        }
-        used -= entry_len(entry);
+    match Key::new(alloc, key) {
+        Ok(key) => Ok(Loss::new(Scope::Key(key), Cause::BucketFull)),
+        Err(_) => Err(AllocError),
     }
-    entries.len()
 }
 
-/// What is lost with these entries.
-fn full_losses<A: Allocator>(
-    alloc: A,
-    entries: Vec<Entry<A>, A>,
-) -> Result<Vec<Loss<A>, A>, AllocError>
-    ensures { IfOk result (λ losses. losses.items ≡ losses_of (entries_of entries.items)) }
-{
-    let mut losses = Vec::with_capacity(alloc, entries.len())?;
-    for entry in entries {
-        losses.push(full_loss(entry))?;
-    }
-    Ok(losses)
-}
-
-/// What is lost with this entry.
-fn full_loss<A: Allocator>(entry: Entry<A>) -> Loss<A>
-    ensures { result ∷ [] ≡ losses_of (entry_of entry ∷ []) }
-{
-    Loss::new(Scope::Key(entry.key), Cause::BucketFull)
-}
-
-/// What a put makes of its page's entries.
-fn put_plan<A: Allocator + Copy>(
-    alloc: A,
-    page_size: usize,
-    entry: &Entry<A>,
-    entries: Vec<Entry<A>, A>,
-) -> Result<Plan<A>, AllocError>
-    requires small { page_size < 2 ^ 16 }
-    requires fits { used_by (entries_of entries.items) ≤ page_size }
-    requires len { 4 + size_of (entry_of entry.now) ≤ page_size }
-    ensures { IfOk result (λ plan. plan_of plan ≡ was_read page_size (Put (entry_of entry.now)) (entries_of entries.items)) }
-{
-    let rest = without(alloc, entries, &entry.key)?;
-    push_out(alloc, page_size, entry, rest)
-}
-
-/// The oldest of these entries go until the new one, put last, fits.
+/// The oldest of these entries go, but that of its key, until the new one has room behind the others. Answers what is
+/// lost with them.
 fn push_out<A: Allocator + Copy>(
     alloc: A,
     page_size: usize,
     entry: &Entry<A>,
-    mut rest: Vec<Entry<A>, A>,
-) -> Result<Plan<A>, AllocError>
+    entries: &mut Entries<'_>,
+) -> Result<Vec<Loss<A>, A>, AllocError>
     requires small { page_size < 2 ^ 16 }
-    requires fits { used_by (entries_of rest.items) ≤ page_size }
+    requires fits { used_by entries.old ≤ page_size }
     requires len { 4 + size_of (entry_of entry.now) ≤ page_size }
-    ensures { IfOk result (λ plan. plan_of plan ≡ ToWrite (staying page_size (entry_of entry.now) (entries_of rest.items) ++ entry_of entry.now ∷ []) (losses_of (pushed_out page_size (entry_of entry.now) (entries_of rest.items)))) }
+    ensures losses { IfOk result (λ losses. losses.items ≡ put_losses page_size (entry_of entry.now) entries.old) }
+    ensures stay { OnOk result (entries_without entry.now.key entries.new ≡ staying page_size (entry_of entry.now) (entries_without entry.now.key entries.old)) }
+    ensures used { OnOk result (used_by entries.new ≤ used_by entries.old) }
 {
-    let out = surplus(&rest, entry_len(entry), page_size);
-    let mut entries = rest.split_off(out)?;
-    let losses = full_losses(alloc, rest)?;
-    entries.push(copy_of(entry)?)?;
-    Ok(Plan::Write { entries, losses })
+    let key = entry.key.as_slice();
+    let len = entry_len(entry);
+    let mut losses = Vec::new(alloc);
+    let mut used = used_but(entries, key);
+    while used + len > page_size {
+        let Some(placed) = entries.take_first() else {
+            return Ok(losses);
+        };
+        if placed.key != key {
+            used -= placed.bytes.len();
+            losses.push(full_loss(alloc, placed.key)?)?;
+        }
+    }
+    Ok(losses)
 }
 
-/// What an operation makes of its page's entries.
-fn entries_plan<A: Allocator + Copy>(
+/// What a put makes of its page's entries: the older one of the key goes, then the oldest until the new one, put last, fits.
+fn put_plan<A: Allocator + Copy>(
     alloc: A,
     page_size: usize,
-    op: &Op<A>,
-    entries: Vec<Entry<A>, A>,
+    entry: &Entry<A>,
+    entries: Entries<'_>,
 ) -> Result<Plan<A>, AllocError>
     requires small { page_size < 2 ^ 16 }
-    requires fits { used_by (entries_of entries.items) ≤ page_size }
-    requires len { HasRoom page_size (op_of op.now) }
-    ensures { IfOk result (λ plan. plan_of plan ≡ was_read page_size (op_of op.now) (entries_of entries.items)) }
+    requires fits { Fits page_size entries }
+    requires len { 4 + size_of (entry_of entry.now) ≤ page_size }
+    requires entry { IsSmall (entry_of entry.now) }
+    ensures plan { IfOk result (λ plan. plan_of plan ≡ was_read page_size (Put (entry_of entry.now)) entries.entry) }
+    ensures fits { IfOk result (λ plan. PlanFits page_size plan) }
 {
-    match op {
-        Op::Put(entry) => put_plan(alloc, page_size, entry, entries),
-        Op::Get(key) => Ok(Plan::End(found(&entries, key)?)),
-        Op::Delete(key) => delete_plan(alloc, key, entries),
-        Op::Flush => Ok(Plan::End(Answer::Nothing)),
-        Op::Reclaim => Ok(Plan::End(Answer::Nothing)),
-    }
+    let mut entries = entries;
+    let losses = push_out(alloc, page_size, entry, &mut entries)?;
+    let page = NewPage::with(alloc, page_size, entries, entry)?;
+    Ok(Plan::Write { page, losses })
 }
 
 /// What a delete makes of its page's entries.
 fn delete_plan<A: Allocator + Copy>(
     alloc: A,
+    page_size: usize,
     key: &Key<A>,
-    entries: Vec<Entry<A>, A>,
+    entries: Entries<'_>,
 ) -> Result<Plan<A>, AllocError>
-    ensures { IfOk result (λ plan. plan_of plan ≡ was_read 0 (Delete key.now) (entries_of entries.items)) }
+    requires { Fits page_size entries }
+    ensures plan { IfOk result (λ plan. plan_of plan ≡ was_read page_size (Delete key.now) entries.entry) }
+    ensures fits { IfOk result (λ plan. PlanFits page_size plan) }
 {
     if !has(&entries, key) {
         return Ok(Plan::End(Answer::Over));
     }
-    let entries = without(alloc, entries, key)?;
+    let page = NewPage::without(alloc, page_size, entries, key)?;
     let losses = Vec::new(alloc);
-    Ok(Plan::Write { entries, losses })
+    Ok(Plan::Write { page, losses })
+}
+
+/// What an operation makes of the entries of its page.
+fn entries_plan<A: Allocator + Copy>(
+    alloc: A,
+    page_size: usize,
+    op: &Op<A>,
+    page: &Bytes<A>,
+    entries: Entries<'_>,
+) -> Result<Plan<A>, AllocError>
+    requires small { page_size < 2 ^ 16 }
+    requires page { IsPage page_size entries page.now }
+    requires len { HasRoom page_size (op_of op.now) }
+    requires put { CanPut (op_of op.now) }
+    ensures plan { IfOk result (λ plan. plan_of plan ≡ was_read page_size (op_of op.now) entries.entry) }
+    ensures fits { IfOk result (λ plan. PlanFits page_size plan) }
+{
+    match op {
+        Op::Put(entry) => put_plan(alloc, page_size, entry, entries),
+        Op::Get(key) => Ok(Plan::End(found(page, entries, key)?)),
+        Op::Delete(key) => delete_plan(alloc, page_size, key, entries),
+        Op::Flush => Ok(Plan::End(Answer::Nothing)),
+        Op::Reclaim => Ok(Plan::End(Answer::Nothing)),
+    }
 }
 
 /// What an operation makes of its bucket's page.
@@ -197,10 +203,10 @@ pub(crate) fn page_plan<A: Allocator + Copy>(
     requires len { HasRoom page_size (op_of op.now) }
     requires put { CanPut (op_of op.now) }
     ensures plan { IfOk result (λ plan. plan_of plan ≡ read_as page_size (op_of op.now) (page_at page_size page.now)) }
-    ensures fits { IfOk result (λ plan. CanWrite page_size (plan_of plan)) }
+    ensures fits { IfOk result (λ plan. PlanFits page_size plan) }
 {
-    match decode_shared(alloc, page, page_size)? {
-        Some(entries) => entries_plan(alloc, page_size, op, entries),
+    match Entries::of_page(page.as_slice(), page_size) {
+        Some(entries) => entries_plan(alloc, page_size, op, page, entries),
         None => Ok(Plan::GiveUp),
     }
 }

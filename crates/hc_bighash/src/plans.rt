@@ -1,12 +1,17 @@
 // What comes next for an operation on a bucket.
-ghost use Rattle.std.specs.Prelude.{◌≡◌, IfOk, Some, None};
+ghost use Rattle.std.specs.Prelude.{◌≡◌, ◌+◌, ◌<◌, ◌≤◌, ◌^◌, IfOk, Some, None};
+ghost use Rattle.hc_bucket.specs.Page.{IsSmall};
+ghost use Rattle.hc_engines.specs.small.Entries.{size_of};
+ghost use Rattle.hc_engines.specs.small.Sound.{HasRoom, CanPut};
 ghost use Rattle.hc_engines.specs.small.BigHash.{begun as plan_begun};
 ghost use Rattle.hc_types.specs.FlashEntry.{entry_of};
 ghost use Rattle.hc_engines.specs.Engine.{Put, Get};
 ghost use Rattle.hc_bighash.specs.Seen.{op_of};
-ghost use Rattle.hc_bighash.specs.Steps.{plan_of};
+ghost use Rattle.hc_bighash.specs.Steps.{plan_of, PlanFits};
 
-use crate::ops::{Answer, Loss, Op, copy_of};
+use crate::new_page::NewPage;
+use crate::ops::{Answer, Loss, Op};
+use hc_bucket::Entries;
 use hc_engines::bloom::could_have;
 use hc_types::{Entry, Key};
 use std::alloc::{AllocError, Allocator, Global};
@@ -16,9 +21,9 @@ use std::alloc::{AllocError, Allocator, Global};
 pub(crate) enum Plan<A: Allocator = Global> {
     /// The page is to be read.
     Read,
-    /// The page is to be written with these entries; then this is lost.
+    /// This page is to be written; then this is lost.
     Write {
-        entries: Vec<Entry<A>, A>,
+        page: NewPage<A>,
         losses: Vec<Loss<A>, A>,
     },
     /// It is over, and the bucket is as it was.
@@ -30,13 +35,18 @@ pub(crate) enum Plan<A: Allocator = Global> {
 /// An operation begins on a bucket with this word.
 pub(crate) fn begun<A: Allocator + Copy>(
     alloc: A,
+    page_size: usize,
     word: Option<u64>,
     op: &Op<A>,
 ) -> Result<Plan<A>, AllocError>
-    ensures { IfOk result (λ plan. plan_of plan ≡ plan_begun word (op_of op.now)) }
+    requires small { page_size < 2 ^ 16 }
+    requires len { HasRoom page_size (op_of op.now) }
+    requires put { CanPut (op_of op.now) }
+    ensures plan { IfOk result (λ plan. plan_of plan ≡ plan_begun word (op_of op.now)) }
+    ensures fits { IfOk result (λ plan. PlanFits page_size plan) }
 {
     match (word, op) {
-        (None, Op::Put(entry)) => first_put(alloc, entry),
+        (None, Op::Put(entry)) => first_put(alloc, page_size, entry),
         (None, Op::Get(_)) => Ok(Plan::End(Answer::Absent)),
         (None, Op::Delete(_)) => Ok(Plan::End(Answer::Over)),
         (Some(_), Op::Put(_)) => Ok(Plan::Read),
@@ -59,11 +69,18 @@ fn looked<A: Allocator>(word: u64, key: &Key<A>) -> Plan<A>
 }
 
 /// A put begins on a fresh bucket.
-fn first_put<A: Allocator + Copy>(alloc: A, entry: &Entry<A>) -> Result<Plan<A>, AllocError>
-    ensures { IfOk result (λ plan. plan_of plan ≡ plan_begun None (Put (entry_of entry.now))) }
+fn first_put<A: Allocator + Copy>(
+    alloc: A,
+    page_size: usize,
+    entry: &Entry<A>,
+) -> Result<Plan<A>, AllocError>
+    requires small { page_size < 2 ^ 16 }
+    requires len { 4 + size_of (entry_of entry.now) ≤ page_size }
+    requires entry { IsSmall (entry_of entry.now) }
+    ensures plan { IfOk result (λ plan. plan_of plan ≡ plan_begun None (Put (entry_of entry.now))) }
+    ensures fits { IfOk result (λ plan. PlanFits page_size plan) }
 {
-    let mut entries = Vec::with_capacity(alloc, 1)?;
-    entries.push(copy_of(entry)?)?;
+    let page = NewPage::with(alloc, page_size, Entries::none(), entry)?;
     let losses = Vec::new(alloc);
-    Ok(Plan::Write { entries, losses })
+    Ok(Plan::Write { page, losses })
 }

@@ -3,12 +3,11 @@ ghost use Rattle.std.specs.Prelude.{◌≡◌, ◌⊎◌, ◌<◌, IfOk, IfErr, 
 ghost use Rattle.hc_types.specs.declared.refusal.Refusal.TheVariants.{UnknownJob, NoMemory};
 ghost use Rattle.hc_types.specs.Loss.{Bucket, Fault};
 ghost use Rattle.hc_engines.specs.small.BigHash.{Job as UnderWay, job_at, place_of, is_given_up, carried, kept_as, kept_job, ToKeep, resume as resume_step, next_of, waits};
-ghost use Rattle.hc_engines.specs.small.Sound.{CanWrite};
 ghost use Rattle.hc_bighash.specs.Handed.{absent_plan, ends_absent, is_absent, IsHanded, IsGet, op_in, lost_with};
 ghost use Rattle.hc_bighash.specs.Seen.{op_of};
 ghost use Rattle.hc_flash.specs.Seen.{result_of};
 ghost use Rattle.hc_bighash.specs.Next.{next_seen};
-ghost use Rattle.hc_bighash.specs.Steps.{plan_of, phase_of};
+ghost use Rattle.hc_bighash.specs.Steps.{plan_of, phase_of, PlanFits};
 
 use crate::big_hash::BigHash;
 use crate::jobs::{Job, Phase, go_on, job_of, place};
@@ -17,7 +16,6 @@ use crate::plans::Plan;
 use crate::steps::Step;
 use crate::turns::{Turn, step_for, turn_of};
 use crate::words::{set_word, settle};
-use hc_engines::bloom::word_of;
 use hc_flash::IoResult;
 use hc_types::{Cause, Refusal, Scope};
 use std::alloc::{AllocError, Allocator, Global};
@@ -96,7 +94,7 @@ impl<A: Allocator + Copy> BigHash<A> {
     fn go(&mut self, number: u64, at: usize, plan: Plan<A>) -> Result<Handed<A>, AllocError>
         requires here { place_of number self.old.jobs ≡ Some at }
         requires within { at < length self.old.jobs }
-        requires fits { CanWrite self.old.flash.page (plan_of plan) }
+        requires fits { PlanFits self.old.flash.page plan }
         ensures ok { IfOk result (λ handed. IsHanded self.old self.new number (carried self.old number (plan_of plan)) handed) }
         ensures err { OnErr result (self.new ≡ self.old) }
     {
@@ -114,7 +112,7 @@ impl<A: Allocator + Copy> BigHash<A> {
     fn carry(&mut self, number: u64, at: usize, plan: Plan<A>) -> Result<Next<A>, AllocError>
         requires here { place_of number self.old.jobs ≡ Some at }
         requires within { at < length self.old.jobs }
-        requires fits { CanWrite self.old.flash.page (plan_of plan) }
+        requires fits { PlanFits self.old.flash.page plan }
         ensures ok { IfOk result (λ next. carried self.old number (plan_of plan) ≡ Some (record { state = self.new; next = next_seen next })) }
         ensures next { IfOk result (λ next. (job : UnderWay) → job_at number self.old.jobs ≡ Some job → next_seen next ≡ next_of self.old.flash.page job.bucket job.op (plan_of plan)) }
         ensures err { OnErr result (self.new ≡ self.old) }
@@ -215,8 +213,8 @@ fn end_write<A: Allocator>(job: Job<A>) -> Ended<A>
     } = job;
     drop(op);
     match phase {
-        Phase::Writing { entries, losses } => {
-            let word = word_of(&entries);
+        Phase::Writing { page, losses } => {
+            let word = page.word();
             Ended {
                 bucket,
                 word,

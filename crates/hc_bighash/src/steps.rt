@@ -1,20 +1,19 @@
 // Whose an operation is, and what a plan asks of the device.
-ghost use Rattle.std.specs.Prelude.{◌≡◌, ◌<◌, ◌≤◌, IfOk, IfSome, option_map};
-ghost use Rattle.hc_types.specs.FlashEntry.{entry_of, entries_of};
-ghost use Rattle.hc_bucket.specs.Page.{page_bytes, Fits};
+ghost use Rattle.std.specs.Prelude.{◌≡◌, ◌<◌, ◌≤◌, IfOk, IfSome, length, option_map};
+ghost use Rattle.hc_types.specs.FlashEntry.{entry_of};
+ghost use Rattle.hc_bucket.specs.Page.{page_bytes};
 ghost use Rattle.hc_engines.specs.Engine.{nothing as nothing_done, Put, Io, Done, Write};
 ghost use Rattle.hc_engines.specs.small.BigHash.{our_bucket as our_bucket_of, given_up as answer_given_up, ToGiveUp, next_of, waits};
-ghost use Rattle.hc_engines.specs.small.Sound.{CanStart, CanWrite};
+ghost use Rattle.hc_engines.specs.small.Sound.{CanStart};
 ghost use Rattle.hc_bighash.specs.Seen.{op_of, answer_of};
 ghost use Rattle.hc_bighash.specs.Next.{next_seen};
-ghost use Rattle.hc_bighash.specs.Steps.{plan_of, phase_of};
+ghost use Rattle.hc_bighash.specs.Paged.{entries_on};
+ghost use Rattle.hc_bighash.specs.Steps.{plan_of, phase_of, PlanFits};
 
 use crate::jobs::Phase;
+use crate::new_page::NewPage;
 use crate::ops::{Answer, Loss, Next, Op, Outcome, SharedOrder};
 use crate::plans::Plan;
-use crate::shared_page::SharedPage;
-use bytes::Bytes;
-use hc_bucket::encode_page;
 use hc_types::{Cause, Entry, FlashConfig, Scope, bucket_of, is_small};
 use std::alloc::{AllocError, Allocator, Global};
 
@@ -77,7 +76,7 @@ pub(crate) fn step_of<A: Allocator + Copy>(
     op: &Op<A>,
     plan: Plan<A>,
 ) -> Result<Step<A>, AllocError>
-    requires { CanWrite page_size (plan_of plan) }
+    requires { PlanFits page_size plan }
     ensures next { IfOk result (λ step. next_seen step.next ≡ next_of page_size bucket (op_of op.now) (plan_of plan)) }
     ensures phase { IfOk result (λ step. option_map phase_of step.phase ≡ waits (plan_of plan)) }
 {
@@ -87,9 +86,9 @@ pub(crate) fn step_of<A: Allocator + Copy>(
             let phase = Some(Phase::Reading);
             Ok(Step { next, phase })
         }
-        Plan::Write { entries, losses } => {
-            let next = write_order(alloc, page_size, bucket, &entries)?;
-            let phase = Some(Phase::Writing { entries, losses });
+        Plan::Write { page, losses } => {
+            let next = write_order(alloc, page_size, bucket, &page)?;
+            let phase = Some(Phase::Writing { page, losses });
             Ok(Step { next, phase })
         }
         Plan::End(answer) => {
@@ -103,19 +102,19 @@ pub(crate) fn step_of<A: Allocator + Copy>(
     }
 }
 
-/// The order to write these entries.
+/// The order to write this page.
 fn write_order<A: Allocator + Copy>(
     alloc: A,
     page_size: usize,
     bucket: u32,
-    entries: &[Entry<A>],
+    page: &NewPage<A>,
 ) -> Result<Next<A>, AllocError>
-    requires { Fits page_size (entries_of entries.now) }
-    ensures { IfOk result (λ next. next_seen next ≡ Io (Write bucket (page_bytes page_size (entries_of entries.now))) nothing_done) }
+    requires { length page.now ≡ page_size }
+    ensures { IfOk result (λ next. next_seen next ≡ Io (Write bucket (page_bytes page_size (entries_on page.now))) nothing_done) }
 {
-    let page = encode_page(alloc, entries, page_size)?;
-    let page = SharedPage::new(Bytes::from_vec(page)?)?;
-    Ok(Next::Io(SharedOrder::Write(bucket, page), nothing(alloc)))
+    let _size = page_size;
+    let shared = page.share()?;
+    Ok(Next::Io(SharedOrder::Write(bucket, shared), nothing(alloc)))
 }
 
 /// What holds where a bucket is given up.

@@ -1,10 +1,10 @@
 // What came of a device operation means for a job.
 ghost use Rattle.std.specs.Prelude.{◌≡◌, ◌<◌, ◌^◌, IfOk, OnErr, IsSome, option_map};
 ghost use Rattle.hc_engines.specs.small.BigHash.{went_on, next_of, waits};
-ghost use Rattle.hc_engines.specs.small.Sound.{HasRoom, CanPut, CanWrite};
+ghost use Rattle.hc_engines.specs.small.Sound.{HasRoom, CanPut};
 ghost use Rattle.hc_flash.specs.Seen.{result_of};
 ghost use Rattle.hc_bighash.specs.Next.{next_seen};
-ghost use Rattle.hc_bighash.specs.Steps.{IsTurn, TurnFits, plan_of, phase_of};
+ghost use Rattle.hc_bighash.specs.Steps.{IsTurn, PlanFits, TurnFits, plan_of, phase_of};
 
 use crate::jobs::{Job, Phase};
 use crate::pages::page_plan;
@@ -58,7 +58,7 @@ pub(crate) fn step_for<A: Allocator + Copy>(
     job: &Job<A>,
     plan: Plan<A>,
 ) -> Result<Step<A>, AllocError>
-    requires { CanWrite page_size (plan_of plan) }
+    requires { PlanFits page_size plan }
     ensures next { IfOk result (λ step. next_seen step.next ≡ next_of page_size job.now.bucket job.now.op (plan_of plan)) }
     ensures phase { IfOk result (λ step. option_map phase_of step.phase ≡ waits (plan_of plan)) }
 {

@@ -164,12 +164,18 @@ page_takes size bytes es fits e =
     ∙ ap (λ (n : ℕ). to_be_bytes w16 (length c.0.0) ++ (to_be_bytes w16 n ++ (entries_bytes c.0.0 ++ replicate (size - (4 + length (entries_bytes c.0.0))) 0))) used_is in
     subst (λ (v : List FlashEntry). IsPage size v bytes) same (record { each = t3.2; distinct_keys = front.1; number = omega (arith, used_is, t1.1); room = omega (arith, total, len, body_len) }, whole)
 
+pub page_len : (size : ℕ) (es : List FlashEntry) → 4 + length (entries_bytes es) ≤ size → length (page_bytes size es) ≡ size
+page_len size es h =
+    let body : List ℕ = entries_bytes es in
+    let zeros : List ℕ = replicate (size - (4 + length body)) 0 in
+    omega (arith, length-append (to_be_bytes w16 (length es)) (to_be_bytes w16 (4 + length body) ++ (body ++ zeros)), length-append (to_be_bytes w16 (4 + length body)) (body ++ zeros), length-append body zeros, length-replicate {A = ℕ} (size - (4 + length body)) 0, wide16.len (length es), wide16.len (4 + length body), h)
+
 pub page_again : (size : ℕ) (es : List FlashEntry) → Fits size es → page_at size (page_bytes size es) ≡ Some es
 unfolding whole_at content_at page_at
 page_again size es h =
     let body : List ℕ = entries_bytes es in
     let zeros : List ℕ = replicate (size - (4 + length body)) 0 in
-    let len : length (page_bytes size es) ≡ size = omega (arith, length-append (to_be_bytes w16 (length es)) (to_be_bytes w16 (4 + length body) ++ (body ++ zeros)), length-append (to_be_bytes w16 (4 + length body)) (body ++ zeros), length-append body zeros, length-replicate {A = ℕ} (size - (4 + length body)) 0, wide16.len (length es), wide16.len (4 + length body), h.room) in
+    let len : length (page_bytes size es) ≡ size = page_len size es h.room in
     let count : length es < 2 ^ 16 = omega (arith, fewer_than_bytes es, h.number) in
     let n = number_again w16 (2 ^ 16) wide16 (length es) (to_be_bytes w16 (4 + length body) ++ (body ++ zeros)) count in
     let u = number_again w16 (2 ^ 16) wide16 (4 + length body) (body ++ zeros) h.number in

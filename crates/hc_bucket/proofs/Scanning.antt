@@ -9,7 +9,7 @@ use Rattle.std.proofs.lemmas.List.{nil_from_length}
 use Rattle.std.proofs.lemmas.Nat.{and_or_self, one_shl}
 use Rattle.std.proofs.lemmas.Nat.Bits.{bit_at_or, bit_at_and, same_from_bits}
 use Rattle.hc_types.specs.FlashEntry.{FlashEntry}
-use Rattle.hc_bucket.specs.Page.{distinct, entries_bytes, IsSmall, Fits}
+use Rattle.hc_bucket.specs.Page.{distinct, entries_bytes, IsSmall, IsPage}
 use Rattle.hc_bucket.specs.Reading.{◌>>=◌, entry_at, entries_at, whole_at, page_at}
 use Rattle.hc_bucket.specs.Whole.{all_at, read_of, mark_at, IsWhole}
 use Rattle.hc_bucket.proofs.Numbers.{IsBytes, bind_some, some_is}
@@ -346,10 +346,15 @@ unfolding entries_at
 none_are zero bytes h = refl
 none_are (suc n) bytes h = absurd (omega (arith, h))
 
--- a page that is read fits
-pub read_fits : (size : ℕ) (page : List ℕ) (read : Option (List FlashEntry)) → IsBytes page → read ≡ page_at size page → IfSome read (λ es. Fits size es)
-read_fits size page None fits h = tt
-read_fits size page (Some es) fits h = (page_takes size page es fits (sym h)).0
+-- a page that is read is one of the entries that it gave
+pub is_page : (size : ℕ) (page : List ℕ) (read : Option (List FlashEntry)) → IsBytes page → read ≡ page_at size page → IfSome read (λ es. IsPage size es page)
+is_page size page None fits h = tt
+is_page size page (Some es) fits h = page_takes size page es fits (sym h)
 
 pub one_mark : (digest : ℕ) → (1 * 2 ^ (digest % 64)) % 2 ^ 64 ≡ 2 ^ (digest % 64)
 one_mark digest = one_shl (digest % 64) 64 (omega arith)
+
+-- no bytes are no entries
+pub none_whole : IsWhole 0 []
+unfolding entries_at
+none_whole = record { fits = λ i. omega arith; read = refl; spelled = refl; each = tt }

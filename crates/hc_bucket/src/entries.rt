@@ -1,6 +1,6 @@
 // The entries of a page, read where they stand.
 ghost use Rattle.std.specs.Prelude.{◌≡◌, ◌∷◌, [], length, IfSome, MatchOption};
-ghost use Rattle.hc_bucket.specs.Page.{entry_bytes, entries_bytes, Fits};
+ghost use Rattle.hc_bucket.specs.Page.{entry_bytes, entries_bytes, IsPage};
 ghost use Rattle.hc_bucket.specs.Placed.{entry_placed};
 ghost use Rattle.hc_bucket.specs.Reading.{whole_at, page_at};
 
@@ -35,7 +35,7 @@ impl<'a> Entries<'a> {
     #[must_use]
     pub fn of_page(page: &'a [u8], page_size: usize) -> Option<Entries<'a>>
         ensures read { result ≡ page_at page_size page.now }
-        ensures fits { IfSome result (λ entries. Fits page_size entries) }
+        ensures page { IfSome result (λ entries. IsPage page_size entries page.now) }
     {
         Entries::read(page, page_size)
     }
@@ -88,6 +88,17 @@ impl<'a> Entries<'a> {
                 Some(placed)
             }
             None => unreachable!(),
+        }
+    }
+
+    /// No entries.
+    #[must_use]
+    pub fn none() -> Entries<'a>
+        ensures { result ≡ [] }
+    {
+        Entries {
+            count: 0,
+            bytes: &[],
         }
     }
 

@@ -129,6 +129,9 @@ impl<A: Allocator + Clone + Copy> Nvm<A> {
         ensures kept { N.room notes.old ≤ N.room notes.new }
         ensures room { IfOk result (λ ending. IfSome ending (λ e. most_told e.over.outcome.losses self.now.nvm + (1 + spare) ≤ N.room notes.new)) }
     {
+        if !self.pair.may_end(number) {
+            return Ok(None);
+        }
         self.fills_are_apart();
         match self.make_ready(at, number, notes, spare) {
             Ok(key) => match self.pair.ending(number, came) {

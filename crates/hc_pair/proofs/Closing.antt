@@ -5,7 +5,7 @@ use Rattle.hc_types.specs.declared.config.FlashConfig.{FlashConfig}
 use Rattle.hc_types.specs.Places.{bucket_at}
 use Rattle.hc_engines.proofs.pair.Numbers.{none_in_both}
 use Rattle.hc_engines.proofs.small.UnderWay.{none_is_there}
-use Rattle.hc_engines.specs.Engine.{Op, Get, Order, IoResult, Absent, Busy, Done, outcome_of, UnderWay}
+use Rattle.hc_engines.specs.Engine.{Op, Put, Get, Delete, Flush, Reclaim, Order, IoResult, Absent, Busy, Done, outcome_of, UnderWay}
 use Rattle.hc_engines.specs.small.BigHash as bighash
 use Rattle.hc_engines.specs.small.BigHash.{BigHash, Job, ToRead, ToEnd, begun, could_hold, is_busy, moved, job_at, tells, without_job, word_at}
 use Rattle.hc_engines.specs.large.Block as block
@@ -16,7 +16,7 @@ use Rattle.hc_engines.specs.pair.Pair.{Pair, Moved, after_losses, next_of, waits
 use Rattle.hc_engines.specs.pair.Held.{first_of, work_under_way}
 use Rattle.hc_engines.specs.small.Held.{job_under_way}
 use Rattle.hc_bighash.specs.Endings.{is_over}
-use Rattle.hc_bighash.specs.Found.{answer_next}
+use Rattle.hc_bighash.specs.Found.{answer_next, is_get}
 use Rattle.hc_bighash.specs.Handed as handed
 use Rattle.hc_bighash.specs.Handed.{absent_plan, op_in}
 use Rattle.hc_block.specs.Endings as large_endings
@@ -36,6 +36,26 @@ both small large = record { small = small; large = large.block }
 under-large : (pair : Pair) (number : ℕ) → op_in number pair.small.jobs ≡ None → op_under number pair ≡ option_map (λ (w : UnderWay). w.op) (option_map (work_under_way pair.small.flash pair.large) (work_of number pair.large.jobs))
 under-large pair number none =
     ap (λ (o : Option Job). option_map (λ (w : UnderWay). w.op) (first_of (option_map (job_under_way pair.small.flash) o) (option_map (work_under_way pair.small.flash pair.large) (work_of number pair.large.jobs)))) (op-none (job_at number pair.small.jobs) none)
+
+under-small : (pair : Pair) (number : ℕ) (op : Op) → op_in number pair.small.jobs ≡ Some op → op_under number pair ≡ Some op
+under-small pair number op there = by (job_at number pair.small.jobs) there
+  where
+    by : (o : Option Job) → option_map (λ (j : Job). j.op) o ≡ Some op
+        → option_map (λ (w : UnderWay). w.op) (first_of (option_map (job_under_way pair.small.flash) o) (option_map (work_under_way pair.small.flash pair.large) (work_of number pair.large.jobs))) ≡ Some op
+    by None h = absurd cc
+    by (Some job) h = h
+
+-- what isn't a get isn't over as one
+ends-never : (op : Op) (moved : Option Moved) → is_get op ≡ false → ends (Some op) moved ≡ false
+ends-never op None h = refl
+ends-never (Get key) (Some moved) h = absurd cc
+ends-never (Put e) (Some moved) h = refl
+ends-never (Delete key) (Some moved) h = refl
+ends-never Flush (Some moved) h = refl
+ends-never Reclaim (Some moved) h = refl
+
+pub not_over : (pair : Pair) (number : ℕ) (op : Op) (came : IoResult) → op_in number pair.small.jobs ≡ Some op → is_get op ≡ false → ends (op_under number pair) (resume number came pair) ≡ false
+not_over pair number op came there other = ap (λ (o : Option Op). ends o (resume number came pair)) (under-small pair number op there) ∙ ends-never op (resume number came pair) other
 
 -- ---- a read of the large engine
 

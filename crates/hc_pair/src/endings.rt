@@ -1,5 +1,5 @@
 // The end of a get in two: a question that takes all memory and changes nothing, and a step that can't be refused.
-ghost use Rattle.std.specs.Prelude.{◌≡◌, ℕ, Some, None, option_map, IfOk};
+ghost use Rattle.std.specs.Prelude.{◌≡◌, ℕ, false, Some, None, option_map, IfOk};
 ghost use Rattle.hc_types.specs.FlashEntry.{entry_of};
 ghost use Rattle.hc_engines.specs.Engine.{Get, Found, Done, IoResult as Came};
 ghost use Rattle.hc_engines.specs.small.BigHash.{ToEnd, carried, resume as resume_in_small};
@@ -9,9 +9,10 @@ ghost use Rattle.hc_bighash.specs.Handed.{IsGet, absent_plan, lost_with, op_in};
 ghost use Rattle.hc_bighash.specs.Seen.{op_of};
 ghost use Rattle.hc_flash.specs.Seen.{result_of};
 ghost use Rattle.hc_block.specs.Endings.{CanEndRead, without_lost};
-ghost use Rattle.hc_pair.specs.Endings.{CanLeave, Ends, EndsAtOnce, IsEnding, IsEndingAtOnce, IsStep, behind_losses, of_large, small_end, large_end, left_by};
+ghost use Rattle.hc_pair.specs.Endings.{CanLeave, Ends, EndsAtOnce, IsEnding, IsEndingAtOnce, IsStep, behind_losses, of_large, small_end, large_end, left_by, op_under, ends};
 
 use crate::joining::in_front;
+use crate::losing::is_get;
 use crate::pair::Pair;
 use hc_bighash::{Answer, Ending as SmallEnding, Op, Outcome};
 use hc_block::{Ending as LargeEnding, Rest};
@@ -64,6 +65,18 @@ fn of_large<A: Allocator>(ending: Option<LargeEnding<A>>) -> Option<Ending<A>>
 }
 
 impl<A: Allocator + Clone + Copy> Pair<A> {
+    /// Whether a result may end a get of this number: it doesn't where a put or a delete is under way in the small engine, so
+    /// that `ending` need not be asked.
+    #[must_use]
+    pub fn may_end(&self, number: u64) -> bool
+        ensures { result ≡ false → (came : Came) → ends (op_under number self.now) (resume_step number came self.now) ≡ false }
+    {
+        match self.small.op(number) {
+            Some(op) => is_get(op),
+            None => true,
+        }
+    }
+
     /// How the get with this number is over if this result is handed in. Nothing for what isn't a get, for a number that
     /// nothing under way has, for a result that isn't waited for, and for a get that goes on with a page: those are handed in
     /// with `hand_in`. Nothing changes: `end` ends the get. Refused only where memory lacks.

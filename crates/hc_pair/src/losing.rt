@@ -12,7 +12,7 @@ use hc_bighash::Op;
 use std::alloc::Allocator;
 
 /// Whether it is a get, which may go on with the large engine.
-fn is_get<A: Allocator>(op: &Op<A>) -> bool
+pub(crate) fn is_get<A: Allocator>(op: &Op<A>) -> bool
     ensures { result ≡ is_get_seen (op_of op.now) }
 {
     matches!(op, Op::Get(_))

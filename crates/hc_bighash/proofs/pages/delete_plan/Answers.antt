@@ -1,18 +1,19 @@
-use Rattle.std.proofs.Common.{◌≡◌, [], Bool, sym, ap, ◌∙◌}
-use Rattle.std.specs.Prelude.{is_some, if◌then◌else◌}
-use Rattle.hc_types.specs.FlashEntry.{entries_of}
+use Rattle.std.proofs.Common.{[], Bool, sym, ap, ◌∙◌}
+use Rattle.std.specs.Prelude.{if◌then◌else◌}
 use Rattle.hc_engines.specs.Engine.{Over}
-use Rattle.hc_engines.specs.small.Entries.{under, without}
+use Rattle.hc_engines.specs.small.Entries.{without}
 use Rattle.hc_engines.specs.small.BigHash.{ToWrite, ToEnd}
-use Rattle.hc_bighash.proofs.Looping.{any_under}
+use Rattle.hc_engines.proofs.small.Fitting.{fits-without}
+use Rattle.hc_bighash.proofs.Paging.{entries_are, len_is}
 use Rattle.hc_bighash.proofs.pages.delete_plan.Goals as goal
 
-pub returns-then-not-has : goal.returns-then-not-has
-returns-then-not-has g c =
-    let there : c.has.result ≡ is_some (under c.args.key.now (entries_of c.args.entries.items)) = c.has.ensures ∙ any_under c.args.key.now c.deref.result.now ∙ ap (λ es. is_some (under c.args.key.now (entries_of es))) c.deref.ensures.value in
-    ap (λ (b : Bool). if b then ToWrite (without c.args.key.now (entries_of c.args.entries.items)) [] else ToEnd Over) (sym c.if-not-has.true ∙ there)
+pub without-requires-clause-fits : goal.without-requires-clause-fits
+without-requires-clause-fits g c = fits-without c.args.page_size c.args.key.now c.args.entries c.requires
 
-pub returns : goal.returns
-returns g c =
-    let there : c.has.result ≡ is_some (under c.args.key.now (entries_of c.args.entries.items)) = c.has.ensures ∙ any_under c.args.key.now c.deref.result.now ∙ ap (λ es. is_some (under c.args.key.now (entries_of es))) c.deref.ensures.value in
-    (λ i. ToWrite (c.in_ok-entries.ensures i) (c.new-losses.ensures.items i)) ∙ ap (λ (b : Bool). if b then ToWrite (without c.args.key.now (entries_of c.args.entries.items)) [] else ToEnd Over) (sym c.if-not-has.false ∙ there)
+pub returns-clause-plan : goal.returns-clause-plan
+returns-clause-plan g c =
+    (λ i. ToWrite (entries_are c.args.page_size (without c.args.key.now c.args.entries) c.in_ok-page.page (fits-without c.args.page_size c.args.key.now c.args.entries c.requires) c.in_ok-page.ensures i) (c.new-losses.ensures.items i))
+    ∙ ap (λ (b : Bool). if b then ToWrite (without c.args.key.now c.args.entries) [] else ToEnd Over) (sym c.if-not-has.false ∙ c.has.ensures)
+
+pub returns-clause-fits : goal.returns-clause-fits
+returns-clause-fits g c = len_is c.args.page_size (without c.args.key.now c.args.entries) c.in_ok-page.page (fits-without c.args.page_size c.args.key.now c.args.entries c.requires) c.in_ok-page.ensures

@@ -18,5 +18,5 @@ pub returns-clause-ok : goal.returns-clause-ok
 returns-clause-ok g c =
     let s : BigHash = record { flash = c.self.inside.flash; words = c.self.inside.words.items; jobs = c.self.inside.jobs.items } in
     let fresh : job_at c.args.number c.self.inside.jobs.items ≡ None = rw (← c.self.view_is) at c.requires.fresh_number in
-    rw (← c.self.view_is) (begun_moved s c.args.number c.args.bucket (op_of c.args.op.now) c.word_at.result (plan_of c.in_ok-plan.plan) c.add_job.new.jobs.items (next_seen c.in_ok-next.field-0.next) (option_map phase_of c.in_ok-next.field-0.phase) fresh (c.word_at.ensures ∙ ap (λ ws. slice_index_or ws c.args.bucket None) c.deref.ensures.value) c.in_ok-plan.ensures
+    rw (← c.self.view_is) (begun_moved s c.args.number c.args.bucket (op_of c.args.op.now) c.word_at.result (plan_of c.in_ok-plan.plan) c.add_job.new.jobs.items (next_seen c.in_ok-next.field-0.next) (option_map phase_of c.in_ok-next.field-0.phase) fresh (c.word_at.ensures ∙ ap (λ ws. slice_index_or ws c.args.bucket None) c.deref.ensures.value) c.in_ok-plan.ensures.plan
     c.in_ok-next.ensures.next c.in_ok-next.ensures.phase c.in_ok-add_job.ensures.ok)

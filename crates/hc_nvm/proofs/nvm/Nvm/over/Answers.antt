@@ -27,6 +27,13 @@ returns-in-Ok-Some-clause-ok g c =
     subst (λ (s : Stock). EndsFill c.args.number (result_of c.args.came.now) s.nvm (record { key = c.in-Ok.key; over = c.in-Ok-Some.over })) c.self.view_is
     (fill_ends c.args.number c.args.at (result_of c.args.came.now) inside (record { key = c.in-Ok.key; over = c.in-Ok-Some.over }) c.self.invariant.3.numbered here apart keyed ends)
 
+pub returns-then-not-may_end-clause-ok : goal.returns-then-not-may_end-clause-ok
+returns-then-not-may_end-clause-ok g c =
+    let inside : Nvm = record { pair = c.self.inside.pair; queue = c.self.inside.queue.puts; tombstones = c.self.inside.tombstones.stones; fills = c.self.inside.fills.fills; jobs = c.self.inside.jobs.items; made = c.self.inside.made } in
+    let here : place c.args.number inside.jobs ≡ Some c.args.at = subst (λ (s : Stock). place c.args.number s.nvm.jobs ≡ Some c.args.at) (sym c.self.view_is) c.requires.at in
+    subst (λ (s : Stock). (taken : Taken) → finish c.args.number (result_of c.args.came.now) s.nvm ≡ Some taken → taken.filled ≡ None) c.self.view_is
+    (no_fill_ends c.args.number c.args.at (result_of c.args.came.now) inside c.self.invariant.3.numbered here c.self.invariant.3.served (c.may_end.ensures c.if-not-may_end.true (result_of c.args.came.now)))
+
 pub returns-in-Ok-None-clause-ok : goal.returns-in-Ok-None-clause-ok
 returns-in-Ok-None-clause-ok g c =
     let inside : Nvm = record { pair = c.self.inside.pair; queue = c.self.inside.queue.puts; tombstones = c.self.inside.tombstones.stones; fills = c.self.inside.fills.fills; jobs = c.self.inside.jobs.items; made = c.self.inside.made } in
