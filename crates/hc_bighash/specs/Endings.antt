@@ -21,7 +21,7 @@ is_over (Some answer) = has_looked answer
 
 -- the plan by which it is over
 abbrev pub ending_plan : {A : Type 0} → Ending A → Plan
-ending_plan (endings.Found e) = ToEnd (Found (entry_of e))
+ending_plan (endings.Found e) = ToEnd (Found (entry_of e.value))
 ending_plan (endings.Absent gives_up) = absent_plan gives_up
 
 abbrev pub IsPlanned : {A : Type 0} → Option Plan → Option (Ending A) → Type 0

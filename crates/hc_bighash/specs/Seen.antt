@@ -23,4 +23,4 @@ abbrev pub answer_of : {A : Type 0} → AnswersGiven A → Answer
 answer_of answers.Nothing = Nothing
 answer_of answers.Over = Over
 answer_of answers.Absent = Absent
-answer_of (answers.Found e) = Found (entry_of e)
+answer_of (answers.Found e) = Found (entry_of e.value)

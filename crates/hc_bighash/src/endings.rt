@@ -19,7 +19,7 @@ use std::alloc::{AllocError, Allocator, Global};
 #[must_use]
 pub enum Ending<A: Allocator = Global> {
     /// It found this, and its bucket stays as it is.
-    Found(Entry<A>),
+    Found(Box<Entry<A>, A>),
     /// It found nothing, and its bucket is given up or stays.
     Absent { gives_up: bool },
 }

@@ -43,8 +43,9 @@ pub enum Answer<A: Allocator = Global> {
     Over,
     /// The get found nothing.
     Absent,
-    /// The get found this.
-    Found(Entry<A>),
+    /// The get found this. It stands in a block of its own, so that what has no entry isn't as large as one: an answer goes
+    /// through many hands.
+    Found(Box<Entry<A>, A>),
 }
 
 /// What is forgotten, and why.

@@ -41,7 +41,8 @@ fn shared<A: Allocator>(
 }
 
 /// What a get of this key answers.
-fn found<A: Allocator>(
+fn found<A: Allocator + Copy>(
+    alloc: A,
     page: &Bytes<A>,
     entries: Entries<'_>,
     key: &Key<A>,
@@ -54,7 +55,8 @@ fn found<A: Allocator>(
     while let Some(placed) = entries.take_first() {
         end += placed.bytes.len();
         if placed.key == key.as_slice() {
-            return Ok(Answer::Found(shared(page, &placed, end, key)?));
+            let entry = shared(page, &placed, end, key)?;
+            return Ok(Answer::Found(Box::new(alloc, entry)?));
         }
     }
     Ok(Answer::Absent)
@@ -185,7 +187,7 @@ fn entries_plan<A: Allocator + Copy>(
 {
     match op {
         Op::Put(entry) => put_plan(alloc, page_size, entry, entries),
-        Op::Get(key) => Ok(Plan::End(found(page, entries, key)?)),
+        Op::Get(key) => Ok(Plan::End(found(alloc, page, entries, key)?)),
         Op::Delete(key) => delete_plan(alloc, page_size, key, entries),
         Op::Flush => Ok(Plan::End(Answer::Nothing)),
         Op::Reclaim => Ok(Plan::End(Answer::Nothing)),

@@ -104,22 +104,33 @@ fn own_bytes<A: Allocator + Clone + Copy>(
 }
 
 /// The entry, where it is the key's.
-fn own_entry<A: Allocator>(key: &Key<A>, entry: Entry<A>) -> Answer<A>
-    ensures { answer_of result ≡ own_entry_seen key.now (entry_of entry) }
+fn own_entry<A: Allocator + Copy>(
+    alloc: A,
+    key: &Key<A>,
+    entry: Entry<A>,
+) -> Result<Answer<A>, AllocError>
+    ensures { IfOk result (λ answer. answer_of answer ≡ own_entry_seen key.now (entry_of entry)) }
 {
     if entry.key == *key {
-        Answer::Found(entry)
+        Ok(Answer::Found(Box::new(alloc, entry)?))
     } else {
-        Answer::Absent
+        Ok(Answer::Absent)
     }
 }
 
 /// What these bytes answer a get of the key, where they are an entry.
-fn came_in<A: Allocator>(key: &Key<A>, bytes: Bytes<A>) -> Result<Option<Answer<A>>, AllocError>
+fn came_in<A: Allocator + Copy>(
+    alloc: A,
+    key: &Key<A>,
+    bytes: Bytes<A>,
+) -> Result<Option<Answer<A>>, AllocError>
     ensures { IfOk result (λ came. option_map answer_of came ≡ came_in_seen key.now (entry_in_seen bytes)) }
 {
     match entry_in(bytes) {
-        Ok(Some(entry)) => Ok(Some(own_entry(key, entry))),
+        Ok(Some(entry)) => {
+            let answer = own_entry(alloc, key, entry)?;
+            Ok(Some(answer))
+        }
         Ok(None) => Ok(None),
         Err(error) => Err(error),
     }
@@ -159,7 +170,8 @@ impl<A: Allocator + Clone + Copy> Reading<A> {
         let from = self.from(flash);
         let len = self.place.len() as usize;
         let Reading { key, got, rest, .. } = self;
-        came_in(&key, own_bytes(alloc, &got, rest, from, len)?)
+        let bytes = own_bytes(alloc, &got, rest, from, len)?;
+        came_in(alloc, &key, bytes)
     }
 
     /// What it came to with its last page.
@@ -179,10 +191,8 @@ impl<A: Allocator + Clone + Copy> Reading<A> {
         }
         let from = self.from(flash);
         let len = self.place.len() as usize;
-        came_in(
-            &self.key,
-            last_bytes(alloc, &self.got, page, &self.rest, from, len)?,
-        )
+        let bytes = last_bytes(alloc, &self.got, page, &self.rest, from, len)?;
+        came_in(alloc, &self.key, bytes)
     }
 
     /// What it came to where a page wasn't read.

@@ -1,5 +1,5 @@
 // Entries written as a page, one behind the other.
-ghost use Rattle.std.specs.Prelude.{◌≡◌, ◌<◌, ◌≤◌, ◌^◌, ◌++◌, ◌∷◌, [], ℕ, List, length, drop, replicate, OnOk, IfOk};
+ghost use Rattle.std.specs.Prelude.{◌≡◌, ◌-◌, ◌<◌, ◌≤◌, ◌^◌, ◌++◌, ◌∷◌, [], ℕ, List, length, drop, replicate, OnOk, IfOk};
 ghost use Rattle.std.specs.Int.{w16, to_be_bytes};
 ghost use Rattle.hc_types.specs.FlashEntry.{FlashEntry, entry_of};
 ghost use Rattle.hc_bucket.specs.Page.{head_bytes, entry_bytes, page_bytes, IsBegun, IsSmall, Fits};
@@ -8,6 +8,9 @@ use crate::fields::HEAD;
 use byteorder::{BigEndian, ByteOrder};
 use hc_types::Entry;
 use std::alloc::{AllocError, Allocator};
+
+/// How many zeros are written at a time.
+const FILL: usize = 512;
 
 /// How many bytes of a page this entry uses.
 pub fn entry_len<A: Allocator>(entry: &Entry<A>) -> usize
@@ -68,6 +71,18 @@ fn put_front(page: &mut [u8], count: u16, used: u16)
     BigEndian::write_u16(&mut page[2..], used);
 }
 
+/// Zeros are put behind the bytes until there are `len`: few at a time, since a large `memset` goes byte by byte.
+fn fill_up<A: Allocator>(page: &mut Vec<u8, A>, len: usize) -> Result<(), AllocError>
+    requires { length page.old.items ≤ len }
+    ensures { OnOk result (page.new.items ≡ page.old.items ++ replicate (len - length page.old.items) 0) }
+{
+    while page.len() < len {
+        let more = (len - page.len()).min(FILL);
+        page.resize(page.len() + more, 0)?;
+    }
+    Ok(())
+}
+
 /// The bytes of the page that was begun, with so many entries: its front is filled, and the rest of it with zeros.
 pub fn end_page<A: Allocator + Clone>(
     page: Vec<u8, A>,
@@ -80,6 +95,6 @@ pub fn end_page<A: Allocator + Clone>(
     let mut page = page;
     let used = page.len();
     put_front(&mut page, count as u16, used as u16);
-    page.resize(page_size, 0)?;
+    fill_up(&mut page, page_size)?;
     Ok(page)
 }

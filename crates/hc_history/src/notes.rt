@@ -220,6 +220,7 @@ impl<A: Allocator> Listener for Counting<A> {
 }
 
 impl<A: Allocator> Notes<Note<A>> for Counting<A> {
+    #[inline(always)]
     fn note(&mut self, note: Note<A>) {
         self.counts.heard(&note);
         if is_loss(&note) {

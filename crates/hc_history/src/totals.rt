@@ -110,6 +110,7 @@ impl Listener for Totals {
 }
 
 impl<A: Allocator> Notes<Note<A>> for Totals {
+    #[inline(always)]
     fn note(&mut self, note: Note<A>) {
         let lost = reason_in(&note);
         self.counts.heard(&note);

@@ -51,7 +51,7 @@ fn found_by<A: Allocator>(answer: &Answer<A>) -> Option<&Entry<A>>
     ensures { option_map entry_of (option_copied result) ≡ found_in (answer_of answer.now) }
 {
     match answer {
-        Answer::Found(entry) => Some(entry),
+        Answer::Found(entry) => Some(&**entry),
         Answer::Nothing | Answer::Over | Answer::Absent => None,
     }
 }

@@ -128,7 +128,7 @@ fn found_by<A: Allocator>(answer: Answer<A>) -> Option<Entry<A>>
     ensures { option_map entry_of result ≡ found_in (answer_of answer) }
 {
     match answer {
-        Answer::Found(entry) => Some(entry),
+        Answer::Found(entry) => Some(Box::into_inner(entry)),
         Answer::Nothing | Answer::Over | Answer::Absent => None,
     }
 }

@@ -120,11 +120,11 @@ impl<A: Allocator + Clone + Copy> Pair<A> {
     fn found(
         &self,
         number: u64,
-        entry: Entry<A>,
+        entry: Box<Entry<A>, A>,
         came: &IoResult<A>,
     ) -> Result<Option<Ending<A>>, AllocError>
         requires gets { IsGet self.now.small number }
-        requires came { resume_in_small self.now.small number (result_of came.now) ≡ carried self.now.small number (ToEnd (Found (entry_of entry))) }
+        requires came { resume_in_small self.now.small number (result_of came.now) ≡ carried self.now.small number (ToEnd (Found (entry_of entry.value))) }
         ensures { IfOk result (λ ending. IsEnding number (result_of came.now) self.now ending) }
     {
         let _came = came;

@@ -1,4 +1,4 @@
-use Rattle.std.proofs.Common.{◌≡◌, sym}
+use Rattle.std.proofs.Common.{sym}
 use Rattle.hc_bucket.specs.Placed.{entry_placed}
 use Rattle.hc_bucket.proofs.Scanning.{passed_first, passed_more, passed_stops, passed_here, passed_all}
 use Rattle.hc_bucket.proofs.checking.has_key.Goals as goal

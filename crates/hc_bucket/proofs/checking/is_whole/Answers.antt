@@ -1,9 +1,7 @@
-use Rattle.std.proofs.Common.{◌≡◌, ◌+◌, ◌==◌, Bool, true, false, sym, subst, ◌∙◌, refl, bit_and, bit_or, ℕ}
-use Rattle.std.specs.List.{list_any}
-use Rattle.std.specs.Cmp.Lexicographic.{pointwise}
+use Rattle.std.proofs.Common.{◌≡◌, ◌+◌, false, sym, subst, ◌∙◌, bit_or, ℕ}
 use Rattle.hc_types.specs.FlashEntry.{FlashEntry}
 use Rattle.hc_bucket.specs.Placed.{entry_placed}
-use Rattle.hc_bucket.specs.Whole.{all_at, mark_at}
+use Rattle.hc_bucket.specs.Whole.{all_at}
 use Rattle.hc_bucket.proofs.Scanning.{Scanned, among, unset, scan_first, scan_stops, scan_twice, scan_more, scan_all}
 use Rattle.hc_bucket.proofs.checking.is_whole.Goals as goal
 use Rattle.hc_bucket.proofs.checking.is_whole.Goals.{else-marks-mark-via-then-marks-mark+else-has_key, else-marks-mark-via-else-marks-mark}

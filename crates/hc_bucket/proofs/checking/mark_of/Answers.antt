@@ -1,4 +1,4 @@
-use Rattle.std.proofs.Common.{◌≡◌, ℕ, ◌^◌, ◌%◌, ap, ◌∙◌}
+use Rattle.std.proofs.Common.{ℕ, ◌^◌, ◌%◌, ap, ◌∙◌}
 use Rattle.hc_bucket.specs.Whole.{mark_at}
 use Rattle.hc_bucket.proofs.Scanning.{one_mark}
 use Rattle.hc_bucket.proofs.checking.mark_of.Goals as goal

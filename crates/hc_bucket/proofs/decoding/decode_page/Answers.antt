@@ -1,4 +1,4 @@
-use Rattle.std.proofs.Common.{◌≡◌, Some, None, sym, ◌∙◌, ap, arith}
+use Rattle.std.proofs.Common.{◌≡◌, Some, sym, ◌∙◌, ap, arith}
 use Rattle.hc_types.specs.FlashEntry.{entries_of}
 use Rattle.hc_bucket.specs.Reading.{page_at}
 use Rattle.hc_bucket.proofs.Pages.{page_takes, page_is_read}

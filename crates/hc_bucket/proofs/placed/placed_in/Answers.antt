@@ -1,6 +1,5 @@
-use Rattle.std.proofs.Common.{◌≡◌, ◌+◌, length, Some, None, sym, ◌∙◌, arith, refl}
+use Rattle.std.proofs.Common.{◌+◌, length, sym, ◌∙◌, arith, refl}
 use Rattle.hc_types.specs.FlashEntry.{FlashEntry}
-use Rattle.hc_bucket.specs.Reading.{entry_at}
 use Rattle.hc_bucket.proofs.Heads.{head_none, entry_is, no_key_part, no_value_part, key_empty, all_parts, spelled_by}
 use Rattle.hc_bucket.proofs.placed.placed_in.Goals as goal
 

@@ -1,6 +1,5 @@
-use Rattle.std.proofs.Common.{◌≡◌, ◌∷◌, [], Some, None, sym, ap, ◌∙◌}
+use Rattle.std.proofs.Common.{◌≡◌, [], sym, ◌∙◌}
 use Rattle.hc_bucket.specs.Placed.{entry_placed}
-use Rattle.hc_bucket.specs.Whole.{all_at}
 use Rattle.hc_bucket.proofs.Scanning.{whole_stops, whole_next, none_are}
 use Rattle.hc_bucket.proofs.entries.Entries.take_first.Goals as goal
 
