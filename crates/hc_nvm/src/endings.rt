@@ -19,7 +19,7 @@ use crate::finishing::{end_fill, place_of};
 use crate::jobs::Task;
 use crate::nvm::Nvm;
 use crate::settling::{Take, settle};
-use crate::starting::in_all;
+use crate::starting::{NOTES_OF_A_RESULT, in_all};
 use hc_bighash::{Answer, Loss};
 use hc_flash::IoResult;
 use hc_history::{Note, Notes};
@@ -191,7 +191,7 @@ impl<A: Allocator + Clone + Copy> Nvm<A> {
         ensures kept { N.room notes.old ≤ N.room notes.new }
         ensures room { IfOk result (λ ending. IfSome ending (λ e. most_told e.over.outcome.losses self.now.nvm + (1 + spare) ≤ N.room notes.new)) }
     {
-        let others = in_all(self.tombstones.len(), 6, spare)?;
+        let others = in_all(self.tombstones.len(), NOTES_OF_A_RESULT, spare)?;
         let all = in_all(self.pair.most_losses_at_start(), others, 0)?;
         notes.reserve(all)?;
         let copy = key.clone()?;

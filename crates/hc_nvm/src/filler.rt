@@ -14,7 +14,7 @@ ghost use Rattle.hc_waiting.specs.Fills.{IsFree};
 use crate::jobs::Task;
 use crate::nvm::Nvm;
 use crate::settling::{Outset, Take, launched};
-use crate::starting::{in_all, start_in};
+use crate::starting::{NOTES_OF_AN_OPERATION, in_all, start_in};
 use hc_bighash::Op;
 use hc_history::{Note, Notes};
 use hc_memory::Pools;
@@ -120,7 +120,7 @@ impl<A: Allocator + Clone + Copy> Nvm<A> {
         ensures rooms { KeepsRoom self.old self.new }
         ensures room { OnOk result (spare ≤ N.room notes.new) }
     {
-        let others = in_all(self.tombstones.len(), 4, spare)?;
+        let others = in_all(self.tombstones.len(), NOTES_OF_AN_OPERATION, spare)?;
         let copy = key.clone()?;
         let op = get_of(key)?;
         self.fills.reserve(1)?;

@@ -26,7 +26,7 @@ use crate::jobs::{Job, Task};
 use crate::nvm::Nvm;
 use crate::orders::twice;
 use crate::settling::{Take, hold, settle};
-use crate::starting::in_all;
+use crate::starting::{NOTES_OF_A_RESULT, in_all};
 use bytes::Bytes;
 use hc_bighash::{Next, Outcome, SharedOrder};
 use hc_flash::{IoResult, Order};
@@ -255,7 +255,7 @@ impl<A: Allocator + Clone + Copy> Nvm<A> {
         ensures kept { N.room notes.old ≤ N.room notes.new }
         ensures room { (result_came : Came) (moved : Moved) → resume_step number result_came self.now.nvm.pair ≡ Some moved → OnOk result (length (losses_of moved.next) + (length self.now.nvm.tombstones + (6 + spare)) ≤ N.room notes.new) }
     {
-        let others = in_all(self.tombstones.len(), 6, spare)?;
+        let others = in_all(self.tombstones.len(), NOTES_OF_A_RESULT, spare)?;
         let all = in_all(self.pair.most_losses(number), others, 0)?;
         let key = copy_brought(&self.jobs[at], &self.fills, number)?;
         notes.reserve(all)?;

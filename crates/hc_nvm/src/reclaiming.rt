@@ -6,7 +6,7 @@ ghost use Rattle.hc_nvm.specs.Starting.{IsRefused, IsReclaimed, KeepsRoom};
 use crate::jobs::Task;
 use crate::nvm::Nvm;
 use crate::settling::settle;
-use crate::starting::in_all;
+use crate::starting::{NOTES_OF_AN_OPERATION, in_all};
 use hc_bighash::{Next, Op};
 use hc_history::{Note, Notes};
 use hc_memory::Pools;
@@ -30,7 +30,7 @@ impl<A: Allocator + Clone + Copy> Nvm<A> {
         if self.made == u64::MAX {
             return Err(AllocError);
         }
-        let others = in_all(self.tombstones.len(), 4, spare)?;
+        let others = in_all(self.tombstones.len(), NOTES_OF_AN_OPERATION, spare)?;
         let all = in_all(self.pair.most_reclaimed(), others, 0)?;
         notes.reserve(all)?;
         self.pair.is_sound();

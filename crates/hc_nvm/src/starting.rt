@@ -20,6 +20,16 @@ use hc_history::{Note, Notes};
 use hc_pair::Pair;
 use std::alloc::{AllocError, Allocator};
 
+/// The most notes of an operation beside its losses and the tombstones that end with these: of the region that is opened,
+/// the one that is on flash and the one that is clean again, and of the put or the tombstone that is over.
+pub(crate) const NOTES_OF_AN_OPERATION: usize = 4;
+
+/// The same of a put that is taken: that it waits no longer, and, where it is small, that it is being written.
+pub(crate) const NOTES_OF_A_PUT: usize = 6;
+
+/// The same of a result that is handed in: that it came, and one for what the fill that may end with it brings.
+pub(crate) const NOTES_OF_A_RESULT: usize = 6;
+
 /// So many notes in all. Refused, as if memory lacked, where 64 bits can't count them.
 pub(crate) fn in_all(losses: usize, stones: usize, others: usize) -> Result<usize, AllocError>
     ensures { IfOk result (λ n. n ≡ losses + (stones + others)) }

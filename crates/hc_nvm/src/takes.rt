@@ -17,7 +17,7 @@ ghost use Rattle.hc_nvm.specs.Taking.{IsTaken};
 use crate::jobs::Task;
 use crate::nvm::Nvm;
 use crate::settling::{Outset, Take, launched};
-use crate::starting::{in_all, start_in};
+use crate::starting::{NOTES_OF_A_PUT, NOTES_OF_AN_OPERATION, in_all, start_in};
 use hc_bighash::Op;
 use hc_history::{Note, Notes, Said};
 use hc_memory::Pools;
@@ -139,7 +139,7 @@ impl<A: Allocator + Clone + Copy> Nvm<A> {
         ensures rooms { KeepsRoom self.old self.new }
         ensures room { OnOk result (spare ≤ N.room notes.new) }
     {
-        let others = in_all(self.tombstones.len(), 4, spare)?;
+        let others = in_all(self.tombstones.len(), NOTES_OF_AN_OPERATION, spare)?;
         let next = start_in(
             &mut self.pair,
             &mut self.jobs,
@@ -205,7 +205,7 @@ impl<A: Allocator + Clone + Copy> Nvm<A> {
         ensures rooms { KeepsRoom self.old self.new }
         ensures room { OnOk result (spare ≤ N.room notes.new) }
     {
-        let others = in_all(self.tombstones.len(), 6, spare)?;
+        let others = in_all(self.tombstones.len(), NOTES_OF_A_PUT, spare)?;
         let is_small = self.pair.is_small(&entry);
         let plan = put_of(entry, is_small)?;
         let next = start_in(
@@ -253,7 +253,7 @@ impl<A: Allocator + Clone + Copy> Nvm<A> {
         ensures rooms { KeepsRoom self.old self.new }
         ensures room { OnOk result (spare ≤ N.room notes.new) }
     {
-        let others = in_all(self.tombstones.len(), 4, spare)?;
+        let others = in_all(self.tombstones.len(), NOTES_OF_AN_OPERATION, spare)?;
         let (task, op) = delete_of(key)?;
         let next = start_in(
             &mut self.pair,
