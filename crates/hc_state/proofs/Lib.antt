@@ -37,6 +37,7 @@ pub mod Served
 pub mod Serves
 pub mod Sets
 pub mod Stepping
+pub mod TakenOut
 pub mod Stored
 pub mod Stores
 pub mod Unqueued

@@ -1,7 +1,8 @@
 // Items are removed.
-ghost use Rattle.std.specs.Prelude.{◌≡◌, ◌<◌, ◌≤◌, ◌+◌, ◌*◌, length, IfOk, OnOk, OnErr, IfErr};
+ghost use Rattle.std.specs.Prelude.{◌≡◌, ◌<◌, ◌≤◌, ◌+◌, ◌*◌, true, length, IfOk, OnOk, OnErr, IfErr};
 ghost use Rattle.hc_history.specs.Seen.{reply_of};
-ghost use Rattle.hc_history.specs.Told.{is_log};
+ghost use Rattle.hc_history.specs.Told.{is_log, told_count};
+ghost use Rattle.hc_history.specs.declared.stats.Kind.TheVariants as kind;
 ghost use Rattle.hc_invariant.specs.Jobs.{AllWish};
 ghost use Rattle.hc_invariant.specs.Structure.{Structured};
 ghost use Rattle.hc_machine.specs.Calls.{remove as remove_step};
@@ -9,15 +10,17 @@ ghost use Rattle.hc_state.specs.Linked.{linked_without, number_at};
 ghost use Rattle.hc_state.specs.Outdating.{ServesIn};
 ghost use Rattle.hc_state.specs.Removing.{removed_answer, removed_reply, removed_of as removed_seen};
 ghost use Rattle.hc_state.specs.Serving.{waiters_at};
+ghost use Rattle.hc_state.specs.Setting.{is_plain as is_plain_seen};
 ghost use Rattle.hc_state.specs.Storing.{how_many, unstore_as, CanServe};
 ghost use Rattle.hc_state.specs.Whole.{Does, IsReady, IsStep, MayLack, Stays, costs};
 
 use crate::answers::Removed;
+use crate::beginning::room_for_notes;
 use crate::evicting::alloc_of;
 use crate::preparing::{Clearing, Prepared, room_for_charges};
 use crate::serving::Course;
 use crate::state::State;
-use hc_history::{Note, Notes, Reply};
+use hc_history::{Kind, Note, Notes, Reply};
 use hc_nvm::Outdating;
 use hc_types::{Key, Refusal};
 use std::alloc::{AllocError, Allocator};
@@ -82,6 +85,34 @@ impl<N: Notes<Note<A>>, A: Allocator + Clone + Copy> State<N, A> {
         self.unlink_stored(key, courses, &mut earlier)
     }
 
+    /// The newest call, with this number, removed what its key had, which is counted: notes aren't kept.
+    fn count_removed(&mut self, call: u64)
+        requires { 1 ≤ self.old.notes }
+        ensures cache { self.new.cache ≡ record self.old.cache { calls = call } }
+        ensures log { self.new.log ≡ told_count self.old.log kind.Removed }
+        ensures notes { self.old.notes ≤ self.new.notes + 1 }
+    {
+        self.calls = call;
+        self.notes.count(Kind::Removed);
+    }
+
+    /// Takes the key's item out, expired or not, where there is no flash and notes aren't kept. It is one step. Refused where
+    /// the call numbers have run out, or who hears of the log has no room.
+    fn remove_short(&mut self, client: u8, key: &Key<A>) -> Result<Removed, Refusal>
+        requires plain { is_plain_seen self.old.log self.old.cache ≡ true }
+        ensures ok { IfOk result (λ removed. IsStep (remove_step client key.now self.old.cache) (removed_answer removed) self.old self.new) }
+        ensures err { OnErr result (Stays self.old self.new) }
+        ensures memory { IfErr result (λ refusal. refusal ≡ Refusal.NoMemory) }
+        ensures silent { OnErr result (MayLack self.old.log self.old.cache) }
+    {
+        let _client = client;
+        let call = self.next_call()?;
+        room_for_notes(&mut self.notes, &self.pools, 1)?;
+        let standing = self.pools.unlink(key);
+        self.count_removed(call);
+        Ok(removed_of(standing))
+    }
+
     /// Takes the key's item out of the cache, expired or not, and its waiting put; its copies on flash are stale from then
     /// on. The calls that wait for the key are served by what it has then. Refused with `NoMemory`, also where the call
     /// numbers have run out; without flash, where nobody hears of the log, then alone.
@@ -93,6 +124,9 @@ impl<N: Notes<Note<A>>, A: Allocator + Clone + Copy> State<N, A> {
         ensures memory { IfErr result (λ refusal. refusal ≡ Refusal.NoMemory) }
         ensures silent { OnErr result (MayLack self.old.log self.old.cache) }
     {
+        if self.is_plain() {
+            return self.remove_short(client, key);
+        }
         self.is_sound();
         let plan = self.prepare_to_remove(client, key)?;
         let Prepared {

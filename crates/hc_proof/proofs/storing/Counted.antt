@@ -1,14 +1,16 @@
--- What is told of an item that is stored, where the log isn't kept.
+-- What is told of an item that is stored, or removed, where the log isn't kept.
 use Rattle.std.proofs.Common.{◌≡◌, ℕ, ◌++◌, false, List, [], ◌∷◌, Option, Some, None, refl, sym, ap, ◌∙◌, length}
 use Rattle.hc_types.specs.Charge.{charge_of}
 use Rattle.hc_memory.specs.Item.{Item, Handle}
 use Rattle.hc_memory.specs.Memory.{Memory, linked_at}
-use Rattle.hc_history.specs.Note.{Note, Op, Insert, Stored, Freed, Charged, Begin, Linked, Did, End}
+use Rattle.hc_history.specs.Note.{Note, Op, Reply, Insert, Remove, Stored, FoundInMemory, NotInMemory, Freed, Charged, Begin, Linked, Did, End}
 use Rattle.hc_history.specs.Told.{Heard, Nothing, Log, Counts, Sums, told_more, told_count, is_log}
+use Rattle.hc_history.specs.declared.stats.Kind.{Kind}
 use Rattle.hc_history.specs.declared.stats.Kind.TheVariants as kind
 use Rattle.hc_history.proofs.Telling.{told-twice, told-nothing, told-did}
+use Rattle.hc_machine.specs.Calls.{remove_reply}
 use Rattle.hc_machine.specs.Waiting.{freed_note}
-use Rattle.hc_proof.specs.calls.Short.{storing, StoredIsCounted}
+use Rattle.hc_proof.specs.calls.Short.{storing, StoredIsCounted, removing, RemovedIsCounted}
 
 told-charged : (heard : Heard) → is_log heard ≡ false → (n pool bytes : ℕ) (key : List ℕ) → told_more heard (Charged n key pool bytes ∷ []) ≡ heard
 told-charged Nothing e n pool bytes key = refl
@@ -44,11 +46,11 @@ told-freed : (heard : Heard) → is_log heard ≡ false → (o : Option Item) �
 told-freed heard e None = told-nothing heard
 told-freed heard e (Some item) = told-freed-one heard e item.number
 
-still : (heard : Heard) → is_log heard ≡ false → is_log (told_count heard kind.Stored) ≡ false
-still Nothing e = refl
-still (Log log) e = absurd cc
-still (Counts counts losses) e = refl
-still (Sums counts losses) e = refl
+still : (heard : Heard) (k : Kind) → is_log heard ≡ false → is_log (told_count heard k) ≡ false
+still Nothing k e = refl
+still (Log log) k e = absurd cc
+still (Counts counts losses) k e = refl
+still (Sums counts losses) k e = refl
 
 -- a part of which nothing is heard
 past : (heard : Heard) (a rest : List Note) → told_more heard a ≡ heard → told_more heard (a ++ rest) ≡ told_more heard rest
@@ -65,7 +67,22 @@ stored-counted heard memory handle call e =
     ∙ past heard (Linked handle.number ∷ []) tail (told-linked heard e handle.number)
     ∙ sym (told-twice heard (Did call Stored ∷ []) (End call ∷ []))
     ∙ ap (λ (h : Heard). told_more h (End call ∷ [])) (sym (told-did heard call Stored kind.Stored e refl))
-    ∙ told-ended (told_count heard kind.Stored) (still heard e) call
+    ∙ told-ended (told_count heard kind.Stored) (still heard kind.Stored e) call
+
+told-removed : (heard : Heard) (call : ℕ) (there : Option Item) → is_log heard ≡ false → told_count heard kind.Removed ≡ told_more heard (Did call (remove_reply there) ∷ [])
+told-removed heard call None e = told-did heard call NotInMemory kind.Removed e refl
+told-removed heard call (Some item) e = told-did heard call FoundInMemory kind.Removed e refl
+
+pub removed-counted : RemovedIsCounted
+removed-counted heard memory client key call there e =
+    let reply = remove_reply there in
+    let gone = freed_note (linked_at key memory.pools) in
+    let tail : List Note = Did call reply ∷ End call ∷ [] in
+    past heard (Begin call client (Remove key) ∷ []) (gone ++ tail) (told-begun heard e call client (Remove key))
+    ∙ past heard gone tail (told-freed heard e (linked_at key memory.pools))
+    ∙ sym (told-twice heard (Did call reply ∷ []) (End call ∷ []))
+    ∙ ap (λ (h : Heard). told_more h (End call ∷ [])) (sym (told-removed heard call there e))
+    ∙ told-ended (told_count heard kind.Removed) (still heard kind.Removed e) call
 
 -- ---- behind the notes of the items that went
 

@@ -7,19 +7,19 @@ use Rattle.hc_types.specs.declared.refusal.Refusal.{Refusal}
 use Rattle.hc_types.specs.declared.refusal.Refusal.TheVariants.{ForeignHandle}
 use Rattle.hc_memory.specs.Item.{Item, Open, Handle, charge_by}
 use Rattle.hc_memory.specs.Charges.{has_number, is_open, closed}
-use Rattle.hc_memory.specs.Memory.{Memory, linked_at, victims_of, after_room, after_put}
+use Rattle.hc_memory.specs.Memory.{Memory, linked_at, victims_of, after_room, after_put, after_unlink}
 use Rattle.hc_memory.specs.Sound.{Sound}
 use Rattle.hc_memory.proofs.Bringing.{closed-push}
 use Rattle.hc_machine.specs.items.Allocating.{refusal_of, cause_for}
-use Rattle.hc_history.specs.Note.{Note, Lose, Freed, Stored, Insert, Charged, Begin, Linked, Did, End}
+use Rattle.hc_history.specs.Note.{Note, Lose, Freed, Stored, Insert, Remove, Charged, Begin, Linked, Did, End}
 use Rattle.hc_machine.specs.Nvm.{Nvm}
 use Rattle.hc_machine.specs.Cache.{Cache, Moved, Told, Opened, Discarded, Replied, Refused, stays, tells, behind, and_then, answers, with_memory}
 use Rattle.hc_machine.specs.Evicting.{leaves_for, all_leave, allocate, allocate_by, with_charge, charge}
 use Rattle.hc_machine.specs.Waiting.{freed_note, free}
-use Rattle.hc_machine.specs.Calls.{insert_or_replace, begin, store, discard}
+use Rattle.hc_machine.specs.Calls.{insert_or_replace, begin, store, discard, remove, remove_reply}
 use Rattle.hc_machine.specs.World.{inserted, behind as moved_behind}
 use Rattle.hc_proof.proofs.evicting.LinkedClean.{last_open}
-use Rattle.hc_proof.specs.calls.Short.{leaving, handle_in, short_set, SetsAreShort, short_give_up, GivenUpIsShort}
+use Rattle.hc_proof.specs.calls.Short.{leaving, handle_in, short_set, SetsAreShort, short_give_up, GivenUpIsShort, short_remove, RemovesAreShort}
 
 -- ---- items go
 
@@ -101,3 +101,22 @@ give_up_base pool key value ttl cache none s allowed =
 pub given-up : GivenUpIsShort
 given-up pool key value ttl cache none s allowed =
     subst (λ (c : Cache). inserted discard (allocate pool key value ttl c) ≡ short_give_up pool key value ttl c) (λ i. record cache { nvm = sym none i }) (give_up_base pool key value ttl cache none s allowed)
+
+-- ---- removes
+
+remove-shape : (fs : List Note) (d e : Note) → ((fs ++ []) ++ []) ++ (d ∷ e ∷ []) ≡ fs ++ d ∷ e ∷ []
+remove-shape fs d e = ap (λ (xs : List Note). xs ++ (d ∷ e ∷ [])) (append-nil (fs ++ []) ∙ append-nil fs)
+
+remove_base : (client : ℕ) (key : List ℕ) (cache : Cache) → remove client key (record cache { nvm = None }) ≡ short_remove client key (record cache { nvm = None })
+remove_base client key cache =
+    let bare : Cache = record cache { nvm = None } in
+    let call = bare.calls + 1 in
+    let reply = remove_reply (linked_at key bare.memory.pools) in
+    λ i. record {
+      cache = record bare { memory = after_unlink bare.memory key; calls = call };
+      answer = Replied reply;
+      part = Begin call client (Remove key) ∷ remove-shape (freed_note (linked_at key bare.memory.pools)) (Did call reply) (End call) i;
+    }
+
+pub removes : RemovesAreShort
+removes client key cache none = subst (λ (c : Cache). remove client key c ≡ short_remove client key c) (λ i. record cache { nvm = sym none i }) (remove_base client key cache)

@@ -1,17 +1,17 @@
--- A value is stored in one step, where there is no flash.
-use Rattle.std.specs.Prelude.{◌≡◌, ℕ, ◌+◌, false, List, [], ◌∷◌, ◌++◌, length, None, if◌then◌else◌}
+-- A value is stored in one step, and an item removed in one, where there is no flash.
+use Rattle.std.specs.Prelude.{◌≡◌, ℕ, ◌+◌, false, List, [], ◌∷◌, ◌++◌, length, Option, None, if◌then◌else◌}
 use Rattle.hc_types.specs.Charge.{charge_of}
 use Rattle.hc_types.specs.Loss as loss
 use Rattle.hc_memory.specs.Item.{Item, Handle}
-use Rattle.hc_memory.specs.Memory.{Memory, linked_at, victims_of, after_room, after_put, handle_for}
+use Rattle.hc_memory.specs.Memory.{Memory, linked_at, victims_of, after_room, after_put, after_unlink, handle_for}
 use Rattle.hc_memory.specs.Sound.{Sound}
 use Rattle.hc_machine.specs.items.Allocating.{refusal_of, expiry_of, cause_for}
-use Rattle.hc_history.specs.Note.{Note, Insert, Stored, Freed, Lose, Charged, Begin, Linked, Did, End}
+use Rattle.hc_history.specs.Note.{Note, Reply, Insert, Remove, Stored, Freed, Lose, Charged, Begin, Linked, Did, End}
 use Rattle.hc_history.specs.Told.{Heard, told_more, told_count, is_log}
 use Rattle.hc_history.specs.declared.stats.Kind.TheVariants as kind
 use Rattle.hc_machine.specs.Cache.{Cache, Moved, Discarded, Replied}
 use Rattle.hc_machine.specs.Waiting.{freed_note}
-use Rattle.hc_machine.specs.Calls.{insert_or_replace, discard}
+use Rattle.hc_machine.specs.Calls.{insert_or_replace, discard, remove, remove_reply}
 use Rattle.hc_machine.specs.Evicting.{allocate}
 use Rattle.hc_machine.specs.World.{inserted}
 
@@ -62,3 +62,24 @@ short_give_up pool key value ttl cache = by (after_room cache.memory pool (charg
 abbrev pub GivenUpIsShort : Type 0
 GivenUpIsShort = (pool : ℕ) (key value : List ℕ) (ttl : ℕ) (cache : Cache) → cache.nvm ≡ None → Sound cache.memory.pools cache.memory.charges cache.memory.made → refusal_of cache.memory pool key (length value) ≡ None
     → inserted discard (allocate pool key value ttl cache) ≡ short_give_up pool key value ttl cache
+
+-- ---- removes
+
+-- what is told of a remove, in this memory
+abbrev pub removing : Memory → ℕ → List ℕ → ℕ → Reply → List Note
+removing memory client key call reply = Begin call client (Remove key) ∷ (freed_note (linked_at key memory.pools) ++ Did call reply ∷ End call ∷ [])
+
+-- the key's item is taken out
+abbrev pub short_remove : ℕ → List ℕ → Cache → Moved
+short_remove client key cache = record {
+  cache = record cache { memory = after_unlink cache.memory key; calls = cache.calls + 1 };
+  answer = Replied (remove_reply (linked_at key cache.memory.pools));
+  part = removing cache.memory client key (cache.calls + 1) (remove_reply (linked_at key cache.memory.pools));
+}
+
+abbrev pub RemovesAreShort : Type 0
+RemovesAreShort = (client : ℕ) (key : List ℕ) (cache : Cache) → cache.nvm ≡ None → remove client key cache ≡ short_remove client key cache
+
+-- where the log isn't kept, all that is told of a remove comes to one count
+abbrev pub RemovedIsCounted : Type 0
+RemovedIsCounted = (heard : Heard) (memory : Memory) (client : ℕ) (key : List ℕ) (call : ℕ) (there : Option Item) → is_log heard ≡ false → told_more heard (removing memory client key call (remove_reply there)) ≡ told_count heard kind.Removed
