@@ -6,7 +6,7 @@ use Rattle.hc_machine.specs.Takes.{Filled as Over, Take, Finished}
 use Rattle.hc_nvm.specs.declared.filler.Filled.{Filled}
 
 abbrev pub filled_of : {A : Type 0} → Filled A → Over
-filled_of filled = record { entry = option_map entry_of filled.entry; waiters = filled.waiters.items }
+filled_of filled = record { entry = option_map (λ entry. entry_of entry.value) filled.entry; waiters = filled.waiters.items }
 
 -- what was found, for the calls that wait, where some do
 abbrev pub over_of : Option FlashEntry → Option (List Waiter) → Option Over

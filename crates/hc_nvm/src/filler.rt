@@ -25,7 +25,7 @@ use std::alloc::{AllocError, Allocator, Global};
 /// A fill that is over: what was found, and the calls that wait for it.
 #[derive(Drop)]
 pub struct Filled<A: Allocator = Global> {
-    pub entry: Option<Entry<A>>,
+    pub entry: Option<Box<Entry<A>, A>>,
     pub waiters: Vec<Waiter<A>, A>,
 }
 
@@ -63,10 +63,10 @@ fn filled_by<A: Allocator + Copy>(
     fills: &mut Fills<A>,
     key: &Key<A>,
     take: &Take<A>,
-    found: Option<Entry<A>>,
+    found: Option<Box<Entry<A>, A>>,
 ) -> Option<Filled<A>>
     ensures flash { fills.new.flash ≡ fills.old.flash }
-    ensures filled { option_map filled_of result ≡ filled_if (take_of take.now) (option_map entry_of found) (fill_at key.now fills.old.fills) }
+    ensures filled { option_map filled_of result ≡ filled_if (take_of take.now) (option_map (λ entry. entry_of entry.value) found) (fill_at key.now fills.old.fills) }
     ensures left { fills.new.fills ≡ left_if (take_of take.now) key.now fills.old.fills }
     ensures room { fills.old.room ≤ fills.new.room }
 {
@@ -86,9 +86,9 @@ fn filled_by<A: Allocator + Copy>(
 /// A fill that is over, where calls wait for it.
 pub(crate) fn over_with<A: Allocator>(
     waiters: Option<Vec<Waiter<A>, A>>,
-    found: Option<Entry<A>>,
+    found: Option<Box<Entry<A>, A>>,
 ) -> Option<Filled<A>>
-    ensures { option_map filled_of result ≡ over_of (option_map entry_of found) (option_map (λ waiters. waiters.items) waiters) }
+    ensures { option_map filled_of result ≡ over_of (option_map (λ entry. entry_of entry.value) found) (option_map (λ waiters. waiters.items) waiters) }
 {
     match waiters {
         Some(waiters) => Some(Filled {

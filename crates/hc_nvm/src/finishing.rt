@@ -339,10 +339,10 @@ fn take_job<A: Allocator>(jobs: &mut Vec<Job<A>, A>, at: usize) -> (Task<A>, Ord
 pub(crate) fn end_fill<A: Allocator + Copy>(
     fills: &mut Fills<A>,
     key: Option<Key<A>>,
-    found: Option<Entry<A>>,
+    found: Option<Box<Entry<A>, A>>,
 ) -> Option<Filled<A>>
     ensures flash { fills.new.flash ≡ fills.old.flash }
-    ensures filled { option_map filled_of result ≡ over_of (option_map entry_of found) (waiters_by key fills.old.fills) }
+    ensures filled { option_map filled_of result ≡ over_of (option_map (λ entry. entry_of entry.value) found) (waiters_by key fills.old.fills) }
     ensures left { fills.new.fills ≡ left_by key fills.old.fills }
     ensures room { fills.old.room ≤ fills.new.room }
 {

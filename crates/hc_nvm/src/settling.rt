@@ -38,7 +38,7 @@ pub enum Take<A: Allocator = Global> {
 #[derive(Drop)]
 pub(crate) struct Outset<A: Allocator = Global> {
     pub(crate) take: Take<A>,
-    pub(crate) found: Option<Entry<A>>,
+    pub(crate) found: Option<Box<Entry<A>, A>>,
     pub(crate) made: u64,
 }
 
@@ -124,11 +124,11 @@ fn close<A: Allocator + Copy, N: Notes<Note<A>>>(
 }
 
 /// The entry that an operation found.
-fn found_by<A: Allocator>(answer: Answer<A>) -> Option<Entry<A>>
-    ensures { option_map entry_of result ≡ found_in (answer_of answer) }
+fn found_by<A: Allocator>(answer: Answer<A>) -> Option<Box<Entry<A>, A>>
+    ensures { option_map (λ entry. entry_of entry.value) result ≡ found_in (answer_of answer) }
 {
     match answer {
-        Answer::Found(entry) => Some(Box::into_inner(entry)),
+        Answer::Found(entry) => Some(entry),
         Answer::Nothing | Answer::Over | Answer::Absent => None,
     }
 }
@@ -165,9 +165,9 @@ pub(crate) fn settle<A: Allocator + Clone + Copy, N: Notes<Note<A>>>(
     outcome: Outcome<A>,
     notes: &mut N,
     pools: &mut Pools<A>,
-) -> Option<Entry<A>>
+) -> Option<Box<Entry<A>, A>>
     requires room { length outcome.losses + (length stones.old.stones + 4) ≤ N.room notes.old }
-    ensures found { option_map entry_of result ≡ found_in outcome.answer }
+    ensures found { option_map (λ entry. entry_of entry.value) result ≡ found_in outcome.answer }
     ensures left { stones.new.stones ≡ settled_left stones.old.flash (task_of task) outcome stones.old.stones }
     ensures flash { stones.new.flash ≡ stones.old.flash }
     ensures stones { stones.old.room ≤ stones.new.room }
@@ -210,7 +210,7 @@ pub(crate) fn launched<A: Allocator + Clone + Copy, N: Notes<Note<A>>>(
     ensures jobs { jobs.new.items ≡ (after stones.old.flash (task_of task) (next_seen next) stones.old.stones jobs.old.items made).jobs }
     ensures made { result.made ≡ (after stones.old.flash (task_of task) (next_seen next) stones.old.stones jobs.old.items made).made }
     ensures take { take_of result.take ≡ (after stones.old.flash (task_of task) (next_seen next) stones.old.stones jobs.old.items made).take }
-    ensures found { option_map entry_of result.found ≡ (after stones.old.flash (task_of task) (next_seen next) stones.old.stones jobs.old.items made).found }
+    ensures found { option_map (λ entry. entry_of entry.value) result.found ≡ (after stones.old.flash (task_of task) (next_seen next) stones.old.stones jobs.old.items made).found }
     ensures told { N.told notes.new ≡ told_more (N.told notes.old) (after stones.old.flash (task_of task) (next_seen next) stones.old.stones jobs.old.items made).part }
     ensures marks { pools.new ≡ unmarked_by (loss_notes (losses_of (next_seen next))) pools.old }
     ensures room { N.room notes.old ≤ N.room notes.new + (length (losses_of (next_seen next)) + (length stones.old.stones + 4)) }
