@@ -43,7 +43,7 @@ returns-clause-taken g c =
     (g.N.Listener.told c.args.notes.now) (g.N.Listener.told c.settle-found.new.notes) c.args.pools.now c.settle-found.new.pools =
     λ job there.
     let stood : slice_get c.self.inside.jobs.items c.args.at ≡ Some job = (stands 1 c.self.inside.made c.args.number c.args.at c.self.inside.jobs.items i.3.numbered here).here ∙ ap (λ (j : Job). Some j) (job_stands 1 c.self.inside.made c.args.number c.args.at c.self.inside.jobs.items job i.3.numbered here there) in
-    ended inside c.args.number c.args.at job (result_of c.args.came) c.args.outcome c.self.inside.tombstones.flash (task_of c.take_job-task.result.0) c.args.key new (option_map filled_of c.end_fill-filled.result) (option_map entry_of c.settle-found.result)
+    ended inside c.args.number c.args.at job (result_of c.args.came) c.args.outcome c.self.inside.tombstones.flash (task_of c.take_job-task.result.0) c.args.key new (option_map filled_of c.end_fill-filled.result) (option_map (λ entry. entry_of entry.value) c.settle-found.result)
     (g.N.Listener.told c.args.notes.now) (g.N.Listener.told c.tell_result.new.notes) (g.N.Listener.told c.settle-found.new.notes) c.args.pools.now c.settle-found.new.pools (record {
       place_is = here;
       numbered = i.3.numbered;
