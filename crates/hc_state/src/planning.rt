@@ -94,8 +94,7 @@ fn find_course<A: Allocator>(given: &Option<There<A>>) -> Result<Course<A>, Allo
 }
 
 /// How an add is served, where this is what the key has. Refused only where memory lacks.
-fn add_course<A: Allocator + Copy>(
-    alloc: A,
+fn add_course<A: Allocator>(
     given: &Option<There<A>>,
     key: &Key<A>,
     keeps: bool,
@@ -105,15 +104,14 @@ fn add_course<A: Allocator + Copy>(
     match given {
         Some(_) => Ok(Course::Exists),
         None => {
-            let plan = Outdating::whole(alloc, key, keeps)?;
+            let plan = Outdating::whole(key, keeps)?;
             Ok(Course::Store(plan))
         }
     }
 }
 
 /// How a call is served that asks for this, where this is what the key has. Refused only where memory lacks.
-fn course_for<A: Allocator + Copy>(
-    alloc: A,
+fn course_for<A: Allocator>(
     wish: &Wish<A>,
     given: &Option<There<A>>,
     key: &Key<A>,
@@ -123,7 +121,7 @@ fn course_for<A: Allocator + Copy>(
 {
     match wish {
         Wish::Find => find_course(given),
-        Wish::Add(_) => add_course(alloc, given, key, keeps),
+        Wish::Add(_) => add_course(given, key, keeps),
     }
 }
 
@@ -158,8 +156,7 @@ fn there_next<A: Allocator + Clone>(
 
 /// How a call is served that asks for this, where this is what the key has, and what the key has then. Refused only where
 /// memory lacks.
-fn plan_wish<A: Allocator + Clone + Copy>(
-    alloc: A,
+fn plan_wish<A: Allocator + Clone>(
     wish: &Wish<A>,
     given: Option<There<A>>,
     key: &Key<A>,
@@ -167,7 +164,7 @@ fn plan_wish<A: Allocator + Clone + Copy>(
 ) -> Result<(Course<A>, Option<There<A>>), AllocError>
     ensures { IfOk result (λ planned. (entry : Option FlashEntry) → IsThere entry given → IsNext keeps key.now (wish_of wish.now) entry planned.0 planned.1) }
 {
-    match course_for(alloc, wish, &given, key, keeps) {
+    match course_for(wish, &given, key, keeps) {
         Ok(course) => match there_next(wish, given) {
             Ok(next) => Ok((course, next)),
             Err(no_memory) => {
@@ -183,8 +180,7 @@ fn plan_wish<A: Allocator + Clone + Copy>(
 }
 
 /// The same of a call that waits, at `now` (seconds).
-fn plan_one<A: Allocator + Clone + Copy>(
-    alloc: A,
+fn plan_one<A: Allocator + Clone>(
     waiter: &Waiter<A>,
     there: Option<There<A>>,
     now: u64,
@@ -193,7 +189,7 @@ fn plan_one<A: Allocator + Clone + Copy>(
 ) -> Result<(Course<A>, Option<There<A>>), AllocError>
     ensures { IfOk result (λ planned. (entry : Option FlashEntry) → IsThere entry there → IsNext keeps key.now waiter.now.wish (live_seen now entry) planned.0 planned.1) }
 {
-    plan_wish(alloc, &waiter.wish, live(there, now), key, keeps)
+    plan_wish(&waiter.wish, live(there, now), key, keeps)
 }
 
 /// How each of these calls is served at `now` (seconds), in order, where this is what the key has. Refused only where memory
@@ -211,7 +207,7 @@ fn plan_courses<A: Allocator + Clone + Copy>(
     let mut courses = Vec::with_capacity(alloc, waiters.len())?;
     let mut there = there;
     for waiter in waiters {
-        match plan_one(alloc, waiter, there, now, key, keeps) {
+        match plan_one(waiter, there, now, key, keeps) {
             Ok((course, next)) => {
                 courses.push_reserved(course);
                 there = next;
