@@ -37,7 +37,7 @@ impl<A: Allocator> Item<A> {
     pub fn is_expired(&self, now: u64) -> bool
         ensures { result ≡ is_expired now self.now }
     {
-        expired(now, self.expiry)
+        is_expired(now, self.expiry)
     }
 
     /// An item's value has at most `VALUE_MAX` bytes: a law to call where a proof asks for it. It does nothing.
@@ -58,8 +58,9 @@ pub struct Held<A: Allocator = Global> {
     pub clean: bool,
 }
 
-/// Whether an item of this expiry is expired, both in seconds.
-pub(crate) fn expired(now: u64, expiry: u64) -> bool
+/// Whether what expires at the second `expiry` (0: never) is expired at `now` (seconds).
+#[must_use]
+pub fn is_expired(now: u64, expiry: u64) -> bool
     ensures { result ≡ (not (expiry == 0) && not (nat_lt now expiry)) }
 {
     expiry != 0 && expiry <= now

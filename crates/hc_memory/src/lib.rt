@@ -23,7 +23,7 @@ mod value;
 pub use answers::{Brought, Charged, Uncharged};
 pub use fill::Fill;
 pub use handles::{Blank, ReadHandle, Sealed, each_byte};
-pub use item::Item;
+pub use item::{Item, is_expired};
 pub use parked::Parked;
 pub use pool::Glance;
 pub use pools::Pools;

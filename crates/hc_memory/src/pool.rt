@@ -10,7 +10,7 @@ ghost use Rattle.hc_memory.specs.Pool.{bytes_of, linked_usage, is_at, item_at, w
 ghost use Rattle.hc_memory.specs.Memory.{copied};
 ghost use Rattle.hc_memory.specs.Seen.{item_of};
 
-use crate::item::{Held, Item, expired};
+use crate::item::{Held, Item, is_expired};
 use crate::usage::Usage;
 use hc_types::{FlashConfig, Key, PoolSize, Scope};
 use lru::{DefaultHasher, LruCache};
@@ -31,7 +31,7 @@ impl Glance {
     pub fn is_expired(self, now: u64) -> bool
         ensures { result ≡ (not (self.expiry == 0) && not (nat_lt now self.expiry)) }
     {
-        expired(now, self.expiry)
+        is_expired(now, self.expiry)
     }
 }
 
@@ -129,7 +129,7 @@ impl<A: Allocator> Pool<A> {
             return false;
         }
         match self.held(key) {
-            Some(held) => expired(now, held.expiry),
+            Some(held) => is_expired(now, held.expiry),
             None => false,
         }
     }

@@ -12,7 +12,7 @@ use crate::answers::{Charged, Uncharged};
 use crate::clean::{CleanIndex, forget_items};
 use crate::fill::Fill;
 use crate::handles::{Blank, ReadHandle};
-use crate::item::{Held, Item, expired};
+use crate::item::{Held, Item, is_expired};
 use crate::open::OpenCharges;
 use crate::pool::{Glance, Pool};
 use crate::usage::{PoolUsage, Usage};
@@ -206,7 +206,7 @@ fn fresh_in<A: Allocator>(
     let Some((at, held)) = held_in(pools, key) else {
         return Ok(None);
     };
-    if expired(now, held.expiry) {
+    if is_expired(now, held.expiry) {
         return Ok(None);
     }
     Ok(Some((at, held.value.to_bytes()?)))

@@ -17,7 +17,7 @@ use crate::nvm::Nvm;
 use crate::telling::{lost, tell};
 use hc_bighash::Loss;
 use hc_history::{Note, Notes, Said, tell_loss};
-use hc_memory::Pools;
+use hc_memory::{Pools, is_expired};
 use hc_types::{Cause, Entry, Key, Scope, Why};
 use std::alloc::Allocator;
 
@@ -25,7 +25,7 @@ use std::alloc::Allocator;
 fn is_over<A: Allocator>(now: u64, entry: &Entry<A>) -> bool
     ensures { result ≡ is_over_seen now (entry_of entry.now) }
 {
-    entry.expiry != 0 && entry.expiry <= now
+    is_expired(now, entry.expiry)
 }
 
 /// Tells that a put waits no longer, where one was taken out.
