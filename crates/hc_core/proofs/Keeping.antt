@@ -1,5 +1,5 @@
 -- Each step keeps what holds of a cache.
-use Rattle.std.proofs.Common.{◌≡◌, ◌⊎◌, inl, inr, ◌≤◌, ℕ, true, false, List, [], length, None, refl, sym, subst, arith}
+use Rattle.std.proofs.Common.{◌≡◌, ◌⊎◌, inl, inr, ◌≤◌, ℕ, Bool, true, false, not, ◌&&◌, List, [], length, None, refl, sym, subst, arith}
 use Rattle.std.specs.Prelude.{Result, Ok, Err, IfOk, OnOk, OnErr, IfErr}
 use Rattle.hc_types.specs.declared.refusal.Refusal.{Refusal}
 use Rattle.hc_types.specs.declared.refusal.Refusal.TheVariants.{NoMemory}
@@ -18,9 +18,8 @@ use Rattle.hc_theorem.specs.runs.Events.{Event, Allocates, Inserts, Adds, Discar
 use Rattle.hc_proof.proofs.structure.Calls as clients
 use Rattle.hc_proof.proofs.structure.Workers as workers
 use Rattle.hc_state.specs.Owing.{OwesBegun}
-use Rattle.hc_state.specs.Setting.{set_step, give_up_step, is_plain}
+use Rattle.hc_state.specs.Setting.{set_step, give_up_step, is_awaited, is_brief}
 use Rattle.hc_state.specs.Whole.{Whole, Stays, IsStep, IsUnchanged}
-use Rattle.hc_state.proofs.Sets.{plain-is}
 use Rattle.hc_state.proofs.Begun as calls
 use Rattle.hc_state.proofs.Finds.{stays-unchanged}
 use Rattle.hc_core.specs.Events.{EventFits}
@@ -126,7 +125,12 @@ unheard (Log log) part P e = absurd cc
 unheard (Counts counts losses) part P e = tt
 unheard (Sums counts losses) part P e = tt
 
-module _ (pool : ℕ) (key value : List ℕ) (ttl : ℕ) (old new : Whole) (plain : is_plain old.log old.cache ≡ true) (h : Holds old) where
+quiet_by : (awaited kept : Bool) → (not awaited && not kept) ≡ true → kept ≡ false
+quiet_by true kept e = absurd cc
+quiet_by false true e = absurd cc
+quiet_by false false e = refl
+
+module _ (pool : ℕ) (key value : List ℕ) (ttl : ℕ) (old new : Whole) (brief : is_brief key old.log old.cache ≡ true) (h : Holds old) where
   inserted_holds : (insert : Handle → Cache → Moved) (answer : Answer) → ((handle : Handle) (cache : Cache) → Structured cache → Structured (insert handle cache).cache) → ((handle : Handle) (cache : Cache) → OwesBegun cache → OwesBegun (insert handle cache).cache)
       → ((handle : Handle) (cache : Cache) → AreShort cache.memory.charges → AreShort (insert handle cache).cache.memory.charges) → IsStep (inserted insert (allocate pool key value ttl old.cache)) answer old new → Holds new
   inserted_holds insert answer s b a step =
@@ -137,7 +141,7 @@ module _ (pool : ℕ) (key value : List ℕ) (ttl : ℕ) (old new : Whole) (plai
         begun = subst OwesBegun (sym step.cache) (both_keep OwesBegun insert opened b (calls.allocate-begun pool key value ttl old.cache h.begun) opened.answer);
         ready = step.ready;
         short = subst (λ (c : Cache). AreShort c.memory.charges) (sym step.cache) (both_keep (λ (c : Cache). AreShort c.memory.charges) insert opened a (stays-short (Allocates pool key value ttl) old.cache h.short) opened.answer);
-        guarded = subst (λ (l : Heard). IfLog l (λ log. Guarded new.cache.config log new.cache)) (sym step.log) (unheard old.log moved.part (λ log. Guarded new.cache.config log new.cache) (plain-is old.log old.cache plain).1);
+        guarded = subst (λ (l : Heard). IfLog l (λ log. Guarded new.cache.config log new.cache)) (sym step.log) (unheard old.log moved.part (λ log. Guarded new.cache.config log new.cache) (quiet_by (is_awaited old.cache key) (is_log old.log) brief));
       }
 
   -- a value that is stored in one step, or given up

@@ -8,7 +8,7 @@ ghost use Rattle.hc_machine.specs.Cache.{Discarded, Opened, Replied, Refused};
 ghost use Rattle.hc_machine.specs.Evicting.{allocate as allocate_step};
 ghost use Rattle.hc_machine.specs.Calls.{is_known, discard as discard_step, insert_or_replace as insert_or_replace_step, find as find_step, remove as remove_step};
 ghost use Rattle.hc_machine.specs.World.{put_new};
-ghost use Rattle.hc_state.specs.Setting.{is_plain as is_plain_seen};
+ghost use Rattle.hc_state.specs.Setting.{is_brief as is_brief_seen};
 ghost use Rattle.hc_core.specs.Answers.{IsReason, found_answer, copied_by, left_by, inserted_answer, removed_answer};
 ghost use Rattle.hc_core.specs.Logged.{IsCall};
 ghost use Rattle.hc_core.specs.Plain.{set_step, add_step, give_up_step, MayRefuse, MayRefuseNew};
@@ -119,7 +119,7 @@ fn link_new<N: Notes<Note<A>>, A: Allocator + Clone + Copy>(
 impl<N: Notes<Note<A>>, A: Allocator + Clone + Copy> Core<N, A> {
     // Stores what `fill` says under the key in one step.
     fn set_short(&mut self, pool: u8, key: Key<A>, fill: Fill<'_>, ttl: u32) -> Result<(), Refusal>
-        requires plain { is_plain_seen self.old.log self.old.cache ≡ true }
+        requires brief { is_brief_seen key self.old.log self.old.cache ≡ true }
         ensures ok { OnOk result (IsCall (set_step pool key (filled fill.entry) ttl self.old.cache) (Replied Stored) self.old self.new) }
         ensures err { IfErr result (λ refusal. (self.new ≡ self.old) ⊎ (IsCall (give_up_step pool key (filled fill.entry) ttl self.old.cache) Discarded self.old self.new × (refusal ≡ Refusal.NoMemory))) }
         ensures why { IfErr result (λ refusal. MayRefuse (allocate_step pool key (filled fill.entry) ttl self.old.cache).answer refusal) }
@@ -127,20 +127,20 @@ impl<N: Notes<Note<A>>, A: Allocator + Clone + Copy> Core<N, A> {
         self.state.set_short(pool, key, fill, ttl)
     }
 
-    // Whether a value can be stored in one step.
-    fn is_plain(&self) -> bool
-        ensures { result ≡ is_plain_seen self.now.log self.now.cache }
+    // Whether a value can be stored under the key in one step.
+    fn is_brief(&self, key: &Key<A>) -> bool
+        ensures { result ≡ is_brief_seen key.now self.now.log self.now.cache }
     {
-        self.state.is_plain()
+        self.state.is_brief(key)
     }
 
-    // Stores what `fill` says under the key: in one step where there is no flash and notes aren't kept.
+    // Stores what `fill` says under the key: in one step where notes aren't kept and no call waits for it.
     fn set_key(&mut self, pool: u8, key: Key<A>, fill: Fill<'_>, ttl: u32) -> Result<(), Refusal>
         ensures ok { OnOk result (IsCall (set_step pool key (filled fill.entry) ttl self.old.cache) (Replied Stored) self.old self.new) }
         ensures err { IfErr result (λ refusal. (self.new ≡ self.old) ⊎ (IsCall (give_up_step pool key (filled fill.entry) ttl self.old.cache) Discarded self.old self.new × (refusal ≡ Refusal.NoMemory))) }
         ensures why { IfErr result (λ refusal. MayRefuse (allocate_step pool key (filled fill.entry) ttl self.old.cache).answer refusal) }
     {
-        if self.is_plain() {
+        if self.is_brief(&key) {
             return self.set_short(pool, key, fill, ttl);
         }
         set_by_handle(self, pool, key, fill, ttl)

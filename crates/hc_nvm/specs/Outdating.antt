@@ -1,5 +1,5 @@
 -- What flash needs of a key that is inserted or removed, before anything changes.
-use Rattle.std.specs.Prelude.{◌≡◌, ℕ, Bool, false, List, Option, Some, None, is_some, IfSome, if◌then◌else◌}
+use Rattle.std.specs.Prelude.{Box, ◌≡◌, ℕ, Bool, false, List, Option, Some, None, is_some, IfSome, if◌then◌else◌}
 use Rattle.hc_engines.specs.pair.Pair.{is_indexed}
 use Rattle.hc_history.specs.Note.{Note, Buried}
 use Rattle.hc_machine.specs.Nvm.{Nvm, is_due}
@@ -20,13 +20,13 @@ abbrev pub twice_of : {A : Type 0} → List ℕ → Twice A
 twice_of key = record { copy = key; key = key }
 
 -- it is there where a tombstone is due
-pub record Buries {A : Type 0} (keeps : Bool) (key : List ℕ) (nvm : Nvm) (burial : Option (Burial A)) : Type 0 where
-  pub burial_is : IfSome burial (λ b. b ≡ burial_of keeps key)
+pub record Buries {A : Type 0} (keeps : Bool) (key : List ℕ) (nvm : Nvm) (burial : Option (Box (Burial A) A)) : Type 0 where
+  pub burial_is : IfSome burial (λ b. b.value ≡ burial_of keeps key)
   pub is_there : is_some burial ≡ false → is_due nvm key ≡ false
 
 -- it is there where the index leads somewhere from the key's kept hash
-pub record Unindexes {A : Type 0} (key : List ℕ) (nvm : Nvm) (twice : Option (Twice A)) : Type 0 where
-  pub twice_is : IfSome twice (λ t. t ≡ twice_of key)
+pub record Unindexes {A : Type 0} (key : List ℕ) (nvm : Nvm) (twice : Option (Box (Twice A) A)) : Type 0 where
+  pub twice_is : IfSome twice (λ t. t.value ≡ twice_of key)
   pub is_there : is_some twice ≡ false → is_indexed nvm.pair key ≡ false
 
 -- the plan has what the key needs in this state, and may have more

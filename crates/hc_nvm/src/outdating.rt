@@ -33,8 +33,8 @@ pub(crate) struct Twice<A: Allocator = Global> {
 #[derive(Drop)]
 #[must_use]
 pub struct Outdating<A: Allocator = Global> {
-    burial: Option<Burial<A>>,
-    collision: Option<Twice<A>>,
+    burial: Option<Box<Burial<A>, A>>,
+    collision: Option<Box<Twice<A>, A>>,
 }
 
 /// The note of a tombstone, where notes are kept.
@@ -49,36 +49,45 @@ fn note_of<A: Allocator>(key: &Key<A>, keeps: bool) -> Result<Option<Note<A>>, A
 }
 
 /// What the key's tombstone needs.
-fn to_bury<A: Allocator>(key: &Key<A>, keeps: bool) -> Result<Burial<A>, AllocError>
-    ensures { IfOk result (λ burial. burial ≡ burial_of keeps key.now) }
+fn to_bury<A: Allocator>(
+    alloc: A,
+    key: &Key<A>,
+    keeps: bool,
+) -> Result<Box<Burial<A>, A>, AllocError>
+    ensures { IfOk result (λ burial. burial.value ≡ burial_of keeps key.now) }
 {
     let copy = key.clone()?;
     let again = key.clone()?;
     let note = note_of(key, keeps)?;
-    Ok(Burial {
-        copy,
-        key: again,
-        note,
-    })
+    let burial = Box::new(
+        alloc,
+        Burial {
+            copy,
+            key: again,
+            note,
+        },
+    )?;
+    Ok(burial)
 }
 
 /// The key twice.
-fn to_unindex<A: Allocator>(key: &Key<A>) -> Result<Twice<A>, AllocError>
-    ensures { IfOk result (λ twice. twice ≡ twice_of key.now) }
+fn to_unindex<A: Allocator>(alloc: A, key: &Key<A>) -> Result<Box<Twice<A>, A>, AllocError>
+    ensures { IfOk result (λ twice. twice.value ≡ twice_of key.now) }
 {
     let copy = key.clone()?;
     let key = key.clone()?;
-    Ok(Twice { copy, key })
+    let twice = Box::new(alloc, Twice { copy, key })?;
+    Ok(twice)
 }
 
-impl<A: Allocator> Outdating<A> {
+impl<A: Allocator + Copy> Outdating<A> {
     /// What the key needs whatever flash has of it by then, with the note where notes are kept. Refused only where memory
     /// lacks.
-    pub fn whole(key: &Key<A>, keeps: bool) -> Result<Outdating<A>, AllocError>
+    pub fn whole(alloc: A, key: &Key<A>, keeps: bool) -> Result<Outdating<A>, AllocError>
         ensures { IfOk result (λ plan. (nvm : Machine) → Serves keeps key.now nvm plan) }
     {
-        let twice = to_unindex(key)?;
-        match to_bury(key, keeps) {
+        let twice = to_unindex(alloc, key)?;
+        match to_bury(alloc, key, keeps) {
             Ok(burial) => Ok(Outdating {
                 burial: Some(burial),
                 collision: Some(twice),
@@ -103,24 +112,28 @@ impl<A: Allocator> Outdating<A> {
 
 impl<A: Allocator + Clone + Copy> Nvm<A> {
     /// What the key's tombstone needs, where one is due.
-    fn plan_to_bury(&self, key: &Key<A>, keeps: bool) -> Result<Option<Burial<A>>, AllocError>
+    fn plan_to_bury(
+        &self,
+        key: &Key<A>,
+        keeps: bool,
+    ) -> Result<Option<Box<Burial<A>, A>>, AllocError>
         ensures { IfOk result (λ burial. Buries keeps key.now self.now.nvm burial) }
     {
         if !self.is_due(key) {
             return Ok(None);
         }
-        let burial = to_bury(key, keeps)?;
+        let burial = to_bury(*self.jobs.allocator(), key, keeps)?;
         Ok(Some(burial))
     }
 
     /// What the loss of the key's index entry needs, where there is one.
-    fn plan_to_unindex(&self, key: &Key<A>) -> Result<Option<Twice<A>>, AllocError>
+    fn plan_to_unindex(&self, key: &Key<A>) -> Result<Option<Box<Twice<A>, A>>, AllocError>
         ensures { IfOk result (λ twice. Unindexes key.now self.now.nvm twice) }
     {
         if !self.is_indexed(key) {
             return Ok(None);
         }
-        let twice = to_unindex(key)?;
+        let twice = to_unindex(*self.jobs.allocator(), key)?;
         Ok(Some(twice))
     }
 
@@ -140,7 +153,12 @@ impl<A: Allocator + Clone + Copy> Nvm<A> {
     }
 
     /// The key gets a tombstone, where one is due.
-    fn bury_by<N: Notes<Note<A>>>(&mut self, key: &Key<A>, burial: Option<Burial<A>>, notes: &mut N)
+    fn bury_by<N: Notes<Note<A>>>(
+        &mut self,
+        key: &Key<A>,
+        burial: Option<Box<Burial<A>, A>>,
+        notes: &mut N,
+    )
         requires burial { Buries (is_log (N.told notes.old)) key.now self.old.nvm burial }
         requires stones { 1 ≤ self.old.stones }
         requires room { 1 ≤ N.room notes.old }
@@ -151,7 +169,8 @@ impl<A: Allocator + Clone + Copy> Nvm<A> {
         ensures fills { self.new.fills ≡ self.old.fills }
         ensures room { N.room notes.old ≤ N.room notes.new + 1 }
     {
-        if let Some(Burial { copy, key, note }) = burial {
+        if let Some(burial) = burial {
+            let Burial { copy, key, note } = Box::into_inner(burial);
             self.bury(copy, key, note, notes);
         }
     }
@@ -160,7 +179,7 @@ impl<A: Allocator + Clone + Copy> Nvm<A> {
     fn unindex_by<N: Notes<Note<A>>>(
         &mut self,
         key: &Key<A>,
-        collision: Option<Twice<A>>,
+        collision: Option<Box<Twice<A>, A>>,
         notes: &mut N,
         pools: &mut Pools<A>,
     )
@@ -174,7 +193,8 @@ impl<A: Allocator + Clone + Copy> Nvm<A> {
         ensures fills { self.new.fills ≡ self.old.fills }
         ensures room { N.room notes.old ≤ N.room notes.new + 1 }
     {
-        if let Some(Twice { copy, key }) = collision {
+        if let Some(twice) = collision {
+            let Twice { copy, key } = Box::into_inner(twice);
             self.unindex(copy, key, notes, pools);
         }
     }

@@ -152,6 +152,14 @@ impl<A: Allocator + Clone + Copy> Nvm<A> {
         self.queue.expiry(key)
     }
 
+    /// Whether calls wait for the key.
+    #[must_use]
+    pub fn is_awaited(&self, key: &Key<A>) -> bool
+        ensures { result ≡ is_some (fill_at key.now self.now.nvm.fills) }
+    {
+        self.fills.contains(key)
+    }
+
     /// The calls that wait for the key, in order.
     #[must_use]
     pub fn waiters(&self, key: &Key<A>) -> &[Waiter<A>]

@@ -40,6 +40,8 @@ pub mod Stepping
 pub mod TakenOut
 pub mod Stored
 pub mod Stores
+pub mod Supersedes
+pub mod Unkept
 pub mod Unqueued
 pub mod Ways
 pub mod Works

@@ -1,14 +1,17 @@
 -- The last of the items that calls store is linked for all of them.
-use Rattle.std.proofs.Common.{◌≡◌, ℕ, ◌++◌, Bool, true, false, List, [], ◌∷◌, length, Option, Some, None, refl, sym, ap, ◌∙◌, subst, suc}
+use Rattle.std.proofs.Common.{◌≡◌, ℕ, ◌+◌, ◌<◌, ◌++◌, Bool, true, false, List, [], ◌∷◌, length, Option, Some, None, refl, sym, ap, ◌∙◌, subst, suc, arith, drop, get_or}
 use Rattle.std.specs.Prelude.{option_to_list, ⊤}
+use Rattle.std.specs.Option.{option_map_or}
+use Rattle.std.proofs.lemmas.List.{drop_more}
 use Rattle.hc_types.specs.FlashEntry.{FlashEntry}
 use Rattle.hc_memory.specs.Item.{Open, Handle, charge_by}
 use Rattle.hc_memory.specs.Charges.{is_open, closed, all_closed}
 use Rattle.hc_memory.specs.Memory.{Memory, after_frees, after_link, after_unlink, early}
-use Rattle.hc_machine.specs.Nvm.{Waiter, Wish, ToFind, ToAdd}
+use Rattle.hc_machine.specs.Nvm.{Nvm, Waiter, Wish, ToFind, ToAdd, Fill, fill_at}
 use Rattle.hc_machine.specs.Waiting.{live, there_after}
 use Rattle.hc_invariant.specs.Jobs.{WishHolds, AllWish}
-use Rattle.hc_state.specs.Serving.{stored_by, all_stored}
+use Rattle.hc_nvm.specs.Asked.{calls_of}
+use Rattle.hc_state.specs.Serving.{stored_by, all_stored, waiters_at}
 use Rattle.hc_state.specs.Courses.{IsCourse, AreCourses}
 use Rattle.hc_state.specs.Chosen.{stored_as, all_stored_as, last_of, before_last}
 use Rattle.hc_state.specs.declared.serving.Course.{Course}
@@ -121,3 +124,21 @@ unlink-alone key handles m is = ap (λ hs. removed_early key hs m) (sym (none-la
 pub unlink-last : (key : List ℕ) (handles : List Handle) (last : Handle) (earlier : List ℕ) (m : Memory) → Some last ≡ last_of None handles → earlier ≡ before_last [] None handles
     → after_link (after_frees earlier m) false last ≡ removed_early key handles m
 unlink-last key handles last earlier m is ends = ap (λ ns. after_link (after_frees ns m) false last) ends ∙ linked-without key handles last m is
+
+-- ---- the item that is stored last
+
+-- the next of the calls, and those behind it
+pub stored-next : {A : Type 0} (waiters : List Waiter) (courses : List (Course A)) (i : ℕ) (waiter : Waiter) (course : Course A) → length courses ≡ length waiters → i < length waiters → waiter ≡ get_or waiters i waiter → course ≡ get_or courses i course
+    → all_stored_as (drop i waiters) (drop i courses) ≡ option_to_list (stored_as waiter.wish course) ++ all_stored_as (drop (i + 1) waiters) (drop (i + 1) courses)
+stored-next waiters courses i waiter course long less at planned =
+    let ws : drop i waiters ≡ waiter ∷ drop (i + 1) waiters = drop_more waiters i waiter less ∙ ap (λ (w : Waiter). w ∷ drop (i + 1) waiters) (sym at) in
+    let cs : drop i courses ≡ course ∷ drop (i + 1) courses = drop_more courses i course (omega (arith, long, less)) ∙ ap (λ k. k ∷ drop (i + 1) courses) (sym planned) in
+    λ j. all_stored_as (ws j) (cs j)
+
+-- the calls that wait for a key are those of its fill
+calls-of : (fill : Option Fill) → calls_of fill ≡ option_map_or (λ (fill : Fill). fill.waiters) fill []
+calls-of None = refl
+calls-of (Some fill) = refl
+
+pub calls-at : (nvm : Nvm) (key : List ℕ) → calls_of (fill_at key nvm.fills) ≡ waiters_at (Some nvm) key
+calls-at nvm key = calls-of (fill_at key nvm.fills)

@@ -67,8 +67,8 @@ room_step memory number want (Some pool) at none =
     let same : slice_set memory.pools number pool ≡ memory.pools = untouched memory.pools number pool pool (slice_get_within memory.pools number pool at) (sym (get_or_from_slice_get memory.pools number pool pool at)) refl in
     k.room ∙ (λ i. record memory { pools = slice_set memory.pools number (record pool { items = all i }) }) ∙ (λ i. record memory { pools = same i })
 
-room_is : (memory : Memory) (number want : ℕ) → length (victims_of memory number want) ≡ 0 → after_room memory number want ≡ memory
-room_is memory number want none = room_step memory number want (slice_get memory.pools number) refl none
+pub room-is : (memory : Memory) (number want : ℕ) → length (victims_of memory number want) ≡ 0 → after_room memory number want ≡ memory
+room-is memory number want none = room_step memory number want (slice_get memory.pools number) refl none
 
 none_leaves : (now pool want : ℕ) (items : List Item) → length items ≡ 0 → leaving now pool want items ≡ []
 none_leaves now pool want [] none = refl
@@ -150,12 +150,21 @@ pub all-gone : (pool want count gone : ℕ) (start now : Whole) → Going pool w
 all-gone pool want count gone start now going all =
     let none : length (victims_of now.cache.memory pool want) ≡ 0 = omega (arith, going.left, all) in
     record {
-      cache = ap (λ (m : Memory). with_memory m now.cache) (sym (room_is now.cache.memory pool want none)) ∙ going.cache;
+      cache = ap (λ (m : Memory). with_memory m now.cache) (sym (room-is now.cache.memory pool want none)) ∙ going.cache;
       log = sym (told-nothing now.log) ∙ ap (λ ns. told_more now.log ns) (sym (none_leaves now.cache.now pool want (victims_of now.cache.memory pool want) none)) ∙ going.log;
       notes = omega (arith, going.notes, all);
     }
 
 -- ---- all of it
+
+-- a step of the cache with its room taken is one of the cache as it was
+pub stays-step : (old mid : Whole) (step : Cache → Moved) (answer : Answer) (new : Whole) → Stays old mid → IsStep (step mid.cache) answer mid new → IsStep (step old.cache) answer old new
+stays-step old mid step answer new stays is = record {
+  cache = is.cache ∙ ap (λ (c : Cache). (step c).cache) stays.cache;
+  answer_is = is.answer_is ∙ ap (λ (c : Cache). (step c).answer) stays.cache;
+  log = is.log ∙ (λ i. told_more (stays.log i) (step (stays.cache i)).part);
+  ready = is.ready;
+}
 
 -- what a set comes to, part by part: its room was taken, and the items that go left
 pub record SetSteps {A : Type 0} (pool : ℕ) (key value : List ℕ) (ttl want expiry : ℕ) (plan : SetPlan A) (old mid left : Whole) : Type 0 where
@@ -195,15 +204,6 @@ module _ {A : Type 0} (pool : ℕ) (key value : List ℕ) (ttl want expiry : ℕ
         log = s.way.log ∙ ap (λ (n : ℕ). told_more mid.log (leaving mid.cache.now pool n (victims_of mid.cache.memory pool n))) s.want_is;
       }
 
-  -- a step of the cache with its room taken is one of the cache as it was
-  from_old : (step : Cache → Moved) (answer : Answer) (new : Whole) → IsStep (step mid.cache) answer mid new → IsStep (step old.cache) answer old new
-  from_old step answer new is = record {
-    cache = is.cache ∙ ap (λ (c : Cache). (step c).cache) s.stays.cache;
-    answer_is = is.answer_is ∙ ap (λ (c : Cache). (step c).answer) s.stays.cache;
-    log = is.log ∙ (λ i. told_more (s.stays.log i) (step (s.stays.cache i)).part);
-    ready = is.ready;
-  }
-
   put_mid : (new : Whole) → IsPut plan.call (record { number = plan.number; pool = pool; key = key; expiry = expiry; value = plan.value }) left new → IsStep (set_step pool key value ttl mid.cache) (Replied Stored) mid new
   put_mid new put =
       let k = known_then in
@@ -222,7 +222,7 @@ module _ {A : Type 0} (pool : ℕ) (key value : List ℕ) (ttl want expiry : ℕ
       }
 
   set_done : (new : Whole) → IsPut plan.call (record { number = plan.number; pool = pool; key = key; expiry = expiry; value = plan.value }) left new → IsStep (set_step pool key value ttl old.cache) (Replied Stored) old new
-  set_done new put = from_old (set_step pool key value ttl) (Replied Stored) new (put_mid new put)
+  set_done new put = stays-step old mid (set_step pool key value ttl) (Replied Stored) new s.stays (put_mid new put)
 
   skip_mid : (new : Whole) → IsSkipped plan.number left new → IsStep (give_up_step pool key value ttl mid.cache) Discarded mid new
   skip_mid new skipped =
@@ -242,7 +242,7 @@ module _ {A : Type 0} (pool : ℕ) (key value : List ℕ) (ttl want expiry : ℕ
       }
 
   given_up : (new : Whole) → IsSkipped plan.number left new → IsStep (give_up_step pool key value ttl old.cache) Discarded old new
-  given_up new skipped = from_old (give_up_step pool key value ttl) Discarded new (skip_mid new skipped)
+  given_up new skipped = stays-step old mid (give_up_step pool key value ttl) Discarded new s.stays (skip_mid new skipped)
 
   -- the pool has room then
   pub left-roomy : IsRoomy left.cache.memory pool (charge_of key (length plan.value))

@@ -31,9 +31,9 @@ use Rattle.hc_state.proofs.Served.{Fits, AllFit, number_at, clear-over, plant-ov
 
 -- ---- the fill of a key
 
-none_left : (key : List ℕ) (fills : List Fill) → fill_at key fills ≡ None → without_fill key fills ≡ fills
-none_left key [] e = refl
-none_left key (fill ∷ fills) e = by (is_fill_of key fill) e (none_left key fills)
+pub none-left : (key : List ℕ) (fills : List Fill) → fill_at key fills ≡ None → without_fill key fills ≡ fills
+none-left key [] e = refl
+none-left key (fill ∷ fills) e = by (is_fill_of key fill) e (none-left key fills)
   where
     by : (b : Bool) → cond b (Some fill) (fill_at key fills) ≡ None → (fill_at key fills ≡ None → without_fill key fills ≡ fills) → cond (not b) (fill ∷ without_fill key fills) (without_fill key fills) ≡ fill ∷ fills
     by true e more = absurd cc
@@ -46,7 +46,7 @@ ended-over key pools there standing c all fits is = by_nvm c.nvm refl all
     by_fill : (nvm : Nvm) → c.nvm ≡ Some nvm → (f : Option Fill) → fill_at key nvm.fills ≡ f → AllFit key pools (option_map_or (λ (fill : Fill). fill.waiters) f [])
         → all_served (option_map_or (λ (fill : Fill). fill.waiters) f []) there standing (with_nvm (record nvm { fills = without_fill key nvm.fills }) (with_memory (early (all_stored c.now (option_map_or (λ (fill : Fill). fill.waiters) f []) there) c.memory) c))
         ≡ serve_fill f nvm there c
-    by_fill nvm has None e all = (λ i. tells [] (with_nvm (record nvm { fills = none_left key nvm.fills e i }) c)) ∙ (λ i. tells [] (record c { nvm = sym has i }))
+    by_fill nvm has None e all = (λ i. tells [] (with_nvm (record nvm { fills = none-left key nvm.fills e i }) c)) ∙ (λ i. tells [] (record c { nvm = sym has i }))
     by_fill nvm has (Some fill) e all =
         served-over key pools fill.waiters there standing (with_nvm (record nvm { fills = without_fill key nvm.fills }) c) all fits is
         ∙ ap (λ (k : List ℕ). serve_all fill.waiters there (with_nvm (record nvm { fills = without_fill k nvm.fills }) c)) (sym (fill_key key nvm.fills fill e))

@@ -10,6 +10,7 @@ ghost use Rattle.hc_invariant.specs.Structure.{Structured};
 ghost use Rattle.hc_state.specs.Whole.{HasRoom, Stays, costs};
 ghost use Rattle.hc_state.specs.Allocating.{Affords, Opens};
 
+use crate::beginning::{NOTES_OF_A_CHARGE, NOTES_OF_A_VICTIM};
 use crate::evicting::Leave;
 use crate::state::State;
 use crate::tells;
@@ -76,17 +77,23 @@ pub(crate) fn victims_for<A: Allocator>(
 }
 
 impl<N: Notes<Note<A>>, A: Allocator + Clone + Copy> State<N, A> {
-    /// Makes room for what so many items need as they leave, for one charge, and for giving up each that is open then.
-    pub(crate) fn reserve_to_charge(&mut self, count: usize) -> Result<(), AllocError>
-        requires { count ≤ 1048576 }
+    /// Makes room for what so many items need as they leave, for so many tombstones and other notes, and for giving up each
+    /// charge that is open.
+    pub(crate) fn reserve_to_leave(
+        &mut self,
+        count: usize,
+        stones: usize,
+        others: usize,
+    ) -> Result<(), AllocError>
+        requires count { count ≤ 1048576 }
+        requires others { others ≤ 16 }
         ensures same { Stays self.old self.new }
-        ensures room { OnOk result (HasRoom (costs (2 * count + 2 + length self.old.cache.memory.charges) count 0 0) self.new) }
+        ensures room { OnOk result (HasRoom (costs (2 * count + others + length self.old.cache.memory.charges) count stones 0) self.new) }
     {
         if let Some(nvm) = &mut self.nvm {
-            nvm.reserve(count, 0, 0)?;
+            nvm.reserve(count, stones, 0)?;
         }
-        self.notes
-            .reserve(2 * count + 2 + self.pools.open_charges())
+        self.notes.reserve(NOTES_OF_A_VICTIM * count + others + self.pools.open_charges())
     }
 
     /// What an allocation of an item of this key needs that begins as `fill`. Refused with `NoPool`, `ValueTooLong` and
@@ -98,7 +105,7 @@ impl<N: Notes<Note<A>>, A: Allocator + Clone + Copy> State<N, A> {
         ensures err { IfErr result (λ refusal. (refusal_of self.old.cache.memory pool key.now (length (filled fill.entry)) ≡ Some refusal) ⊎ ((refusal_of self.old.cache.memory pool key.now (length (filled fill.entry)) ≡ None) × (refusal ≡ Refusal.NoMemory))) }
     {
         let count = victims_for(&self.pools, pool, key, fill)?;
-        self.reserve_to_charge(count)?;
+        self.reserve_to_leave(count, 0, NOTES_OF_A_CHARGE)?;
         let copy = copy_of(&self.notes, key)?;
         let leaves = self.plan_to_leave(pool, count)?;
         Ok(Room {

@@ -8,6 +8,22 @@ use hc_memory::Pools;
 use hc_types::{Key, Refusal};
 use std::alloc::{AllocError, Allocator};
 
+/// The most notes of a call that stores or removes an item, beside those of the calls that wait for its key: that it begins, of the
+/// put that waited, of what the key had, of what flash had of it, twice, of the item that is stored, and its answer and its end.
+pub(crate) const NOTES_OF_A_CALL: usize = 8;
+
+/// The most notes of a call that waited, as it is served: the same, without its begin and its end.
+pub(crate) const NOTES_OF_A_WAITER: usize = 6;
+
+/// The most notes of an item that goes: of its charge, and of its put or its loss.
+pub(crate) const NOTES_OF_A_VICTIM: usize = 2;
+
+/// The notes of an item that is charged: of its charge, and for its being given up or linked.
+pub(crate) const NOTES_OF_A_CHARGE: usize = 2;
+
+/// The notes of a find that is answered at once: that it begins, its answer and its end.
+pub(crate) const NOTES_OF_A_FIND: usize = 3;
+
 /// The number after `last`. Refused with `NoMemory` where the numbers have run out.
 pub(crate) fn number_after(last: u64) -> Result<u64, Refusal>
     ensures ok { IfOk result (λ n. n ≡ last + 1) }

@@ -18,7 +18,7 @@ use crate::state::State;
 use bytes::Bytes;
 use hc_bighash::Loss;
 use hc_history::{Note, Notes};
-use hc_memory::Fill;
+use hc_memory::{Fill, is_expired};
 use hc_nvm::Ending;
 use hc_types::{Entry, FlashConfig, Key};
 use std::alloc::{AllocError, Allocator};
@@ -53,7 +53,7 @@ impl<N: Notes<Note<A>>, A: Allocator + Clone + Copy> State<N, A> {
         ensures may { MayCome self.now.cache (entry_of entry.now) result }
         ensures most { IfSome result (λ count. count ≤ 1048576) }
     {
-        if entry.expiry != 0 && entry.expiry <= self.clock {
+        if is_expired(self.clock, entry.expiry) {
             return None;
         }
         let bytes = Fill::Copied(entry.value.as_slice());

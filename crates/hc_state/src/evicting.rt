@@ -1,12 +1,14 @@
 // Items leave their pool: each that has no copy on flash waits for flash, or its key is forgotten.
-ghost use Rattle.std.specs.Prelude.{◌≡◌, ◌+◌, ◌*◌, ◌<◌, ◌≤◌, true, None, Some, [], ◌∷◌, length, map, is_some, IfOk};
+ghost use Rattle.std.specs.Prelude.{◌≡◌, ◌+◌, ◌*◌, ◌<◌, ◌≤◌, true, false, None, Some, [], ◌∷◌, length, map, is_some, option_map, IfSome, IfOk};
 ghost use Rattle.hc_types.specs.Loss.{cause_of};
 ghost use Rattle.hc_types.specs.Loss as loss;
 ghost use Rattle.hc_types.specs.FlashEntry.{entry_of};
 ghost use Rattle.hc_machine.specs.items.Allocating as items;
-ghost use Rattle.hc_memory.specs.Memory.{oldest_keys};
+ghost use Rattle.hc_memory.specs.Item.{Item as Stored};
+ghost use Rattle.hc_memory.specs.Memory.{oldest_keys, oldest_of, after_evict};
 ghost use Rattle.hc_history.specs.Note.{Lose, Queued};
-ghost use Rattle.hc_history.specs.Told.{told_more, where_kept};
+ghost use Rattle.hc_history.specs.Told.{told_more, where_kept, is_log};
+ghost use Rattle.hc_machine.specs.Cache.{with_memory};
 ghost use Rattle.hc_machine.specs.Nvm.{put_at};
 ghost use Rattle.hc_machine.specs.Evicting.{entry_of_item, leaves_for, all_leave};
 ghost use Rattle.hc_invariant.specs.Structure.{queue_of};
@@ -160,6 +162,25 @@ impl<N: Notes<Note<A>>, A: Allocator + Clone + Copy> State<N, A> {
         } else {
             item.is_short();
             self.leave_unclean(pool, want, item, leave);
+        }
+    }
+
+    /// The item of the pool that was used longest ago goes, for `want` bytes, where notes aren't kept: it waits for flash, or
+    /// its key is forgotten. `copy` is its key once more.
+    pub(crate) fn send_oldest(&mut self, pool: u8, want: u64, copy: Key<A>)
+        requires quiet { is_log self.old.log ≡ false }
+        requires pool { pool < length self.old.cache.memory.pools }
+        requires first { option_map (λ (item : Stored). item.key) (oldest_of self.old.cache.memory pool) ≡ Some copy }
+        requires absent { put_at copy (queue_of self.old.cache.nvm) ≡ None }
+        requires room { HasRoom (costs 2 1 0 0) self.old }
+        ensures { IfSome (oldest_of self.old.cache.memory pool) (λ item. Does (one_leaves pool want item (with_memory (after_evict self.old.cache.memory pool) self.old.cache)) (costs 2 1 0 0) self.old self.new) }
+    {
+        match self.pools.evict_oldest(pool) {
+            Some(item) => {
+                let leave = Leave { copy, note: None };
+                self.leave(pool, want, item, Some(leave));
+            }
+            None => unreachable!(),
         }
     }
 

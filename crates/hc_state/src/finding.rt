@@ -13,13 +13,13 @@ ghost use Rattle.hc_state.specs.Owing.{OwesBegun};
 ghost use Rattle.hc_state.specs.Whole.{IsReady, IsStep, Stays, IsUnchanged, nvm_of};
 
 use crate::answers::Found;
-use crate::beginning::{begin_find, number_after, room_for_notes};
+use crate::beginning::{NOTES_OF_A_FIND, begin_find, number_after, room_for_notes};
 use crate::state::State;
 use crate::tells;
 use crate::waiting::{is_linked, wait};
 use bytes::Bytes;
 use hc_history::{Kind, Note, Notes, Reply, Said};
-use hc_memory::{Pools, ReadHandle};
+use hc_memory::{Pools, ReadHandle, is_expired};
 use hc_nvm::Nvm;
 use hc_types::{Entry, Key, Refusal};
 use hc_waiting::{Waiter, Wish};
@@ -33,7 +33,7 @@ fn live_value<A: Allocator>(put: Option<Entry<A>>, now: u64) -> Option<Bytes<A>>
         return None;
     };
     let Entry { value, expiry, .. } = put;
-    if expiry != 0 && expiry <= now {
+    if is_expired(now, expiry) {
         return None;
     }
     Some(value)
@@ -204,7 +204,7 @@ impl<N: Notes<Note<A>>, A: Allocator + Clone + Copy> State<N, A> {
         ensures err { OnErr result (Stays self.old self.new) }
         ensures memory { IfErr result (λ refusal. refusal ≡ Refusal.NoMemory) }
     {
-        room_for_notes(&mut self.notes, &self.pools, 3)?;
+        room_for_notes(&mut self.notes, &self.pools, NOTES_OF_A_FIND)?;
         let plan = notes_of_find(
             &self.notes,
             call,

@@ -1,5 +1,5 @@
 // Inserts: of what must be known to the cache, and in place of nothing or of what is there.
-ghost use Rattle.std.specs.Prelude.{◌≡◌, ◌+◌, ◌≤◌, ◌==◌, ◌&&◌, not, nat_lt, true, false, length, is_some, IfOk, OnOk, OnErr, IfErr};
+ghost use Rattle.std.specs.Prelude.{◌≡◌, ◌+◌, ◌≤◌, true, false, length, is_some, IfOk, OnOk, OnErr, IfErr};
 ghost use Rattle.hc_history.specs.Note.{Stored};
 ghost use Rattle.hc_invariant.specs.Structure.{Structured};
 ghost use Rattle.hc_machine.specs.Nvm.{ToAdd, put_at};
@@ -18,25 +18,18 @@ use crate::beginning::room_for_notes;
 use crate::state::State;
 use crate::waiting::wait;
 use hc_history::{Note, Notes};
-use hc_memory::{Parked, Pools, Sealed};
+use hc_memory::{Parked, Pools, Sealed, is_expired};
 use hc_nvm::Nvm;
 use hc_types::{Key, Refusal};
 use hc_waiting::{Waiter, Wish};
 use std::alloc::{AllocError, Allocator};
-
-/// Whether what expires then (seconds, 0: never) isn't expired at `now`.
-fn is_live(expiry: u64, now: u64) -> bool
-    ensures { result ≡ not (not (expiry == 0) && not (nat_lt now expiry)) }
-{
-    expiry == 0 || now < expiry
-}
 
 /// Whether a put of the key waits that isn't expired at `now` (seconds).
 fn has_live_put_in<A: Allocator + Clone + Copy>(nvm: &Nvm<A>, key: &Key<A>, now: u64) -> bool
     ensures { result ≡ is_some (live now (put_at key.now nvm.now.nvm.queue)) }
 {
     match nvm.put_expiry(key) {
-        Some(expiry) => is_live(expiry, now),
+        Some(expiry) => !is_expired(now, expiry),
         None => false,
     }
 }

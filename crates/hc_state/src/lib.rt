@@ -30,6 +30,7 @@ mod serving;
 mod setting;
 mod state;
 mod storing;
+mod superseding;
 mod tells;
 mod waiting;
 mod working;

@@ -16,7 +16,7 @@ use crate::serving::Course;
 use crate::state::State;
 use bytes::Bytes;
 use hc_history::{Note, Notes, Reply};
-use hc_memory::{Parked, Sealed};
+use hc_memory::{Parked, Sealed, is_expired};
 use hc_nvm::Outdating;
 use hc_types::{Entry, Key};
 use hc_waiting::{Waiter, Wish};
@@ -55,7 +55,7 @@ fn live<A: Allocator>(there: Option<There<A>>, now: u64) -> Option<There<A>>
 {
     match there {
         Some(there) => {
-            if there.expiry != 0 && there.expiry <= now {
+            if is_expired(now, there.expiry) {
                 drop(there);
                 None
             } else {
@@ -94,7 +94,8 @@ fn find_course<A: Allocator>(given: &Option<There<A>>) -> Result<Course<A>, Allo
 }
 
 /// How an add is served, where this is what the key has. Refused only where memory lacks.
-fn add_course<A: Allocator>(
+fn add_course<A: Allocator + Copy>(
+    alloc: A,
     given: &Option<There<A>>,
     key: &Key<A>,
     keeps: bool,
@@ -104,14 +105,15 @@ fn add_course<A: Allocator>(
     match given {
         Some(_) => Ok(Course::Exists),
         None => {
-            let plan = Outdating::whole(key, keeps)?;
+            let plan = Outdating::whole(alloc, key, keeps)?;
             Ok(Course::Store(plan))
         }
     }
 }
 
 /// How a call is served that asks for this, where this is what the key has. Refused only where memory lacks.
-fn course_for<A: Allocator>(
+fn course_for<A: Allocator + Copy>(
+    alloc: A,
     wish: &Wish<A>,
     given: &Option<There<A>>,
     key: &Key<A>,
@@ -121,7 +123,7 @@ fn course_for<A: Allocator>(
 {
     match wish {
         Wish::Find => find_course(given),
-        Wish::Add(_) => add_course(given, key, keeps),
+        Wish::Add(_) => add_course(alloc, given, key, keeps),
     }
 }
 
@@ -156,7 +158,8 @@ fn there_next<A: Allocator + Clone>(
 
 /// How a call is served that asks for this, where this is what the key has, and what the key has then. Refused only where
 /// memory lacks.
-fn plan_wish<A: Allocator + Clone>(
+fn plan_wish<A: Allocator + Clone + Copy>(
+    alloc: A,
     wish: &Wish<A>,
     given: Option<There<A>>,
     key: &Key<A>,
@@ -164,7 +167,7 @@ fn plan_wish<A: Allocator + Clone>(
 ) -> Result<(Course<A>, Option<There<A>>), AllocError>
     ensures { IfOk result (λ planned. (entry : Option FlashEntry) → IsThere entry given → IsNext keeps key.now (wish_of wish.now) entry planned.0 planned.1) }
 {
-    match course_for(wish, &given, key, keeps) {
+    match course_for(alloc, wish, &given, key, keeps) {
         Ok(course) => match there_next(wish, given) {
             Ok(next) => Ok((course, next)),
             Err(no_memory) => {
@@ -180,7 +183,8 @@ fn plan_wish<A: Allocator + Clone>(
 }
 
 /// The same of a call that waits, at `now` (seconds).
-fn plan_one<A: Allocator + Clone>(
+fn plan_one<A: Allocator + Clone + Copy>(
+    alloc: A,
     waiter: &Waiter<A>,
     there: Option<There<A>>,
     now: u64,
@@ -189,7 +193,7 @@ fn plan_one<A: Allocator + Clone>(
 ) -> Result<(Course<A>, Option<There<A>>), AllocError>
     ensures { IfOk result (λ planned. (entry : Option FlashEntry) → IsThere entry there → IsNext keeps key.now waiter.now.wish (live_seen now entry) planned.0 planned.1) }
 {
-    plan_wish(&waiter.wish, live(there, now), key, keeps)
+    plan_wish(alloc, &waiter.wish, live(there, now), key, keeps)
 }
 
 /// How each of these calls is served at `now` (seconds), in order, where this is what the key has. Refused only where memory
@@ -207,7 +211,7 @@ fn plan_courses<A: Allocator + Clone + Copy>(
     let mut courses = Vec::with_capacity(alloc, waiters.len())?;
     let mut there = there;
     for waiter in waiters {
-        match plan_one(waiter, there, now, key, keeps) {
+        match plan_one(alloc, waiter, there, now, key, keeps) {
             Ok((course, next)) => {
                 courses.push_reserved(course);
                 there = next;

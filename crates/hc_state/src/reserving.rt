@@ -6,11 +6,15 @@ ghost use Rattle.hc_state.specs.Storing.{how_many};
 ghost use Rattle.hc_state.specs.Serving.{waiters_at};
 ghost use Rattle.hc_state.specs.Whole.{MayWant, Stays, nvm_of, spare_of};
 
+use crate::beginning::{NOTES_OF_A_CALL, NOTES_OF_A_CHARGE, NOTES_OF_A_VICTIM, NOTES_OF_A_WAITER};
 use crate::state::State;
 use hc_history::{Note, Notes};
 use hc_nvm::{Ending, Nvm};
 use hc_types::Key;
 use std::alloc::{AllocError, Allocator};
+
+/// The most notes that flash tells as a get is over, beside its losses and the tombstones that end with it.
+const NOTES_OF_AN_END: usize = 5;
 
 /// How many calls wait for the key.
 fn how_many_wait<A: Allocator + Clone + Copy>(nvm: &Option<Nvm<A>>, key: &Key<A>) -> usize
@@ -29,8 +33,8 @@ fn notes_for(waiting: usize, charges: usize) -> Option<usize>
     ensures notes { IfSome result (λ notes. notes ≡ 6 * waiting + 8 + charges) }
     ensures none { IfNone result (0 < waiting) }
 {
-    let each = waiting.checked_mul(6)?;
-    each.checked_add(8 + charges)
+    let each = waiting.checked_mul(NOTES_OF_A_WAITER)?;
+    each.checked_add(NOTES_OF_A_CALL + charges)
 }
 
 /// Room for so many more puts that wait, and so many tombstones, where there is flash.
@@ -57,7 +61,7 @@ fn reserve_flash<A: Allocator + Clone + Copy>(
 fn most_with(losses: usize, stones: usize) -> Option<usize>
     ensures { IfSome result (λ most. most ≡ losses + (stones + 5)) }
 {
-    let most = stones.checked_add(5)?;
+    let most = stones.checked_add(NOTES_OF_AN_END)?;
     losses.checked_add(most)
 }
 
@@ -78,9 +82,9 @@ fn notes_to_end(most: usize, charges: usize, victims: usize, waiting: usize) -> 
     requires victims { victims ≤ 1048576 }
     ensures { IfSome result (λ notes. notes ≡ charges + 1 + (most + (2 * victims + 2 + 6 * waiting))) }
 {
-    let each = waiting.checked_mul(6)?;
+    let each = waiting.checked_mul(NOTES_OF_A_WAITER)?;
     let told = each.checked_add(most)?;
-    told.checked_add(charges + 2 * victims + 3)
+    told.checked_add(charges + NOTES_OF_A_VICTIM * victims + NOTES_OF_A_CHARGE + 1)
 }
 
 impl<N: Notes<Note<A>>, A: Allocator + Clone + Copy> State<N, A> {

@@ -1,31 +1,36 @@
-// A value is stored in one step, where there is no flash and notes aren't kept.
+// A value is stored in one step, where notes aren't kept and no call waits for its key.
 ghost use Rattle.std.specs.Prelude.{◌≡◌, ◌+◌, ◌*◌, ◌<◌, ◌≤◌, ◌⊎◌, true, false, None, Some, length, IsSome, IfSome, IfOk, OnOk, OnErr, IfErr};
 ghost use Rattle.hc_types.specs.Charge.{charge_of};
 ghost use Rattle.hc_memory.specs.Memory.{is_hopeless, victims_of, oldest_of, after_evict};
 ghost use Rattle.hc_memory.specs.Seen.{filled};
+ghost use Rattle.hc_invariant.specs.Structure.{Structured};
 ghost use Rattle.hc_machine.specs.items.Allocating.{refusal_of};
 ghost use Rattle.hc_history.specs.Note.{Stored};
 ghost use Rattle.hc_machine.specs.Cache.{Discarded, Replied, with_memory};
 ghost use Rattle.hc_machine.specs.Evicting.{allocate as allocate_step};
 ghost use Rattle.hc_state.specs.Leaving.{one_leaves};
-ghost use Rattle.hc_state.specs.Setting.{set_step, give_up_step, MayRefuse, is_plain as is_plain_seen, IsSetPlan, IsRoomed, IsPut, IsSkipped};
+ghost use Rattle.hc_state.specs.Setting.{set_step, give_up_step, MayRefuse, is_plain as is_plain_seen, is_brief as is_brief_seen, IsSetPlan, IsRoomed, IsPut, IsSkipped};
 ghost use Rattle.hc_state.specs.Whole.{IsStep, HasRoom, Does, Stays, costs};
 
 use crate::allocating::{expiry_after, victims_for};
+use crate::beginning::NOTES_OF_A_CALL;
 use crate::state::State;
 use hc_history::{Kind, Note, Notes};
 use hc_memory::{Fill, ItemValue};
 use hc_types::{Key, Refusal, charge};
 use std::alloc::Allocator;
 
+/// The most notes of a value that is stored in one step, beside those of the items that go: one of its charge, and the call's.
+const NOTES_OF_A_SET: usize = NOTES_OF_A_CALL + 1;
+
 /// What a value that is stored in one step needs before anything changes: the number of its call and that of its charge, how
 /// many items go to make room, and the value.
 #[derive(Drop)]
 pub(crate) struct SetPlan<A: Allocator> {
-    call: u64,
-    number: u64,
-    count: usize,
-    value: ItemValue<A>,
+    pub call: u64,
+    pub number: u64,
+    pub count: usize,
+    pub value: ItemValue<A>,
 }
 
 impl<N: Notes<Note<A>>, A: Allocator + Clone + Copy> State<N, A> {
@@ -35,6 +40,14 @@ impl<N: Notes<Note<A>>, A: Allocator + Clone + Copy> State<N, A> {
         ensures { result ≡ is_plain_seen self.now.log self.now.cache }
     {
         self.nvm.is_none() && !self.notes.keeps()
+    }
+
+    /// Whether no call waits for the key, and notes aren't kept.
+    #[must_use]
+    pub fn is_brief(&self, key: &Key<A>) -> bool
+        ensures { result ≡ is_brief_seen key.now self.now.log self.now.cache }
+    {
+        !self.is_awaited(key) && !self.notes.keeps()
     }
 
     /// What it takes to store what `fill` says under the key. Refused with `NoPool`, `ValueTooLong` and `NoRoom`, the first
@@ -47,7 +60,7 @@ impl<N: Notes<Note<A>>, A: Allocator + Clone + Copy> State<N, A> {
     {
         let count = victims_for(&self.pools, pool, key, fill)?;
         let call = self.next_call()?;
-        self.reserve_to_charge(count)?;
+        self.reserve_to_leave(count, 1, NOTES_OF_A_SET)?;
         let number = self.pools.next_number()?;
         let value = self.pools.value_by(fill)?;
         Ok(SetPlan {
@@ -121,10 +134,11 @@ impl<N: Notes<Note<A>>, A: Allocator + Clone + Copy> State<N, A> {
         }
     }
 
-    /// Stores what `fill` says under the key in the pool, in place of what the key has in whichever, for `ttl` seconds from
-    /// now (0: for good), where there is no flash and notes aren't kept. It is one step: no handle is made, and no charge is
-    /// open. Room is made as `allocate_with` makes it. Refused with `NoPool`, `ValueTooLong` and `NoRoom`, the first that
-    /// holds, and with `NoMemory`, also once room was made: then what went to make it has left memory.
+    /// Stores what `fill` says under the key in the pool, in place of what the key has in whichever and on flash, for `ttl`
+    /// seconds from now (0: for good), where notes aren't kept and no call waits for the key. It is one step: no handle is
+    /// made, and no charge is open. Room is made as `allocate_with` makes it. Refused with `NoPool`, `ValueTooLong` and
+    /// `NoRoom`, the first that holds, and with `NoMemory`, also once room was made: then what went to make it has left
+    /// memory.
     pub fn set_short(
         &mut self,
         pool: u8,
@@ -132,7 +146,8 @@ impl<N: Notes<Note<A>>, A: Allocator + Clone + Copy> State<N, A> {
         fill: Fill<'_>,
         ttl: u32,
     ) -> Result<(), Refusal>
-        requires plain { is_plain_seen self.old.log self.old.cache ≡ true }
+        requires structured { Structured self.old.cache }
+        requires brief { is_brief_seen key self.old.log self.old.cache ≡ true }
         ensures ok { OnOk result (IsStep (set_step pool key (filled fill.entry) ttl self.old.cache) (Replied Stored) self.old self.new) }
         ensures err { IfErr result (λ refusal. Stays self.old self.new ⊎ (IsStep (give_up_step pool key (filled fill.entry) ttl self.old.cache) Discarded self.old self.new × (refusal ≡ Refusal.NoMemory))) }
         ensures why { IfErr result (λ refusal. MayRefuse (allocate_step pool key (filled fill.entry) ttl self.old.cache).answer refusal) }
@@ -141,6 +156,9 @@ impl<N: Notes<Note<A>>, A: Allocator + Clone + Copy> State<N, A> {
         let want = charge(&key, fill.len());
         let _sound = self.pools.len();
         let expiry = expiry_after(self.clock, ttl);
+        if self.has_flash() {
+            return self.supersede(pool, key, want, expiry, plan);
+        }
         self.make_way(pool, want, plan.count);
         self.put_planned(pool, key, expiry, plan)
     }

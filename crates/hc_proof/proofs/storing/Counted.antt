@@ -12,13 +12,13 @@ use Rattle.hc_machine.specs.Calls.{remove_reply}
 use Rattle.hc_machine.specs.Waiting.{freed_note}
 use Rattle.hc_proof.specs.calls.Short.{storing, StoredIsCounted, removing, RemovedIsCounted}
 
-told-charged : (heard : Heard) → is_log heard ≡ false → (n pool bytes : ℕ) (key : List ℕ) → told_more heard (Charged n key pool bytes ∷ []) ≡ heard
+pub told-charged : (heard : Heard) → is_log heard ≡ false → (n pool bytes : ℕ) (key : List ℕ) → told_more heard (Charged n key pool bytes ∷ []) ≡ heard
 told-charged Nothing e n pool bytes key = refl
 told-charged (Log log) e n pool bytes key = absurd cc
 told-charged (Counts counts losses) e n pool bytes key = told-nothing (Counts counts losses)
 told-charged (Sums counts losses) e n pool bytes key = told-nothing (Sums counts losses)
 
-told-begun : (heard : Heard) → is_log heard ≡ false → (call client : ℕ) (op : Op) → told_more heard (Begin call client op ∷ []) ≡ heard
+pub told-begun : (heard : Heard) → is_log heard ≡ false → (call client : ℕ) (op : Op) → told_more heard (Begin call client op ∷ []) ≡ heard
 told-begun Nothing e call client op = refl
 told-begun (Log log) e call client op = absurd cc
 told-begun (Counts counts losses) e call client op = told-nothing (Counts counts losses)
@@ -36,7 +36,7 @@ told-ended (Log log) e n = absurd cc
 told-ended (Counts counts losses) e n = told-nothing (Counts counts losses)
 told-ended (Sums counts losses) e n = told-nothing (Sums counts losses)
 
-told-freed-one : (heard : Heard) → is_log heard ≡ false → (n : ℕ) → told_more heard (Freed n ∷ []) ≡ heard
+pub told-freed-one : (heard : Heard) → is_log heard ≡ false → (n : ℕ) → told_more heard (Freed n ∷ []) ≡ heard
 told-freed-one Nothing e n = refl
 told-freed-one (Log log) e n = absurd cc
 told-freed-one (Counts counts losses) e n = told-nothing (Counts counts losses)
@@ -53,7 +53,7 @@ still (Counts counts losses) k e = refl
 still (Sums counts losses) k e = refl
 
 -- a part of which nothing is heard
-past : (heard : Heard) (a rest : List Note) → told_more heard a ≡ heard → told_more heard (a ++ rest) ≡ told_more heard rest
+pub past : (heard : Heard) (a rest : List Note) → told_more heard a ≡ heard → told_more heard (a ++ rest) ≡ told_more heard rest
 past heard a rest quiet = sym (told-twice heard a rest) ∙ ap (λ (h : Heard). told_more h rest) quiet
 
 pub stored-counted : StoredIsCounted

@@ -30,15 +30,15 @@ returns-in_err-leaves-clause-err g c =
 pub plan_to_leave-requires : goal.plan_to_leave-requires
 plan_to_leave-requires g c =
     let fits = ap (λ (w : Whole). refusal_of w.cache.memory c.args.pool c.args.key.now (length (filled c.args.fill))) (sym c.self.view_is) ∙ c.in_ok-count.ensures.fits in
-    subst (λ (k : Cache). c.args.pool < length k.memory.pools) (sym c.reserve_to_charge.ensures.same.cache)
+    subst (λ (k : Cache). c.args.pool < length k.memory.pools) (sym c.reserve_to_leave.ensures.same.cache)
     (pool-there c.args.self.now.cache.memory c.args.pool c.args.key.now (length (filled c.args.fill)) fits)
 
 pub returns-clause-ok : goal.returns-clause-ok
 returns-clause-ok g c =
     let pool = c.args.pool in
     let want = charge_of c.args.key.now (length (filled c.args.fill)) in
-    let now = c.reserve_to_charge.new.self in
-    let same = c.reserve_to_charge.ensures.same in
+    let now = c.reserve_to_leave.new.self in
+    let same = c.reserve_to_leave.ensures.same in
     let count =
     c.in_ok-count.ensures.count
     ∙ ap (λ (w : Whole). length (victims_of w.cache.memory pool want)) c.self.view_is
@@ -48,5 +48,5 @@ returns-clause-ok g c =
       count = count;
       leaves = λ flash. c.in_ok-leaves.ensures flash ∙ ap (map (leave_of now.log)) keys;
       copy = c.in_ok-copy.ensures ∙ ap (λ (w : Whole). where_kept w.log c.args.key.now) c.self-2.view_is;
-      room = subst (λ (k : Cache). HasRoom (costs (2 * c.in_ok-count.count + 2 + length k.memory.charges) c.in_ok-count.count 0 0) now) (sym same.cache) c.in_ok-reserve_to_charge.ensures.room;
+      room = subst (λ (k : Cache). HasRoom (costs (2 * c.in_ok-count.count + 2 + length k.memory.charges) c.in_ok-count.count 0 0) now) (sym same.cache) c.in_ok-reserve_to_leave.ensures.room;
     }

@@ -18,12 +18,12 @@ pub returns-clause-ok : goal.returns-clause-ok
 returns-clause-ok g c =
     let pool = c.args.pool in
     let want = charge_of c.args.key.now (length (filled c.args.fill)) in
-    let now = c.reserve_to_charge.new.self in
-    let same = c.reserve_to_charge.ensures.same in
+    let now = c.reserve_to_leave.new.self in
+    let same = c.reserve_to_leave.ensures.same in
     record {
       call = c.in_ok-call.ensures.ok ∙ ap (λ (k : Cache). k.calls + 1) (sym same.cache);
       number = c.in_ok-number.ensures ∙ ap (λ (w : Whole). w.cache.memory.made + 1) c.self-2.view_is;
       count = c.in_ok-count.ensures.count ∙ ap (λ (w : Whole). length (victims_of w.cache.memory pool want)) c.self.view_is ∙ ap (λ (k : Cache). length (victims_of k.memory pool want)) (sym same.cache);
       bytes = c.in_ok-value.ensures;
-      room = subst (λ (k : Cache). HasRoom (costs (2 * c.in_ok-count.count + 2 + length k.memory.charges) c.in_ok-count.count 0 0) now) (sym same.cache) c.in_ok-reserve_to_charge.ensures.room;
+      room = subst (λ (k : Cache). HasRoom (costs (2 * c.in_ok-count.count + 9 + length k.memory.charges) c.in_ok-count.count 1 0) now) (sym same.cache) c.in_ok-reserve_to_leave.ensures.room;
     }

@@ -1,6 +1,7 @@
-use Rattle.std.proofs.Common.{Some, length, sym, ap, ◌∙◌, subst, arith}
+use Rattle.std.proofs.Common.{ℕ, List, Some, length, sym, ap, ◌∙◌, subst, arith}
 use Rattle.std.specs.Str.{bytes_eq}
 use Rattle.hc_types.specs.FlashEntry.{entry_of}
+use Rattle.hc_memory.specs.Memory.{linked_at}
 use Rattle.hc_memory.proofs.Keyed.{same_bytes}
 use Rattle.hc_history.specs.Told.{is_log}
 use Rattle.hc_state.specs.Ends.{IsLinked}
@@ -9,6 +10,12 @@ use Rattle.hc_state.specs.Serving.{waiters_at}
 use Rattle.hc_state.proofs.Links.{courses-long}
 use Rattle.hc_state.proofs.Prepares.{apart-both}
 use Rattle.hc_state.proofs.state.State.prepare_item.Goals as goal
+
+pub link_entry-requires-clause-absent : goal.link_entry-requires-clause-absent
+link_entry-requires-clause-absent g c =
+    let entry = entry_of c.args.entry.now in
+    let both = apart-both (bytes_eq entry.key c.args.key.now) (is_lost c.args.self.now.cache.memory.flash c.losses.result.now entry.key (length entry.value)) c.is_apart.result c.is_apart.ensures c.if-not-is_apart.false in
+    ap (λ (k : List ℕ). linked_at k c.args.self.now.cache.memory.pools) (same_bytes entry.key c.args.key.now both.0) ∙ c.requires.absent
 
 pub returns-in-Ok-clause-ok : goal.returns-in-Ok-clause-ok
 returns-in-Ok-clause-ok g c =

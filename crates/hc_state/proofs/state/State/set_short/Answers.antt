@@ -1,10 +1,13 @@
-use Rattle.std.proofs.Common.{ap, ◌∙◌, subst}
+use Rattle.std.proofs.Common.{sym, ap, ◌∙◌, subst}
+use Rattle.std.specs.Prelude.{is_some}
 use Rattle.hc_types.specs.Charge.{charge_of}
 use Rattle.hc_memory.specs.Sound.{Sound}
 use Rattle.hc_memory.specs.Seen.{filled}
 use Rattle.hc_machine.specs.items.Allocating.{expiry_of}
+use Rattle.hc_machine.specs.Cache.{Cache}
 use Rattle.hc_state.specs.Whole.{Whole}
 use Rattle.hc_state.proofs.Sets.{SetSteps, left-roomy, next-number, note-fits, set-over}
+use Rattle.hc_state.proofs.Supersedes.{brief-plain, short-over}
 use Rattle.hc_state.proofs.state.State.set_short.Goals as goal
 
 pub put_planned-requires : goal.put_planned-requires
@@ -16,7 +19,7 @@ put_planned-requires g c =
     let e = c.in_ok-plan.ensures in
     let steps : SetSteps c.args.pool c.args.key value c.args.ttl want expiry plan c.args.self.now c.plan_to_set.new.self c.make_way.new.self = record {
       stays = e.same;
-      plain = c.requires.plain;
+      plain = brief-plain c.args.key c.args.self.now.log c.args.self.now.cache c.requires.brief (ap (λ (k : Cache). is_some k.nvm) (sym e.same.cache) ∙ sym c.has_flash.ensures ∙ c.if-has_flash.false);
       fits = e.fits;
       sound = subst (λ (w : Whole). Sound w.cache.memory.pools w.cache.memory.charges w.cache.memory.made) c.self.view_is c.len-sound.ensures.sound;
       planned = e.ok;
@@ -42,7 +45,7 @@ returns g c =
     let e = c.in_ok-plan.ensures in
     let steps : SetSteps c.args.pool c.args.key value c.args.ttl want expiry plan c.args.self.now c.plan_to_set.new.self c.make_way.new.self = record {
       stays = e.same;
-      plain = c.requires.plain;
+      plain = brief-plain c.args.key c.args.self.now.log c.args.self.now.cache c.requires.brief (ap (λ (k : Cache). is_some k.nvm) (sym e.same.cache) ∙ sym c.has_flash.ensures ∙ c.if-has_flash.false);
       fits = e.fits;
       sound = subst (λ (w : Whole). Sound w.cache.memory.pools w.cache.memory.charges w.cache.memory.made) c.self.view_is c.len-sound.ensures.sound;
       planned = e.ok;

@@ -1,0 +1,32 @@
+use Rattle.std.proofs.Common.{◌≡◌, List, ℕ, sym, ap, ◌∙◌}
+use Rattle.hc_memory.specs.Memory.{oldest_of, after_evict}
+use Rattle.hc_machine.specs.Nvm.{put_at}
+use Rattle.hc_machine.specs.Cache.{with_memory}
+use Rattle.hc_invariant.specs.Structure.{queue_of}
+use Rattle.hc_state.specs.Whole.{Whole, spare_of, nvm_of}
+use Rattle.hc_state.proofs.Sets.{oldest-left}
+use Rattle.hc_state.proofs.Supersedes.{key-first, quiet-leave}
+use Rattle.hc_state.proofs.state.State.send_oldest.Goals as goal
+
+pub leave-requires-clause-absent : goal.leave-requires-clause-absent
+leave-requires-clause-absent g c =
+    let same = key-first c.in-Some.item c.args.copy c.self.inside.pools c.args.pool c.in-Some.ensures.value (rw (← c.self.view_is) at c.requires.first) in
+    let absent = rw (← c.self.view_is) at c.requires.absent in
+    ap (λ (k : List ℕ). put_at k (queue_of (nvm_of c.self.inside.nvm))) same ∙ absent
+
+pub leave-requires-clause-leave : goal.leave-requires-clause-leave
+leave-requires-clause-leave g c =
+    let same = key-first c.in-Some.item c.args.copy c.self.inside.pools c.args.pool c.in-Some.ensures.value (rw (← c.self.view_is) at c.requires.first) in
+    let quiet = rw (← c.self.view_is) at c.requires.quiet in
+    λ flash. quiet-leave _ quiet c.args.copy c.in-Some.item.key (sym same)
+
+pub returns : goal.returns
+returns g c =
+    let f = c.self.inside in
+    let pool = c.args.pool in
+    let full : Whole = record { cache = record { config = f.config; memory = c.evict_oldest.new.self; now = f.clock; calls = f.calls; owed = f.replies; nvm = nvm_of f.nvm }; log = g.N.Listener.told f.notes; notes = g.N.Listener.room f.notes; spare = spare_of f.nvm } in
+    let oldest = c.in-Some.ensures.value ∙ ap (λ (w : Whole). oldest_of w.cache.memory pool) c.self.view_is in
+    let full_is : full ≡ record c.args.self.now { cache = with_memory (after_evict c.args.self.now.cache.memory pool) c.args.self.now.cache } =
+    (λ i. record full { cache = record full.cache { memory = c.in-Some.ensures.pools i } })
+    ∙ ap (λ (w : Whole). record w { cache = with_memory (after_evict w.cache.memory pool) w.cache }) c.self.view_is in
+    oldest-left pool c.args.want c.in-Some.item c.args.self.now full c.leave.new.self oldest full_is c.leave.ensures
