@@ -5,7 +5,6 @@ use Rattle.hc_judge_device.specs.Limits.{IsLimited}
 use Rattle.hc_types.specs.Config.{Config}
 use Rattle.hc_types.specs.Limits.{pools_fit, flash_wrong, wrong_behind, first_wrong}
 use Rattle.hc_types.specs.declared.config.FlashConfig.{FlashConfig}
-use Rattle.hc_types.specs.declared.refusal.Refusal.{Refusal}
 use Rattle.hc_types.specs.declared.refusal.Refusal.TheVariants.{BadPool}
 
 limited : (b : Bool) (o : Option FlashConfig) → (if not b then Some BadPool else wrong_behind o) ≡ None → ((flash : FlashConfig) → flash_wrong flash ≡ None → IsLimited flash) → IfSome o IsLimited
