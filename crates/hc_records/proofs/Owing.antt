@@ -1,9 +1,12 @@
 -- A reply that is owed, behind the end of a call.
-use Rattle.std.proofs.Common.{◌≡◌, ℕ, ◌==◌, Bool, true, false, List, [], ◌∷◌, Some, None, refl, sym, ap, ◌∙◌}
+use Rattle.std.proofs.Common.{◌≡◌, ℕ, ◌==◌, Bool, true, false, List, [], ◌∷◌, Option, Some, None, cond, nat_eq, refl, sym, ap, ◌∙◌, arith}
 use Rattle.std.specs.Prelude.{not, option_map, if◌then◌else◌}
 use Rattle.std.specs.List.{filter, find}
+use Rattle.std.specs.Ordering.{nat_cmp}
+use Rattle.std.specs.BTreeMap.{is_at}
+use Rattle.std.proofs.lemmas.Bool.{false≢true}
 use Rattle.std.proofs.lemmas.Bool.Decides.{Decides-eqb}
-use Rattle.hc_history.specs.Note.{Note, End}
+use Rattle.hc_history.specs.Note.{Reply, Note, End}
 use Rattle.hc_history.specs.Books.{Answer, owed}
 use Rattle.hc_records.specs.Records.{answered}
 
@@ -37,3 +40,11 @@ answer-gone older ended call e = rw e (sym (ap (option_map (λ (answer : Answer)
 
 pub answer-stays : (older : List Note) (ended call : ℕ) → (ended ≡ call → ⊥) → answered call older ≡ answered call (End ended ∷ older)
 answer-stays older ended call other = sym (ap (option_map (λ (answer : Answer). answer.reply)) (stays call ended (owed older) other))
+
+-- the same where what is owed to each call is kept in a map
+pub owed-left : (older : List Note) (ended call : ℕ) (was now : Option Reply) → now ≡ cond (is_at (nat_cmp ended) call) None was → was ≡ answered call older → now ≡ answered call (End ended ∷ older)
+owed-left older ended call was now f e = go (nat_eq ended call) refl
+  where
+    go : (t : Bool) → nat_eq ended call ≡ t → now ≡ answered call (End ended ∷ older)
+    go true t = let here : is_at (nat_cmp ended) call ≡ true = (grind (arith, t)) in f ∙ ap (λ (b : Bool). cond b None was) here ∙ answer-gone older ended call ((Decides-eqb ended call).0 t)
+    go false t = let other : is_at (nat_cmp ended) call ≡ false = (grind (arith, t)) in f ∙ ap (λ (b : Bool). cond b None was) other ∙ e ∙ answer-stays older ended call (λ s. false≢true (sym t ∙ (Decides-eqb ended call).1 s))

@@ -1,3 +1,3 @@
 pub mod Records
 pub mod Judge
-pub mod Seen
+pub mod Walk

@@ -5,20 +5,30 @@ ghost use Rattle.hc_history.specs.Note.{Note as Meaning, Reply as Answer};
 ghost use Rattle.hc_history.specs.Lawful.{past};
 ghost use Rattle.hc_history.specs.Seen.{reply_of};
 ghost use Rattle.hc_records.specs.Records as records;
-ghost use Rattle.hc_records.specs.Seen.{call_of};
 
 use hc_history::{Note, Op, Reply, Said};
+use std::marker::Model;
 
-/// A call that was begun: whose it is, and what it asks.
-#[derive(Clone, Copy)]
+/// A call that was begun: its number, whose it is, and what it asks.
+#[derive(Drop)]
 pub(crate) struct Begun<'a> {
+    pub(crate) call: u64,
     pub(crate) client: u8,
     pub(crate) op: &'a Op,
 }
 
+impl<'a> Model for Begun<'a> {
+    ghost use Rattle.hc_history.specs.Seen.{op_of};
+    ghost use Rattle.hc_history.specs.Books.{Call};
+
+    ghost Value = { Call };
+
+    ghost view = { λ b. record { number = b.call; client = b.client; op = op_of b.op.now } };
+}
+
 /// The last call of this number that was begun.
 pub(crate) fn asked<'a>(before: &'a [Note], call: u64) -> Option<Begun<'a>>
-    ensures { option_map (call_of call) result ≡ records.asked call (past [] before.now) }
+    ensures { result ≡ records.asked call (past [] before.now) }
 {
     let mut left = before;
     while let Some((note, older)) = left.split_last() {
@@ -32,7 +42,7 @@ pub(crate) fn asked<'a>(before: &'a [Note], call: u64) -> Option<Begun<'a>>
 
 /// The call that the note begins, if it has this number.
 fn begun_by<'a>(note: &'a Note, call: u64) -> Option<Begun<'a>>
-    ensures { (older : List Meaning) → option_or (option_map (call_of call) result) (records.asked call older) ≡ records.asked call (note.now ∷ older) }
+    ensures { (older : List Meaning) → option_or result (records.asked call older) ≡ records.asked call (note.now ∷ older) }
 {
     match &note.said {
         Said::Begin {
@@ -40,6 +50,7 @@ fn begun_by<'a>(note: &'a Note, call: u64) -> Option<Begun<'a>>
             client,
             op,
         } if *begun == call => Some(Begun {
+            call,
             client: *client,
             op,
         }),

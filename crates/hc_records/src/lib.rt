@@ -5,6 +5,7 @@ mod calls;
 mod failing;
 mod reconciling;
 mod record;
+mod walk;
 
 pub use failing::failures;
 pub use reconciling::reconcile;

@@ -1,18 +1,23 @@
 // Whether records agree with a log.
-ghost use Rattle.std.specs.Prelude.{◌≡◌, [], ◌∷◌, IfSome, IfNone, map};
+ghost use Rattle.std.specs.Prelude.{◌≡◌, [], ◌∷◌, List, IfSome, IfNone, length, map};
 ghost use Rattle.std.specs.List.{list_all};
 ghost use Rattle.std.specs.Bool.{Decides};
+ghost use Rattle.hc_history.specs.Note.{Note as Meaning};
 ghost use Rattle.hc_history.specs.Lawful.{past};
 ghost use Rattle.hc_history.specs.Seen.{op_of, reply_of};
 ghost use Rattle.hc_records.specs.Judge as judge;
 ghost use Rattle.hc_records.specs.Judge.{Leaves, Differs};
-ghost use Rattle.hc_records.specs.Records.{Reconciled, finished_at};
+ghost use Rattle.hc_records.specs.Records.{Record as Answers, Reconciled, finished_at};
+ghost use Rattle.hc_records.specs.Walk.{AreFinished, AreRecorded};
 
 use crate::calls::{answered, asked};
 use crate::record::{Entry, Record, Recorded};
+use crate::walk::{CLIENTS, Calls, Finished, finished_calls};
 use hc_history::{Note, Op, Reply, Said};
 
-/// Whether all records agree with the log, and no client of the log lacks one.
+/// Whether all records agree with the log, and no client of the log lacks one. It is one walk over the log, whose calls it
+/// keeps in ordered maps meanwhile, in memory from where the first record's is. Where that lacks, it keeps nothing, and
+/// takes time that grows with the square of the log.
 #[must_use]
 pub fn reconcile<T: Recorded>(log: &[Note], records: &[T]) -> bool
     ensures { Decides result (Reconciled log.now (map T.recorded records.now)) }
@@ -20,7 +25,57 @@ pub fn reconcile<T: Recorded>(log: &[Note], records: &[T]) -> bool
     agree(log, records) && cover(log, records)
 }
 
+/// Whether each record agrees with the log, by one walk over it where there is memory.
 fn agree<T: Recorded>(log: &[Note], records: &[T]) -> bool
+    ensures { result ≡ list_all (judge.agrees log.now) (map T.recorded records.now) }
+{
+    let Some(first) = records.first() else {
+        return true;
+    };
+    let alloc = *first.record().entries.allocator();
+    match finished_calls(alloc, log) {
+        Ok(clients) => agree_with(&clients, records),
+        Err(_) => agree_each(log, records),
+    }
+}
+
+/// Whether each record has the finished calls of its client.
+fn agree_with<T: Recorded>(clients: &[Calls<'_>], records: &[T]) -> bool
+    requires { length clients.now ≡ 256 }
+    ensures { (log : List Meaning) → AreFinished clients.now log → result ≡ list_all (judge.agrees log) (map T.recorded records.now) }
+{
+    for who in records {
+        if !agrees_with(clients, who.record()) {
+            return false;
+        }
+    }
+    true
+}
+
+fn agrees_with(clients: &[Calls<'_>], answers: &Record) -> bool
+    requires { length clients.now ≡ 256 }
+    ensures { (log : List Meaning) → AreFinished clients.now log → result ≡ judge.agrees log answers.now }
+{
+    let calls = clients[answers.client as usize].as_slice();
+    are_entries(calls, answers.entries.as_slice())
+}
+
+/// Whether the entries are these calls, in order.
+fn are_entries(calls: &[Finished<'_>], entries: &[Entry]) -> bool
+    ensures { result ≡ judge.are_same calls.now entries.now }
+{
+    let mut left = entries;
+    for finished in calls {
+        match left_of(finished.call, finished.op, finished.reply, left) {
+            Some(rest) => left = rest,
+            None => return false,
+        }
+    }
+    left.is_empty()
+}
+
+/// Whether each record agrees with the log, without memory: by a walk for each, and a look back from each end of a call.
+fn agree_each<T: Recorded>(log: &[Note], records: &[T]) -> bool
     ensures { result ≡ list_all (judge.agrees log.now) (map T.recorded records.now) }
 {
     for who in records {
@@ -65,7 +120,7 @@ fn left_after<'a>(
         return Some(entries);
     }
     match answered(before, *call) {
-        Some(reply) => left_of(*call, begun.op, reply, entries),
+        Some(reply) => left_of(begun.call, begun.op, reply, entries),
         None => Some(entries),
     }
 }
@@ -116,31 +171,33 @@ fn is_reply(a: &Reply, b: &Reply) -> bool
 fn cover<T: Recorded>(log: &[Note], records: &[T]) -> bool
     ensures { result ≡ list_all (judge.is_covered (map T.recorded records.now)) log.now }
 {
+    let clients = recorded(records);
     for note in log {
-        if !is_covered(note, records) {
+        if !is_covered(note, &clients) {
             return false;
         }
     }
     true
 }
 
-/// Whether the client has a record, if the note begins a call.
-fn is_covered<T: Recorded>(note: &Note, records: &[T]) -> bool
-    ensures { result ≡ judge.is_covered (map T.recorded records.now) note.now }
+/// Which clients have a record.
+fn recorded<T: Recorded>(records: &[T]) -> [bool; CLIENTS]
+    ensures { AreRecorded result (map T.recorded records.now) }
 {
-    match &note.said {
-        Said::Begin { client, .. } => has_record(*client, records),
-        _ => true,
+    let mut clients = [false; CLIENTS];
+    for who in records {
+        clients[who.record().client as usize] = true;
     }
+    clients
 }
 
-fn has_record<T: Recorded>(client: u8, records: &[T]) -> bool
-    ensures { result ≡ judge.has_record (map T.recorded records.now) client }
+/// Whether the client has a record, if the note begins a call.
+fn is_covered(note: &Note, clients: &[bool]) -> bool
+    requires { length clients.now ≡ 256 }
+    ensures { (records : List Answers) → AreRecorded clients.now records → result ≡ judge.is_covered records note.now }
 {
-    for who in records {
-        if who.record().client == client {
-            return true;
-        }
+    match &note.said {
+        Said::Begin { client, .. } => clients[*client as usize],
+        _ => true,
     }
-    false
 }
