@@ -4,9 +4,8 @@ use Rattle.std.specs.Prelude.{◌||◌}
 use Rattle.hc_types.specs.Tally.{count}
 use Rattle.hc_history.specs.Books.{charges}
 use Rattle.hc_history.specs.Lawful.{freed_since}
-use Rattle.hc_types.specs.Config.{Config}
 use Rattle.hc_history.specs.Note.{Note, Freed}
-use Rattle.hc_legal.specs.Judge.{is_evicted, is_freed}
+use Rattle.hc_legal.specs.Judge.{is_freed}
 use Rattle.hc_judge_memory.specs.Evictions.{last_freed, is_link_of, is_freed_by}
 
 pub freed-is : (older : List Note) (key : List ℕ) → is_freed older key ≡ is_freed_by (last_freed older) key

@@ -21,3 +21,7 @@ differs (Some known) bytes = not (bytes_eq bytes known)
 abbrev pub is_lie : List Note → Note → Bool
 is_lie older (Read page (Some bytes)) = differs (bytes_at older page) bytes
 is_lie older note = false
+
+-- what each page was last written with
+abbrev pub AreKnown : (ℕ → Option (List ℕ)) → List Note → Type 0
+AreKnown pages older = (page : ℕ) → pages page ≡ bytes_at older page

@@ -20,7 +20,7 @@ pub use calls::{begun, is_changed, is_owed, open_op};
 pub use clock::now_at;
 pub use ends::is_at_end;
 pub use evictions::{forgotten_by, is_evicted, is_freed};
-pub use lies::first_lie;
+pub use lies::{first_lie, first_lie_in};
 pub use live::{Charge, charges};
 pub use map::{Entry, entry_at, expired_at, value_at};
 pub use queue::{is_buried, is_waiting, waiting};

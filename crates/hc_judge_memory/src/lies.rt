@@ -1,5 +1,7 @@
 // The first read that a device answered with a lie.
-ghost use Rattle.std.specs.Prelude.{◌≡◌, [], ◌∷◌, List};
+ghost use Rattle.std.specs.Prelude.{◌≡◌, [], ◌∷◌, List, IfOk, OnOk};
+ghost use Rattle.std.specs.Ordering.{nat_cmp};
+ghost use Rattle.std.specs.BTreeMap.{get};
 ghost use Rattle.hc_history.specs.Note.{Note as Meaning};
 ghost use Rattle.hc_history.specs.Lawful.{past};
 ghost use Rattle.hc_history.specs.Pages.{bytes_at};
@@ -7,10 +9,27 @@ ghost use Rattle.hc_judge_memory.specs.Lies as spec;
 
 use bytes::Bytes;
 use hc_history::{Note, Said};
-use std::alloc::Allocator;
+use std::alloc::{AllocError, Allocator, Global};
+use std::collections::BTreeMap;
+use std::marker::Model;
+
+/// What a page was last written with.
+#[derive(Drop)]
+struct Known<'a, A: Allocator = Global> {
+    bytes: &'a Bytes<A>,
+}
+
+impl<'a, A: Allocator> Model for Known<'a, A> {
+    ghost use Rattle.std.specs.Prelude.{List, ℕ};
+
+    ghost Value = { List ℕ };
+
+    ghost view = { λ known. known.bytes.now };
+}
 
 /// The place, counted from 0, of the first read that succeeded and has other bytes than were last written to its page.
-/// Nothing said of a page that was never written, or whose last write failed, is a lie.
+/// Nothing said of a page that was never written, or whose last write failed, is a lie. It is found without memory, by all
+/// notes before each read, in time that grows with the square of the log: `first_lie_in` is quicker.
 #[must_use]
 pub fn first_lie<A: Allocator>(log: &[Note<A>]) -> Option<usize>
     ensures { spec.IsFirstLie [] log.now result }
@@ -21,6 +40,78 @@ pub fn first_lie<A: Allocator>(log: &[Note<A>]) -> Option<usize>
         }
     }
     None
+}
+
+/// The same as `first_lie`, by one walk over the log, which keeps in an ordered map, in the allocator's memory, what each page
+/// was last written with. Where that memory lacks, it is found as `first_lie` finds it.
+#[must_use]
+pub fn first_lie_in<A: Allocator + Clone>(log: &[Note<A>], alloc: &A) -> Option<usize>
+    ensures { spec.IsFirstLie [] log.now result }
+{
+    match first_in_one_walk(log, alloc) {
+        Ok(lie) => lie,
+        Err(_) => first_lie(log),
+    }
+}
+
+/// The first lie, by one walk. Refused only where memory lacks.
+fn first_in_one_walk<A: Allocator + Clone>(
+    log: &[Note<A>],
+    alloc: &A,
+) -> Result<Option<usize>, AllocError>
+    ensures { IfOk result (λ lie. spec.IsFirstLie [] log.now lie) }
+{
+    let mut pages = BTreeMap::new(alloc.clone()?);
+    for place in 0..log.len() {
+        let note = &log[place];
+        if is_lie_of(&pages, note) {
+            return Ok(Some(place));
+        }
+        keep_page(&mut pages, note)?;
+    }
+    Ok(None)
+}
+
+/// Whether this note reads other bytes than its page was last written with.
+fn is_lie_of<'a, A: Allocator>(pages: &BTreeMap<u32, Known<'a, A>, A>, note: &Note<A>) -> bool
+    ensures { (older : List Meaning) → spec.AreKnown (get nat_cmp pages.now) older → result ≡ spec.is_lie older note.now }
+{
+    let Said::Read {
+        page,
+        result: Some(bytes),
+    } = &note.said
+    else {
+        return false;
+    };
+    match pages.get(page) {
+        Some(known) => bytes != known.bytes,
+        None => false,
+    }
+}
+
+/// Keeps what the note writes. Refused only where memory lacks.
+fn keep_page<'a, A: Allocator + Clone>(
+    pages: &mut BTreeMap<u32, Known<'a, A>, A>,
+    note: &'a Note<A>,
+) -> Result<(), AllocError>
+    ensures { OnOk result ((older : List Meaning) → spec.AreKnown (get nat_cmp pages.old) older → spec.AreKnown (get nat_cmp pages.new) (note.now ∷ older)) }
+{
+    let Said::Wrote {
+        page,
+        bytes,
+        is_written,
+    } = &note.said
+    else {
+        return Ok(());
+    };
+    if !*is_written {
+        let _ = pages.remove(page);
+        return Ok(());
+    }
+    match pages.insert(*page, Known { bytes }) {
+        Ok(_) => Ok(()),
+        Err(_) => Err(AllocError),
+    }
 }
 
 /// Whether this note reads other bytes than the notes before it left on its page.
