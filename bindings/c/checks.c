@@ -148,8 +148,9 @@ static void check_values(void) {
     CHECK(kilambosetry_new(&cache, pools, 2) == KILAMBOSETRY_DONE);
     CHECK(kilambosetry_set(&cache, 0, BYTES("a"), BYTES("once"), 0) == KILAMBOSETRY_DONE);
     CHECK(kilambosetry_read(&cache, BYTES("a"), &value) == KILAMBOSETRY_DONE && value.full);
+    CHECK(kilambosetry_read(&cache, BYTES("b"), &value) == KILAMBOSETRY_MISS && !value.full); /* a miss leaves none */
+    CHECK(kilambosetry_read(&cache, BYTES("a"), &value) == KILAMBOSETRY_DONE && value.full);
     CHECK(kilambosetry_set(&cache, 0, BYTES("a"), BYTES("later"), 0) == KILAMBOSETRY_DONE);
-    CHECK(kilambosetry_read(&cache, BYTES("b"), &value) == KILAMBOSETRY_MISS && value.full); /* the value stays */
     CHECK(kilambosetry_value_length(&value, &len) == KILAMBOSETRY_DONE && len == 4);
     CHECK(kilambosetry_value_copy(&value, 1, out, 2, &len) == KILAMBOSETRY_DONE && len == 2 && memcmp(out, "nc.", 3) == 0);
     CHECK(kilambosetry_value_copy(&value, 4, out, 8, &len) == KILAMBOSETRY_DONE && len == 0);
@@ -242,7 +243,7 @@ static void check_flash(void) {
     CHECK(complete(&cache, KILAMBOSETRY_DONE, job));
     CHECK(kilambosetry_take_reply(&cache, call, &value) == KILAMBOSETRY_DONE && value.full);
     CHECK(kilambosetry_value_copy(&value, 0, out, sizeof out, &len) == KILAMBOSETRY_DONE && len == 3 && memcmp(out, "one", 3) == 0);
-    CHECK(kilambosetry_take_reply(&cache, call, &value) == KILAMBOSETRY_UNKNOWN_CALL && value.full); /* once */
+    CHECK(kilambosetry_take_reply(&cache, call, &value) == KILAMBOSETRY_UNKNOWN_CALL && !value.full); /* once */
     CHECK(kilambosetry_get(&cache, BYTES("a"), out, sizeof out, &len) == KILAMBOSETRY_DONE && len == 3);
     CHECK(kilambosetry_delete(&cache, BYTES("a")) == KILAMBOSETRY_DONE);
     work(&cache);

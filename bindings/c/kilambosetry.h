@@ -165,12 +165,14 @@ uint8_t kilambosetry_get(kilambosetry_cache *cache, const uint8_t *key, size_t k
 uint8_t kilambosetry_delete(kilambosetry_cache *cache, const uint8_t *key, size_t key_len);
 
 /* Finds the value under the key and holds it, without copying it: it stays as it is until it is freed, whatever becomes of
- * the cache. A value that the handle has is freed. Where flash alone may have the value, the call waits, as a get does. */
+ * the cache. A value that the handle has is freed first, so that it has one after DONE alone. Where flash alone may have the
+ * value, the call waits, as a get does. */
 uint8_t kilambosetry_read(kilambosetry_cache *cache, const uint8_t *key, size_t key_len, kilambosetry_value *value);
 
 /* Takes the reply of a call that waited, once: of a get or a read, the value is handed out, or the status is MISS; an add is
  * done, or refused with EXISTS. Refused with NOT_READY while the call waits, and with UNKNOWN_CALL where no reply is owed to
- * it. A reply is owed until it is taken, and takes memory until then. */
+ * it. A value that the handle has is freed first, whatever comes. A reply is owed until it is taken, and takes memory until
+ * then. */
 uint8_t kilambosetry_take_reply(kilambosetry_cache *cache, uint64_t call, kilambosetry_value *value);
 
 /* Tells how many bytes the value has. */

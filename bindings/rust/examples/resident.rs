@@ -127,7 +127,7 @@ fn main() {
     }
     println!("charged, value, engine, items; resident when empty, after setting, and once all came back (beside the charge, bytes an item)");
     for pool in [10_000_000, 64_000_000] {
-        for (value, small_max) in [(20, 512), (20, 0), (100, 512), (100, 0), (800, 0), (5000, 0)] {
+        for (value, small_max) in [(20, 2000), (100, 2000), (800, 2000), (5000, 2000), (20, 0), (100, 0), (800, 0)] {
             let case = [pool, value, small_max].map(|number: u64| number.to_string());
             let status = Command::new(env::current_exe().unwrap()).args(case).status().unwrap();
             assert!(status.success());

@@ -1,5 +1,5 @@
 -- What is done with values that are read where they lie.
-use Rattle.std.specs.Prelude.{◌≡◌, ◌⊎◌, ℕ, List, ◌++◌, length, drop, take, min, Option, Some}
+use Rattle.std.specs.Prelude.{◌≡◌, ◌⊎◌, ℕ, List, ◌++◌, length, drop, take, min, Option, Some, None}
 use Rattle.hc_types.specs.Limits.{key_refusal}
 use Rattle.hc_types.specs.declared.refusal.Refusal.{Refusal}
 use Rattle.hc_types.specs.declared.refusal.Refusal.TheVariants.{Exists, NoMemory}
@@ -18,11 +18,11 @@ use Rattle.hc_c.specs.Calls.{Finds, FindsNone}
 abbrev pub holding : List ℕ → Option Reading
 holding value = Some (record { bytes = value })
 
--- the value is handed out
-abbrev pub Reads : List ℕ → Option Reading → Option Reading → Status → Logged → Logged → Type 0
-Reads key was is Done old new = Finds key old new (λ value. is ≡ holding value)
-Reads key was is (Refused refusal) old new = (is ≡ was) × ((new ≡ old) × ((key_refusal key ≡ Some refusal) ⊎ (refusal ≡ NoMemory)))
-Reads key was is status old new = FindsNone key status old new × (is ≡ was)
+-- the value is handed out, and where there is none the handle has none
+abbrev pub Reads : List ℕ → Option Reading → Status → Logged → Logged → Type 0
+Reads key is Done old new = Finds key old new (λ value. is ≡ holding value)
+Reads key is (Refused refusal) old new = (is ≡ None) × ((new ≡ old) × ((key_refusal key ≡ Some refusal) ⊎ (refusal ≡ NoMemory)))
+Reads key is status old new = FindsNone key status old new × (is ≡ None)
 
 -- ---- replies that were owed
 
@@ -36,21 +36,21 @@ told_as note.FoundInMemory = Done
 told_as note.NotInMemory = Miss
 
 -- the value that a reply brings is handed out
-abbrev pub handed : Reply → Option Reading → Option Reading
-handed (note.Hit value) was = holding value
-handed reply was = was
+abbrev pub handed : Reply → Option Reading
+handed (note.Hit value) = holding value
+handed reply = None
 
-pub record TakesReply (call : ℕ) (was is : Option Reading) (status : Status) (old new : Logged) : Type 0 where
+pub record TakesReply (call : ℕ) (is : Option Reading) (status : Status) (old new : Logged) : Type 0 where
   pub reply : Reply
   pub taken : IsCall (take_reply call old.cache) (Replied reply) old new
   pub told : status ≡ told_as reply
-  pub value : is ≡ handed reply was
+  pub value : is ≡ handed reply
 
-abbrev pub Replies : ℕ → Option Reading → Option Reading → Status → Logged → Logged → Type 0
-Replies call was is (Refused refusal) old new =
-    TakesReply call was is (Refused refusal) old new
-    ⊎ ((new ≡ old) × ((is ≡ was) × MayRefuse (take_reply call old.cache).answer refusal))
-Replies call was is status old new = TakesReply call was is status old new
+abbrev pub Replies : ℕ → Option Reading → Status → Logged → Logged → Type 0
+Replies call is (Refused refusal) old new =
+    TakesReply call is (Refused refusal) old new
+    ⊎ ((new ≡ old) × ((is ≡ None) × MayRefuse (take_reply call old.cache).answer refusal))
+Replies call is status old new = TakesReply call is status old new
 
 -- ---- values that were handed out
 

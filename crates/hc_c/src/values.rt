@@ -12,10 +12,12 @@ use bytes::Bytes;
 use hc_core::{Core, Found, Refusal, Reply, Totals};
 use std::alloc::Global;
 
-// Room for what is handed out: it is made first, so that what a call brought isn't lost for want of memory.
-fn make_room(alloc: Global) -> Result<Box<Reading>, Refusal>
-    ensures { IfErr result (λ refusal. refusal ≡ NoMemory) }
+// Empties the handle, and makes room for what it is handed: first, so that what a call brought isn't lost for want of memory.
+fn make_room(alloc: Global, value: &mut ValueHandle) -> Result<Box<Reading>, Refusal>
+    ensures empty { value.new.seat.value ≡ None }
+    ensures memory { IfErr result (λ refusal. refusal ≡ NoMemory) }
 {
+    let _freed = value.take(alloc);
     let bytes = Bytes::new();
     match Box::new(alloc, Reading { bytes }) {
         Ok(room) => Ok(room),
@@ -23,7 +25,7 @@ fn make_room(alloc: Global) -> Result<Box<Reading>, Refusal>
     }
 }
 
-// Hands out a value. One that the handle has is freed.
+// Hands out a value.
 fn hand_out(value: &mut ValueHandle, mut room: Box<Reading>, bytes: Bytes)
     ensures { value.new.seat.value ≡ Some (record { bytes = bytes }) }
 {
@@ -32,9 +34,9 @@ fn hand_out(value: &mut ValueHandle, mut room: Box<Reading>, bytes: Bytes)
 }
 
 fn read(core: &mut Core<Totals>, alloc: Global, key: &[u8], value: &mut ValueHandle) -> Status
-    ensures { Reads key.now value.old.seat.value value.new.seat.value result core.old core.new }
+    ensures { Reads key.now value.new.seat.value result core.old core.new }
 {
-    let room = match make_room(alloc) {
+    let room = match make_room(alloc, value) {
         Ok(room) => room,
         Err(refusal) => return Status::Refused(refusal),
     };
@@ -50,9 +52,9 @@ fn read(core: &mut Core<Totals>, alloc: Global, key: &[u8], value: &mut ValueHan
 }
 
 fn reply(core: &mut Core<Totals>, alloc: Global, call: u64, value: &mut ValueHandle) -> Status
-    ensures { Replies call value.old.seat.value value.new.seat.value result core.old core.new }
+    ensures { Replies call value.new.seat.value result core.old core.new }
 {
-    let room = match make_room(alloc) {
+    let room = match make_room(alloc, value) {
         Ok(room) => room,
         Err(refusal) => return Status::Refused(refusal),
     };
@@ -101,7 +103,7 @@ fn copy_piece(bytes: &Bytes, from: usize, out: &mut [u8], len: &mut usize) -> St
 }
 
 /// Finds the value under the key, and hands it out as it lies in the cache: it stays readable until it is freed, whatever
-/// becomes of its item and of the cache. A value that the handle has is freed first.
+/// becomes of its item and of the cache. A value that the handle has is freed first, so that it has one after `Done` alone.
 #[unsafe(no_mangle)]
 pub extern "C" fn kilambosetry_read(
     alloc: Global,
@@ -109,7 +111,7 @@ pub extern "C" fn kilambosetry_read(
     key: &[u8],
     value: &mut ValueHandle,
 ) -> u8
-    ensures { OnCache handle.old.seat.cache handle.new.seat.cache result (Reads key.now value.old.seat.value value.new.seat.value) }
+    ensures { OnCache handle.old.seat.cache handle.new.seat.cache result (Reads key.now value.new.seat.value) }
 {
     let Some(mut cache) = handle.take(alloc) else {
         return Status::Empty.number();
@@ -121,7 +123,7 @@ pub extern "C" fn kilambosetry_read(
 
 /// Takes the reply of the call with this number, which waited: of a get, the value that was found is handed out as by
 /// `kilambosetry_read`, or it is a miss; an add is done, or refused with `Exists`. Refused with `UnknownCall` where no reply
-/// is owed to the call, and with `NotReady` where it still waits.
+/// is owed to the call, and with `NotReady` where it still waits. A value that the handle has is freed first.
 #[unsafe(no_mangle)]
 pub extern "C" fn kilambosetry_take_reply(
     alloc: Global,
@@ -129,7 +131,7 @@ pub extern "C" fn kilambosetry_take_reply(
     call: u64,
     value: &mut ValueHandle,
 ) -> u8
-    ensures { OnCache handle.old.seat.cache handle.new.seat.cache result (Replies call value.old.seat.value value.new.seat.value) }
+    ensures { OnCache handle.old.seat.cache handle.new.seat.cache result (Replies call value.new.seat.value) }
 {
     let Some(mut cache) = handle.take(alloc) else {
         return Status::Empty.number();

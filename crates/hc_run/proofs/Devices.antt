@@ -1,7 +1,6 @@
 -- A device operation, and what the device holds behind it.
 use Rattle.std.proofs.Common.{◌≡◌, ℕ, ◌+◌, ◌==◌, Bool, true, false, List, Option, Some, None, refl, subst, ◌∙◌, arith, sym, ap}
 use Rattle.std.specs.Prelude.{if◌then◌else◌, IfSome}
-use Rattle.std.proofs.lemmas.Bool.{eqb-true}
 use Rattle.hc_flash.specs.Operations.{Pages, Order, Read, Write, IoResult, Page, Written, Failed, with_page, pages_after, CameOf, failures_of}
 use Rattle.hc_machine.specs.World.{result_of, read_of}
 use Rattle.hc_results.specs.Waiting.{IsPage}

@@ -11,7 +11,8 @@ use Rattle.hc_machine.specs.Schedule.{Step, Slot, Told, Ran, new_scene, run, all
 use Rattle.hc_theorem.specs.runs.Schedule.{DeedSized, AllStepSized}
 use Rattle.hc_run.specs.Steps.{breaking}
 use Rattle.hc_run.specs.Shows.{Stage, Sight, AreOwn, Moves, Waits}
-use Rattle.hc_run.specs.Runs.{ends_from, IsRunOf}
+use Rattle.hc_run.specs.Runs.{ends_from, failures_told, IsRunOf, IsRunOver}
+use Rattle.hc_run.proofs.Failing.{run-told}
 use Rattle.hc_follows.specs.Follows.{StopsAt}
 use Rattle.hc_run.specs.Laws.{Promised}
 use Rattle.hc_run.specs.Going.{log_length, GoesOn, IsOngoing}
@@ -102,6 +103,18 @@ module _ {Device : Type 0} (sight : Sight Device) (config : Config) where
         answered = ap (λ (r : Ran). r.answers) (sym ran);
         ended = o.ended ∙ ap (λ (r : Ran). ends_from 0 r.parts) (sym ran);
         told = ap log_in end ∙ ap log_of (sym ran);
+      }
+
+  -- the device comes back as the run left it
+  pub run_over : (steps : List Step) (answers : List Told) (ends : List ℕ) (stage : Stage Device) (old new : Device) → IsOngoing sight config steps answers ends stage → stage.failed_before ≡ sight.failed old → new ≡ stage.device → IsRunOver sight config steps answers old new
+  run_over steps answers ends stage old new o before same =
+      let ran : run config o.run.broke steps ≡ record { scene = breaking [] o.scene; answers = answers; parts = o.parts } = subst (λ (breaks : List Bool). run config breaks steps ≡ record { scene = breaking [] o.scene; answers = answers; parts = o.parts }) (append-nil o.run.broke) (o.run.ran []) in
+      let told : o.scene.world.failures ≡ failures_told 0 answers = ap (λ (r : Ran). r.scene.world.failures) (sym ran) ∙ run-told config o.run.broke steps ∙ ap (λ (r : Ran). failures_told 0 r.answers) ran in
+      record {
+        breaks = o.run.broke;
+        answered = ap (λ (r : Ran). r.answers) (sym ran);
+        counted = ap sight.failed same ∙ sym o.shows.failures ∙ (λ i. told i + before i);
+        held = λ page bytes is. ap (λ (d : Device). sight.held d page) same ∙ o.shows.pages page bytes (ap (λ (r : Ran). r.scene.world.pages page) (sym ran) ∙ is);
       }
 
   pub promised : (steps : List Step) (answers : List Told) (ends : List ℕ) (stage : Stage Device) (log : List Note) (stopped : Option ℕ) → first_wrong config ≡ None → IsOngoing sight config (take (length answers) steps) answers ends stage

@@ -1,6 +1,7 @@
 pub mod Stepping
 pub mod Chaining
 pub mod Promising
+pub mod Failing
 pub mod Going
 pub mod Slotting
 pub mod Devices

@@ -11,5 +11,4 @@ mod steps;
 
 pub use laws::{chains_are_runs, runs_keep_promise, runs_stand};
 pub use runs::{Ran, Stopped, run, run_quiet};
-pub use stage::Stage;
 pub use steps::{Answer, Outcome, Request, Step};

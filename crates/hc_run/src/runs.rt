@@ -1,5 +1,5 @@
 // A list of steps, and the log that they leave.
-ghost use Rattle.std.specs.Prelude.{◌≡◌, ◌⊎◌, None, Some, length, take, IfOk, IfErr, OnOk, OnErr};
+ghost use Rattle.std.specs.Prelude.{◌≡◌, ◌≢◌, ◌⊎◌, ℕ, None, Some, length, take, IfOk, IfErr, OnOk, OnErr};
 ghost use Rattle.hc_types.specs.Limits.{first_wrong};
 ghost use Rattle.hc_history.specs.Honest.{Honest};
 ghost use Rattle.hc_history.specs.Lawful.{Legal};
@@ -7,7 +7,7 @@ ghost use Rattle.hc_run.specs.Asked.{place_of};
 ghost use Rattle.hc_run.specs.Going.{GoesOn};
 ghost use Rattle.hc_run.specs.Laws.{FollowsBy};
 ghost use Rattle.hc_run.specs.QuietRuns.{IsQuietRunOf};
-ghost use Rattle.hc_run.specs.Runs.{IsRunOf};
+ghost use Rattle.hc_run.specs.Runs.{IsRunOf, IsRunOver};
 ghost use Rattle.hc_run.specs.Shows.{AreOwn, Waits};
 
 use crate::stage::Stage;
@@ -17,7 +17,7 @@ use hc_history::Kept;
 use hc_types::{Config, Refusal};
 use std::alloc::{AllocError, Allocator, Global};
 
-/// Why a run stopped, and before which step, by its place in the list.
+/// Why a run stopped, and before which step, by its place in the list. `run` stops for want of memory alone.
 #[derive(Clone, Copy, Debug, PartialEq, Eq)]
 pub enum Stopped {
     /// Memory lacked for the step.
@@ -47,6 +47,7 @@ fn go_on<D: Flash<A>, A: Allocator + Clone + Copy>(
     requires own { AreOwn stage.old.slots stage.old.cache }
     ensures ok { OnOk result (GoesOn (record { held = D.held; failed = D.failed }) stage.old answers.old.items ends.old.items step.now stage.new answers.new.items ends.new.items) }
     ensures err { OnErr result (Waits (record { held = D.held; failed = D.failed }) stage.old stage.new) }
+    ensures before { stage.new.failed_before ≡ stage.old.failed_before }
     ensures answers { OnErr result (answers.new.items ≡ answers.old.items) }
     ensures ends { OnErr result (ends.new.items ≡ ends.old.items) }
 {
@@ -64,7 +65,9 @@ fn go_on<D: Flash<A>, A: Allocator + Clone + Copy>(
 
 /// Makes any list of steps on a new cache over the device, of whose pages nothing is known yet. The log is legal, honest, and
 /// follows the steps, and answers and log are those of the machine's run of the steps, up to the one for which memory
-/// lacked; the device may fail whichever of its operations. Refused for the first number of the configuration that is outside
+/// lacked; the device may fail whichever of its operations. The device that comes back is the one that was handed in, after the
+/// operations of the run: it holds each page as the run left it, as far as that is known, and has failed as often more as the
+/// answers tell. Refused for the first number of the configuration that is outside
 /// its limits, and with `NoMemory` where memory lacks for the cache or its slots; then the device is dropped.
 pub fn run<D: Flash<A>, A: Allocator + Clone + Copy>(
     alloc: A,
@@ -75,6 +78,8 @@ pub fn run<D: Flash<A>, A: Allocator + Clone + Copy>(
     ensures legal { IfOk result (λ ran. Legal config.now ran.log.notes.items) }
     ensures honest { IfOk result (λ ran. Honest ran.log.notes.items) }
     ensures runs { IfOk result (λ ran. IsRunOf config.now (take (length ran.answers.items) steps.now) ran.answers.items ran.ends.items ran.log.notes.items) }
+    ensures device { IfOk result (λ ran. IsRunOver (record { held = D.held; failed = D.failed }) config.now (take (length ran.answers.items) steps.now) ran.answers.items device ran.device) }
+    ensures memory { IfOk result (λ ran. (place : ℕ) → ran.stopped ≢ Some (Stopped.NotQuiet place)) }
     ensures follows { IfOk result (λ ran. FollowsBy config.now steps.now ran.answers.items ran.ends.items ran.log.notes.items (place_of ran.stopped)) }
     ensures all { IfOk result (λ ran. ran.stopped ≡ None → length ran.answers.items ≡ length steps.now) }
     ensures fits { OnOk result (first_wrong config.now ≡ None) }
@@ -120,6 +125,7 @@ pub fn run_quiet<D: Flash<A>, A: Allocator + Clone + Copy>(
     ensures legal { IfOk result (λ ran. Legal config.now ran.log.notes.items) }
     ensures honest { IfOk result (λ ran. Honest ran.log.notes.items) }
     ensures runs { IfOk result (λ ran. IsQuietRunOf config.now steps.now ran.answers.items ran.ends.items ran.log.notes.items ran.stopped) }
+    ensures device { IfOk result (λ ran. IsRunOver (record { held = D.held; failed = D.failed }) config.now (take (length ran.answers.items) steps.now) ran.answers.items device ran.device) }
     ensures follows { IfOk result (λ ran. FollowsBy config.now steps.now ran.answers.items ran.ends.items ran.log.notes.items (place_of ran.stopped)) }
     ensures all { IfOk result (λ ran. ran.stopped ≡ None → length ran.answers.items ≡ length steps.now) }
     ensures fits { OnOk result (first_wrong config.now ≡ None) }

@@ -29,7 +29,7 @@ use std::marker::Model;
 /// that aren't handed in yet.
 ///
 /// Each step that wants memory in vain leaves everything as it was.
-pub struct Stage<D: Flash<A>, A: Allocator = Global> {
+pub(crate) struct Stage<D: Flash<A>, A: Allocator = Global> {
     core: Core<Kept<A>, A>,
     device: D,
     failed_before: u64,
@@ -56,7 +56,8 @@ impl<D: Flash<A>, A: Allocator + Clone + Copy> Stage<D, A> {
         ensures log { IfOk result (λ stage. stage.log ≡ Log []) }
         ensures results { IfOk result (λ stage. stage.results ≡ []) }
         ensures slots { IfOk result (λ stage. stage.slots ≡ []) }
-        ensures before { IfOk result (λ stage. stage.failed_before ≡ D.failed stage.device) }
+        ensures device { IfOk result (λ stage. stage.device ≡ device) }
+        ensures before { IfOk result (λ stage. stage.failed_before ≡ D.failed device) }
         ensures fits { OnOk result (first_wrong config.now ≡ None) }
         ensures err { IfErr result (λ refusal. (first_wrong config.now ≡ Some refusal) ⊎ ((first_wrong config.now ≡ None) × (refusal ≡ Refusal.NoMemory))) }
     {
@@ -95,6 +96,7 @@ impl<D: Flash<A>, A: Allocator + Clone + Copy> Stage<D, A> {
     ) -> Result<Outcome<A>, AllocError>
         ensures ok { IfOk result (λ outcome. Moves (record { held = D.held; failed = D.failed }) self.old (record { client = client; deed = Open slot pool key.now value.now ttl }) (told_of outcome) self.new) }
         ensures err { OnErr result (Waits (record { held = D.held; failed = D.failed }) self.old self.new) }
+        ensures before { self.new.failed_before ≡ self.old.failed_before }
     {
         let _sized = key.len();
         if self.slots[usize::from(slot)].is_filled() {
@@ -119,6 +121,7 @@ impl<D: Flash<A>, A: Allocator + Clone + Copy> Stage<D, A> {
         requires own { AreOwn self.old.slots self.old.cache }
         ensures ok { IfOk result (λ outcome. Moves (record { held = D.held; failed = D.failed }) self.old (record { client = client; deed = Put slot }) (told_of outcome) self.new) }
         ensures err { OnErr result (Waits (record { held = D.held; failed = D.failed }) self.old self.new) }
+        ensures before { self.new.failed_before ≡ self.old.failed_before }
     {
         let Some(sealed) = take_sealed(&mut self.slots, slot)? else {
             return Ok(Outcome::NoSlot);
@@ -139,6 +142,7 @@ impl<D: Flash<A>, A: Allocator + Clone + Copy> Stage<D, A> {
     fn put_new(&mut self, client: u8, slot: u8) -> Result<Outcome<A>, AllocError>
         ensures ok { IfOk result (λ outcome. Moves (record { held = D.held; failed = D.failed }) self.old (record { client = client; deed = PutNew slot }) (told_of outcome) self.new) }
         ensures err { OnErr result (Waits (record { held = D.held; failed = D.failed }) self.old self.new) }
+        ensures before { self.new.failed_before ≡ self.old.failed_before }
     {
         let Some(sealed) = take_sealed(&mut self.slots, slot)? else {
             return Ok(Outcome::NoSlot);
@@ -156,7 +160,8 @@ impl<D: Flash<A>, A: Allocator + Clone + Copy> Stage<D, A> {
     /// Gives up the item of the slot's handle.
     fn discard(&mut self, client: u8, slot: u8) -> Outcome<A>
         requires own { AreOwn self.old.slots self.old.cache }
-        ensures { Moves (record { held = D.held; failed = D.failed }) self.old (record { client = client; deed = Discard slot }) (told_of result) self.new }
+        ensures moves { Moves (record { held = D.held; failed = D.failed }) self.old (record { client = client; deed = Discard slot }) (told_of result) self.new }
+        ensures before { self.new.failed_before ≡ self.old.failed_before }
     {
         if !self.slots[usize::from(slot)].is_filled() {
             return Outcome::NoSlot;
@@ -170,6 +175,7 @@ impl<D: Flash<A>, A: Allocator + Clone + Copy> Stage<D, A> {
     fn find(&mut self, client: u8, key: &Key<A>) -> Result<Outcome<A>, AllocError>
         ensures ok { IfOk result (λ outcome. Moves (record { held = D.held; failed = D.failed }) self.old (record { client = client; deed = Find key.now }) (told_of outcome) self.new) }
         ensures err { OnErr result (Waits (record { held = D.held; failed = D.failed }) self.old self.new) }
+        ensures before { self.new.failed_before ≡ self.old.failed_before }
     {
         match self.core.find(client, key) {
             Ok(found) => Ok(found_outcome(found)),
@@ -181,6 +187,7 @@ impl<D: Flash<A>, A: Allocator + Clone + Copy> Stage<D, A> {
     fn remove(&mut self, client: u8, key: &Key<A>) -> Result<Outcome<A>, AllocError>
         ensures ok { IfOk result (λ outcome. Moves (record { held = D.held; failed = D.failed }) self.old (record { client = client; deed = Remove key.now }) (told_of outcome) self.new) }
         ensures err { OnErr result (Waits (record { held = D.held; failed = D.failed }) self.old self.new) }
+        ensures before { self.new.failed_before ≡ self.old.failed_before }
     {
         match self.core.remove(client, key) {
             Ok(removed) => Ok(removed_outcome(removed)),
@@ -192,6 +199,7 @@ impl<D: Flash<A>, A: Allocator + Clone + Copy> Stage<D, A> {
     fn take_reply(&mut self, client: u8, call: u64) -> Result<Outcome<A>, AllocError>
         ensures ok { IfOk result (λ outcome. Moves (record { held = D.held; failed = D.failed }) self.old (record { client = client; deed = TakeReply call }) (told_of outcome) self.new) }
         ensures err { OnErr result (Waits (record { held = D.held; failed = D.failed }) self.old self.new) }
+        ensures before { self.new.failed_before ≡ self.old.failed_before }
     {
         match self.core.take_reply(call) {
             Ok(reply) => Ok(Outcome::Replied(reply)),
@@ -203,6 +211,7 @@ impl<D: Flash<A>, A: Allocator + Clone + Copy> Stage<D, A> {
     fn tick(&mut self, client: u8, moment: u64) -> Result<Outcome<A>, AllocError>
         ensures ok { IfOk result (λ outcome. Moves (record { held = D.held; failed = D.failed }) self.old (record { client = client; deed = Tick moment }) (told_of outcome) self.new) }
         ensures err { OnErr result (Waits (record { held = D.held; failed = D.failed }) self.old self.new) }
+        ensures before { self.new.failed_before ≡ self.old.failed_before }
     {
         match self.core.tick(moment) {
             Ok(now) => Ok(Outcome::Moment(now)),
@@ -214,6 +223,7 @@ impl<D: Flash<A>, A: Allocator + Clone + Copy> Stage<D, A> {
     fn writer_take(&mut self, client: u8) -> Result<Outcome<A>, AllocError>
         ensures ok { IfOk result (λ outcome. Moves (record { held = D.held; failed = D.failed }) self.old (record { client = client; deed = WriterTake }) (told_of outcome) self.new) }
         ensures err { OnErr result (Waits (record { held = D.held; failed = D.failed }) self.old self.new) }
+        ensures before { self.new.failed_before ≡ self.old.failed_before }
     {
         match self.core.writer_take() {
             Ok(take) => Ok(Outcome::Took(take)),
@@ -225,6 +235,7 @@ impl<D: Flash<A>, A: Allocator + Clone + Copy> Stage<D, A> {
     fn filler_take(&mut self, client: u8) -> Result<Outcome<A>, AllocError>
         ensures ok { IfOk result (λ outcome. Moves (record { held = D.held; failed = D.failed }) self.old (record { client = client; deed = FillerTake }) (told_of outcome) self.new) }
         ensures err { OnErr result (Waits (record { held = D.held; failed = D.failed }) self.old self.new) }
+        ensures before { self.new.failed_before ≡ self.old.failed_before }
     {
         match self.core.filler_take() {
             Ok(take) => Ok(Outcome::Took(take)),
@@ -236,6 +247,7 @@ impl<D: Flash<A>, A: Allocator + Clone + Copy> Stage<D, A> {
     fn reclaim(&mut self, client: u8) -> Result<Outcome<A>, AllocError>
         ensures ok { IfOk result (λ outcome. Moves (record { held = D.held; failed = D.failed }) self.old (record { client = client; deed = Reclaim }) (told_of outcome) self.new) }
         ensures err { OnErr result (Waits (record { held = D.held; failed = D.failed }) self.old self.new) }
+        ensures before { self.new.failed_before ≡ self.old.failed_before }
     {
         match self.core.reclaim() {
             Ok(region) => Ok(Outcome::Reclaimed(region)),
@@ -247,6 +259,7 @@ impl<D: Flash<A>, A: Allocator + Clone + Copy> Stage<D, A> {
     fn io(&mut self, client: u8, job: u64, fails: bool) -> Result<Outcome<A>, AllocError>
         ensures ok { IfOk result (λ outcome. Moves (record { held = D.held; failed = D.failed }) self.old (record { client = client; deed = Io job fails }) (told_of outcome) self.new) }
         ensures err { OnErr result (Waits (record { held = D.held; failed = D.failed }) self.old self.new) }
+        ensures before { self.new.failed_before ≡ self.old.failed_before }
     {
         let Some(order) = self.core.order(job) else {
             return Ok(Outcome::Refused(Refusal::UnknownJob));
@@ -265,6 +278,7 @@ impl<D: Flash<A>, A: Allocator + Clone + Copy> Stage<D, A> {
     fn finish(&mut self, client: u8, job: u64) -> Result<Outcome<A>, AllocError>
         ensures ok { IfOk result (λ outcome. Moves (record { held = D.held; failed = D.failed }) self.old (record { client = client; deed = Finish job }) (told_of outcome) self.new) }
         ensures err { OnErr result (Waits (record { held = D.held; failed = D.failed }) self.old self.new) }
+        ensures before { self.new.failed_before ≡ self.old.failed_before }
     {
         let Some(waiting) = self.results.get(job) else {
             return Ok(Outcome::Refused(Refusal::UnknownJob));
@@ -293,6 +307,7 @@ impl<D: Flash<A>, A: Allocator + Clone + Copy> Stage<D, A> {
         requires own { AreOwn self.old.slots self.old.cache }
         ensures ok { IfOk result (λ outcome. Moves (record { held = D.held; failed = D.failed }) self.old (record { client = client; deed = deed_of request.now }) (told_of outcome) self.new) }
         ensures err { OnErr result (Waits (record { held = D.held; failed = D.failed }) self.old self.new) }
+        ensures before { self.new.failed_before ≡ self.old.failed_before }
     {
         match request {
             Request::Open {
@@ -322,6 +337,7 @@ impl<D: Flash<A>, A: Allocator + Clone + Copy> Stage<D, A> {
         requires own { AreOwn self.old.slots self.old.cache }
         ensures ok { IfOk result (λ answer. Moves (record { held = D.held; failed = D.failed }) self.old step.now answer self.new) }
         ensures err { OnErr result (Waits (record { held = D.held; failed = D.failed }) self.old self.new) }
+        ensures before { self.new.failed_before ≡ self.old.failed_before }
     {
         let outcome = self.serve(step.client, &step.request)?;
         Ok(Answer { outcome })
@@ -342,7 +358,8 @@ impl<D: Flash<A>, A: Allocator + Clone + Copy> Stage<D, A> {
     #[must_use]
     pub fn end(self) -> (Kept<A>, D)
         requires own { AreOwn self.slots self.cache }
-        ensures { Log result.0.notes.items ≡ told_more self.log (given_up self.slots self.cache).part }
+        ensures log { Log result.0.notes.items ≡ told_more self.log (given_up self.slots self.cache).part }
+        ensures device { result.1 ≡ self.device }
     {
         let Stage {
             mut core,

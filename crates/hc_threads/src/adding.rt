@@ -1,5 +1,6 @@
 // Inserts that don't replace.
 ghost use Rattle.std.specs.Prelude.{◌≡◌, IfErr};
+ghost use Rattle.hc_threads.specs.Asked.{RefusesAdding};
 ghost use Rattle.hc_threads.specs.Seen.{GivesBack};
 
 use crate::shared::Shared;
@@ -34,7 +35,8 @@ impl<N: Notes<Note>> Shared<N> {
         client: u8,
         sealed: Sealed,
     ) -> Result<(u64, Added), Unadded>
-        ensures { IfErr result (λ e. GivesBack e sealed) }
+        ensures why { IfErr result RefusesAdding }
+        ensures sealed_returned { IfErr result (λ e. GivesBack e sealed) }
     {
         let mut held = self.guarded.lock(rt);
         let call = match held.core.insert(client, sealed) {

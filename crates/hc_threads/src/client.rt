@@ -1,8 +1,10 @@
 // A client.
-ghost use Rattle.std.specs.Prelude.{◌≡◌, ◌⊎◌, ◌<◌, ℕ, List, [], IfOk, IfErr, OnOk, OnErr};
+ghost use Rattle.std.specs.Prelude.{◌≡◌, ◌⊎◌, ◌<◌, ℕ, List, [], replicate, IfOk, IfErr, OnOk, OnErr};
 ghost use Rattle.hc_history.specs.Note.{Insert, Add, Find, Remove, Stored, Hit};
 ghost use Rattle.hc_history.specs.Seen as spec;
 ghost use Rattle.hc_records.specs.Records.{IsRecorded};
+ghost use Rattle.hc_memory.specs.Seen.{filled};
+ghost use Rattle.hc_threads.specs.Asked.{IsAsked, RefusesAllocation, RefusesInsert, RefusesAdding};
 ghost use Rattle.hc_threads.specs.Seen.{found_as, removed_as, added_as, GivesBack};
 
 use crate::adding::{Added, Unadded};
@@ -78,7 +80,7 @@ impl Client {
         self.record.entries.clear();
     }
 
-    /// Allocates an item that begins as zeros, as `Core::allocate` does.
+    /// Allocates an item that begins as zeros, as `Core::allocate` does, and is refused as that is.
     pub fn allocate<R: Wait, N: Notes<Note>>(
         &self,
         rt: &R,
@@ -88,7 +90,9 @@ impl Client {
         size: u64,
         ttl: u32,
     ) -> Result<Blank, Uncharged>
-        ensures { IfErr result (λ e. e.key ≡ key) }
+        ensures ok { IfOk result (λ blank. IsAsked pool key (replicate size 0) ttl blank) }
+        ensures why { IfErr result (λ e. RefusesAllocation e.refusal) }
+        ensures key_returned { IfErr result (λ e. e.key ≡ key) }
     {
         shared.allocate_with(rt, pool, key, Fill::Repeated(size, 0), ttl)
     }
@@ -103,7 +107,9 @@ impl Client {
         fill: Fill<'_>,
         ttl: u32,
     ) -> Result<Blank, Uncharged>
-        ensures { IfErr result (λ e. e.key ≡ key) }
+        ensures ok { IfOk result (λ blank. IsAsked pool key (filled fill.entry) ttl blank) }
+        ensures why { IfErr result (λ e. RefusesAllocation e.refusal) }
+        ensures key_returned { IfErr result (λ e. e.key ≡ key) }
     {
         shared.allocate_with(rt, pool, key, fill, ttl)
     }
@@ -141,6 +147,7 @@ impl Client {
     ) -> Result<(), Unlinked>
         ensures recorded { OnOk result (IsRecorded self.old (Insert sealed.key sealed.value sealed.expiry) Stored self.new) }
         ensures err { OnErr result (self.new ≡ self.old) }
+        ensures why { IfErr result (λ e. RefusesInsert e.refusal) }
         ensures sealed_returned { IfErr result (λ e. e.sealed ≡ sealed) }
     {
         let op = match insert_op(&sealed) {
@@ -164,6 +171,7 @@ impl Client {
     ) -> Result<Added, Unadded>
         ensures recorded { IfOk result (λ added. IsRecorded self.old (Add sealed.key sealed.value sealed.expiry) (added_as added) self.new) }
         ensures err { OnErr result (self.new ≡ self.old) }
+        ensures why { IfErr result RefusesAdding }
         ensures sealed_returned { IfErr result (λ e. GivesBack e sealed) }
     {
         let op = match add_op(&sealed) {
@@ -245,7 +253,8 @@ fn add_op(sealed: &Sealed) -> Result<Op, AllocError>
 
 /// The refusal of an item for want of memory.
 fn unlinked(sealed: Sealed) -> Unlinked
-    ensures { result.sealed ≡ sealed }
+    ensures refusal { result.refusal ≡ Refusal.NoMemory }
+    ensures sealed { result.sealed ≡ sealed }
 {
     Unlinked {
         refusal: Refusal::NoMemory,

@@ -12,7 +12,7 @@ use crate::client::Client;
 use crate::shared::Shared;
 use hc_core::Core;
 use hc_history::{Kept, Note, Stats};
-use hc_judge_memory::first_lie;
+use hc_judge_memory::first_lie_in;
 use hc_records::{Mismatch, Recorded, failures as failures_of, reconcile};
 use hc_types::Config;
 
@@ -27,8 +27,9 @@ pub struct Report {
 }
 
 /// Judges a core by the configuration that was kept, by the clients' records, and by how often the device failed. The
-/// answer is `Mismatch` exactly where the configuration isn't the core's, where a record doesn't agree with the log or a
-/// client of the log lacks one, or where more results in the log failed than `failures`.
+/// answer is `Mismatch` only where the configuration isn't the core's, where a record doesn't agree with the log or a
+/// client of the log lacks one, or where more results in the log failed than `failures`; and wherever one of the last two holds.
+/// It takes time in the length of the log, and of what was written to flash.
 pub fn settle<T: Recorded>(
     core: Core<Kept>,
     config: Config,
@@ -57,7 +58,7 @@ pub fn settle<T: Recorded>(
     if !reconcile(notes, clients) {
         return Err(Mismatch);
     }
-    let lie = first_lie(notes);
+    let lie = first_lie_in(notes, log.allocator());
     Ok(Report {
         config,
         log,

@@ -1,5 +1,7 @@
 // The core under one lock, as clients call it.
 ghost use Rattle.std.specs.Prelude.{◌≡◌, ◌<◌, ◌≤◌, IfOk, IfErr};
+ghost use Rattle.hc_memory.specs.Seen.{filled};
+ghost use Rattle.hc_threads.specs.Asked.{IsAsked, RefusesAllocation, RefusesInsert};
 
 use hc_core::Core;
 use hc_history::{Listener, Note, Notes, Reply};
@@ -130,7 +132,9 @@ impl<N: Notes<Note>> Shared<N> {
         fill: Fill<'_>,
         ttl: u32,
     ) -> Result<Blank, Uncharged>
-        ensures { IfErr result (λ e. e.key ≡ key) }
+        ensures ok { IfOk result (λ blank. IsAsked pool key (filled fill.entry) ttl blank) }
+        ensures why { IfErr result (λ e. RefusesAllocation e.refusal) }
+        ensures key_returned { IfErr result (λ e. e.key ≡ key) }
     {
         let blank = self
             .guarded
@@ -164,7 +168,8 @@ impl<N: Notes<Note>> Shared<N> {
         client: u8,
         sealed: Sealed,
     ) -> Result<u64, Unlinked>
-        ensures { IfErr result (λ e. e.sealed ≡ sealed) }
+        ensures why { IfErr result (λ e. RefusesInsert e.refusal) }
+        ensures sealed_returned { IfErr result (λ e. e.sealed ≡ sealed) }
     {
         let mut held = self.guarded.lock(rt);
         held.core.insert_or_replace(client, sealed)?;

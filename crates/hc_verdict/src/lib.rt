@@ -5,7 +5,7 @@ mod lawful;
 mod text;
 mod verdict;
 
-pub use hc_judge_memory::{first_lie, is_at_end};
+pub use hc_judge_memory::{first_lie, first_lie_in, is_at_end};
 pub use lawful::first_unlawful;
 pub use text::judge_text;
 pub use verdict::{Verdict, judge};

@@ -5,7 +5,7 @@ ghost use Rattle.hc_verdict.specs.Verdict.{IsVerdict, verdict_of};
 
 use crate::lawful::{first_unlawful, limits};
 use hc_history::Note;
-use hc_judge_memory::{first_lie, is_at_end};
+use hc_judge_memory::{first_lie_in, is_at_end};
 use hc_types::{Config, Refusal};
 use std::alloc::Allocator;
 use std::fmt::{self, Display};
@@ -54,7 +54,7 @@ pub fn judge<A: Allocator + Clone>(
     limits(config);
     let unlawful = first_unlawful(config, log, alloc)?;
     let ends = is_at_end(config, log, alloc)?;
-    Ok(said(unlawful, first_lie(log), ends))
+    Ok(said(unlawful, first_lie_in(log, alloc), ends))
 }
 
 // The verdict, by what was found.

@@ -1,13 +1,14 @@
-use Rattle.std.proofs.Common.{Some, None, length, take, ap, ◌∙◌, arith}
+use Rattle.std.proofs.Common.{Some, None, length, take, sym, ap, ◌∙◌, arith}
 use Rattle.hc_follows.specs.Follows.{StopsAt}
-use Rattle.hc_run.proofs.Going.{ongoing-none, ongoing-own, ongoing-made, ongoing-stopped, run_turn, run_ends, promised}
+use Rattle.hc_run.proofs.Going.{ongoing-none, ongoing-own, ongoing-made, ongoing-stopped, run_turn, run_ends, run_over, promised}
 use Rattle.hc_run.proofs.runs.run.Goals as goal
 
 pub loop-i-init : goal.loop-i-init
 loop-i-init g c =
     let is = c.in_ok-stage.ensures in
     record {
-      ongoing = rw (c.new-answers.ensures.items, c.new-ends.ensures.items) (ongoing-none _ c.args.config.now c.in_ok-stage.stage is.cache is.log is.results is.slots is.before);
+      ongoing = rw (c.new-answers.ensures.items, c.new-ends.ensures.items) (ongoing-none _ c.args.config.now c.in_ok-stage.stage is.cache is.log is.results is.slots (is.before ∙ sym (ap g.D.Flash.failed is.device)));
+      before = is.before;
       made = ap length c.new-answers.ensures.items;
     }
 
@@ -21,7 +22,7 @@ loop-i-preserved g c =
     let l = c.loop-i in
     let turn = run_turn _ c.args.config.now c.args.steps.now c.index-steps-i.result l.i l.answers.items c.go_on.new.answers.items l.ends.items c.go_on.new.ends.items l.stage c.go_on.new.stage
     c.loop-i-test.true c.index-steps-i.is c.in_ok-stage.ensures.fits l.invariant.ongoing l.invariant.made c.in-Ok.ensures.ok in
-    record { ongoing = turn.0; made = turn.1 }
+    record { ongoing = turn.0; before = c.go_on.ensures.before ∙ l.invariant.before; made = turn.1 }
 
 -- ---- where memory lacks
 
@@ -39,7 +40,7 @@ returns-in-Err-clause-runs g c =
     let l = c.loop-i in
     let back = c.in-Err.ensures in
     run_ends _ c.args.config.now (take (length c.go_on.new.answers.items) c.args.steps.now) c.go_on.new.answers.items c.go_on.new.ends.items c.go_on.new.stage c.end-log.result.0.notes.items
-    (ongoing-stopped _ c.args.config.now c.args.steps.now l.i l.answers.items c.go_on.new.answers.items l.ends.items c.go_on.new.ends.items l.stage c.go_on.new.stage l.invariant.ongoing l.invariant.made back.err back.answers back.ends) c.end-log.ensures
+    (ongoing-stopped _ c.args.config.now c.args.steps.now l.i l.answers.items c.go_on.new.answers.items l.ends.items c.go_on.new.ends.items l.stage c.go_on.new.stage l.invariant.ongoing l.invariant.made back.err back.answers back.ends) c.end-log.ensures.log
 
 pub returns-in-Err-clause-legal : goal.returns-in-Err-clause-legal
 returns-in-Err-clause-legal g c =
@@ -47,7 +48,7 @@ returns-in-Err-clause-legal g c =
     let back = c.in-Err.ensures in
     (promised _ c.args.config.now c.args.steps.now c.go_on.new.answers.items c.go_on.new.ends.items c.go_on.new.stage c.end-log.result.0.notes.items (Some l.i) c.in_ok-stage.ensures.fits
     (ongoing-stopped _ c.args.config.now c.args.steps.now l.i l.answers.items c.go_on.new.answers.items l.ends.items c.go_on.new.ends.items l.stage c.go_on.new.stage l.invariant.ongoing l.invariant.made back.err back.answers back.ends)
-    (ap length back.answers ∙ l.invariant.made, c.loop-i-test.true) c.end-log.ensures).legal
+    (ap length back.answers ∙ l.invariant.made, c.loop-i-test.true) c.end-log.ensures.log).legal
 
 pub returns-in-Err-clause-honest : goal.returns-in-Err-clause-honest
 returns-in-Err-clause-honest g c =
@@ -55,7 +56,7 @@ returns-in-Err-clause-honest g c =
     let back = c.in-Err.ensures in
     (promised _ c.args.config.now c.args.steps.now c.go_on.new.answers.items c.go_on.new.ends.items c.go_on.new.stage c.end-log.result.0.notes.items (Some l.i) c.in_ok-stage.ensures.fits
     (ongoing-stopped _ c.args.config.now c.args.steps.now l.i l.answers.items c.go_on.new.answers.items l.ends.items c.go_on.new.ends.items l.stage c.go_on.new.stage l.invariant.ongoing l.invariant.made back.err back.answers back.ends)
-    (ap length back.answers ∙ l.invariant.made, c.loop-i-test.true) c.end-log.ensures).honest
+    (ap length back.answers ∙ l.invariant.made, c.loop-i-test.true) c.end-log.ensures.log).honest
 
 pub returns-in-Err-clause-follows : goal.returns-in-Err-clause-follows
 returns-in-Err-clause-follows g c =
@@ -63,7 +64,7 @@ returns-in-Err-clause-follows g c =
     let back = c.in-Err.ensures in
     (promised _ c.args.config.now c.args.steps.now c.go_on.new.answers.items c.go_on.new.ends.items c.go_on.new.stage c.end-log.result.0.notes.items (Some l.i) c.in_ok-stage.ensures.fits
     (ongoing-stopped _ c.args.config.now c.args.steps.now l.i l.answers.items c.go_on.new.answers.items l.ends.items c.go_on.new.ends.items l.stage c.go_on.new.stage l.invariant.ongoing l.invariant.made back.err back.answers back.ends)
-    (ap length back.answers ∙ l.invariant.made, c.loop-i-test.true) c.end-log.ensures).follows
+    (ap length back.answers ∙ l.invariant.made, c.loop-i-test.true) c.end-log.ensures.log).follows
 
 -- ---- at the end of the steps
 
@@ -76,25 +77,41 @@ pub returns-clause-runs : goal.returns-clause-runs
 returns-clause-runs g c =
     let l = c.loop-i in
     run_ends _ c.args.config.now (take (length l.answers.items) c.args.steps.now) l.answers.items l.ends.items l.stage c.end-log-2.result.0.notes.items
-    (ongoing-made _ c.args.config.now c.args.steps.now l.i l.answers.items l.ends.items l.stage l.invariant.ongoing l.invariant.made) c.end-log-2.ensures
+    (ongoing-made _ c.args.config.now c.args.steps.now l.i l.answers.items l.ends.items l.stage l.invariant.ongoing l.invariant.made) c.end-log-2.ensures.log
 
 pub returns-clause-legal : goal.returns-clause-legal
 returns-clause-legal g c =
     let l = c.loop-i in
     let stops : StopsAt None (length l.answers.items) (length c.args.steps.now) = omega (arith, l.invariant.made, l.auto.i-end, c.loop-i-test.false) in
     (promised _ c.args.config.now c.args.steps.now l.answers.items l.ends.items l.stage c.end-log-2.result.0.notes.items None c.in_ok-stage.ensures.fits
-    (ongoing-made _ c.args.config.now c.args.steps.now l.i l.answers.items l.ends.items l.stage l.invariant.ongoing l.invariant.made) stops c.end-log-2.ensures).legal
+    (ongoing-made _ c.args.config.now c.args.steps.now l.i l.answers.items l.ends.items l.stage l.invariant.ongoing l.invariant.made) stops c.end-log-2.ensures.log).legal
 
 pub returns-clause-honest : goal.returns-clause-honest
 returns-clause-honest g c =
     let l = c.loop-i in
     let stops : StopsAt None (length l.answers.items) (length c.args.steps.now) = omega (arith, l.invariant.made, l.auto.i-end, c.loop-i-test.false) in
     (promised _ c.args.config.now c.args.steps.now l.answers.items l.ends.items l.stage c.end-log-2.result.0.notes.items None c.in_ok-stage.ensures.fits
-    (ongoing-made _ c.args.config.now c.args.steps.now l.i l.answers.items l.ends.items l.stage l.invariant.ongoing l.invariant.made) stops c.end-log-2.ensures).honest
+    (ongoing-made _ c.args.config.now c.args.steps.now l.i l.answers.items l.ends.items l.stage l.invariant.ongoing l.invariant.made) stops c.end-log-2.ensures.log).honest
 
 pub returns-clause-follows : goal.returns-clause-follows
 returns-clause-follows g c =
     let l = c.loop-i in
     let stops : StopsAt None (length l.answers.items) (length c.args.steps.now) = omega (arith, l.invariant.made, l.auto.i-end, c.loop-i-test.false) in
     (promised _ c.args.config.now c.args.steps.now l.answers.items l.ends.items l.stage c.end-log-2.result.0.notes.items None c.in_ok-stage.ensures.fits
-    (ongoing-made _ c.args.config.now c.args.steps.now l.i l.answers.items l.ends.items l.stage l.invariant.ongoing l.invariant.made) stops c.end-log-2.ensures).follows
+    (ongoing-made _ c.args.config.now c.args.steps.now l.i l.answers.items l.ends.items l.stage l.invariant.ongoing l.invariant.made) stops c.end-log-2.ensures.log).follows
+
+-- ---- the device
+
+pub returns-in-Err-clause-device : goal.returns-in-Err-clause-device
+returns-in-Err-clause-device g c =
+    let l = c.loop-i in
+    let back = c.in-Err.ensures in
+    run_over _ c.args.config.now (take (length c.go_on.new.answers.items) c.args.steps.now) c.go_on.new.answers.items c.go_on.new.ends.items c.go_on.new.stage c.args.device c.end-log.result.1
+    (ongoing-stopped _ c.args.config.now c.args.steps.now l.i l.answers.items c.go_on.new.answers.items l.ends.items c.go_on.new.ends.items l.stage c.go_on.new.stage l.invariant.ongoing l.invariant.made back.err back.answers back.ends)
+    (c.go_on.ensures.before ∙ l.invariant.before) c.end-log.ensures.device
+
+pub returns-clause-device : goal.returns-clause-device
+returns-clause-device g c =
+    let l = c.loop-i in
+    run_over _ c.args.config.now (take (length l.answers.items) c.args.steps.now) l.answers.items l.ends.items l.stage c.args.device c.end-log-2.result.1
+    (ongoing-made _ c.args.config.now c.args.steps.now l.i l.answers.items l.ends.items l.stage l.invariant.ongoing l.invariant.made) l.invariant.before c.end-log-2.ensures.device

@@ -1,7 +1,7 @@
 use Rattle.std.proofs.Common.{Some, None, sym, length, take, ap, ◌∙◌, arith}
 use Rattle.hc_follows.specs.Follows.{StopsAt}
 use Rattle.hc_run.specs.declared.runs.Stopped.TheVariants.{NoMemory, NotQuiet}
-use Rattle.hc_run.proofs.Going.{ongoing-none, ongoing-own, promised}
+use Rattle.hc_run.proofs.Going.{ongoing-none, ongoing-own, run_over, promised}
 use Rattle.hc_run.proofs.QuietGoing.{quiet-none-yet, quiet-made, quiet-stopped, quiet_turn, quiet_ends, not-quiet-here}
 use Rattle.hc_run.proofs.runs.run_quiet.Goals as goal
 
@@ -9,7 +9,8 @@ pub loop-i-init : goal.loop-i-init
 loop-i-init g c =
     let is = c.in_ok-stage.ensures in
     record {
-      quiet = rw (c.new-answers.ensures.items, c.new-ends.ensures.items) (quiet-none-yet _ c.args.config.now _ _ c.in_ok-stage.stage (ongoing-none _ c.args.config.now c.in_ok-stage.stage is.cache is.log is.results is.slots is.before));
+      quiet = rw (c.new-answers.ensures.items, c.new-ends.ensures.items) (quiet-none-yet _ c.args.config.now _ _ c.in_ok-stage.stage (ongoing-none _ c.args.config.now c.in_ok-stage.stage is.cache is.log is.results is.slots (is.before ∙ sym (ap g.D.Flash.failed is.device))));
+      before = is.before;
       made = ap length c.new-answers.ensures.items;
     }
 
@@ -23,7 +24,7 @@ loop-i-preserved g c =
     let l = c.loop-i in
     let turn = quiet_turn _ c.args.config.now c.args.steps.now c.index-steps-i.result l.i l.answers.items c.go_on.new.answers.items l.ends.items c.go_on.new.ends.items l.stage c.go_on.new.stage
     c.loop-i-test.true c.index-steps-i.is c.in_ok-stage.ensures.fits l.invariant.quiet l.invariant.made (sym c.is_quiet.ensures ∙ c.if-not-is_quiet.false) c.in-Ok.ensures.ok in
-    record { quiet = turn.0; made = turn.1 }
+    record { quiet = turn.0; before = c.go_on.ensures.before ∙ l.invariant.before; made = turn.1 }
 
 -- ---- where the step isn't quiet
 
@@ -37,28 +38,28 @@ pub returns-then-not-is_quiet-clause-runs : goal.returns-then-not-is_quiet-claus
 returns-then-not-is_quiet-clause-runs g c =
     let l = c.loop-i in
     let made = quiet-made _ c.args.config.now c.args.steps.now l.i l.answers.items l.ends.items l.stage l.invariant.quiet l.invariant.made in
-    quiet_ends _ c.args.config.now c.args.steps.now l.answers.items l.ends.items l.stage c.end-log.result.0.notes.items (Some (NotQuiet l.i)) made (not-quiet-here (record { held = g.D.Flash.held; failed = g.D.Flash.failed }) c.args.config.now c.args.steps.now c.index-steps-i.result l.i l.stage c.loop-i-test.true c.index-steps-i.is (sym c.is_quiet.ensures ∙ c.if-not-is_quiet.true)) c.end-log.ensures
+    quiet_ends _ c.args.config.now c.args.steps.now l.answers.items l.ends.items l.stage c.end-log.result.0.notes.items (Some (NotQuiet l.i)) made (not-quiet-here (record { held = g.D.Flash.held; failed = g.D.Flash.failed }) c.args.config.now c.args.steps.now c.index-steps-i.result l.i l.stage c.loop-i-test.true c.index-steps-i.is (sym c.is_quiet.ensures ∙ c.if-not-is_quiet.true)) c.end-log.ensures.log
 
 pub returns-then-not-is_quiet-clause-legal : goal.returns-then-not-is_quiet-clause-legal
 returns-then-not-is_quiet-clause-legal g c =
     let l = c.loop-i in
     let made = quiet-made _ c.args.config.now c.args.steps.now l.i l.answers.items l.ends.items l.stage l.invariant.quiet l.invariant.made in
     let stops : StopsAt (Some l.i) (length l.answers.items) (length c.args.steps.now) = (l.invariant.made, c.loop-i-test.true) in
-    (promised _ c.args.config.now c.args.steps.now l.answers.items l.ends.items l.stage c.end-log.result.0.notes.items (Some l.i) c.in_ok-stage.ensures.fits made.ongoing stops c.end-log.ensures).legal
+    (promised _ c.args.config.now c.args.steps.now l.answers.items l.ends.items l.stage c.end-log.result.0.notes.items (Some l.i) c.in_ok-stage.ensures.fits made.ongoing stops c.end-log.ensures.log).legal
 
 pub returns-then-not-is_quiet-clause-honest : goal.returns-then-not-is_quiet-clause-honest
 returns-then-not-is_quiet-clause-honest g c =
     let l = c.loop-i in
     let made = quiet-made _ c.args.config.now c.args.steps.now l.i l.answers.items l.ends.items l.stage l.invariant.quiet l.invariant.made in
     let stops : StopsAt (Some l.i) (length l.answers.items) (length c.args.steps.now) = (l.invariant.made, c.loop-i-test.true) in
-    (promised _ c.args.config.now c.args.steps.now l.answers.items l.ends.items l.stage c.end-log.result.0.notes.items (Some l.i) c.in_ok-stage.ensures.fits made.ongoing stops c.end-log.ensures).honest
+    (promised _ c.args.config.now c.args.steps.now l.answers.items l.ends.items l.stage c.end-log.result.0.notes.items (Some l.i) c.in_ok-stage.ensures.fits made.ongoing stops c.end-log.ensures.log).honest
 
 pub returns-then-not-is_quiet-clause-follows : goal.returns-then-not-is_quiet-clause-follows
 returns-then-not-is_quiet-clause-follows g c =
     let l = c.loop-i in
     let made = quiet-made _ c.args.config.now c.args.steps.now l.i l.answers.items l.ends.items l.stage l.invariant.quiet l.invariant.made in
     let stops : StopsAt (Some l.i) (length l.answers.items) (length c.args.steps.now) = (l.invariant.made, c.loop-i-test.true) in
-    (promised _ c.args.config.now c.args.steps.now l.answers.items l.ends.items l.stage c.end-log.result.0.notes.items (Some l.i) c.in_ok-stage.ensures.fits made.ongoing stops c.end-log.ensures).follows
+    (promised _ c.args.config.now c.args.steps.now l.answers.items l.ends.items l.stage c.end-log.result.0.notes.items (Some l.i) c.in_ok-stage.ensures.fits made.ongoing stops c.end-log.ensures.log).follows
 
 -- ---- where memory lacks
 
@@ -74,7 +75,7 @@ returns-in-Err-clause-runs g c =
     let l = c.loop-i in
     let back = c.in-Err.ensures in
     let stopped = quiet-stopped _ c.args.config.now c.args.steps.now l.i l.answers.items c.go_on.new.answers.items l.ends.items c.go_on.new.ends.items l.stage c.go_on.new.stage l.invariant.quiet l.invariant.made back.err back.answers back.ends in
-    quiet_ends _ c.args.config.now c.args.steps.now c.go_on.new.answers.items c.go_on.new.ends.items c.go_on.new.stage c.end-log-in-Err.result.0.notes.items (Some (NoMemory l.i)) stopped (λ scene same. tt) c.end-log-in-Err.ensures
+    quiet_ends _ c.args.config.now c.args.steps.now c.go_on.new.answers.items c.go_on.new.ends.items c.go_on.new.stage c.end-log-in-Err.result.0.notes.items (Some (NoMemory l.i)) stopped (λ scene same. tt) c.end-log-in-Err.ensures.log
 
 pub returns-in-Err-clause-legal : goal.returns-in-Err-clause-legal
 returns-in-Err-clause-legal g c =
@@ -82,7 +83,7 @@ returns-in-Err-clause-legal g c =
     let back = c.in-Err.ensures in
     let stopped = quiet-stopped _ c.args.config.now c.args.steps.now l.i l.answers.items c.go_on.new.answers.items l.ends.items c.go_on.new.ends.items l.stage c.go_on.new.stage l.invariant.quiet l.invariant.made back.err back.answers back.ends in
     let stops : StopsAt (Some l.i) (length c.go_on.new.answers.items) (length c.args.steps.now) = (ap length back.answers ∙ l.invariant.made, c.loop-i-test.true) in
-    (promised _ c.args.config.now c.args.steps.now c.go_on.new.answers.items c.go_on.new.ends.items c.go_on.new.stage c.end-log-in-Err.result.0.notes.items (Some l.i) c.in_ok-stage.ensures.fits stopped.ongoing stops c.end-log-in-Err.ensures).legal
+    (promised _ c.args.config.now c.args.steps.now c.go_on.new.answers.items c.go_on.new.ends.items c.go_on.new.stage c.end-log-in-Err.result.0.notes.items (Some l.i) c.in_ok-stage.ensures.fits stopped.ongoing stops c.end-log-in-Err.ensures.log).legal
 
 pub returns-in-Err-clause-honest : goal.returns-in-Err-clause-honest
 returns-in-Err-clause-honest g c =
@@ -90,7 +91,7 @@ returns-in-Err-clause-honest g c =
     let back = c.in-Err.ensures in
     let stopped = quiet-stopped _ c.args.config.now c.args.steps.now l.i l.answers.items c.go_on.new.answers.items l.ends.items c.go_on.new.ends.items l.stage c.go_on.new.stage l.invariant.quiet l.invariant.made back.err back.answers back.ends in
     let stops : StopsAt (Some l.i) (length c.go_on.new.answers.items) (length c.args.steps.now) = (ap length back.answers ∙ l.invariant.made, c.loop-i-test.true) in
-    (promised _ c.args.config.now c.args.steps.now c.go_on.new.answers.items c.go_on.new.ends.items c.go_on.new.stage c.end-log-in-Err.result.0.notes.items (Some l.i) c.in_ok-stage.ensures.fits stopped.ongoing stops c.end-log-in-Err.ensures).honest
+    (promised _ c.args.config.now c.args.steps.now c.go_on.new.answers.items c.go_on.new.ends.items c.go_on.new.stage c.end-log-in-Err.result.0.notes.items (Some l.i) c.in_ok-stage.ensures.fits stopped.ongoing stops c.end-log-in-Err.ensures.log).honest
 
 pub returns-in-Err-clause-follows : goal.returns-in-Err-clause-follows
 returns-in-Err-clause-follows g c =
@@ -98,7 +99,7 @@ returns-in-Err-clause-follows g c =
     let back = c.in-Err.ensures in
     let stopped = quiet-stopped _ c.args.config.now c.args.steps.now l.i l.answers.items c.go_on.new.answers.items l.ends.items c.go_on.new.ends.items l.stage c.go_on.new.stage l.invariant.quiet l.invariant.made back.err back.answers back.ends in
     let stops : StopsAt (Some l.i) (length c.go_on.new.answers.items) (length c.args.steps.now) = (ap length back.answers ∙ l.invariant.made, c.loop-i-test.true) in
-    (promised _ c.args.config.now c.args.steps.now c.go_on.new.answers.items c.go_on.new.ends.items c.go_on.new.stage c.end-log-in-Err.result.0.notes.items (Some l.i) c.in_ok-stage.ensures.fits stopped.ongoing stops c.end-log-in-Err.ensures).follows
+    (promised _ c.args.config.now c.args.steps.now c.go_on.new.answers.items c.go_on.new.ends.items c.go_on.new.stage c.end-log-in-Err.result.0.notes.items (Some l.i) c.in_ok-stage.ensures.fits stopped.ongoing stops c.end-log-in-Err.ensures.log).follows
 
 -- ---- at the end of the steps
 
@@ -112,25 +113,46 @@ pub returns-clause-runs : goal.returns-clause-runs
 returns-clause-runs g c =
     let l = c.loop-i in
     let made = quiet-made _ c.args.config.now c.args.steps.now l.i l.answers.items l.ends.items l.stage l.invariant.quiet l.invariant.made in
-    quiet_ends _ c.args.config.now c.args.steps.now l.answers.items l.ends.items l.stage c.end-log-2.result.0.notes.items None made (λ scene same. tt) c.end-log-2.ensures
+    quiet_ends _ c.args.config.now c.args.steps.now l.answers.items l.ends.items l.stage c.end-log-2.result.0.notes.items None made (λ scene same. tt) c.end-log-2.ensures.log
 
 pub returns-clause-legal : goal.returns-clause-legal
 returns-clause-legal g c =
     let l = c.loop-i in
     let made = quiet-made _ c.args.config.now c.args.steps.now l.i l.answers.items l.ends.items l.stage l.invariant.quiet l.invariant.made in
     let stops : StopsAt None (length l.answers.items) (length c.args.steps.now) = omega (arith, l.invariant.made, l.auto.i-end, c.loop-i-test.false) in
-    (promised _ c.args.config.now c.args.steps.now l.answers.items l.ends.items l.stage c.end-log-2.result.0.notes.items None c.in_ok-stage.ensures.fits made.ongoing stops c.end-log-2.ensures).legal
+    (promised _ c.args.config.now c.args.steps.now l.answers.items l.ends.items l.stage c.end-log-2.result.0.notes.items None c.in_ok-stage.ensures.fits made.ongoing stops c.end-log-2.ensures.log).legal
 
 pub returns-clause-honest : goal.returns-clause-honest
 returns-clause-honest g c =
     let l = c.loop-i in
     let made = quiet-made _ c.args.config.now c.args.steps.now l.i l.answers.items l.ends.items l.stage l.invariant.quiet l.invariant.made in
     let stops : StopsAt None (length l.answers.items) (length c.args.steps.now) = omega (arith, l.invariant.made, l.auto.i-end, c.loop-i-test.false) in
-    (promised _ c.args.config.now c.args.steps.now l.answers.items l.ends.items l.stage c.end-log-2.result.0.notes.items None c.in_ok-stage.ensures.fits made.ongoing stops c.end-log-2.ensures).honest
+    (promised _ c.args.config.now c.args.steps.now l.answers.items l.ends.items l.stage c.end-log-2.result.0.notes.items None c.in_ok-stage.ensures.fits made.ongoing stops c.end-log-2.ensures.log).honest
 
 pub returns-clause-follows : goal.returns-clause-follows
 returns-clause-follows g c =
     let l = c.loop-i in
     let made = quiet-made _ c.args.config.now c.args.steps.now l.i l.answers.items l.ends.items l.stage l.invariant.quiet l.invariant.made in
     let stops : StopsAt None (length l.answers.items) (length c.args.steps.now) = omega (arith, l.invariant.made, l.auto.i-end, c.loop-i-test.false) in
-    (promised _ c.args.config.now c.args.steps.now l.answers.items l.ends.items l.stage c.end-log-2.result.0.notes.items None c.in_ok-stage.ensures.fits made.ongoing stops c.end-log-2.ensures).follows
+    (promised _ c.args.config.now c.args.steps.now l.answers.items l.ends.items l.stage c.end-log-2.result.0.notes.items None c.in_ok-stage.ensures.fits made.ongoing stops c.end-log-2.ensures.log).follows
+
+-- ---- the device
+
+pub returns-then-not-is_quiet-clause-device : goal.returns-then-not-is_quiet-clause-device
+returns-then-not-is_quiet-clause-device g c =
+    let l = c.loop-i in
+    let made = quiet-made _ c.args.config.now c.args.steps.now l.i l.answers.items l.ends.items l.stage l.invariant.quiet l.invariant.made in
+    run_over _ c.args.config.now (take (length l.answers.items) c.args.steps.now) l.answers.items l.ends.items l.stage c.args.device c.end-log.result.1 made.ongoing l.invariant.before c.end-log.ensures.device
+
+pub returns-in-Err-clause-device : goal.returns-in-Err-clause-device
+returns-in-Err-clause-device g c =
+    let l = c.loop-i in
+    let back = c.in-Err.ensures in
+    let stopped = quiet-stopped _ c.args.config.now c.args.steps.now l.i l.answers.items c.go_on.new.answers.items l.ends.items c.go_on.new.ends.items l.stage c.go_on.new.stage l.invariant.quiet l.invariant.made back.err back.answers back.ends in
+    run_over _ c.args.config.now (take (length c.go_on.new.answers.items) c.args.steps.now) c.go_on.new.answers.items c.go_on.new.ends.items c.go_on.new.stage c.args.device c.end-log-in-Err.result.1 stopped.ongoing (c.go_on.ensures.before ∙ l.invariant.before) c.end-log-in-Err.ensures.device
+
+pub returns-clause-device : goal.returns-clause-device
+returns-clause-device g c =
+    let l = c.loop-i in
+    let made = quiet-made _ c.args.config.now c.args.steps.now l.i l.answers.items l.ends.items l.stage l.invariant.quiet l.invariant.made in
+    run_over _ c.args.config.now (take (length l.answers.items) c.args.steps.now) l.answers.items l.ends.items l.stage c.args.device c.end-log-2.result.1 made.ongoing l.invariant.before c.end-log-2.ensures.device

@@ -10,8 +10,8 @@ use Rattle.hc_threads.proofs.close.settle.Goals as goal
 
 pub returns-clause-legal : goal.returns-clause-legal
 returns-clause-legal g c = λ none.
-    legal-from c.args.config c.into_notes-kept.result.notes.items c.args.core.cache c.first_lie-lie.result c.into_notes-kept.ensures.guarded (sym c.config.ensures ∙ (c.is_same.ensures).0 c.if-not-is_same.false)
-    (subst (λ (l : List Note). IsFirstLie [] l c.first_lie-lie.result) c.as_slice-notes.ensures.value c.first_lie-lie.ensures) none
+    legal-from c.args.config c.into_notes-kept.result.notes.items c.args.core.cache c.first_lie_in-lie.result c.into_notes-kept.ensures.guarded (sym c.config.ensures ∙ (c.is_same.ensures).0 c.if-not-is_same.false)
+    (subst (λ (l : List Note). IsFirstLie [] l c.first_lie_in-lie.result) c.as_slice-notes.ensures.value c.first_lie_in-lie.ensures) none
 
 pub returns-clause-agrees : goal.returns-clause-agrees
 returns-clause-agrees g c = subst (λ (l : List Note). Reconciled l (map g.T.Recorded.recorded c.args.clients.now)) c.as_slice-notes.ensures.value ((c.reconcile.ensures).0 c.if-not-reconcile.false)

@@ -5,8 +5,8 @@ use Rattle.hc_run.proofs.Slotting.{read-is}
 use Rattle.hc_run.proofs.Slotted.{content-own, discard-none, discard-so}
 use Rattle.hc_run.proofs.stage.Stage.discard.Goals as goal
 
-pub returns-then-not-is_filled : goal.returns-then-not-is_filled
-returns-then-not-is_filled g c =
+pub returns-then-not-is_filled-clause-moves : goal.returns-then-not-is_filled-clause-moves
+returns-then-not-is_filled-clause-moves g c =
     let f = c.self.inside in
     let within : c.args.slot < length f.slots.items = omega (arith, c.self.invariant) in
     let empty = read-is f.slots.items c.from.result c.args.slot c.index.result.now false c.is_filled.result c.from.ensures within c.index.ensures c.is_filled.ensures c.if-not-is_filled.true in
@@ -18,8 +18,8 @@ give_up_content-requires g c =
     let own = subst (λ (s : Stage g.row.D.Denot). AreOwn s.slots s.cache) (sym c.self.view_is) c.requires.own in
     record { mine = content-own f.core.cache f.slots.items c.args.slot (handle_of c.take-content.result) own c.take-content.ensures.content }
 
-pub returns : goal.returns
-returns g c =
+pub returns-clause-moves : goal.returns-clause-moves
+returns-clause-moves g c =
     let f = c.self.inside in
     let own = subst (λ (s : Stage g.row.D.Denot). AreOwn s.slots s.cache) (sym c.self.view_is) c.requires.own in
     let within : c.args.slot < length f.slots.items = omega (arith, c.self.invariant) in

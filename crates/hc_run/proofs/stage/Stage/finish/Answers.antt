@@ -21,4 +21,5 @@ returns-in_default-refusal g c = record {
       (finish-refused _ _ _ c.args.client c.args.job (result_of c.in_ok-came.came) c.in-Err.field-0.refusal (sym c.in-Some.ensures ∙ ap Some (sym c.in_ok-came.ensures.ok)) (but-memory _ c.in-Err.field-0.refusal c.in_default-refusal.not-NoMemory c.in-Err.ensures.why)
       (λ i. (c.in-Err.ensures.err i).cache) (λ i. (c.in-Err.ensures.err i).log) refl refl c.forget-in_default-refusal.ensures refl);
   err = tt;
+  before = rw (← c.self.view_is) refl;
 }
