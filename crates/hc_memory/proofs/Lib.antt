@@ -19,8 +19,6 @@ pub mod Grouped
 pub mod Listing
 pub mod Fresh
 pub mod Ending
-pub mod Unmarked
-pub mod Marking
 pub mod Commuting
 pub mod Early
 pub mod Bringing

@@ -10,7 +10,6 @@ mod groups;
 mod handles;
 mod item;
 mod links;
-mod marks;
 mod open;
 mod parked;
 mod pool;
