@@ -4,8 +4,6 @@
 #[cfg(test)]
 mod calls;
 #[cfg(test)]
-mod clock;
-#[cfg(test)]
 mod replays;
 #[cfg(test)]
 mod runs;
