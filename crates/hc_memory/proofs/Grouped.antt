@@ -9,7 +9,6 @@ use Rattle.std.specs.BTreeMap.{is_at}
 use Rattle.std.specs.Map.{lookup}
 use Rattle.std.specs.declared.vec.Vec.{Vec}
 use Rattle.std.proofs.lemmas.Bool.{eqb-true}
-use Rattle.std.proofs.lemmas.Slice.Eq.{bytes_eq-Decides}
 use Rattle.hc_memory.proofs.Keyed.{same_bytes}
 use Rattle.std.proofs.lemmas.Option.{slice_get_within}
 use Rattle.hc_memory.proofs.Places.{tally-removed, same_removed}

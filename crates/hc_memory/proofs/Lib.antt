@@ -19,6 +19,8 @@ pub mod Grouped
 pub mod Listing
 pub mod Fresh
 pub mod Ending
+pub mod Unmarked
+pub mod Marking
 pub mod Commuting
 pub mod Early
 pub mod Bringing

@@ -1,12 +1,13 @@
 -- What is listed stays listed, whatever the pools do.
-use Rattle.std.proofs.Common.{◌≡◌, ℕ, ◌+◌, ◌≤◌, ◌==◌, ◌++◌, ◌&&◌, ◌||◌, not, Bool, true, false, List, [], ◌∷◌, Option, Some, None, refl, ap, sym, ◌∙◌, arith, map, length, drop, slice_get, slice_set, eq-eqb, zero, suc, take}
+use Rattle.std.proofs.Common.{◌≡◌, ℕ, ◌+◌, ◌≤◌, ◌==◌, nat_le, ◌++◌, ◌&&◌, ◌||◌, not, Bool, true, false, List, [], ◌∷◌, Option, Some, None, refl, ap, sym, ◌∙◌, arith, map, length, drop, slice_get, slice_set, eq-eqb, zero, suc, take}
 use mathlib.Core.Bool.{cond}
 use Rattle.std.specs.Option.{option_map_or}
 use Rattle.std.specs.Str.{bytes_eq}
 use Rattle.std.proofs.lemmas.Slice.Eq.{bytes_eq-Decides}
+use Rattle.std.proofs.lemmas.Bool.{leb-true, le-leb}
 use Rattle.std.proofs.lemmas.List.Folds.{list_any-append}
 use Rattle.hc_types.specs.Tally.{tally, count}
-use Rattle.hc_types.specs.Places.{bucket_at, is_small_by}
+use Rattle.hc_types.specs.Places.{is_small_by}
 use Rattle.hc_types.proofs.Tallies.{tally-mono, tally-push, tally-set, tally-drop, tally-get}
 use Rattle.hc_types.specs.declared.config.PoolSize.{PoolSize}
 use Rattle.hc_types.specs.declared.config.FlashConfig.{FlashConfig}
@@ -14,7 +15,7 @@ use Rattle.hc_memory.specs.Sound.{items_at}
 use Rattle.hc_memory.specs.Item.{Item}
 use Rattle.hc_memory.specs.Pool.{Pool, item_at, without, used, is_at}
 use Rattle.hc_memory.specs.Memory.{empty_pool, home_of, change_at, unlinked}
-use Rattle.hc_memory.specs.Clean.{Listing, keys_at, has_key, with_key, large_at, is_listed, is_missed, Listed}
+use Rattle.hc_memory.specs.Clean.{Listing, keys_at, has_key, with_key, large_at, is_listed, is_told, is_missed, Listed}
 use Rattle.hc_memory.proofs.Homes.{home, away}
 use Rattle.hc_memory.proofs.Keyed.{less-without, tally-used}
 
@@ -34,10 +35,6 @@ has-with key keys = go (has_key key keys) refl
 -- what a place has once the key came in
 with-there : (place at : ℕ) (key : List ℕ) (old new : List (ℕ × List (List ℕ))) → at ≡ place → ((p : ℕ) → keys_at p new ≡ cond (p == place) (with_key key (keys_at p old)) (keys_at p old)) → has_key key (keys_at at new) ≡ true
 with-there place at key old new same is = ap (has_key key) (is at ∙ ap (λ b. cond b (with_key key (keys_at at old)) (keys_at at old)) (eq-eqb at place same)) ∙ has-with key (keys_at at old)
-
-pub listed-small : (flash : FlashConfig) (listing : Listing) (key : List ℕ) (len place : ℕ) (old : List (ℕ × List (List ℕ))) → is_small_by flash key len ≡ true → place ≡ bucket_at flash key
-    → ((p : ℕ) → keys_at p listing.small ≡ cond (p == place) (with_key key (keys_at p old)) (keys_at p old)) → is_listed (Some flash) listing key len ≡ true
-listed-small flash listing key len place old small at is = rw small (with-there place (bucket_at flash key) key old listing.small (sym at) is)
 
 pub listed-large : (flash : FlashConfig) (listing : Listing) (key : List ℕ) (len place : ℕ) (old : List (ℕ × List (List ℕ))) → is_small_by flash key len ≡ false → place ≡ large_at flash key
     → ((p : ℕ) → keys_at p listing.large ≡ cond (p == place) (with_key key (keys_at p old)) (keys_at p old)) → is_listed (Some flash) listing key len ≡ true
@@ -98,10 +95,20 @@ fewer_step true true b h = let t = h refl in rw t (omega arith)
 fewer_step true false true h = omega arith
 fewer_step true false false h = omega arith
 
+and_step : (a b c d : Bool) → (a ≡ true → c ≡ true) → (b ≡ true → d ≡ true) → (a && b) ≡ true → (c && d) ≡ true
+and_step true true c d f g h = let t = f refl in let u = g refl in rw (t, u) refl
+and_step true false c d f g h = absurd cc
+and_step false b c d f g h = absurd cc
+
+-- an item that was listed still is
+pub told-more : (flash : Option FlashConfig) (old new : Listing) (x : Item) → old.newest ≤ new.newest → (is_listed flash old x.key (length x.value) ≡ true → is_listed flash new x.key (length x.value) ≡ true) → is_told flash old x ≡ true → is_told flash new x ≡ true
+told-more flash old new x less stay h =
+    and_step (nat_le x.number old.newest) (is_listed flash old x.key (length x.value)) (nat_le x.number new.newest) (is_listed flash new x.key (length x.value)) (λ e. le-leb x.number new.newest (omega (arith, leb-true x.number old.newest e, less))) stay h
+
 -- what was listed still is
-pub listed-more : (flash : Option FlashConfig) (old new : Listing) (pools : List Pool) → Listed flash old pools → ((key : List ℕ) (len : ℕ) → is_listed flash old key len ≡ true → is_listed flash new key len ≡ true) → Listed flash new pools
-listed-more flash old new pools l stay =
-    let each : (item : Item) → one flash new item ≤ one flash old item = λ item. fewer_step item.clean (is_listed flash old item.key (length item.value)) (is_listed flash new item.key (length item.value)) (stay item.key (length item.value)) in
+pub listed-more : (flash : Option FlashConfig) (old new : Listing) (pools : List Pool) → Listed flash old pools → old.newest ≤ new.newest → ((key : List ℕ) (len : ℕ) → is_listed flash old key len ≡ true → is_listed flash new key len ≡ true) → Listed flash new pools
+listed-more flash old new pools l less stay =
+    let each : (item : Item) → one flash new item ≤ one flash old item = λ item. fewer_step item.clean (is_told flash old item) (is_told flash new item) (told-more flash old new item less (stay item.key (length item.value))) in
     omega (arith, l, tally-mono (λ (p : Pool). tally (one flash new) p.items) (λ (p : Pool). tally (one flash old) p.items) (λ p. tally-mono (one flash new) (one flash old) each p.items) pools)
 
 -- ---- keys that go
@@ -111,15 +118,13 @@ no_more true = refl
 no_more false = refl
 
 -- a key is forgotten
-pub listed-but : (flash : FlashConfig) (old new : Listing) (key other : List ℕ) (n bucket hash : ℕ) → bytes_eq key other ≡ false
-    → ((p : ℕ) (k : List ℕ) → ((p == bucket) && bytes_eq key k) ≡ false → has_key k (keys_at p old.small) ≡ true → has_key k (keys_at p new.small) ≡ true)
+pub listed-but : (flash : FlashConfig) (old new : Listing) (key other : List ℕ) (n hash : ℕ) → bytes_eq key other ≡ false
     → ((p : ℕ) (k : List ℕ) → ((p == hash) && bytes_eq key k) ≡ false → has_key k (keys_at p old.large) ≡ true → has_key k (keys_at p new.large) ≡ true)
     → is_listed (Some flash) old other n ≡ true → is_listed (Some flash) new other n ≡ true
-listed-but flash old new key other n bucket hash e small large h = go (is_small_by flash other n) h
+listed-but flash old new key other n hash e large h = go (is_small_by flash other n) h
   where
-    go : (b : Bool) → cond b (has_key other (keys_at (bucket_at flash other) old.small)) (has_key other (keys_at (large_at flash other) old.large)) ≡ true
-        → cond b (has_key other (keys_at (bucket_at flash other) new.small)) (has_key other (keys_at (large_at flash other) new.large)) ≡ true
-    go true h = small (bucket_at flash other) other (rw e (no_more (bucket_at flash other == bucket))) h
+    go : (b : Bool) → cond b true (has_key other (keys_at (large_at flash other) old.large)) ≡ true → cond b true (has_key other (keys_at (large_at flash other) new.large)) ≡ true
+    go true h = refl
     go false h = large (large_at flash other) other (rw e (no_more (large_at flash other == hash))) h
 
 at_step : (x : Item) (key : List ℕ) (b : Bool) (old new : Bool) → (b ≡ false → old ≡ true → new ≡ true) → cond (x.clean && not new) 1 0 ≤ cond (x.clean && not old) 1 0 + cond b 1 0
@@ -130,20 +135,20 @@ at_step x key true old new h = one_at_most (x.clean && not new) (cond (x.clean &
     one_at_most false n = omega arith
 at_step x key false old new h = omega (arith, fewer_step x.clean old new (h refl))
 
-forgot_items : (flash : Option FlashConfig) (old new : Listing) (key : List ℕ) → ((other : List ℕ) (n : ℕ) → bytes_eq key other ≡ false → is_listed flash old other n ≡ true → is_listed flash new other n ≡ true) → (items : List Item)
+forgot_items : (flash : Option FlashConfig) (old new : Listing) (key : List ℕ) → new.newest ≡ old.newest → ((other : List ℕ) (n : ℕ) → bytes_eq key other ≡ false → is_listed flash old other n ≡ true → is_listed flash new other n ≡ true) → (items : List Item)
     → count (is_missed flash new) items ≤ count (is_missed flash old) items + count (is_at key) items
-forgot_items flash old new key stay [] = omega arith
-forgot_items flash old new key stay (x ∷ items) = omega (arith, at_step x key (is_at key x) (is_listed flash old x.key (length x.value)) (is_listed flash new x.key (length x.value)) (stay x.key (length x.value)), forgot_items flash old new key stay items)
+forgot_items flash old new key still stay [] = omega arith
+forgot_items flash old new key still stay (x ∷ items) = omega (arith, at_step x key (is_at key x) (is_told flash old x) (is_told flash new x) (λ away. told-more flash old new x (omega (arith, still)) (stay x.key (length x.value) away)), forgot_items flash old new key still stay items)
 
-forgot_pools : (flash : Option FlashConfig) (old new : Listing) (key : List ℕ) → ((other : List ℕ) (n : ℕ) → bytes_eq key other ≡ false → is_listed flash old other n ≡ true → is_listed flash new other n ≡ true) → (pools : List Pool)
+forgot_pools : (flash : Option FlashConfig) (old new : Listing) (key : List ℕ) → new.newest ≡ old.newest → ((other : List ℕ) (n : ℕ) → bytes_eq key other ≡ false → is_listed flash old other n ≡ true → is_listed flash new other n ≡ true) → (pools : List Pool)
     → tally (λ (p : Pool). count (is_missed flash new) p.items) pools ≤ tally (λ (p : Pool). count (is_missed flash old) p.items) pools + items_at key pools
-forgot_pools flash old new key stay [] = omega arith
-forgot_pools flash old new key stay (p ∷ pools) = omega (arith, forgot_items flash old new key stay p.items, forgot_pools flash old new key stay pools)
+forgot_pools flash old new key still stay [] = omega arith
+forgot_pools flash old new key still stay (p ∷ pools) = omega (arith, forgot_items flash old new key still stay p.items, forgot_pools flash old new key still stay pools)
 
 -- a key that no item has is forgotten
-pub listed-forgot : (flash : Option FlashConfig) (old new : Listing) (key : List ℕ) (pools : List Pool) → Listed flash old pools → items_at key pools ≡ 0
+pub listed-forgot : (flash : Option FlashConfig) (old new : Listing) (key : List ℕ) (pools : List Pool) → Listed flash old pools → items_at key pools ≡ 0 → new.newest ≡ old.newest
     → ((other : List ℕ) (n : ℕ) → bytes_eq key other ≡ false → is_listed flash old other n ≡ true → is_listed flash new other n ≡ true) → Listed flash new pools
-listed-forgot flash old new key pools l none stay = omega (arith, l, none, forgot_pools flash old new key stay pools)
+listed-forgot flash old new key pools l none still stay = omega (arith, l, none, forgot_pools flash old new key still stay pools)
 
 -- ---- items that are evicted
 
@@ -167,9 +172,9 @@ missed_step true true b h f = let t = f refl in rw t refl
 missed_step true false b h f = absurd cc
 
 -- the keys of items that went are forgotten, which no other item has
-pub listed-evicted : (flash : Option FlashConfig) (old new : Listing) (pools : List Pool) (gone : List Item) → Listed flash old pools → ((key : List ℕ) → items_at key pools + count (is_at key) gone ≤ 1)
+pub listed-evicted : (flash : Option FlashConfig) (old new : Listing) (pools : List Pool) (gone : List Item) → Listed flash old pools → ((key : List ℕ) → items_at key pools + count (is_at key) gone ≤ 1) → new.newest ≡ old.newest
     → ((other : List ℕ) (n : ℕ) → count (is_at other) gone ≡ 0 → is_listed flash old other n ≡ true → is_listed flash new other n ≡ true) → Listed flash new pools
-listed-evicted flash old new pools gone l single stay = zero-all (λ (p : Pool). count (is_missed flash new) p.items) pools (λ i p at. zero-all (λ x. cond (is_missed flash new x) 1 0) p.items (λ j x here. each i p at j x here))
+listed-evicted flash old new pools gone l single still stay = zero-all (λ (p : Pool). count (is_missed flash new) p.items) pools (λ i p at. zero-all (λ x. cond (is_missed flash new x) 1 0) p.items (λ j x here. each i p at j x here))
   where
     each : (i : ℕ) (p : Pool) → slice_get pools i ≡ Some p → (j : ℕ) (x : Item) → slice_get p.items j ≡ Some x → ◌≡◌ {A = ℕ} (cond (is_missed flash new x) 1 0) 0
     each i p at j x here =
@@ -180,7 +185,7 @@ listed-evicted flash old new pools gone l single stay = zero-all (λ (p : Pool).
         let was = tally-get (λ y. cond (is_missed flash old y) 1 0) p.items j x here in
         let all = tally-get (λ (q : Pool). count (is_missed flash old) q.items) pools i p at in
         let unmissed = zero_one (is_missed flash old x) (omega (arith, was, all, l)) in
-        one_zero (is_missed flash new x) (missed_step x.clean (is_listed flash old x.key (length x.value)) (is_listed flash new x.key (length x.value)) unmissed (stay x.key (length x.value) none))
+        one_zero (is_missed flash new x) (missed_step x.clean (is_told flash old x) (is_told flash new x) unmissed (told-more flash old new x (omega (arith, still)) (stay x.key (length x.value) none)))
 
 pub taken_count : (f : Item → ℕ) (n : ℕ) (items : List Item) → tally f (take n items) + tally f (drop n items) ≡ tally f items
 taken_count f zero items = omega arith

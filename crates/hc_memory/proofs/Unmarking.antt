@@ -1,5 +1,5 @@
 -- Marks that are taken from all pools.
-use Rattle.std.proofs.Common.{◌≡◌, ℕ, zero, suc, ◌+◌, ◌<◌, ◌≤◌, ◌==◌, not, ◌&&◌, ◌||◌, Bool, true, false, List, [], ◌∷◌, Option, Some, None, IfSome, map, refl, ap, sym, ◌∙◌, arith, subst, length, slice_get, slice_set, get_or}
+use Rattle.std.proofs.Common.{◌≡◌, ℕ, zero, suc, ◌+◌, ◌<◌, ◌≤◌, ◌==◌, nat_le, not, ◌&&◌, ◌||◌, Bool, true, false, List, [], ◌∷◌, Option, Some, None, IfSome, map, refl, ap, sym, ◌∙◌, arith, subst, length, slice_get, slice_set, get_or}
 use Rattle.std.specs.Prelude.{option_map}
 use Rattle.std.specs.Option.{option_map_or}
 use Rattle.std.specs.Str.{bytes_eq}
@@ -16,10 +16,10 @@ use Rattle.hc_memory.specs.Pool.{Pool, is_at, unmarked_where, is_covered, is_cov
 use Rattle.hc_memory.specs.Charges.{usage_of}
 use Rattle.hc_memory.specs.Memory.{all_unmarked}
 use Rattle.hc_memory.specs.Unmarks.{keys_unmarked}
-use Rattle.hc_memory.specs.Clean.{Listing, has_key, is_listed, is_missed, Listed}
+use Rattle.hc_memory.specs.Clean.{Listing, has_key, is_listed, is_told, is_missed, Listed}
 use Rattle.hc_memory.specs.Sound.{IsWithin, Sound, FlashFits, items_at}
 use Rattle.hc_memory.proofs.Keyed.{same_bytes, count-none, tally-unmarked, unmarked-none}
-use Rattle.hc_memory.proofs.Listing.{fewer_step, zero_one}
+use Rattle.hc_memory.proofs.Listing.{fewer_step, told-more, zero_one}
 use Rattle.hc_memory.proofs.Looking.{read-there}
 use Rattle.hc_memory.proofs.Sounds.{Shrinks, within-less}
 
@@ -166,13 +166,17 @@ left_step true true false h f = not_more h
     not_more false = omega arith
 left_step true true true h f = let t = f refl refl in rw t (omega arith)
 
+right_of : (a b : Bool) → (a && b) ≡ true → b ≡ true
+right_of true b h = h
+right_of false b h = absurd cc
+
 -- the keys are all that are listed where the scope's items stand
 pub listed-covered : (flash : Option FlashConfig) (listing : Listing) (scope : Scope) (keys : List (List ℕ)) (pools new : List Pool) → Listed flash listing pools
     → ((key : List ℕ) (len : ℕ) → covers flash scope key len ≡ true → is_listed flash listing key len ≡ true → has_key key keys ≡ true) → new ≡ map (without_marks flash scope keys) pools → new ≡ all_unmarked flash scope pools
 listed-covered flash listing scope keys pools new l all is =
     let f : Item → ℕ = λ x. cond (is_left flash scope keys x) 1 0 in
     let g : Item → ℕ = λ x. cond (is_missed flash listing x) 1 0 in
-    let each : (x : Item) → f x ≤ g x = λ x. left_step x.clean (is_covered flash scope x) (is_listed flash listing x.key (length x.value)) (has_key x.key keys) (all x.key (length x.value)) in
+    let each : (x : Item) → f x ≤ g x = λ x. left_step x.clean (is_covered flash scope x) (is_told flash listing x) (has_key x.key keys) (λ c l. all x.key (length x.value) c (right_of (nat_le x.number listing.newest) (is_listed flash listing x.key (length x.value)) l)) in
     is ∙ all-covered flash scope keys pools (omega (arith, l, tally-mono (λ (p : Pool). tally f p.items) (λ (p : Pool). tally g p.items) (λ p. tally-mono f g each p.items) pools))
 
 -- a scope of one key covers no other
@@ -180,13 +184,13 @@ pub named-covered : (flash : Option FlashConfig) (named key : List ℕ) (len : �
 named-covered flash named key len h = let same : named ≡ key = same_bytes named key h in ap (λ b. b || false) ((bytes_eq-Decides key named).1 (sym same))
 
 -- what is listed after is all that is clean then
-pub listed-after : (flash : Option FlashConfig) (old new : Listing) (scope : Scope) (pools : List Pool) → Listed flash old pools
+pub listed-after : (flash : Option FlashConfig) (old new : Listing) (scope : Scope) (pools : List Pool) → Listed flash old pools → new.newest ≡ old.newest
     → ((key : List ℕ) (len : ℕ) → covers flash scope key len ≡ false → is_listed flash old key len ≡ true → is_listed flash new key len ≡ true) → Listed flash new (all_unmarked flash scope pools)
-listed-after flash old new scope pools l stay = omega (arith, l, all_less pools)
+listed-after flash old new scope pools l still stay = omega (arith, l, all_less pools)
   where
     one_less : (x : Item) (c : Bool) → is_covered flash scope x ≡ c → cond (is_missed flash new (cond c (bare x) x)) 1 0 ≤ cond (is_missed flash old x) 1 0
     one_less x true e = omega arith
-    one_less x false e = fewer_step x.clean (is_listed flash old x.key (length x.value)) (is_listed flash new x.key (length x.value)) (stay x.key (length x.value) e)
+    one_less x false e = fewer_step x.clean (is_told flash old x) (is_told flash new x) (told-more flash old new x (omega (arith, still)) (stay x.key (length x.value) e))
 
     some_less : (items : List Item) → count (is_missed flash new) (unmarked_where (is_covered flash scope) items) ≤ count (is_missed flash old) items
     some_less [] = omega arith
@@ -196,27 +200,27 @@ listed-after flash old new scope pools l stay = omega (arith, l, all_less pools)
     all_less [] = omega arith
     all_less (p ∷ pools) = omega (arith, some_less p.items, all_less pools)
 
--- ---- a walk over the pools
+-- ---- a walk
 
--- the pools from this one on change
-abbrev pub changed_from : ℕ → (Pool → Pool) → List Pool → List Pool
-changed_from zero f pools = map f pools
+-- those from this one on change
+abbrev pub changed_from : {X : Type 0} → ℕ → (X → X) → List X → List X
+changed_from zero f xs = map f xs
 changed_from (suc i) f [] = []
-changed_from (suc i) f (pool ∷ pools) = pool ∷ changed_from i f pools
+changed_from (suc i) f (x ∷ xs) = x ∷ changed_from i f xs
 
-from_step : (i : ℕ) (f : Pool → Pool) (there : Pool) (pools : List Pool) → slice_get pools i ≡ Some there → changed_from (suc i) f (slice_set pools i (f there)) ≡ changed_from i f pools
+from_step : {X : Type 0} (i : ℕ) (f : X → X) (there : X) (pools : List X) → slice_get pools i ≡ Some there → changed_from (suc i) f (slice_set pools i (f there)) ≡ changed_from i f pools
 from_step i f there [] at = absurd cc
 from_step zero f there (p ∷ pools) at = let same : p ≡ there = cc in ap (λ q. f q ∷ map f pools) (sym same)
 from_step (suc i) f there (p ∷ pools) at = ap (λ ps. p ∷ ps) (from_step i f there pools at)
 
--- the next pool has changed
-pub changed-next : (i : ℕ) (f : Pool → Pool) (pools : List Pool) (there new : Pool) → i < length pools → there ≡ get_or pools i there → new ≡ f there → changed_from (i + 1) f (slice_set pools i new) ≡ changed_from i f pools
+-- the next one has changed
+pub changed-next : {X : Type 0} (i : ℕ) (f : X → X) (pools : List X) (there new : X) → i < length pools → there ≡ get_or pools i there → new ≡ f there → changed_from (i + 1) f (slice_set pools i new) ≡ changed_from i f pools
 changed-next i f pools there new lt read is =
     let e : i + 1 ≡ suc i = omega arith in
     ap (λ n. changed_from n f (slice_set pools i new)) e ∙ ap (λ p. changed_from (suc i) f (slice_set pools i p)) is ∙ from_step i f there pools (read-there pools i there lt read)
 
--- behind the last pool none is left
-pub changed-end : (i : ℕ) (f : Pool → Pool) (pools : List Pool) → length pools ≤ i → changed_from i f pools ≡ pools
+-- behind the last none is left
+pub changed-end : {X : Type 0} (i : ℕ) (f : X → X) (pools : List X) → length pools ≤ i → changed_from i f pools ≡ pools
 changed-end zero f [] out = refl
 changed-end zero f (p ∷ pools) out = absurd (omega (arith, out))
 changed-end (suc i) f [] out = refl

@@ -1,11 +1,11 @@
--- The keys of the clean items, listed by where their copies stand on flash.
-use Rattle.std.specs.Prelude.{◌≡◌, ℕ, ◌*◌, ◌-◌, ◌%◌, ◌^◌, ◌==◌, ◌&&◌, not, max, min, Bool, true, false, List, [], ◌∷◌, ◌++◌, Option, Some, None, map, length, if◌then◌else◌}
+-- The keys of the large clean items, listed by where their copies stand on flash.
+use Rattle.std.specs.Prelude.{◌≡◌, ℕ, ◌*◌, ◌-◌, ◌%◌, ◌^◌, ◌==◌, nat_le, ◌&&◌, not, max, min, Bool, true, false, List, [], ◌∷◌, ◌++◌, Option, Some, None, map, length, if◌then◌else◌}
 use Rattle.std.specs.List.{list_any}
 use Rattle.std.specs.Str.{bytes_eq}
 use Rattle.std.specs.declared.vec.Vec.{Vec}
 use Rattle.hc_types.specs.Tally.{tally, count}
 use Rattle.hc_types.specs.Loss.{Scope, Key, Bucket, Hash, is_but}
-use Rattle.hc_types.specs.Places.{kept_of, bucket_at, is_small_by}
+use Rattle.hc_types.specs.Places.{kept_of, is_small_by}
 use Rattle.hc_types.specs.declared.config.FlashConfig.{FlashConfig}
 use Rattle.hc_memory.specs.Item.{Item}
 use Rattle.hc_memory.specs.Pool.{Pool}
@@ -43,26 +43,30 @@ large_places flash = max (min (flash.regions * flash.region_pages) (2 ^ 64 - 1))
 abbrev pub large_at : FlashConfig → List ℕ → ℕ
 large_at flash key = kept_of flash.bits key % large_places flash
 
--- the scope is a place, and not one key
-abbrev pub is_place : Scope → Bool
-is_place (Key key) = false
-is_place (Bucket bucket) = true
-is_place (Hash kept but) = true
+-- the scope is a kept hash
+abbrev pub is_hash : Scope → Bool
+is_hash (Key key) = false
+is_hash (Bucket bucket) = false
+is_hash (Hash kept but) = true
 
--- Keys by their bucket, those of small items, and by a place that their kept hash says, those of large ones.
+-- The keys of large items, by a place that their kept hash says, and the greatest number of an item that was listed.
 pub record Listing : Type 0 where
-  pub small : List (ℕ × List (List ℕ))
+  pub newest : ℕ
   pub large : List (ℕ × List (List ℕ))
 
--- An item of this key and a value of this length is listed where a copy of it would stand. Without flash there is no such
--- place.
+-- An item of this key and a value of this length is listed where a copy of it would stand, if it is a large one. Small ones
+-- need no list, and without flash there is no such place.
 abbrev pub is_listed : Option FlashConfig → Listing → List ℕ → ℕ → Bool
 is_listed None listing key len = true
-is_listed (Some flash) listing key len = if is_small_by flash key len then has_key key (keys_at (bucket_at flash key) listing.small) else has_key key (keys_at (large_at flash key) listing.large)
+is_listed (Some flash) listing key len = if is_small_by flash key len then true else has_key key (keys_at (large_at flash key) listing.large)
 
--- the item is clean and isn't listed
+-- the item is no newer than the newest that was listed, and is listed
+abbrev pub is_told : Option FlashConfig → Listing → Item → Bool
+is_told flash listing item = nat_le item.number listing.newest && is_listed flash listing item.key (length item.value)
+
+-- the item is clean, and newer than that, or isn't listed
 abbrev pub is_missed : Option FlashConfig → Listing → Item → Bool
-is_missed flash listing item = item.clean && not (is_listed flash listing item.key (length item.value))
+is_missed flash listing item = item.clean && not (is_told flash listing item)
 
 -- each clean item is listed; more may be
 abbrev pub Listed : Option FlashConfig → Listing → List Pool → Type 0

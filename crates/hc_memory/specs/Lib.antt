@@ -3,6 +3,7 @@ pub mod Item
 pub mod Pool
 pub mod Charges
 pub mod Clean
+pub mod Marks
 pub mod Seen
 pub mod Writes
 pub mod Memory

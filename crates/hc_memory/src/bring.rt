@@ -54,6 +54,8 @@ impl<A: Allocator + Clone> Pools<A> {
         };
         self.pools[usize::from(pool)].bring(key, held, count, &mut victims)?;
 
+        self.clean.set_newest(number);
+        self.marks.settle_all(&self.flash, &mut victims);
         forget_items(&mut self.clean, &self.flash, victims.as_slice());
         self.made = number;
         Ok(Brought { number, victims })

@@ -1,25 +1,25 @@
-// The keys of the clean items, by where their copies stand on flash.
+// The keys of the large clean items, by where their copies stand on flash.
 ghost use Rattle.std.specs.Prelude.{◌≡◌, ◌<◌, ◌≤◌, ◌^◌, ℕ, List, true, false, [], IfSome, OnOk};
 ghost use Rattle.std.specs.Str.{bytes_eq};
 ghost use Rattle.hc_types.specs.Loss.{scope_of, covers};
 ghost use Rattle.hc_types.specs.Tally.{count};
 ghost use Rattle.hc_memory.specs.Pool.{is_at};
-ghost use Rattle.hc_memory.specs.Clean.{has_key, is_listed, is_place, large_places, large_at};
+ghost use Rattle.hc_memory.specs.Clean.{has_key, is_listed, is_hash, large_places, large_at};
 
 use crate::groups::KeyGroups;
 use crate::item::Item;
-use hc_types::{FlashConfig, Key, Scope, bucket_of, is_small, kept};
+use hc_types::{FlashConfig, Key, Scope, is_small, kept};
 use std::alloc::{AllocError, Allocator, Global};
 use std::marker::Model;
 
-/// The keys of the clean items, each listed once, by where a copy of its item stands on flash: a small one in its bucket, a
-/// large one in a place that its kept hash alone says, of which there are as many as pages in all regions. Contracts see the
-/// keys of both kinds.
+/// The keys of the large clean items, each listed once, by where a copy of its item stands on flash: in a place that its kept
+/// hash alone says, of which there are as many as pages in all regions. Small items need no list (`Marks`). Contracts see the
+/// keys, and the greatest number of a clean item.
 ///
 /// More keys may be listed than have clean items, so that only listing has to be certain.
 #[derive(Drop)]
 pub(crate) struct CleanIndex<A: Allocator = Global> {
-    small: KeyGroups<A>,
+    newest: u64,
     large: KeyGroups<A>,
 }
 
@@ -28,29 +28,33 @@ impl<A: Allocator> Model for CleanIndex<A> {
 
     ghost Value = { Listing };
 
-    ghost view = { λ c. record { small = c.small; large = c.large } };
-}
-
-impl<A: Allocator + Copy> CleanIndex<A> {
-    /// No key is listed.
-    pub(crate) fn new(alloc: A) -> CleanIndex<A>
-        ensures { result ≡ record { small = []; large = [] } }
-    {
-        CleanIndex {
-            small: KeyGroups::new(alloc),
-            large: KeyGroups::new(alloc),
-        }
-    }
+    ghost view = { λ c. record { newest = c.newest; large = c.large } };
 }
 
 impl<A: Allocator> CleanIndex<A> {
-    /// The keys that are listed where the scope's items stand: a scope of one key names that itself.
+    /// No key is listed.
+    pub(crate) fn new(alloc: A) -> CleanIndex<A>
+        ensures { result ≡ record { newest = 0; large = [] } }
+    {
+        CleanIndex {
+            newest: 0,
+            large: KeyGroups::new(alloc),
+        }
+    }
+
+    /// The greatest number of an item that was listed (0: none was).
+    pub(crate) fn newest(&self) -> u64
+        ensures { result ≡ self.now.newest }
+    {
+        self.newest
+    }
+
+    /// The keys that are listed where the items of a kept hash stand.
     pub(crate) fn listed(&self, flash: &Option<FlashConfig>, scope: &Scope<A>) -> &[Key<A>]
-        requires { is_place (scope_of scope.now) ≡ true }
+        requires { is_hash (scope_of scope.now) ≡ true }
         ensures { (key : List ℕ) (len : ℕ) → covers flash.now (scope_of scope.now) key len ≡ true → is_listed flash.now self.now key len ≡ true → has_key key result.now ≡ true }
     {
         match (scope, flash) {
-            (Scope::Bucket(bucket), Some(_)) => self.small.keys(u64::from(*bucket)),
             (Scope::Hash { kept, .. }, Some(flash)) => self.large.keys(*kept % places_in(flash)),
             (_, _) => &[],
         }
@@ -60,37 +64,44 @@ impl<A: Allocator> CleanIndex<A> {
 impl<A: Allocator> CleanIndex<A> {
     /// The key isn't listed any more.
     pub(crate) fn forget(&mut self, flash: &Option<FlashConfig>, key: &Key<A>)
-        requires bits { IfSome flash.now (λ f. f.bits ≤ 64) }
-        requires buckets { IfSome flash.now (λ f. 1 ≤ f.buckets) }
-        ensures { (other : List ℕ) (n : ℕ) → bytes_eq key.now other ≡ false → is_listed flash.now self.old other n ≡ true → is_listed flash.now self.new other n ≡ true }
+        requires { IfSome flash.now (λ f. f.bits ≤ 64) }
+        ensures newest { self.new.newest ≡ self.old.newest }
+        ensures stay { (other : List ℕ) (n : ℕ) → bytes_eq key.now other ≡ false → is_listed flash.now self.old other n ≡ true → is_listed flash.now self.new other n ≡ true }
     {
-        let Some(flash) = flash else {
-            return;
-        };
-        self.small.remove(bucket_of(key, flash), key);
-        self.large.remove(large_place(key, flash), key);
+        if let Some(flash) = flash {
+            self.large.remove(large_place(key, flash), key);
+        }
     }
 
     /// What the scope covers isn't listed any more.
     pub(crate) fn forget_covered(&mut self, flash: &Option<FlashConfig>, scope: &Scope<A>)
-        requires bits { IfSome flash.now (λ f. f.bits ≤ 64) }
-        requires buckets { IfSome flash.now (λ f. 1 ≤ f.buckets) }
-        ensures { (key : List ℕ) (len : ℕ) → covers flash.now (scope_of scope.now) key len ≡ false → is_listed flash.now self.old key len ≡ true → is_listed flash.now self.new key len ≡ true }
+        requires { IfSome flash.now (λ f. f.bits ≤ 64) }
+        ensures newest { self.new.newest ≡ self.old.newest }
+        ensures stay { (key : List ℕ) (len : ℕ) → covers flash.now (scope_of scope.now) key len ≡ false → is_listed flash.now self.old key len ≡ true → is_listed flash.now self.new key len ≡ true }
     {
         match (scope, flash) {
             (Scope::Key(key), _) => self.forget(flash, key),
-            (Scope::Bucket(bucket), Some(_)) => self.small.remove_all(u64::from(*bucket)),
             (Scope::Hash { kept, but }, Some(flash)) => {
                 let place = *kept % places_in(flash);
                 self.large.remove_under(place, flash.bits, *kept, but);
             }
-            (_, None) => {}
+            (_, _) => {}
         }
     }
 }
 
+impl<A: Allocator> CleanIndex<A> {
+    /// A clean item of this number comes in, greater than that of any other.
+    pub(crate) fn set_newest(&mut self, number: u64)
+        ensures { self.new ≡ record { newest = number; large = self.old.large } }
+    {
+        self.newest = number;
+    }
+}
+
 impl<A: Allocator + Clone> CleanIndex<A> {
-    /// An item of this key, with a value of so many bytes, is listed from here on. Refused only where memory lacks.
+    /// An item of this key, with a value of so many bytes, is listed from here on, where it is a large one. Refused only where
+    /// memory lacks.
     pub(crate) fn list(
         &mut self,
         alloc: &A,
@@ -100,18 +111,17 @@ impl<A: Allocator + Clone> CleanIndex<A> {
     ) -> Result<(), AllocError>
         requires len { len < 2 ^ 63 }
         requires bits { IfSome flash.now (λ f. f.bits ≤ 64) }
-        requires buckets { IfSome flash.now (λ f. 1 ≤ f.buckets) }
         ensures listed { OnOk result (is_listed flash.now self.new key.now len ≡ true) }
+        ensures newest { self.new.newest ≡ self.old.newest }
         ensures stay { (other : List ℕ) (n : ℕ) → is_listed flash.now self.old other n ≡ true → is_listed flash.now self.new other n ≡ true }
     {
         let Some(flash) = flash else {
             return Ok(());
         };
         if is_small(key, len, flash) {
-            self.small.add(alloc, bucket_of(key, flash), key)
-        } else {
-            self.large.add(alloc, large_place(key, flash), key)
+            return Ok(());
         }
+        self.large.add(alloc, large_place(key, flash), key)
     }
 }
 
@@ -138,9 +148,9 @@ pub(crate) fn forget_items<A: Allocator>(
     flash: &Option<FlashConfig>,
     items: &[Item<A>],
 )
-    requires bits { IfSome flash.now (λ f. f.bits ≤ 64) }
-    requires buckets { IfSome flash.now (λ f. 1 ≤ f.buckets) }
-    ensures { (other : List ℕ) (n : ℕ) → count (is_at other) items.now ≡ 0 → is_listed flash.now index.old other n ≡ true → is_listed flash.now index.new other n ≡ true }
+    requires { IfSome flash.now (λ f. f.bits ≤ 64) }
+    ensures newest { index.new.newest ≡ index.old.newest }
+    ensures stay { (other : List ℕ) (n : ℕ) → count (is_at other) items.now ≡ 0 → is_listed flash.now index.old other n ≡ true → is_listed flash.now index.new other n ≡ true }
 {
     for item in items {
         index.forget(flash, &item.key);

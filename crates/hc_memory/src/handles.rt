@@ -1,5 +1,5 @@
 // Write handles, each of which must be spent, and read handles.
-ghost use Rattle.std.specs.Prelude.{◌≡◌, ◌==◌, ◌+◌, ◌≤◌, ◌↔◌, ℕ, List, length, Some, IsOk, IfOk, IfErr, OnOk, OnErr};
+ghost use Rattle.std.specs.Prelude.{◌≡◌, ◌==◌, ◌+◌, ◌≤◌, ◌↔◌, ℕ, false, List, length, Some, IsOk, IfOk, IfErr, OnOk, OnErr};
 ghost use Rattle.hc_memory.specs.Memory.{copied};
 ghost use Rattle.hc_memory.specs.Item.{item_by, charge_by};
 ghost use Rattle.hc_memory.specs.Seen.{item_of};
@@ -236,10 +236,10 @@ impl<A: Allocator> Sealed<A> {
         self.expiry
     }
 
-    /// The key, and the rest of the item that was written. `clean` says whether a copy of it stands on flash.
-    pub(crate) fn into_parts(self, clean: bool) -> (Key<A>, Held<A>)
+    /// The key, and the rest of the item that was written, of which no copy stands on flash.
+    pub(crate) fn into_parts(self) -> (Key<A>, Held<A>)
         ensures key { result.0 ≡ self.key }
-        ensures item { item_of result ≡ item_by clean self }
+        ensures item { item_of result ≡ item_by false self }
     {
         let Sealed {
             value,
@@ -253,7 +253,7 @@ impl<A: Allocator> Sealed<A> {
             pool,
             value,
             expiry,
-            clean,
+            clean: false,
         };
         (key, held)
     }

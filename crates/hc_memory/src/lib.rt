@@ -10,6 +10,7 @@ mod groups;
 mod handles;
 mod item;
 mod links;
+mod marks;
 mod open;
 mod parked;
 mod pool;

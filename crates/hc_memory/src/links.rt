@@ -1,20 +1,18 @@
 // Handles that are spent: an item is linked, or given up.
-ghost use Rattle.std.specs.Prelude.{◌≡◌, ◌≢◌, ℕ, List, ◌+◌, ◌<◌, ◌≤◌, ◌^◌, ◌++◌, ◌∷◌, [], true, false, length, slice_get, swap_remove, option_map, Some, IfSome, IfOk, IfErr, OnOk, OnErr};
+ghost use Rattle.std.specs.Prelude.{◌≡◌, ◌≢◌, ◌+◌, ◌<◌, ◌≤◌, ◌^◌, ◌++◌, ◌∷◌, [], true, false, length, slice_get, swap_remove, option_map, Some, IfOk, IfErr, OnOk, OnErr};
 ghost use Rattle.hc_memory.specs.Item.{Item as Meaning, Open, charge_by, cost};
 ghost use Rattle.hc_memory.specs.Pool.{Pool as Order, bytes_of};
 ghost use Rattle.hc_memory.specs.Seen.{item_of};
 ghost use Rattle.hc_memory.specs.Charges.{is_open, open_at};
-ghost use Rattle.hc_memory.specs.Clean.{is_listed, is_missed};
 ghost use Rattle.hc_memory.specs.Sound.{items_at};
 ghost use Rattle.hc_memory.specs.Memory.{home_of, beside, linked_at, change_at, unlinked, after_link, after_free, after_frees};
 
-use crate::clean::CleanIndex;
 use crate::handles::{Blank, Sealed};
 use crate::item::Held;
 use crate::pool::Pool;
 use crate::pools::Pools;
-use hc_types::{FlashConfig, Key};
-use std::alloc::{AllocError, AllocFailed, Allocator};
+use hc_types::Key;
+use std::alloc::{AllocFailed, Allocator};
 
 impl<A: Allocator> Pools<A> {
     /// The place of the handle's open charge, where the handle is one of this cache's: a charge is open here with its
@@ -91,50 +89,10 @@ impl<A: Allocator> Pools<A> {
 }
 
 impl<A: Allocator + Clone> Pools<A> {
-    /// Links the item of the handle, whose open charge is at this place, under its key, as the one that was used last in
-    /// its pool, in place of the key's item in whichever pool, whose charge number is answered. `clean` says whether a
-    /// copy of it stands on flash. Refused only where memory lacks, and then the handle comes back.
-    pub fn link(
-        &mut self,
-        place: usize,
-        sealed: Sealed<A>,
-        clean: bool,
-    ) -> Result<Option<u64>, Sealed<A>>
-        requires { open_at (charge_by sealed) self.old.charges ≡ Some place }
-        ensures old { IfOk result (λ old. old ≡ option_map (λ (item : Meaning). item.number) (linked_at sealed.key self.old.pools)) }
-        ensures pools { OnOk result (self.new ≡ after_link self.old clean sealed) }
-        ensures err { OnErr result (self.new ≡ self.old) }
-        ensures sealed_returned { IfErr result (λ back. back ≡ sealed) }
-    {
-        let own = usize::from(sealed.pool());
-        let (key, held) = sealed.into_parts(clean);
-        match list_clean(
-            &mut self.clean,
-            self.pools.allocator(),
-            &self.flash,
-            &key,
-            &held,
-        ) {
-            Ok(()) => {}
-            Err(_) => return Err(Sealed::from_parts(key, held)),
-        }
-        match link_over(&mut self.pools, own, key, held) {
-            Ok(old) => {
-                self.charges.end_at(place);
-                Ok(old)
-            }
-            Err(failed) => {
-                let (key, held) = failed.value;
-                Err(Sealed::from_parts(key, held))
-            }
-        }
-    }
-}
-
-impl<A: Allocator + Clone> Pools<A> {
     /// Ends the open charges with the numbers of `earlier`, in that order, and then links the item of the handle, of
-    /// which no copy stands on flash, as `link` does. A number whose charge isn't open ends nothing. Refused only where
-    /// memory lacks, and then nothing changed, and the handle comes back.
+    /// which no copy stands on flash: it is linked under its key, as the one that was used last in its pool, in place of the
+    /// key's item in whichever pool, whose charge number is answered. A number whose charge isn't open ends nothing. Refused
+    /// only where memory lacks, and then nothing changed, and the handle comes back.
     pub fn link_after(
         &mut self,
         earlier: &[u64],
@@ -148,7 +106,7 @@ impl<A: Allocator + Clone> Pools<A> {
     {
         let own = usize::from(sealed.pool());
         let number = sealed.number();
-        let (key, held) = sealed.into_parts(false);
+        let (key, held) = sealed.into_parts();
         match link_over(&mut self.pools, own, key, held) {
             Ok(old) => {
                 self.charges.end_each(earlier);
@@ -161,25 +119,6 @@ impl<A: Allocator + Clone> Pools<A> {
             }
         }
     }
-}
-
-/// Lists the item, if it is clean. Refused only where memory lacks.
-fn list_clean<A: Allocator + Clone>(
-    index: &mut CleanIndex<A>,
-    alloc: &A,
-    flash: &Option<FlashConfig>,
-    key: &Key<A>,
-    held: &Held<A>,
-) -> Result<(), AllocError>
-    requires bits { IfSome flash.now (λ f. f.bits ≤ 64) }
-    requires buckets { IfSome flash.now (λ f. 1 ≤ f.buckets) }
-    ensures listed { OnOk result (is_missed flash.now index.new (item_of (key.now, held.now)) ≡ false) }
-    ensures stay { (other : List ℕ) (n : ℕ) → is_listed flash.now index.old other n ≡ true → is_listed flash.now index.new other n ≡ true }
-{
-    if held.clean {
-        return index.list(alloc, flash, key, held.value.len() as u64);
-    }
-    Ok(())
 }
 
 /// Links an item in its own pool, in place of the key's item in whichever pool, whose number is answered. On an error,

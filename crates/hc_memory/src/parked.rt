@@ -31,7 +31,7 @@ impl<A: Allocator> Parked<A> {
     pub fn new(sealed: Sealed<A>) -> Parked<A>
         ensures { result ≡ sealed }
     {
-        let (key, held) = sealed.into_parts(false);
+        let (key, held) = sealed.into_parts();
         Parked { key, held }
     }
 

@@ -6,13 +6,14 @@ ghost use Rattle.hc_memory.specs.Planned.{IsPlanned};
 ghost use Rattle.hc_memory.specs.Pool.{is_full, kept, dropped};
 ghost use Rattle.hc_memory.specs.Sound.{Sound, FlashFits, IsWithin};
 ghost use Rattle.hc_memory.specs.Seen.{item_of, filled, glance_of};
-ghost use Rattle.hc_memory.specs.Memory.{empty_pool, pool_usage, home_of, linked_at, value_at, copied, used_in, is_hopeless, victims_of, oldest_keys, oldest_of, handle_for, unlinked, after_room, after_evict, after_charge, after_unlink, after_find};
+ghost use Rattle.hc_memory.specs.Memory.{empty_pool, pool_usage, home_of, linked_at, value_at, copied, used_in, is_hopeless, victims_of, oldest_keys, oldest_of, handle_for, unlinked, after_evict, after_charge, after_unlink, after_find};
 
 use crate::answers::{Charged, Uncharged};
 use crate::clean::{CleanIndex, forget_items};
 use crate::fill::Fill;
 use crate::handles::{Blank, ReadHandle};
 use crate::item::{Held, Item, is_expired};
+use crate::marks::Marks;
 use crate::open::OpenCharges;
 use crate::pool::{Glance, Pool};
 use crate::usage::{PoolUsage, Usage};
@@ -32,8 +33,10 @@ pub struct Pools<A: Allocator = Global> {
     pub(crate) pools: Vec<Pool<A>, A>,
     pub(crate) charges: OpenCharges<A>,
     pub(crate) made: u64,
-    // the keys of the clean items, and more of them perhaps
+    // the keys of the large clean items, and more of them perhaps
     pub(crate) clean: CleanIndex<A>,
+    // the buckets that were lost: an item in the pools is clean as `marks` settles it
+    pub(crate) marks: Marks<A>,
 }
 
 impl<A: Allocator> Model for Pools<A> {
@@ -41,12 +44,13 @@ impl<A: Allocator> Model for Pools<A> {
     ghost use Rattle.hc_memory.specs.Memory.{Memory};
     ghost use Rattle.hc_memory.specs.Sound.{Sound, FlashFits};
     ghost use Rattle.hc_memory.specs.Clean.{Listed};
+    ghost use Rattle.hc_memory.specs.Marks.{marked, Numbered};
 
     ghost Value = { Memory };
 
-    ghost view = { λ p. record { flash = p.flash; pools = p.pools.items; charges = p.charges.charges; made = p.made } };
+    ghost view = { λ p. record { flash = p.flash; pools = marked p.flash p.marks p.pools.items; charges = p.charges.charges; made = p.made } };
 
-    ghost invariant = { λ p. Sound p.pools.items p.charges.charges p.made × (p.charges.pools ≡ length p.pools.items) × FlashFits p.flash × Listed p.flash p.clean p.pools.items };
+    ghost invariant = { λ p. Sound p.pools.items p.charges.charges p.made × (p.charges.pools ≡ length p.pools.items) × FlashFits p.flash × Listed p.flash p.clean p.pools.items × Numbered p.flash p.marks p.clean.newest p.made };
 }
 
 impl<A: Allocator> Pools<A> {
@@ -175,6 +179,7 @@ impl<A: Allocator + Copy> Pools<A> {
             charges: OpenCharges::new(alloc, sizes.len())?,
             made: 0,
             clean: CleanIndex::new(alloc),
+            marks: Marks::new(alloc, &config.flash)?,
         })
     }
 }
@@ -310,7 +315,8 @@ impl<A: Allocator> Pools<A> {
         ensures pools { self.new ≡ after_evict self.old pool }
     {
         match self.pools[usize::from(pool)].evict_first() {
-            Some(item) => {
+            Some(mut item) => {
+                self.marks.settle(&self.flash, &mut item);
                 self.clean.forget(&self.flash, &item.key);
                 Some(item)
             }
@@ -379,6 +385,7 @@ impl<A: Allocator + Clone> Pools<A> {
         }
 
         self.pools[usize::from(pool)].evict(count, &mut victims);
+        self.marks.settle_all(&self.flash, &mut victims);
         forget_items(&mut self.clean, &self.flash, victims.as_slice());
         self.made = number;
         Ok(Charged {

@@ -4,6 +4,7 @@ ghost use Rattle.hc_types.specs.Loss.{scope_of, covers};
 ghost use Rattle.hc_memory.specs.Pool.{Pool as Order, unmarked_where, is_covered_at};
 ghost use Rattle.hc_memory.specs.Memory.{all_unmarked, after_unmark};
 ghost use Rattle.hc_memory.specs.Clean.{Listed};
+ghost use Rattle.hc_memory.specs.Marks.{is_bucket};
 ghost use Rattle.hc_memory.specs.Unmarks.{keys_unmarked};
 
 use crate::clean::CleanIndex;
@@ -15,16 +16,22 @@ use std::alloc::Allocator;
 
 impl<A: Allocator> Pools<A> {
     /// Takes the clean mark from every item that the scope covers: its copy on flash is gone or stale. It can't be refused,
-    /// and looks at the items alone that are clean and stand where the scope's do, however many there are.
+    /// and looks at no item where the scope is a bucket, else at those alone that are clean and stand where the scope's do,
+    /// however many there are.
     pub fn unmark(&mut self, scope: &Scope<A>)
         ensures { self.new ≡ after_unmark self.old (scope_of scope.now) }
     {
-        unmark_pools(&mut self.pools, &self.clean, &self.flash, scope);
-        self.clean.forget_covered(&self.flash, scope);
+        match scope {
+            Scope::Bucket(bucket) => self.marks.lose(*bucket, self.clean.newest()),
+            Scope::Key(_) | Scope::Hash { .. } => {
+                unmark_pools(&mut self.pools, &self.clean, &self.flash, scope);
+                self.clean.forget_covered(&self.flash, scope);
+            }
+        }
     }
 }
 
-/// Takes the clean mark from every item that the scope covers.
+/// Takes the clean mark from every item that the scope, no bucket, covers.
 fn unmark_pools<A: Allocator>(
     pools: &mut Vec<Pool<A>, A>,
     index: &CleanIndex<A>,
@@ -33,14 +40,14 @@ fn unmark_pools<A: Allocator>(
 )
     requires bits { IfSome flash.now (λ f. f.bits ≤ 64) }
     requires buckets { IfSome flash.now (λ f. 1 ≤ f.buckets) }
+    requires other { is_bucket (scope_of scope.now) ≡ false }
     requires listed { Listed flash.now index.now pools.old.items }
     ensures { pools.new.items ≡ all_unmarked flash.now (scope_of scope.now) pools.old.items }
 {
     match scope {
         Scope::Key(key) => unmark_key(pools, flash, scope, key),
-        Scope::Bucket(_) | Scope::Hash { .. } => {
-            unmark_keys(pools, flash, scope, index.listed(flash, scope));
-        }
+        Scope::Hash { .. } => unmark_keys(pools, flash, scope, index.listed(flash, scope)),
+        Scope::Bucket(_) => unreachable!(),
     }
 }
 

@@ -6,4 +6,7 @@ use Rattle.hc_memory.proofs.clean.forget_items.Given as goal
 
 -- a key that none of the items has is listed as before
 abbrev pub invariant-loop-item : goal.invariant-loop-item
-invariant-loop-item g l = (other : List ℕ) (n : ℕ) → count (is_at other) l.items ≡ 0 → is_listed l.flash l.initial.index other n ≡ true → is_listed l.flash l.index other n ≡ true
+invariant-loop-item g l = record {
+  newest : l.index.newest ≡ l.initial.index.newest;
+  stay : (other : List ℕ) (n : ℕ) → count (is_at other) l.items ≡ 0 → is_listed l.flash l.initial.index other n ≡ true → is_listed l.flash l.index other n ≡ true;
+}

@@ -1,4 +1,4 @@
-use Rattle.std.proofs.Common.{ap, sym, ◌∙◌}
+use Rattle.std.proofs.Common.{ap, ◌∙◌}
 use Rattle.hc_memory.specs.Clean.{has_key, is_under}
 use Rattle.hc_memory.proofs.Grouped.{stays-other}
 use Rattle.hc_memory.proofs.groups.take_out_under.Goals as goal

@@ -1,6 +1,9 @@
 use Rattle.std.proofs.Common.{length, map, sym, ◌∙◌, ap}
 use Rattle.std.proofs.lemmas.List.{length-map}
 use Rattle.hc_memory.specs.Memory.{empty_pool}
+use Rattle.hc_memory.specs.Marks.{is_stale, marked}
+use Rattle.hc_memory.proofs.Marking.{new-marked}
+use Rattle.hc_memory.proofs.Unmarked.{none-off}
 use Rattle.hc_memory.proofs.Making.{sound-new}
 use Rattle.hc_memory.proofs.Listing.{listed-new}
 use Rattle.hc_memory.proofs.pools.Pools.new.Goals as goal
@@ -11,10 +14,11 @@ invariant_of-result g c =
     let s = sound-new (record { pools = c.config.inside.pools.items; flash = c.config.inside.flash }) h in
     let made = c.in_ok-empty_pools.ensures ∙ ap (map empty_pool) c.as_slice-sizes.ensures.value in
     let many = ap (λ book. book.pools) c.in_ok-new.ensures ∙ sym (ap length c.in_ok-empty_pools.ensures ∙ length-map c.as_slice-sizes.result.now empty_pool) in
-    (rw (made, c.in_ok-new.ensures) s.0, many, s.1, rw made (listed-new c.config.inside.flash _ c.config.inside.pools.items))
+    (rw (made, c.in_ok-new.ensures) s.0, many, s.1, rw made (listed-new c.config.inside.flash _ c.config.inside.pools.items), rw c.new-2.ensures (new-marked c.config.inside.flash c.in_ok-new-2.field-0 c.in_ok-new-2.ensures.none c.in_ok-new-2.ensures.wide))
 
 pub returns : goal.returns
 returns g c =
     let made = c.in_ok-empty_pools.ensures ∙ ap (map empty_pool) c.as_slice-sizes.ensures.value in
     let none = ap (λ book. book.charges) c.in_ok-new.ensures in
-    rw (← c.config.view_is) (λ i. record { flash = c.config.inside.flash; pools = made i; charges = none i; made = 0 })
+    let pools = ap (marked c.config.inside.flash c.in_ok-new-2.field-0) made ∙ none-off (is_stale c.config.inside.flash c.in_ok-new-2.field-0) c.config.inside.pools.items in
+    rw (← c.config.view_is) (λ i. record { flash = c.config.inside.flash; pools = pools i; charges = none i; made = 0 })
