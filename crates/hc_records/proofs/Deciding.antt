@@ -1,15 +1,17 @@
 -- The tests of records decide what they test.
-use Rattle.std.proofs.Common.{◌≡◌, ℕ, ◌+◌, ◌<◌, ◌==◌, ◌&&◌, ◌||◌, Bool, true, false, if◌then◌else◌, List, [], ◌∷◌, All, refl, sym, ap, ◌∙◌, arith}
+use Rattle.std.proofs.Common.{◌≡◌, ℕ, ◌≤◌, ◌==◌, ◌&&◌, ◌||◌, nat_le, Bool, true, false, List, [], All, Any, refl, sym, ap, ◌∙◌, arith}
 use Rattle.std.specs.Bool.{Decides}
-use Rattle.std.specs.List.{list_all}
+use Rattle.std.specs.List.{list_all, list_any}
 use Rattle.std.specs.Str.{bytes_eq}
 use Rattle.std.proofs.lemmas.Bool.{false≢true}
+use Rattle.std.proofs.lemmas.List.Folds.{Any-from_list_any, list_any-from_Any}
 use Rattle.std.proofs.lemmas.Slice.Eq.{bytes_eq-Decides, slice_eq-Decides}
-use Rattle.std.proofs.lemmas.Bool.Decides.{Decides-and, Decides-eqb, Decides-by_and, Decides-like, Decides-at}
-use Rattle.hc_types.specs.Tally.{count}
-use Rattle.hc_history.specs.Note.{Op, Insert, Add, Find, Remove, Reply, Stored, Exists, Hit, Miss, FoundInMemory, NotInMemory, Note, Begin}
-use Rattle.hc_records.specs.Records.{Entry, Record, finished, Agrees, IsCovered, Covered, Reconciled}
-use Rattle.hc_records.specs.Judge.{op_eq, reply_eq, entry_eq, agrees, has_record, is_covered, reconciles}
+use Rattle.std.proofs.lemmas.Bool.Decides.{Decides-and, Decides-or, Decides-eqb, Decides-by_and, Decides-like, Decides-at}
+use Rattle.hc_history.specs.Note.{Op, Insert, Add, Find, Remove, Reply, Stored, Exists, Hit, Miss, FoundInMemory, NotInMemory, Note, Begin, Now}
+use Rattle.hc_history.specs.Books.{now_at}
+use Rattle.hc_history.specs.Lawful.{past}
+use Rattle.hc_records.specs.Records.{Entry, OpenCall, Record, finished, Agrees, HasAsked, IsOwn, IsReached, Reconciled}
+use Rattle.hc_records.specs.Judge.{op_eq, reply_eq, entry_eq, agrees, has_entry, has_open, has_asked, has_ticked, is_own, is_reached, reconciles}
 
 and3 : (P Q R : Type 0) (x y z : Bool) → Decides x P → Decides y Q → Decides z R → Decides ((x && y) && z) (P × Q × R)
 and3 P Q R x y z p q r =
@@ -48,32 +50,67 @@ entry_decides a b =
 agrees_decides : (log : List Note) (r : Record) → Decides (agrees log r) (Agrees log r)
 agrees_decides log r = slice_eq-Decides entry_decides (finished r.client [] log) r.entries (agrees log r) refl
 
--- ---- who has a record
+-- ---- whose a call is
 
-one_more : (r : Record) (records : List Record) (client : ℕ) (t : Bool)
-    → Decides (has_record records client) (0 < count (λ (x : Record). x.client == client) records)
-    → Decides (t || has_record records client) (0 < (if t then 1 else 0) + count (λ (x : Record). x.client == client) records)
-one_more r records client true d = (λ h. omega arith, λ h. refl)
-one_more r records client false d = (λ h. let few = d.0 h in omega arith, λ h. d.1 (omega arith))
+pub any_decides : {X : Type 0} (test : X → Bool) (P : X → Type 0) → ((x : X) → Decides (test x) (P x)) → (xs : List X) → Decides (list_any test xs) (Any P xs)
+any_decides {X} test P decides xs = (
+  λ h. let w = Any-from_list_any test xs h in (w.0, w.1, w.2, w.3, (decides w.1).0 w.4),
+  λ w. list_any-from_Any test xs (w.0, w.1, w.2, w.3, (decides w.1).1 w.4),
+)
 
-record_decides : (records : List Record) (client : ℕ) → Decides (has_record records client) (0 < count (λ (x : Record). x.client == client) records)
-record_decides [] client = (λ h. absurd (false≢true h), λ h. absurd (omega arith))
-record_decides (r ∷ records) client = one_more r records client (r.client == client) (record_decides records client)
+all_decides : {X : Type 0} (test : X → Bool) (P : X → Type 0) → ((x : X) → Decides (test x) (P x)) → (xs : List X) → Decides (list_all test xs) (All P xs)
+all_decides {X} test P decides xs = Decides-by_and test P (list_all test) decides refl (λ _ _. refl) xs
 
-covered_decides : (records : List Record) (note : Note) → Decides (is_covered records note) (IsCovered records note)
-covered_decides records (Begin call client op) = record_decides records client
-covered_decides records note = (λ h. tt, λ h. refl)
+pub entry_asks : (call : ℕ) (op : Op) (e : Entry) → Decides ((e.call == call) && op_eq e.op op) ((e.call ≡ call) × (e.op ≡ op))
+entry_asks call op e = Decides-and {P = e.call ≡ call} {Q = e.op ≡ op} (e.call == call) (op_eq e.op op) (Decides-eqb e.call call) (op_decides e.op op)
 
-reconciles_decides : (log : List Note) (records : List Record) → Decides (reconciles log records) (Reconciled log records)
+pub open_asks : (call : ℕ) (op : Op) (o : OpenCall) → Decides ((o.call == call) && op_eq o.op op) ((o.call ≡ call) × (o.op ≡ op))
+open_asks call op o = Decides-and {P = o.call ≡ call} {Q = o.op ≡ op} (o.call == call) (op_eq o.op op) (Decides-eqb o.call call) (op_decides o.op op)
+
+pub asked_decides : (call client : ℕ) (op : Op) (r : Record) → Decides (has_asked call client op r) ((r.client ≡ client) × HasAsked call op r)
+asked_decides call client op r =
+    Decides-and {P = r.client ≡ client} {Q = HasAsked call op r} (r.client == client) (has_entry call op r.entries || has_open call op r.open_calls) (Decides-eqb r.client client)
+    (Decides-or {P = Any (λ (e : Entry). (e.call ≡ call) × (e.op ≡ op)) r.entries} {Q = Any (λ (o : OpenCall). (o.call ≡ call) × (o.op ≡ op)) r.open_calls} (has_entry call op r.entries) (has_open call op r.open_calls)
+    (any_decides (λ (e : Entry). (e.call == call) && op_eq e.op op) (λ (e : Entry). (e.call ≡ call) × (e.op ≡ op)) (entry_asks call op) r.entries)
+    (any_decides (λ (o : OpenCall). (o.call == call) && op_eq o.op op) (λ (o : OpenCall). (o.call ≡ call) × (o.op ≡ op)) (open_asks call op) r.open_calls))
+
+ticked_decides : (moment : ℕ) (r : Record) → Decides (has_ticked moment r) (Any (λ tick. tick ≡ moment) r.ticks)
+ticked_decides moment r = any_decides (λ tick. tick == moment) (λ tick. tick ≡ moment) (λ tick. Decides-eqb tick moment) r.ticks
+
+own_decides : (records : List Record) (note : Note) → Decides (is_own records note) (IsOwn records note)
+own_decides records (Begin call client op) = any_decides (has_asked call client op) (λ (r : Record). (r.client ≡ client) × HasAsked call op r) (asked_decides call client op) records
+own_decides records (Now moment) = any_decides (has_ticked moment) (λ (r : Record). Any (λ tick. tick ≡ moment) r.ticks) (ticked_decides moment) records
+own_decides records note = (λ h. tt, λ h. refl)
+
+le_decides : (a b : ℕ) → Decides (nat_le a b) (a ≤ b)
+le_decides a b = (λ h. grind (arith, h), λ h. grind (arith, h))
+
+reached_decides : (log : List Note) (r : Record) → Decides (is_reached (now_at (past [] log)) r) (IsReached log r)
+reached_decides log r = all_decides (λ tick. nat_le tick (now_at (past [] log))) (λ tick. tick ≤ now_at (past [] log)) (λ tick. le_decides tick (now_at (past [] log))) r.ticks
+
+-- ---- all three
+
+pub reconciles_decides : (log : List Note) (records : List Record) → Decides (reconciles log records) (Reconciled log records)
 reconciles_decides log records =
-    let agree = Decides-by_and (agrees log) (Agrees log) (list_all (agrees log)) (agrees_decides log) refl (λ _ _. refl) records in
-    let covered = Decides-by_and (is_covered records) (IsCovered records) (list_all (is_covered records)) (covered_decides records) refl (λ _ _. refl) log in
-    Decides-like (reconciles log records) (λ h. record { agree = h.0; covered = h.1 }) (λ h. (h.agree, h.covered))
-    (Decides-and {P = All (Agrees log) records} {Q = Covered records log} (list_all (agrees log) records) (list_all (is_covered records) log) agree covered)
+    let now = now_at (past [] log) in
+    let agree = all_decides (agrees log) (Agrees log) (agrees_decides log) records in
+    let own = all_decides (is_own records) (IsOwn records) (own_decides records) log in
+    let reached = all_decides (is_reached now) (IsReached log) (reached_decides log) records in
+    Decides-like (reconciles log records) (λ h. record { agree = h.0; own = h.1; reached = h.2 }) (λ h. (h.agree, h.own, h.reached))
+    (and3 (All (Agrees log) records) (All (IsOwn records) log) (All (IsReached log) records) (list_all (agrees log) records) (list_all (is_own records) log) (list_all (is_reached now) records) agree own reached)
 
--- the answers of both tests, one after the other
-pub both-hold : (log : List Note) (records : List Record) (agree covered : Bool) → agree ≡ list_all (agrees log) records → agree ≡ true → covered ≡ list_all (is_covered records) log → Decides covered (Reconciled log records)
-both-hold log records agree covered e both f = Decides-at covered (reconciles log records) (f ∙ ap (λ (b : Bool). b && list_all (is_covered records) log) (sym both ∙ e)) (reconciles_decides log records)
+-- the tests of one kind after another: one that fails settles the answer
+pub disagrees : (log : List Note) (records : List Record) (agree : Bool) → agree ≡ list_all (agrees log) records → agree ≡ false → Decides false (Reconciled log records)
+disagrees log records agree a none =
+    let own = list_all (is_own records) log in
+    let reached = list_all (is_reached (now_at (past [] log))) records in
+    Decides-at false (reconciles log records) (λ i. ((sym none ∙ a) i && own) && reached) (reconciles_decides log records)
 
-pub one-fails : (log : List Note) (records : List Record) (agree : Bool) → agree ≡ list_all (agrees log) records → agree ≡ false → Decides agree (Reconciled log records)
-one-fails log records agree e none = Decides-at agree (reconciles log records) (none ∙ ap (λ (b : Bool). b && list_all (is_covered records) log) (sym none ∙ e)) (reconciles_decides log records)
+pub strays : (log : List Note) (records : List Record) (agree own : Bool) → agree ≡ list_all (agrees log) records → agree ≡ true → own ≡ list_all (is_own records) log → own ≡ false → Decides false (Reconciled log records)
+strays log records agree own a same o none =
+    let reached = list_all (is_reached (now_at (past [] log))) records in
+    Decides-at false (reconciles log records) (λ i. ((sym same ∙ a) i && (sym none ∙ o) i) && reached) (reconciles_decides log records)
+
+pub decided : (log : List Note) (records : List Record) (agree own reached : Bool) → agree ≡ list_all (agrees log) records → agree ≡ true → own ≡ list_all (is_own records) log → own ≡ true → reached ≡ list_all (is_reached (now_at (past [] log))) records
+    → Decides reached (Reconciled log records)
+decided log records agree own reached a same o also r = Decides-at reached (reconciles log records) (λ i. ((sym same ∙ a) i && (sym also ∙ o) i) && r i) (reconciles_decides log records)

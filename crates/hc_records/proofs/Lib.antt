@@ -1,6 +1,7 @@
 pub mod Deciding
 pub mod Ending
+pub mod Keeping
 pub mod Owing
 pub mod Past
-pub mod Recording
+pub mod Rows
 pub mod Walking

@@ -1,10 +1,12 @@
 -- The same of records as tests that compute.
-use Rattle.std.specs.Prelude.{◌≡◌, ℕ, ◌==◌, ◌&&◌, Bool, true, false, List, [], ◌++◌}
+use Rattle.std.specs.Prelude.{◌≡◌, ℕ, ◌==◌, ◌&&◌, ◌||◌, nat_le, Bool, true, false, List, [], ◌++◌}
 use Rattle.std.specs.Cmp.Lexicographic.{pointwise}
 use Rattle.std.specs.List.{list_any, list_all}
 use Rattle.std.specs.Str.{bytes_eq}
-use Rattle.hc_history.specs.Note.{Op, Insert, Add, Find, Remove, Reply, Stored, Exists, Hit, Miss, FoundInMemory, NotInMemory, Note, Begin}
-use Rattle.hc_records.specs.Records.{Entry, Record, finished}
+use Rattle.hc_history.specs.Note.{Op, Insert, Add, Find, Remove, Reply, Stored, Exists, Hit, Miss, FoundInMemory, NotInMemory, Note, Begin, Now}
+use Rattle.hc_history.specs.Books.{now_at}
+use Rattle.hc_history.specs.Lawful.{past}
+use Rattle.hc_records.specs.Records.{Entry, OpenCall, Record, finished}
 
 abbrev pub op_eq : Op → Op → Bool
 op_eq (Insert k v e) (Insert l w f) = bytes_eq k l && bytes_eq v w && (e == f)
@@ -39,12 +41,25 @@ Differs first entries = (more : List Entry) → are_same (first ++ more) entries
 abbrev pub agrees : List Note → Record → Bool
 agrees log r = are_same (finished r.client [] log) r.entries
 
-abbrev pub has_record : List Record → ℕ → Bool
-has_record records client = list_any (λ (r : Record). r.client == client) records
+abbrev pub has_entry : ℕ → Op → List Entry → Bool
+has_entry call op entries = list_any (λ (e : Entry). (e.call == call) && op_eq e.op op) entries
 
-abbrev pub is_covered : List Record → Note → Bool
-is_covered records (Begin call client op) = has_record records client
-is_covered records note = true
+abbrev pub has_open : ℕ → Op → List OpenCall → Bool
+has_open call op left = list_any (λ (o : OpenCall). (o.call == call) && op_eq o.op op) left
+
+abbrev pub has_asked : ℕ → ℕ → Op → Record → Bool
+has_asked call client op r = (r.client == client) && (has_entry call op r.entries || has_open call op r.open_calls)
+
+abbrev pub has_ticked : ℕ → Record → Bool
+has_ticked moment r = list_any (λ tick. tick == moment) r.ticks
+
+abbrev pub is_own : List Record → Note → Bool
+is_own records (Begin call client op) = list_any (has_asked call client op) records
+is_own records (Now moment) = list_any (has_ticked moment) records
+is_own records note = true
+
+abbrev pub is_reached : ℕ → Record → Bool
+is_reached now r = list_all (λ tick. nat_le tick now) r.ticks
 
 abbrev pub reconciles : List Note → List Record → Bool
-reconciles log records = list_all (agrees log) records && list_all (is_covered records) log
+reconciles log records = list_all (agrees log) records && list_all (is_own records) log && list_all (is_reached (now_at (past [] log))) records

@@ -7,32 +7,37 @@ ghost use Rattle.hc_history.specs.Lawful.{past};
 ghost use Rattle.hc_history.specs.Seen.{op_of, reply_of};
 ghost use Rattle.hc_records.specs.Judge as judge;
 ghost use Rattle.hc_records.specs.Judge.{Leaves, Differs};
-ghost use Rattle.hc_records.specs.Records.{Record as Answers, Reconciled, finished_at};
-ghost use Rattle.hc_records.specs.Walk.{AreFinished, AreRecorded};
+ghost use Rattle.hc_records.specs.Records.{Reconciled, finished_at};
+ghost use Rattle.hc_records.specs.Walk.{AreFinished};
 
 use crate::calls::{answered, asked};
+use crate::own::are_own;
+use crate::reached::are_reached;
 use crate::record::{Entry, Record, Recorded};
-use crate::walk::{CLIENTS, Calls, Finished, finished_calls};
+use crate::walk::{Calls, Finished, finished_calls};
 use hc_history::{Note, Op, Reply, Said};
+use std::alloc::Global;
 
-/// Whether all records agree with the log, and no client of the log lacks one. It is one walk over the log, whose calls it
-/// keeps in ordered maps meanwhile, in memory from where the first record's is. Where that lacks, it keeps nothing, and
-/// takes time that grows with the square of the log.
+/// Whether all records agree with the log, each call and each move of the clock in it is some client's own, and the clock came to
+/// each moment to which a client moved it. It is one walk over the log and the records, which keeps the calls in ordered maps
+/// in the allocator's memory. Where that lacks, it takes time that grows with the square of the log.
 #[must_use]
-pub fn reconcile<T: Recorded>(log: &[Note], records: &[T]) -> bool
+pub fn reconcile<T: Recorded>(log: &[Note], records: &[T], alloc: Global) -> bool
     ensures { Decides result (Reconciled log.now (map T.recorded records.now)) }
 {
-    agree(log, records) && cover(log, records)
+    if !agree(log, records, alloc) {
+        return false;
+    }
+    if !are_own(log, records, alloc) {
+        return false;
+    }
+    are_reached(log, records)
 }
 
 /// Whether each record agrees with the log, by one walk over it where there is memory.
-fn agree<T: Recorded>(log: &[Note], records: &[T]) -> bool
+fn agree<T: Recorded>(log: &[Note], records: &[T], alloc: Global) -> bool
     ensures { result ≡ list_all (judge.agrees log.now) (map T.recorded records.now) }
 {
-    let Some(first) = records.first() else {
-        return true;
-    };
-    let alloc = *first.record().entries.allocator();
     match finished_calls(alloc, log) {
         Ok(clients) => agree_with(&clients, records),
         Err(_) => agree_each(log, records),
@@ -142,7 +147,7 @@ fn is_entry(call: u64, op: &Op, reply: &Reply, entry: &Entry) -> bool
     call == entry.call && is_op(op, &entry.op) && is_reply(reply, &entry.reply)
 }
 
-fn is_op(a: &Op, b: &Op) -> bool
+pub(crate) fn is_op(a: &Op, b: &Op) -> bool
     ensures { result ≡ judge.op_eq (op_of a.now) (op_of b.now) }
 {
     match (a, b) {
@@ -165,39 +170,5 @@ fn is_reply(a: &Reply, b: &Reply) -> bool
         | (Reply::FoundInMemory, Reply::FoundInMemory)
         | (Reply::NotInMemory, Reply::NotInMemory) => true,
         _ => false,
-    }
-}
-
-fn cover<T: Recorded>(log: &[Note], records: &[T]) -> bool
-    ensures { result ≡ list_all (judge.is_covered (map T.recorded records.now)) log.now }
-{
-    let clients = recorded(records);
-    for note in log {
-        if !is_covered(note, &clients) {
-            return false;
-        }
-    }
-    true
-}
-
-/// Which clients have a record.
-fn recorded<T: Recorded>(records: &[T]) -> [bool; CLIENTS]
-    ensures { AreRecorded result (map T.recorded records.now) }
-{
-    let mut clients = [false; CLIENTS];
-    for who in records {
-        clients[who.record().client as usize] = true;
-    }
-    clients
-}
-
-/// Whether the client has a record, if the note begins a call.
-fn is_covered(note: &Note, clients: &[bool]) -> bool
-    requires { length clients.now ≡ 256 }
-    ensures { (records : List Answers) → AreRecorded clients.now records → result ≡ judge.is_covered records note.now }
-{
-    match &note.said {
-        Said::Begin { client, .. } => clients[*client as usize],
-        _ => true,
     }
 }

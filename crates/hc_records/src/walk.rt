@@ -13,7 +13,7 @@ use std::collections::BTreeMap;
 use std::marker::Model;
 
 /// How many clients a log tells apart.
-pub(crate) const CLIENTS: usize = 256;
+const CLIENTS: usize = 256;
 
 /// A reply that is owed.
 #[derive(Drop)]
