@@ -16,6 +16,7 @@ use Rattle.hc_machine.specs.Schedule.{Step, Deed, Open, Put, WriterTake, Io, Fin
 use Rattle.hc_follows.specs.Desk.{new_desk}
 use Rattle.hc_follows.specs.Idle.{is_busy, waits_for_bucket}
 use Rattle.hc_follows.specs.Follows.{Follows}
+use Rattle.hc_follows.proofs.Computing.{computed, claimed_by, ends_by}
 
 abbrev by : Deed → Step
 by deed = record { client = 0; deed = deed }
@@ -81,7 +82,7 @@ abbrev written_parts : List ℕ → List (List Note)
 written_parts page = one_page_parts ++ [] ∷ [] ∷ [] ∷ (Wrote 1 page true ∷ []) ∷ [] ∷ []
 
 pub written-follows : (page : List ℕ) → Follows (config_of 2) written (written_answers page) (written_parts page) [] None
-written-follows page = record { stops = refl; follows = ((refl, (refl, refl, refl), (refl, refl, refl)), refl, record { by_slots = refl; by_adds = refl; no_other = refl }, ((refl, refl, refl, refl, refl, refl, refl), refl, record { by_slots = refl; by_adds = refl; no_other = refl }, ((refl, (refl, refl, refl), (refl, refl, refl)), refl, record { by_slots = refl; by_adds = refl; no_other = refl }, ((refl, refl, refl, refl, refl, refl, refl), refl, record { by_slots = refl; by_adds = refl; no_other = refl }, ((refl, refl, refl), refl, record { by_slots = refl; by_adds = refl; no_other = refl }, ((refl, (refl, refl, refl)), refl, record { by_slots = refl; by_adds = refl; no_other = refl }, ((refl, refl), refl, record { by_slots = refl; by_adds = refl; no_other = refl }, ((refl, refl, refl), refl, record { by_slots = refl; by_adds = refl; no_other = refl }, (((refl, refl), (refl, refl, refl)), refl, record { by_slots = refl; by_adds = refl; no_other = refl }, ((refl, refl), refl, record { by_slots = refl; by_adds = refl; no_other = refl }, refl)))))))))) }
+written-follows page = record { stops = refl; follows = (computed (refl, (refl, refl, refl), (refl, refl, refl)) refl refl refl (claimed_by refl refl refl) (ends_by refl refl refl), (computed (refl, refl, refl, refl, refl, refl, refl) refl refl refl (claimed_by refl refl refl) (ends_by refl refl refl), (computed (refl, (refl, refl, refl), (refl, refl, refl)) refl refl refl (claimed_by refl refl refl) (ends_by refl refl refl), (computed (refl, refl, refl, refl, refl, refl, refl) refl refl refl (claimed_by refl refl refl) (ends_by refl refl refl), (computed (refl, refl, refl) refl refl refl (claimed_by refl refl refl) (ends_by refl refl refl), (computed (refl, (refl, refl, refl)) refl refl refl (claimed_by refl refl refl) (ends_by refl refl refl), (computed (refl, refl) refl refl refl (claimed_by refl refl refl) (ends_by refl refl refl), (computed (refl, refl, refl) refl refl refl (claimed_by refl refl refl) (ends_by refl refl refl), (computed ((refl, refl), (refl, refl, refl)) refl refl refl (claimed_by refl refl refl) (ends_by refl refl refl), (computed (refl, refl) refl refl refl (claimed_by refl refl refl) (ends_by refl refl refl), refl)))))))))) }
 
 abbrev first_page : List ℕ
 first_page = take 512 (entry_bytes (record { key = 97 ∷ []; value = replicate 600 120; pool = 0; expiry = 0 }))
@@ -93,7 +94,7 @@ pub written-parts : (run (config_of 2) [] written).parts ≡ written_parts first
 written-parts = refl
 
 pub idle_before_the_page_is_refused : Follows (config_of 2) (one_page ++ by WriterTake ∷ []) (one_page_answers ++ is_idle ∷ []) (one_page_parts ++ [] ∷ []) [] None → ⊥
-idle_before_the_page_is_refused h = not_idle h.follows.3.3.3.3.3.0.0
+idle_before_the_page_is_refused h = not_idle h.follows.1.1.1.1.1.0.part_of.0
 
 -- though no key waits
 pub one_page-no_key_waits : NoKeyWaits (flash_of 2) (all_of one_page_parts)
@@ -118,7 +119,7 @@ pub one_sealed-parts : (run (config_of 1) [] one_sealed).parts ≡ one_sealed_pa
 one_sealed-parts = refl
 
 pub idle_before_the_flush_is_refused : Follows (config_of 1) (one_sealed ++ by WriterTake ∷ []) (one_sealed_answers ++ is_idle ∷ []) (one_sealed_parts ++ [] ∷ []) [] None → ⊥
-idle_before_the_flush_is_refused h = not_idle h.follows.3.3.3.3.3.3.3.3.0.0
+idle_before_the_flush_is_refused h = not_idle h.follows.1.1.1.1.1.1.1.1.0.part_of.0
 
 pub one_sealed-no_key_waits : NoKeyWaits (flash_of 1) (all_of one_sealed_parts)
 one_sealed-no_key_waits = refl

@@ -27,7 +27,7 @@ opens client slot pool key value ttl = record { client = client; deed = Open slo
 
 pub lying_is_refused : (config : Config) (client slot pool : ℕ) (key value : List ℕ) (ttl : ℕ) (steps : List Step) (part : List Note) (parts : List (List Note)) (last : List Note)
     → Follows config (opens client slot pool key value ttl ∷ steps) (map lie (opens client slot pool key value ttl ∷ steps)) (part ∷ parts) last None → ⊥
-lying_is_refused config client slot pool key value ttl steps part parts last h = h.follows.0
+lying_is_refused config client slot pool key value ttl steps part parts last h = h.follows.0.part_of
 
 -- one part of a find has one answer: to log a hit and to hand out a miss isn't to follow
 pub one_answer : (config : Config) (older : List Note) (client : ℕ) (key : List ℕ) (a b : Reply) (call who : ℕ) (op : Op) (rest : List Note)
@@ -43,4 +43,4 @@ finds client key = record { client = client; deed = Find key }
 
 pub moved_clock_is_refused : (config : Config) (client : ℕ) (key : List ℕ) (steps : List Step) (told : Told) (answers : List Told) (part : List Note) (parts : List (List Note)) (last : List Note)
     → 0 < now_at (past [] part) → Follows config (finds client key ∷ steps) (told ∷ answers) (part ∷ parts) last None → ⊥
-moved_clock_is_refused config client key steps told answers part parts last later h = absurd (let stands : now_at (past [] part) ≡ 0 = h.follows.1 in omega (arith, later, stands))
+moved_clock_is_refused config client key steps told answers part parts last later h = absurd (let stands : now_at (past [] part) ≡ 0 = h.follows.0.clocked in omega (arith, later, stands))

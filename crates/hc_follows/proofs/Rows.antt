@@ -11,6 +11,7 @@ use Rattle.hc_engines.specs.small.Bloom.{bits_of}
 use Rattle.hc_types.specs.Config.{Config}
 use Rattle.hc_machine.specs.Schedule.{Step, Deed, Open, Put, Find, Remove, Reply, WriterTake, FillerTake, Io, Finish, Told, Tells, Filled, run, ended}
 use Rattle.hc_follows.specs.Follows.{Follows}
+use Rattle.hc_follows.proofs.Computing.{computed, claimed_by, ends_by}
 
 abbrev by : Deed → Step
 by deed = record { client = 0; deed = deed }
@@ -27,7 +28,7 @@ found_and_removed = by (Open 0 0 (107 ∷ []) (118 ∷ []) 0) ∷ by (Put 0) ∷
 
 pub found_and_removed-follows : Followed no_flash found_and_removed
 unfolding page_at entries_at entry_at body_at content_at whole_at bits_of
-found_and_removed-follows = record { stops = refl; follows = ((refl, (refl, refl, refl), (refl, refl, refl)), refl, record { by_slots = refl; by_adds = refl; no_other = refl }, ((refl, refl, refl, refl, refl, refl, refl), refl, record { by_slots = refl; by_adds = refl; no_other = refl }, ((refl, refl, refl, refl, refl, refl, refl), refl, record { by_slots = refl; by_adds = refl; no_other = refl }, ((refl, refl, refl, refl, refl, refl, refl), refl, record { by_slots = refl; by_adds = refl; no_other = refl }, ((refl, refl, refl, refl, refl, refl, refl), refl, record { by_slots = refl; by_adds = refl; no_other = refl }, refl))))) }
+found_and_removed-follows = record { stops = refl; follows = (computed (refl, (refl, refl, refl), (refl, refl, refl)) refl refl refl (claimed_by refl refl refl) (ends_by refl refl refl), (computed (refl, refl, refl, refl, refl, refl, refl) refl refl refl (claimed_by refl refl refl) (ends_by refl refl refl), (computed (refl, refl, refl, refl, refl, refl, refl) refl refl refl (claimed_by refl refl refl) (ends_by refl refl refl), (computed (refl, refl, refl, refl, refl, refl, refl) refl refl refl (claimed_by refl refl refl) (ends_by refl refl refl), (computed (refl, refl, refl, refl, refl, refl, refl) refl refl refl (claimed_by refl refl refl) (ends_by refl refl refl), refl))))) }
 
 abbrev one_item : Config
 one_item = record { pools = record { bytes = 1000; items = 1 } ∷ []; flash = Some (record { page = 512; buckets = 1; regions = 3; region_pages = 1; clean = 1; small_max = 100; queue = 8; bits = 8; admit_min = 0; admit_max = 2000 }) }
@@ -43,7 +44,7 @@ abbrev parts_05 : (first second : List ℕ) → List (List Note)
 parts_05 first second = (Charged 1 (97 ∷ []) 0 36 ∷ []) ∷ (Begin 1 0 (note.Insert (97 ∷ []) (111 ∷ 110 ∷ 101 ∷ []) 0) ∷ Linked 1 ∷ Did 1 note.Stored ∷ End 1 ∷ []) ∷ (Freed 1 ∷ Queued (97 ∷ []) ∷ Charged 2 (98 ∷ []) 0 36 ∷ []) ∷ (Begin 2 0 (note.Insert (98 ∷ []) (116 ∷ 119 ∷ 111 ∷ []) 0) ∷ Linked 2 ∷ Did 2 note.Stored ∷ End 2 ∷ []) ∷ (Unqueued (97 ∷ []) ∷ Writing (97 ∷ []) ∷ []) ∷ [] ∷ (Wrote 0 first true ∷ WasWritten (97 ∷ []) ∷ []) ∷ (Freed 2 ∷ Queued (98 ∷ []) ∷ Charged 3 (99 ∷ []) 0 38 ∷ []) ∷ (Begin 3 0 (note.Insert (99 ∷ []) (116 ∷ 104 ∷ 114 ∷ 101 ∷ 101 ∷ []) 0) ∷ Linked 3 ∷ Did 3 note.Stored ∷ End 3 ∷ []) ∷ (Unqueued (98 ∷ []) ∷ Writing (98 ∷ []) ∷ []) ∷ [] ∷ (note.Read 0 (Some first) ∷ []) ∷ [] ∷ (Wrote 0 second true ∷ WasWritten (98 ∷ []) ∷ []) ∷ (Begin 4 0 (note.Find (97 ∷ [])) ∷ []) ∷ [] ∷ [] ∷ (note.Read 0 (Some second) ∷ Freed 3 ∷ Queued (99 ∷ []) ∷ Charged 4 (97 ∷ []) 0 36 ∷ Linked 4 ∷ Did 4 (note.Hit (111 ∷ 110 ∷ 101 ∷ [])) ∷ []) ∷ (End 4 ∷ []) ∷ []
 
 pub back_from_flash-follows : (first second : List ℕ) → Follows one_item back_from_flash (answers_05 first second) (parts_05 first second) [] None
-back_from_flash-follows first second = record { stops = refl; follows = ((refl, (refl, refl, refl), (refl, refl, refl)), refl, record { by_slots = refl; by_adds = refl; no_other = refl }, ((refl, refl, refl, refl, refl, refl, refl), refl, record { by_slots = refl; by_adds = refl; no_other = refl }, ((refl, (refl, refl, refl), (refl, refl, refl)), refl, record { by_slots = refl; by_adds = refl; no_other = refl }, ((refl, refl, refl, refl, refl, refl, refl), refl, record { by_slots = refl; by_adds = refl; no_other = refl }, ((refl, (refl, refl, refl)), refl, record { by_slots = refl; by_adds = refl; no_other = refl }, ((refl, refl, refl), refl, record { by_slots = refl; by_adds = refl; no_other = refl }, (((refl, refl), (refl, refl, refl)), refl, record { by_slots = refl; by_adds = refl; no_other = refl }, ((refl, (refl, refl, refl), (refl, refl, refl)), refl, record { by_slots = refl; by_adds = refl; no_other = refl }, ((refl, refl, refl, refl, refl, refl, refl), refl, record { by_slots = refl; by_adds = refl; no_other = refl }, ((refl, (refl, refl, refl)), refl, record { by_slots = refl; by_adds = refl; no_other = refl }, ((refl, (refl, refl), refl), refl, record { by_slots = refl; by_adds = refl; no_other = refl }, ((refl, ((refl, refl), (refl, refl, refl))), refl, record { by_slots = refl; by_adds = refl; no_other = refl }, ((refl, refl, refl), refl, record { by_slots = refl; by_adds = refl; no_other = refl }, (((refl, refl), (refl, refl, refl)), refl, record { by_slots = refl; by_adds = refl; no_other = refl }, ((refl, refl, refl, refl, refl), refl, record { by_slots = refl; by_adds = refl; no_other = refl }, ((refl, (refl, refl, refl)), refl, record { by_slots = refl; by_adds = refl; no_other = refl }, ((refl, (refl, refl), refl), refl, record { by_slots = refl; by_adds = refl; no_other = refl }, (((refl, refl), (refl, refl, refl)), refl, record { by_slots = refl; by_adds = refl; no_other = refl }, ((refl, refl), refl, record { by_slots = refl; by_adds = refl; no_other = refl }, refl))))))))))))))))))) }
+back_from_flash-follows first second = record { stops = refl; follows = (computed (refl, (refl, refl, refl), (refl, refl, refl)) refl refl refl (claimed_by refl refl refl) (ends_by refl refl refl), (computed (refl, refl, refl, refl, refl, refl, refl) refl refl refl (claimed_by refl refl refl) (ends_by refl refl refl), (computed (refl, (refl, refl, refl), (refl, refl, refl)) refl refl refl (claimed_by refl refl refl) (ends_by refl refl refl), (computed (refl, refl, refl, refl, refl, refl, refl) refl refl refl (claimed_by refl refl refl) (ends_by refl refl refl), (computed (refl, (refl, refl, refl)) refl refl refl (claimed_by refl refl refl) (ends_by refl refl refl), (computed (refl, refl, refl) refl refl refl (claimed_by refl refl refl) (ends_by refl refl refl), (computed ((refl, refl), (refl, refl, refl)) refl refl refl (claimed_by refl refl refl) (ends_by refl refl refl), (computed (refl, (refl, refl, refl), (refl, refl, refl)) refl refl refl (claimed_by refl refl refl) (ends_by refl refl refl), (computed (refl, refl, refl, refl, refl, refl, refl) refl refl refl (claimed_by refl refl refl) (ends_by refl refl refl), (computed (refl, (refl, refl, refl)) refl refl refl (claimed_by refl refl refl) (ends_by refl refl refl), (computed (refl, (refl, refl), refl) refl refl refl (claimed_by refl refl refl) (ends_by refl refl refl), (computed (refl, ((refl, refl), (refl, refl, refl))) refl refl refl (claimed_by refl refl refl) (ends_by refl refl refl), (computed (refl, refl, refl) refl refl refl (claimed_by refl refl refl) (ends_by refl refl refl), (computed ((refl, refl), (refl, refl, refl)) refl refl refl (claimed_by refl refl refl) (ends_by refl refl refl), (computed (refl, refl, refl, refl, refl) refl refl refl (claimed_by refl refl refl) (ends_by refl refl refl), (computed (refl, (refl, refl, refl)) refl refl refl (claimed_by refl refl refl) (ends_by refl refl refl), (computed (refl, (refl, refl), refl) refl refl refl (claimed_by refl refl refl) (ends_by refl refl refl), (computed ((refl, refl), (refl, refl, refl)) refl refl refl (claimed_by refl refl refl) (ends_by refl refl refl), (computed (refl, refl) refl refl refl (claimed_by refl refl refl) (ends_by refl refl refl), refl))))))))))))))))))) }
 
 pub back_from_flash-answers : (run one_item [] back_from_flash).answers ≡ answers_05 ((0 ∷ 1 ∷ 0 ∷ 20 ∷ 1 ∷ 0 ∷ 0 ∷ 3 ∷ 0 ∷ 0 ∷ 0 ∷ 0 ∷ 0 ∷ 0 ∷ 0 ∷ 0 ∷ 97 ∷ 111 ∷ 110 ∷ 101 ∷ []) ++ replicate 492 0) ((0 ∷ 2 ∷ 0 ∷ 36 ∷ 1 ∷ 0 ∷ 0 ∷ 3 ∷ 0 ∷ 0 ∷ 0 ∷ 0 ∷ 0 ∷ 0 ∷ 0 ∷ 0 ∷ 97 ∷ 111 ∷ 110 ∷ 101 ∷ 1 ∷ 0 ∷ 0 ∷ 3 ∷ 0 ∷ 0 ∷ 0 ∷ 0 ∷ 0 ∷ 0 ∷ 0 ∷ 0 ∷ 98 ∷ 116 ∷ 119 ∷ 111 ∷ []) ++ replicate 476 0)
 unfolding page_at entries_at entry_at body_at content_at whole_at bits_of

@@ -11,6 +11,7 @@ use Rattle.hc_engines.specs.small.Bloom.{bits_of}
 use Rattle.hc_types.specs.Config.{Config}
 use Rattle.hc_machine.specs.Schedule.{Step, Deed, Open, Put, PutNew, Discard, Reply, WriterTake, FillerTake, Io, Finish, Told, Tells, Filled, NoSlot, run, ended}
 use Rattle.hc_follows.specs.Follows.{Follows}
+use Rattle.hc_follows.proofs.Computing.{computed, claimed_by, ends_by}
 
 abbrev by : Deed → Step
 by deed = record { client = 0; deed = deed }
@@ -32,7 +33,7 @@ abbrev waiting_parts : (first : List ℕ) → List (List Note)
 waiting_parts first = (Charged 1 (97 ∷ []) 0 36 ∷ []) ∷ (Begin 1 0 (note.Insert (97 ∷ []) (111 ∷ 110 ∷ 101 ∷ []) 0) ∷ Linked 1 ∷ Did 1 note.Stored ∷ End 1 ∷ []) ∷ (Freed 1 ∷ Queued (97 ∷ []) ∷ Charged 2 (98 ∷ []) 0 36 ∷ []) ∷ (Begin 2 0 (note.Insert (98 ∷ []) (116 ∷ 119 ∷ 111 ∷ []) 0) ∷ Linked 2 ∷ Did 2 note.Stored ∷ End 2 ∷ []) ∷ (Unqueued (97 ∷ []) ∷ Writing (97 ∷ []) ∷ []) ∷ [] ∷ (Wrote 0 first true ∷ WasWritten (97 ∷ []) ∷ []) ∷ (Freed 2 ∷ Queued (98 ∷ []) ∷ Charged 3 (97 ∷ []) 0 38 ∷ []) ∷ (Begin 3 0 (note.Add (97 ∷ []) (116 ∷ 104 ∷ 114 ∷ 101 ∷ 101 ∷ []) 0) ∷ []) ∷ [] ∷ [] ∷ [] ∷ (note.Read 0 (Some first) ∷ Freed 3 ∷ Did 3 note.Exists ∷ []) ∷ (End 3 ∷ []) ∷ []
 
 pub waiting-follows : (first : List ℕ) → Follows waiting_config waiting (waiting_answers first) (waiting_parts first) [] None
-waiting-follows first = record { stops = refl; follows = ((refl, (refl, refl, refl), (refl, refl, refl)), refl, record { by_slots = refl; by_adds = refl; no_other = refl }, ((refl, refl, refl, refl, refl, refl, refl), refl, record { by_slots = refl; by_adds = refl; no_other = refl }, ((refl, (refl, refl, refl), (refl, refl, refl)), refl, record { by_slots = refl; by_adds = refl; no_other = refl }, ((refl, refl, refl, refl, refl, refl, refl), refl, record { by_slots = refl; by_adds = refl; no_other = refl }, ((refl, (refl, refl, refl)), refl, record { by_slots = refl; by_adds = refl; no_other = refl }, ((refl, refl, refl), refl, record { by_slots = refl; by_adds = refl; no_other = refl }, (((refl, refl), (refl, refl, refl)), refl, record { by_slots = refl; by_adds = refl; no_other = refl }, ((refl, (refl, refl, refl), (refl, refl, refl)), refl, record { by_slots = refl; by_adds = refl; no_other = refl }, ((refl, refl, refl, refl, refl), refl, record { by_slots = refl; by_adds = refl; no_other = refl }, (refl, refl, record { by_slots = refl; by_adds = refl; no_other = refl }, ((refl, (refl, refl, refl)), refl, record { by_slots = refl; by_adds = refl; no_other = refl }, ((refl, (refl, refl), refl), refl, record { by_slots = refl; by_adds = refl; no_other = refl }, (((refl, refl), (refl, refl, refl)), refl, record { by_slots = refl; by_adds = refl; no_other = refl }, ((refl, refl), refl, record { by_slots = refl; by_adds = refl; no_other = refl }, refl)))))))))))))) }
+waiting-follows first = record { stops = refl; follows = (computed (refl, (refl, refl, refl), (refl, refl, refl)) refl refl refl (claimed_by refl refl refl) (ends_by refl refl refl), (computed (refl, refl, refl, refl, refl, refl, refl) refl refl refl (claimed_by refl refl refl) (ends_by refl refl refl), (computed (refl, (refl, refl, refl), (refl, refl, refl)) refl refl refl (claimed_by refl refl refl) (ends_by refl refl refl), (computed (refl, refl, refl, refl, refl, refl, refl) refl refl refl (claimed_by refl refl refl) (ends_by refl refl refl), (computed (refl, (refl, refl, refl)) refl refl refl (claimed_by refl refl refl) (ends_by refl refl refl), (computed (refl, refl, refl) refl refl refl (claimed_by refl refl refl) (ends_by refl refl refl), (computed ((refl, refl), (refl, refl, refl)) refl refl refl (claimed_by refl refl refl) (ends_by refl refl refl), (computed (refl, (refl, refl, refl), (refl, refl, refl)) refl refl refl (claimed_by refl refl refl) (ends_by refl refl refl), (computed (refl, refl, refl, refl, refl) refl refl refl (claimed_by refl refl refl) (ends_by refl refl refl), (computed refl refl refl tt (claimed_by refl refl refl) (ends_by refl refl refl), (computed (refl, (refl, refl, refl)) refl refl refl (claimed_by refl refl refl) (ends_by refl refl refl), (computed (refl, (refl, refl), refl) refl refl refl (claimed_by refl refl refl) (ends_by refl refl refl), (computed ((refl, refl), (refl, refl, refl)) refl refl refl (claimed_by refl refl refl) (ends_by refl refl refl), (computed (refl, refl) refl refl refl (claimed_by refl refl refl) (ends_by refl refl refl), refl)))))))))))))) }
 
 pub waiting-answers : (run waiting_config [] waiting).answers ≡ waiting_answers ((0 ∷ 1 ∷ 0 ∷ 20 ∷ 1 ∷ 0 ∷ 0 ∷ 3 ∷ 0 ∷ 0 ∷ 0 ∷ 0 ∷ 0 ∷ 0 ∷ 0 ∷ 0 ∷ 97 ∷ 111 ∷ 110 ∷ 101 ∷ []) ++ replicate 492 0)
 unfolding page_at entries_at entry_at body_at content_at whole_at bits_of
@@ -47,7 +48,7 @@ abbrev kept_parts : (first : List ℕ) → List (List Note)
 kept_parts first = (Charged 1 (97 ∷ []) 0 36 ∷ []) ∷ (Begin 1 0 (note.Insert (97 ∷ []) (111 ∷ 110 ∷ 101 ∷ []) 0) ∷ Linked 1 ∷ Did 1 note.Stored ∷ End 1 ∷ []) ∷ (Freed 1 ∷ Queued (97 ∷ []) ∷ Charged 2 (98 ∷ []) 0 36 ∷ []) ∷ (Begin 2 0 (note.Insert (98 ∷ []) (116 ∷ 119 ∷ 111 ∷ []) 0) ∷ Linked 2 ∷ Did 2 note.Stored ∷ End 2 ∷ []) ∷ (Unqueued (97 ∷ []) ∷ Writing (97 ∷ []) ∷ []) ∷ [] ∷ (Wrote 0 first true ∷ WasWritten (97 ∷ []) ∷ []) ∷ (Freed 2 ∷ Queued (98 ∷ []) ∷ Charged 3 (97 ∷ []) 0 38 ∷ []) ∷ (Begin 3 0 (note.Add (97 ∷ []) (116 ∷ 104 ∷ 114 ∷ 101 ∷ 101 ∷ []) 0) ∷ []) ∷ [] ∷ [] ∷ [] ∷ (note.Read 0 (Some first) ∷ Did 3 note.Exists ∷ []) ∷ (End 3 ∷ []) ∷ []
 
 pub kept_charge_is_refused : (first : List ℕ) → Follows waiting_config waiting (waiting_answers first) (kept_parts first) [] None → ⊥
-kept_charge_is_refused first h = no h.follows.3.3.3.3.3.3.3.3.3.3.3.3.2.no_other
+kept_charge_is_refused first h = no h.follows.1.1.1.1.1.1.1.1.1.1.1.1.0.claimed.no_other
   where
     no : false ≡ true → ⊥
     no e = absurd cc

@@ -3,13 +3,14 @@ use Rattle.std.specs.Prelude.{◌≡◌, ℕ, ◌<◌, List, [], ◌∷◌, leng
 use Rattle.hc_types.specs.Config.{Config}
 use Rattle.hc_history.specs.Note.{Note, Freed}
 use Rattle.hc_history.specs.Books.{now_at}
-use Rattle.hc_history.specs.Lawful.{past}
+use Rattle.hc_history.specs.Lawful.{past, AtEnd}
 use Rattle.hc_machine.specs.Schedule.{Deed, Open, Put, PutNew, Discard, Find, Remove, Reply as TakeReply, Tick, WriterTake, FillerTake, Reclaim, Io, Finish, Step, Told, Filled}
 use Rattle.hc_follows.specs.Desk.{Kept, Desk, new_desk, kept_at, job_out}
 use Rattle.hc_follows.specs.Clients.{OpenPart, PutPart, PutNewPart, DiscardPart, FindPart, RemovePart, ReplyPart, TickPart, slots_after, adds_after}
 use Rattle.hc_follows.specs.Idle.{is_written_out, is_looked_up}
 use Rattle.hc_follows.specs.Workers.{TakePart, ReclaimPart, IoPart, FinishPart, jobs_after, pages_after, failures_after}
 use Rattle.hc_follows.specs.Claims.{Claimed}
+use Rattle.hc_follows.specs.Charging.{Charges, Frees}
 
 -- ---- one line a kind of step
 
@@ -45,6 +46,17 @@ desk_after deed told part desk = record {
   failures = failures_after told desk.failures;
 }
 
+-- what is asked of one step of a run: its part and its answer, the clock, the charges, and what holds behind it
+pub record IsStep (config : Config) (desk : Desk) (client : ℕ) (deed : Deed) (told : Told) (part : List Note) : Type 0 where
+  pub part_of : PartOf config desk client deed told part
+  pub clocked : Clocked deed desk.older part
+  pub charges : Charges desk.older deed told part
+  pub frees : Frees deed desk part
+  -- the open charges are those of slots and of adds that wait
+  pub claimed : Claimed (desk_after deed told part desk)
+  -- and the map is held against the linked ones, as it is at a log's end
+  pub at_end : AtEnd config (past desk.older part)
+
 -- ---- the whole run
 
 -- what is told where slots are given up
@@ -54,13 +66,12 @@ slots_freed slots = map (λ (kept : Kept). Freed kept.charge) slots
 -- an Open that stopped after its allocate keeps its part, and fills its slot
 abbrev pub StoppedOpen : Config → Desk → Deed → List Note → List Note → Type 0
 StoppedOpen config desk (Open slot pool key value ttl) part last =
-    PartOf config desk 0 (Open slot pool key value ttl) Filled part × Clocked (Open slot pool key value ttl) desk.older part × Claimed (desk_after (Open slot pool key value ttl) Filled part desk) × (last ≡ slots_freed (desk_after (Open slot pool key value ttl) Filled part desk).slots)
+    IsStep config desk 0 (Open slot pool key value ttl) Filled part × (last ≡ slots_freed (desk_after (Open slot pool key value ttl) Filled part desk).slots)
 StoppedOpen config desk deed part last = ⊥
 
 -- each step made has its answer and its part; then what still fills a slot is freed, in order
 abbrev pub FollowsFrom : Config → Desk → List Step → List Told → List (List Note) → List Note → Type 0
-FollowsFrom config desk (s ∷ steps) (told ∷ answers) (part ∷ parts) last =
-    PartOf config desk s.client s.deed told part × Clocked s.deed desk.older part × Claimed (desk_after s.deed told part desk) × FollowsFrom config (desk_after s.deed told part desk) steps answers parts last
+FollowsFrom config desk (s ∷ steps) (told ∷ answers) (part ∷ parts) last = IsStep config desk s.client s.deed told part × FollowsFrom config (desk_after s.deed told part desk) steps answers parts last
 FollowsFrom config desk steps [] [] last = last ≡ slots_freed desk.slots
 FollowsFrom config desk (s ∷ steps) [] (part ∷ []) last = StoppedOpen config desk s.deed part last
 FollowsFrom config desk steps answers parts last = ⊥

@@ -5,4 +5,5 @@ pub mod Clients
 pub mod Idle
 pub mod Workers
 pub mod Claims
+pub mod Charging
 pub mod Follows

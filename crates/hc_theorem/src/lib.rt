@@ -1,6 +1,6 @@
 //! The theorem: each step keeps the invariant, and every run leaves a legal and honest log, and follows its steps. The steps of
 //! workers (writer, fills, buckets), whole runs (runs: the device, traces, schedules, logs of a device that lies), that every run
-//! follows its steps (slots, clients, workers, idle), and the headlines (headlines).
+//! follows its steps (slots, clients, charges, workers, idle), and the headlines (headlines).
 #![tactic(auto)]
 
 mod laws;

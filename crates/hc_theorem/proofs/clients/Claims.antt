@@ -27,7 +27,7 @@ use Rattle.hc_theorem.proofs.clients.Refusing.{open_same}
 -- ---- lists
 
 -- one is counted where some is
-counted_any : {X : Type 0} (p : X → Bool) (xs : List X) → 1 ≤ count p xs → list_any p xs ≡ true
+pub counted_any : {X : Type 0} (p : X → Bool) (xs : List X) → 1 ≤ count p xs → list_any p xs ≡ true
 counted_any p xs h = go (list_any p xs) refl
   where
     go : (t : Bool) → list_any p xs ≡ t → list_any p xs ≡ true
@@ -81,7 +81,7 @@ some_both (Some x) f (Some y) e = refl
 open_waits : (older : List Note) (cache : Cache) (n : ℕ) → CallsTell older cache.calls cache.owed (fills_of cache.nvm) → is_some (open_call n (open_calls older)) ≡ is_some (asked_in n (fills_of cache.nvm))
 open_waits older cache n t = some_both (open_call n (open_calls older)) (λ (c : Call). c.op) (asked_in n (fills_of cache.nvm)) (t.open_ones n)
 
-asked_counts : (n : ℕ) (fills : List Fill) → is_some (asked_in n fills) ≡ true → 1 ≤ count (is_call n) (waiters_of fills)
+pub asked_counts : (n : ℕ) (fills : List Fill) → is_some (asked_in n fills) ≡ true → 1 ≤ count (is_call n) (waiters_of fills)
 asked_counts n fills h = go (count (is_call n) (waiters_of fills)) refl
   where
     go : (k : ℕ) → count (is_call n) (waiters_of fills) ≡ k → 1 ≤ count (is_call n) (waiters_of fills)

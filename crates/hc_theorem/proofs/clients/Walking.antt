@@ -13,7 +13,10 @@ use Rattle.hc_machine.specs.Schedule.{Deed, Open, Put, PutNew, Discard, Find, Re
 use Rattle.hc_invariant.specs.Tells.{waiters_of}
 use Rattle.hc_invariant.specs.Good.{FlashPart, fills_of}
 use Rattle.hc_invariant.specs.Laws.{Laws}
+use Rattle.hc_invariant.specs.Structure.{Structured}
 use Rattle.hc_invariant.proofs.Beginning.{new_run}
+use Rattle.hc_invariant.proofs.Ends.{good_ends}
+use Rattle.hc_proof.proofs.structure.Workers.{begins}
 use Rattle.hc_machine.specs.Quiet.{jobs_in}
 use Rattle.hc_theorem.specs.runs.Scene.{SceneHolds}
 use Rattle.hc_theorem.specs.runs.Schedule.{AllStepSized}
@@ -23,7 +26,7 @@ use Rattle.hc_theorem.specs.idle.AccountsKept.{AccountsOf}
 use Rattle.hc_theorem.proofs.idle.StonesKept.{step_keeps_stones}
 use Rattle.hc_theorem.proofs.idle.AccountsKept.{step_keeps_accounts}
 use Rattle.hc_follows.specs.Desk.{Desk, new_desk}
-use Rattle.hc_follows.specs.Follows.{desk_after, slots_freed, FollowsFrom}
+use Rattle.hc_follows.specs.Follows.{desk_after, IsStep, slots_freed, FollowsFrom}
 use Rattle.hc_theorem.specs.clients.Matches.{AllTold, Matches}
 use Rattle.hc_theorem.specs.clients.Deeds.{Followed, WorkersFollow, SchedulesFollow}
 use Rattle.hc_theorem.proofs.clients.Stepping.{good_at, opens_at}
@@ -35,6 +38,8 @@ use Rattle.hc_theorem.proofs.clients.Opening.{open_follows}
 use Rattle.hc_theorem.proofs.clients.Claims.{claimed}
 use Rattle.hc_theorem.proofs.clients.Clock.{clocked}
 use Rattle.hc_theorem.proofs.clients.Ending.{freed_at_end}
+use Rattle.hc_theorem.proofs.charges.Structures.{step_structured}
+use Rattle.hc_theorem.proofs.charges.Steps.{charging}
 
 -- ---- each kind of step
 
@@ -97,12 +102,12 @@ jobs_of None older memory (Some nvm) g = absurd g
 jobs_of (Some flash) older memory (Some nvm) g = g.jobs
 
 module _ (laws : Laws) (workers : WorkersFollow) (config : Config) where
-  walks : (log : List Note) (scene : Scene) (desk : Desk) (steps : List Step) → SceneHolds config log scene → AllStepSized steps → StonesOf scene.world.cache.nvm → AccountsOf config.flash desk.older scene.world.cache.nvm → Matches log desk scene
+  walks : (log : List Note) (scene : Scene) (desk : Desk) (steps : List Step) → SceneHolds config log scene → AllStepSized steps → StonesOf scene.world.cache.nvm → AccountsOf config.flash desk.older scene.world.cache.nvm → Structured scene.world.cache → Matches log desk scene
       → FollowsFrom config desk steps (run_from steps scene).answers (run_from steps scene).parts (ended (run_from steps scene)).part
-  walks log scene desk [] h sized stones accounts m =
+  walks log scene desk [] h sized stones accounts whole m =
       let g = (good_at config log desk scene h m).agrees in
       freed_at_end scene.slots scene.world.cache (opens_at config desk.older scene.world.cache desk.slots scene.slots g m.slots) ∙ ap slots_freed (sym m.slots.same)
-  walks log scene desk (s ∷ steps) h sized stones accounts m =
+  walks log scene desk (s ∷ steps) h sized stones accounts whole m =
       let done = step s scene in
       let after = does_hold laws config log scene h s.client s.deed sized.0 in
       let f = deed_follows workers s.deed config log scene desk s.client h after stones accounts m in
@@ -111,7 +116,16 @@ module _ (laws : Laws) (workers : WorkersFollow) (config : Config) where
       let told = step_keeps_accounts s.client s.deed config desk.older scene before accounts in
       let next = desk_after s.deed done.told done.part desk in
       let g = (good_at config (log ++ done.part) next done.scene after f.matches).agrees in
-      (f.part, clocked s.client s.deed scene desk.older done.part before.clock g.clock, claimed config next done.scene.world.cache done.scene.slots g f.matches.slots f.matches.adds, walks (log ++ done.part) done.scene next steps after sized.1 left told f.matches)
+      let charged = charging config log scene desk m (good_at config log desk scene h m) whole s.client s.deed in
+      let one : IsStep config desk s.client s.deed done.told done.part = record {
+        part_of = f.part;
+        clocked = clocked s.client s.deed scene desk.older done.part before.clock g.clock;
+        charges = charged.0;
+        frees = charged.1;
+        claimed = claimed config next done.scene.world.cache done.scene.slots g f.matches.slots f.matches.adds;
+        at_end = good_ends config next.older done.scene.world.cache g;
+      } in
+      (one, walks (log ++ done.part) done.scene next steps after sized.1 left told (step_structured s.client scene whole s.deed) f.matches)
 
 all_made : (steps : List Step) (scene : Scene) → length (run_from steps scene).answers ≡ length steps
 all_made [] scene = refl
@@ -120,5 +134,5 @@ all_made (s ∷ steps) scene = ap suc (all_made steps (step s scene).scene)
 pub schedules_follow : Laws → WorkersFollow → SchedulesFollow
 schedules_follow laws workers config breaks steps can sized = record {
   stops = all_made steps (new_scene config breaks);
-  follows = walks laws workers config [] (new_scene config breaks) new_desk steps (record { holds = new_run config breaks can; sized = tt }) sized (new_stones config.flash) (new_accounts config.flash) (new_matches config breaks);
+  follows = walks laws workers config [] (new_scene config breaks) new_desk steps (record { holds = new_run config breaks can; sized = tt }) sized (new_stones config.flash) (new_accounts config.flash) (begins config) (new_matches config breaks);
 }
