@@ -1,6 +1,6 @@
 // Badges of users, which are written into the cache piece by piece.
 use crate::profiles::{HOUR, POOL};
-use hc_core::{Core, Counting, Key, Refusal, Sealed, Unlinked, give_up_blank};
+use hc_core::{Blank, Core, Counting, Key, Refusal, Sealed, Unlinked};
 use std::alloc::Global;
 
 /// So many bytes a badge has, at most.
@@ -19,6 +19,14 @@ fn insert(cache: &mut Core<Counting>, sealed: Sealed) -> Result<(), Refusal> {
     }
 }
 
+/// Gives up what was begun.
+fn give_up(cache: &mut Core<Counting>, blank: Blank) {
+    match cache.discard_blank(blank) {
+        Ok(()) => {}
+        Err(blank) => blank.abandon(),
+    }
+}
+
 /// Writes a user's name into a badge, and inserts it under this key. One that the name doesn't fit is given up: its room is
 /// free again, and nothing is found under the key that wasn't before.
 pub fn badge(
@@ -33,13 +41,13 @@ pub fn badge(
         Err(uncharged) => return Err(uncharged.refusal),
     };
     if let Err(refusal) = blank.write_at(0, name.as_bytes()) {
-        give_up_blank(cache, blank);
+        give_up(cache, blank);
         return Err(refusal);
     }
     match blank.seal() {
         Ok(sealed) => insert(cache, sealed),
         Err(blank) => {
-            give_up_blank(cache, blank);
+            give_up(cache, blank);
             Err(Refusal::NoMemory)
         }
     }

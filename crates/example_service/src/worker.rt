@@ -19,7 +19,7 @@ pub struct Worker {
 }
 
 impl Worker {
-    /// The worker of such a cache, with a device in memory. A service has a real one, and writes an `impl Flash` for it.
+    /// The worker of such a cache, with a device in memory. A service has a real one, as `hc_paged` has for files.
     pub fn new(alloc: Global) -> Result<Worker, AllocError> {
         let device = MemFlash::new(alloc, 16, 512)?;
         Ok(Worker { device, owed: None })

@@ -10,7 +10,7 @@ use hc_memory::{Blank, Sealed};
 use std::alloc::Allocator;
 
 /// Gives up an item of this cache that wasn't inserted.
-pub fn give_up<N: Notes<Note<A>>, A: Allocator + Clone + Copy>(
+pub(crate) fn give_up<N: Notes<Note<A>>, A: Allocator + Clone + Copy>(
     core: &mut Core<N, A>,
     sealed: Sealed<A>,
 )
@@ -24,7 +24,7 @@ pub fn give_up<N: Notes<Note<A>>, A: Allocator + Clone + Copy>(
 }
 
 /// Gives up an item of this cache that wasn't sealed.
-pub fn give_up_blank<N: Notes<Note<A>>, A: Allocator + Clone + Copy>(
+pub(crate) fn give_up_blank<N: Notes<Note<A>>, A: Allocator + Clone + Copy>(
     core: &mut Core<N, A>,
     blank: Blank<A>,
 )

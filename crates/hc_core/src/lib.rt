@@ -10,7 +10,6 @@ mod storing;
 mod workers;
 
 pub use cache::Core;
-pub use giving_up::{give_up, give_up_blank};
 pub use laws::{steps_are_legal, unread_logs_are_honest};
 
 // The types of the calls' signatures, so that a caller needs no other crate.

@@ -4,6 +4,7 @@ pub mod Tells
 pub mod Jobs
 pub mod Fresh
 pub mod Good
+pub mod LargeAlone
 pub mod Structure
 pub mod Laws
 pub mod Alike

@@ -3,6 +3,7 @@ use Rattle.std.specs.Prelude.{◌≡◌, ℕ, ◌+◌, ◌<◌, ◌≤◌, ◌==
 use Rattle.std.specs.Str.{bytes_eq}
 use Rattle.hc_types.specs.Tally.{count}
 use Rattle.hc_types.specs.FlashEntry.{FlashEntry}
+use Rattle.hc_types.specs.declared.config.FlashConfig.{FlashConfig}
 use Rattle.hc_engines.specs.Engine.{Op, Get}
 use Rattle.hc_engines.specs.small.BigHash as bighash
 use Rattle.hc_engines.specs.large.Block as block
@@ -15,6 +16,7 @@ use Rattle.hc_machine.specs.Nvm.{Nvm, Tombstone, Fill, Job, is_put_of, is_stone_
 use Rattle.hc_machine.specs.Cache.{Cache}
 use Rattle.hc_invariant.specs.Tells.{waiters_of}
 use Rattle.hc_invariant.specs.Jobs.{AllWishes}
+use Rattle.hc_invariant.specs.LargeAlone.{LargeAlone}
 use Rattle.hc_invariant.specs.Good.{fills_of}
 
 abbrev pub queue_of : Option Nvm → List FlashEntry
@@ -24,6 +26,11 @@ queue_of (Some nvm) = nvm.queue
 abbrev pub stones_of : Option Nvm → List Tombstone
 stones_of None = []
 stones_of (Some nvm) = nvm.tombstones
+
+-- the configuration of the flash that is there
+abbrev pub flash_of : Option Nvm → Option FlashConfig
+flash_of None = None
+flash_of (Some nvm) = Some nvm.pair.small.flash
 
 -- a key stands in one place at most, and once: it is linked, its put waits, or a fill is to bring it
 abbrev pub OnePlace : List Item → List FlashEntry → List Fill → Type 0
@@ -74,6 +81,8 @@ pub record JobsStand (nvm : Nvm) : Type 0 where
   pub fresh : (n : ℕ) → nvm.made < n → count (is_job n) nvm.jobs + (count (brings n) nvm.fills + operations nvm.pair n) ≡ 0
   -- a fill's job gets the fill's key: so what it brings isn't another key's, which may be linked or wait
   pub asks : AllAsk nvm.pair nvm.fills
+  -- no place of the large engine is a small entry's: so a bucket that is given up takes nothing of what it finds
+  pub large : LargeAlone nvm.pair.small.flash nvm.pair.large
 
 abbrev pub JobsPart : Option Nvm → Type 0
 JobsPart None = Unit {0}
@@ -93,6 +102,8 @@ pub record Structure (memory : Memory) (nvm : Option Nvm) : Type 0 where
   pub one_add : (n : ℕ) → count (adds n) (waiters_of (fills_of nvm)) ≤ 1
   pub one_stone : (key : List ℕ) → count (is_stone_of key) (stones_of nvm) ≤ 1
   pub jobs : JobsPart nvm
+  -- both go by one configuration
+  pub flash : memory.flash ≡ flash_of nvm
 
 abbrev pub Structured : Cache → Type 0
 Structured cache = Structure cache.memory cache.nvm

@@ -33,7 +33,7 @@ follows_more config desk [] [] (part ∷ parts) last h = absurd h
 follows_more config desk (s ∷ steps) [] (part ∷ parts) last h = absurd h
 follows_more config desk [] (told ∷ answers) parts last h = h
 follows_more config desk (s ∷ steps) (told ∷ answers) [] last h = absurd h
-follows_more config desk (s ∷ steps) (told ∷ answers) (part ∷ parts) last h = (h.0, h.1, h.2, follows_more config (desk_after s.deed told part desk) steps answers parts last h.3)
+follows_more config desk (s ∷ steps) (told ∷ answers) (part ∷ parts) last h = (h.0, follows_more config (desk_after s.deed told part desk) steps answers parts last h.1)
 
 pub runs_keep_promise : RunsKeepPromise
 runs_keep_promise config steps answers ends log stopped right sized stops r =

@@ -16,7 +16,7 @@ ghost use Rattle.hc_run.specs.Slots.{filled_from};
 
 use crate::slots::{Content, Slot};
 use crate::steps::{Outcome, Request};
-use hc_core::{Core, Found, Removed, give_up, give_up_blank};
+use hc_core::{Core, Found, Removed};
 use hc_history::{Kept, Reply};
 use hc_types::{Config, Refusal};
 use std::alloc::{AllocError, Allocator};
@@ -92,8 +92,14 @@ pub(crate) fn give_up_content<A: Allocator + Clone + Copy>(
 {
     match content {
         Content::Empty => {}
-        Content::Written(blank) => give_up_blank(core, blank),
-        Content::Ready(sealed) => give_up(core, sealed),
+        Content::Written(blank) => match core.discard_blank(blank) {
+            Ok(()) => {}
+            Err(_) => unreachable!(),
+        },
+        Content::Ready(sealed) => match core.discard(sealed) {
+            Ok(()) => {}
+            Err(_) => unreachable!(),
+        },
     }
 }
 

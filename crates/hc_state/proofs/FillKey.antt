@@ -17,7 +17,7 @@ use Rattle.hc_invariant.specs.Structure.{Structured, queue_of}
 use Rattle.hc_proof.specs.structure.Parts.{Held, FewerFills, FewerWait}
 use Rattle.hc_proof.specs.structure.Takes.{FilledSo, Leaves}
 use Rattle.hc_proof.proofs.structure.Parts.{parts_of, whole_of, same_items, same_puts, held_less}
-use Rattle.hc_proof.proofs.structure.Pieces.{held_marks}
+use Rattle.hc_proof.proofs.structure.Pieces.{held_marks, unmarked_flash}
 use Rattle.hc_proof.proofs.structure.Rooms.{evicted_waits}
 use Rattle.hc_state.specs.Leaving.{NoneWaits}
 use Rattle.hc_state.specs.Filling.{all_marked_by}
@@ -61,6 +61,7 @@ told-structured cache nvm taken leaves is s =
     whole_of memory (Some taken.nvm) (
       held_less memory memory items items taken.nvm.queue taken.nvm.queue nvm.fills taken.nvm.fills nvm.fills taken.nvm.fills (record { charges = refl; made = refl }) (same_items items) (same_puts taken.nvm.queue) left.0 left.1 held,
       leaves.beside,
+      unmarked_flash taken.part cache.memory ∙ (subst (λ o. Structured (record cache { nvm = o })) is s).flash ∙ ap Some (sym leaves.flash),
     )
 
 -- no key of an item that goes waits for flash when it leaves, though the pools have linked what comes already

@@ -28,6 +28,7 @@ pub mod Leaving
 pub mod Links
 pub mod Looks
 pub mod Owed
+pub mod Owns
 pub mod Planted
 pub mod Plans
 pub mod Prepares

@@ -1,5 +1,5 @@
 -- What is made ready before a fill ends: what its entry needs to be linked, and what linking it leaves.
-use Rattle.std.proofs.Common.{◌≡◌, ℕ, ◌+◌, ◌*◌, ◌≤◌, ◌<◌, ◌&&◌, not, Bool, true, false, List, length, map, None, is_some, refl, sym, ap, ◌∙◌, subst, arith}
+use Rattle.std.proofs.Common.{◌≡◌, ℕ, ◌+◌, ◌*◌, ◌≤◌, ◌<◌, true, false, List, length, map, None, is_some, refl, sym, ap, ◌∙◌, subst, arith}
 use Rattle.std.specs.Prelude.{Result, Ok, Err, IfOk, OnOk}
 use Rattle.std.proofs.lemmas.List.{length-map}
 use Rattle.hc_types.specs.Charge.{charge_of}
@@ -21,13 +21,6 @@ use Rattle.hc_state.specs.declared.bringing.Arrived.{Arrived}
 use Rattle.hc_state.proofs.Charging.{oldest-go}
 use Rattle.hc_state.proofs.FillPlan.{MayLink, can-room}
 use Rattle.hc_state.proofs.Filled.{want_of}
-
--- ---- it is the key's, and not lost
-
-pub apart-both : (same lost apart : Bool) → apart ≡ (same && not lost) → apart ≡ true → (same ≡ true) × (lost ≡ false)
-apart-both true false apart is there = (refl, refl)
-apart-both true true apart is there = absurd (let none : false ≡ true = sym is ∙ there in cc)
-apart-both false lost apart is there = absurd (let none : false ≡ true = sym is ∙ there in cc)
 
 -- ---- the pools have what they need to link it
 

@@ -2,6 +2,7 @@
 use Rattle.std.specs.Prelude.{◌≡◌, ℕ, ◌+◌, ◌*◌, true, false, List, length, Option, Some, None, option_map}
 use Rattle.hc_types.specs.Charge.{charge_of}
 use Rattle.hc_types.specs.FlashEntry.{FlashEntry}
+use Rattle.hc_types.specs.declared.config.FlashConfig.{FlashConfig}
 use Rattle.hc_engines.specs.Engine.{IoResult, Loss}
 use Rattle.hc_flash.specs.Seen.{result_of}
 use Rattle.hc_memory.specs.Memory.{Memory, victims_of, oldest_keys}
@@ -71,6 +72,14 @@ found_by ending = found_in ending.over.outcome.answer
 -- what is lost as it ends
 abbrev pub losses_by : Ending → List Loss
 losses_by ending = ending.over.outcome.losses
+
+-- what was found is the key's, and none of the losses covers it
+pub record IsOwn (key : List ℕ) (flash : Option FlashConfig) (ending : Ending) (entry : FlashEntry) : Type 0 where
+  pub own : entry.key ≡ key
+  pub apart : is_lost flash (losses_by ending) entry.key (length entry.value) ≡ false
+
+abbrev pub FindsOwn : List ℕ → Option FlashConfig → Ending → Type 0
+FindsOwn key flash ending = (entry : FlashEntry) → found_by ending ≡ Some entry → IsOwn key flash ending entry
 
 -- ---- flash tells that it is over
 

@@ -10,7 +10,7 @@ ghost use Rattle.hc_machine.specs.Cache.{Took};
 ghost use Rattle.hc_machine.specs.Workers.{can_link};
 ghost use Rattle.hc_invariant.specs.Structure.{Structured};
 ghost use Rattle.hc_nvm.specs.Seen.{take_of};
-ghost use Rattle.hc_state.specs.Ends.{CanEnd, HasRoomToEnd, IsBare, IsBrought, IsPrepared, found_by, step_by};
+ghost use Rattle.hc_state.specs.Ends.{CanEnd, FindsOwn, HasRoomToEnd, IsBare, IsBrought, IsOwn, IsPrepared, found_by, step_by};
 ghost use Rattle.hc_state.specs.Filling.{can_bring};
 ghost use Rattle.hc_state.specs.Linked.{linked_without};
 ghost use Rattle.hc_state.specs.Planned.{IsThere};
@@ -117,16 +117,13 @@ impl<N: Notes<Note<A>>, A: Allocator + Clone + Copy> State<N, A> {
     ) -> Result<Prepared<A>, AllocError>
         requires absent { linked_at key.now self.old.cache.memory.pools ≡ None }
         requires found { found_by ending.now ≡ Some (entry_of entry.now) }
+        requires own { IsOwn key.now self.old.cache.memory.flash ending.now (entry_of entry.now) }
         requires can { can_link self.old.cache (entry_of entry.now) ≡ true }
         requires count { count ≡ length (victims_of self.old.cache.memory entry.now.pool (charge_of entry.now.key (length entry.now.value))) }
         requires most { count ≤ 1048576 }
         ensures ok { IfOk result (λ plan. IsPrepared key.now ending.now plan self.old self.new) }
         ensures err { OnErr result (Stays self.old self.new) }
     {
-        // A get finds no entry of another key, and never loses what it answers; neither is proved.
-        if !self.is_apart(key, entry, ending.losses()) {
-            return Err(AllocError);
-        }
         let there = There::of_entry(entry)?;
         let courses = self.plan_to_serve(key, Some(there))?;
         match self.link_entry(entry, count, courses.len(), ending) {
@@ -147,6 +144,7 @@ impl<N: Notes<Note<A>>, A: Allocator + Clone + Copy> State<N, A> {
     ) -> Result<Prepared<A>, AllocError>
         requires structured { Structured self.old.cache }
         requires absent { linked_at key.now self.old.cache.memory.pools ≡ None }
+        requires own { FindsOwn key.now self.old.cache.memory.flash ending.now }
         ensures ok { IfOk result (λ plan. IsPrepared key.now ending.now plan self.old self.new) }
         ensures err { OnErr result (Stays self.old self.new) }
     {

@@ -1,6 +1,5 @@
 // What a fill brought is linked, where it can be: what that needs is made first.
-ghost use Rattle.std.specs.Prelude.{◌≡◌, ◌<◌, ◌≤◌, ◌&&◌, not, true, None, length, IfSome, IfOk, OnErr};
-ghost use Rattle.std.specs.Str.{bytes_eq};
+ghost use Rattle.std.specs.Prelude.{◌≡◌, ◌<◌, ◌≤◌, true, None, length, IfSome, IfOk, OnErr};
 ghost use Rattle.hc_types.specs.Charge.{charge_of};
 ghost use Rattle.hc_types.specs.FlashEntry.{entry_of};
 ghost use Rattle.hc_memory.specs.Memory.{linked_at, victims_of};
@@ -8,15 +7,12 @@ ghost use Rattle.hc_memory.specs.Sound.{FlashFits};
 ghost use Rattle.hc_machine.specs.Workers.{can_link};
 ghost use Rattle.hc_history.specs.Told.{where_kept};
 ghost use Rattle.hc_state.specs.Ends.{IsComing, IsLinked, MayCome};
-ghost use Rattle.hc_state.specs.Filling.{is_lost as is_lost_seen};
 ghost use Rattle.hc_state.specs.Whole.{Stays};
 
 use crate::allocating::{copy_of, victims_for};
 use crate::bringing::{Arrived, Coming};
-use crate::marking::is_lost;
 use crate::state::State;
 use bytes::Bytes;
-use hc_bighash::Loss;
 use hc_history::{Note, Notes};
 use hc_memory::{Fill, is_expired};
 use hc_nvm::Ending;
@@ -61,15 +57,6 @@ impl<N: Notes<Note<A>>, A: Allocator + Clone + Copy> State<N, A> {
             Ok(count) => Some(count),
             Err(_) => None,
         }
-    }
-
-    /// Whether the entry is the key's, and none of the losses covers it.
-    pub(crate) fn is_apart(&self, key: &Key<A>, entry: &Entry<A>, losses: &[Loss<A>]) -> bool
-        requires size { length entry.now.value ≤ 1048576 }
-        ensures { result ≡ (bytes_eq entry.now.key key.now && not (is_lost_seen self.now.cache.memory.flash losses.now entry.now.key (length entry.now.value))) }
-    {
-        let len = entry.value.len() as u64;
-        entry.key == *key && !is_lost(self.pools.flash(), losses, &entry.key, len)
     }
 
     /// What the entry needs that is linked, where so many items go for it. Refused only where memory lacks.

@@ -19,7 +19,7 @@ fn loses<A: Allocator>(flash: &Option<FlashConfig>, loss: &Loss<A>, key: &Key<A>
 }
 
 /// Whether one of the losses covers a key whose value has `len` bytes.
-pub(crate) fn is_lost<A: Allocator>(
+fn is_lost<A: Allocator>(
     flash: &Option<FlashConfig>,
     losses: &[Loss<A>],
     key: &Key<A>,

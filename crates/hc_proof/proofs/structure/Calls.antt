@@ -112,6 +112,7 @@ beside_joined nvm key w b = record {
     one_each = λ n. omega (arith, b.jobs.one_each n, brought_joined n key w nvm.fills);
     fresh = λ n lt. omega (arith, b.jobs.fresh n lt, brought_joined n key w nvm.fills);
     asks = asks_joined nvm.pair key w nvm.fills b.jobs.asks;
+    large = b.jobs.large;
   };
 }
 
@@ -150,6 +151,7 @@ waited cache key wish must holds none s = by cache.nvm must none s
             one_add = λ n. one_more_add (adds n w) (count (adds n) (waiters_of (joined_by key w nvm.fills))) (count (adds n) (waiters_of nvm.fills)) (join-counts (adds n) key w nvm.fills) (none n) (p.0.one_add n);
           },
           beside_joined nvm key w p.1,
+          p.2,
         )
 
 -- ---- adds
@@ -189,6 +191,7 @@ used_stands key cache s =
       held_less cache.memory memory (items_of cache.memory.pools) (items_of memory.pools) (queue_of cache.nvm) (queue_of cache.nvm) (fills_of cache.nvm) (fills_of cache.nvm) (fills_of cache.nvm) (fills_of cache.nvm)
           (record { charges = refl; made = refl }) (λ f same. omega (arith, used-flat f key cache.now cache.memory.pools)) (same_puts (queue_of cache.nvm)) (same_fills (fills_of cache.nvm)) (same_wait (fills_of cache.nvm)) p.0,
       p.1,
+      p.2,
     )
 
 pub finds : FindIsStructured

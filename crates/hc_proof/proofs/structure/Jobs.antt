@@ -24,6 +24,7 @@ use Rattle.hc_proof.proofs.frames.Fills.{fewer_wish}
 use Rattle.hc_proof.proofs.frames.Lists as lists
 use Rattle.hc_proof.specs.calls.Serving.{ghost}
 use Rattle.hc_proof.specs.structure.Operations.{AnswerIsOf, IsWorkOf, Does}
+use Rattle.hc_proof.specs.structure.Found.{Keeps}
 use Rattle.hc_proof.specs.structure.Parts.{FewerFills}
 use Rattle.hc_proof.specs.structure.Takes.{Under, AskedIf, AllAsked, EntryIsOf, Leaves}
 use Rattle.hc_proof.proofs.structure.Parts.{same_puts, same_fills, same_wait}
@@ -153,22 +154,23 @@ asks_still number op pair moved d (fill ∷ fills) asked h = (one fill.job asked
     one (Some n) asked a = at n (n == number) refl asked a
 
 -- a call of the engines keeps what is said of the jobs
-pub pair_under : (nvm : Nvm) (number : ℕ) (op : Op) (moved : Moved) → Does number op nvm.pair moved → AllAsked op number nvm.fills → Under nvm number → Under (record nvm { pair = moved.pair }) number
-pair_under nvm number op moved d asked u = record {
+pub pair_under : (nvm : Nvm) (number : ℕ) (op : Op) (moved : Moved) → Does number op nvm.pair moved → Keeps nvm.pair moved → AllAsked op number nvm.fills → Under nvm number → Under (record nvm { pair = moved.pair }) number
+pair_under nvm number op moved d k asked u = record {
   one_job = u.one_job;
   one_each = u.one_each;
   fresh = λ n lt o. omega (arith, u.fresh n lt o, others_less number op nvm.pair moved d n o);
   asks = asks_still number op nvm.pair moved d nvm.fills asked u.asks;
+  large = k.large u.large;
 }
 
 -- ---- an operation ends
 
 pub under_of : (nvm : Nvm) (number : ℕ) → JobsStand nvm → Under nvm number
-under_of nvm number j = record { one_job = j.one_job; one_each = j.one_each; fresh = λ n lt o. j.fresh n lt; asks = j.asks }
+under_of nvm number j = record { one_job = j.one_job; one_each = j.one_each; fresh = λ n lt o. j.fresh n lt; asks = j.asks; large = j.large }
 
 -- its number is free, or one that was taken
 pub whole_jobs : (nvm : Nvm) (number : ℕ) → Under nvm number → (nvm.made < number → count (is_job number) nvm.jobs + (count (brings number) nvm.fills + operations nvm.pair number) ≡ 0) → JobsStand nvm
-whole_jobs nvm number u own = record { one_job = u.one_job; one_each = u.one_each; fresh = λ n lt. by n lt (n == number) refl; asks = u.asks }
+whole_jobs nvm number u own = record { one_job = u.one_job; one_each = u.one_each; fresh = λ n lt. by n lt (n == number) refl; asks = u.asks; large = u.large }
   where
     by : (n : ℕ) → nvm.made < n → (b : Bool) → (n == number) ≡ b → count (is_job n) nvm.jobs + (count (brings n) nvm.fills + operations nvm.pair n) ≡ 0
     by n lt true t = let same = eqb-true n number t in subst (λ (m : ℕ). count (is_job m) nvm.jobs + (count (brings m) nvm.fills + operations nvm.pair m) ≡ 0) (sym same) (own (subst (λ (m : ℕ). nvm.made < m) same lt))
@@ -215,7 +217,7 @@ module _ (nvm : Nvm) (stones : List Tombstone) (number : ℕ) (answer : Answer) 
   none_finished : (part : List note.Note) → (nvm.made < number → count (brings number) nvm.fills ≡ 0) → Leaves nvm (takes Finished (change part))
   none_finished part none =
       let j = whole_jobs nvm number u (λ lt. omega (arith, rests lt, none lt)) in
-      record { puts = same_puts nvm.queue; fills = (same_fills nvm.fills, same_wait nvm.fills); beside = record { one_stone = one_stone; jobs = record { one_job = j.one_job; one_each = j.one_each; fresh = j.fresh; asks = j.asks } } }
+      record { puts = same_puts nvm.queue; fills = (same_fills nvm.fills, same_wait nvm.fills); beside = record { one_stone = one_stone; jobs = record { one_job = j.one_job; one_each = j.one_each; fresh = j.fresh; asks = j.asks; large = j.large } }; flash = refl }
 
   fill_finished : (part : List note.Note) (fill : Fill) → fill_by number nvm.fills ≡ Some fill → AnswerIsOf (Get fill.key) answer → Leaves nvm (fill_out (Some fill) answer (change part))
   fill_finished part fill e own =
@@ -241,8 +243,9 @@ module _ (nvm : Nvm) (stones : List Tombstone) (number : ℕ) (answer : Answer) 
           jobs =
               let left : Nvm = record nvm { fills = without_fill key nvm.fills } in
               let j = whole_jobs left number less (λ lt. omega (arith, rests lt, found_gone (brings number) (is_fill_of key) nvm.fills fill e mine, u.one_each number)) in
-              record { one_job = j.one_job; one_each = j.one_each; fresh = j.fresh; asks = j.asks };
+              record { one_job = j.one_job; one_each = j.one_each; fresh = j.fresh; asks = j.asks; large = j.large };
         };
+        flash = refl;
       }
     where
       beside_fewer_under : (p : Fill → Bool) → Under (record nvm { fills = filter p nvm.fills }) number
@@ -251,6 +254,7 @@ module _ (nvm : Nvm) (stones : List Tombstone) (number : ℕ) (answer : Answer) 
         one_each = λ n. omega (arith, u.one_each n, count-fewer (brings n) p nvm.fills);
         fresh = λ n lt o. omega (arith, u.fresh n lt o, count-fewer (brings n) p nvm.fills);
         asks = ask_fewer nvm.pair p nvm.fills u.asks;
+        large = u.large;
       }
 
   pub finished_leaves : (task : Task) (part : List note.Note) → BringsNone task number nvm → ((fill : Fill) → fill_by number nvm.fills ≡ Some fill → AnswerIsOf (Get fill.key) answer) → Leaves nvm (finished task number answer (change part))

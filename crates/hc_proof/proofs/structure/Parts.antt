@@ -27,10 +27,11 @@ pub parts_of : (memory : Memory) (nvm : Option Nvm) → Structure memory nvm →
 parts_of memory nvm s = (
   record { one_place = s.one_place; one_number = s.one_number; fresh = s.fresh; wishes = s.wishes; one_add = s.one_add },
   record { one_stone = s.one_stone; jobs = s.jobs },
+  s.flash,
 )
 
 pub whole_of : (memory : Memory) (nvm : Option Nvm) → Midst memory (items_of memory.pools) nvm all_of [] → Structure memory nvm
-whole_of memory nvm m = record { one_place = m.0.one_place; one_number = m.0.one_number; fresh = m.0.fresh; wishes = m.0.wishes; one_add = m.0.one_add; one_stone = m.1.one_stone; jobs = m.1.jobs }
+whole_of memory nvm m = record { one_place = m.0.one_place; one_number = m.0.one_number; fresh = m.0.fresh; wishes = m.0.wishes; one_add = m.0.one_add; one_stone = m.1.one_stone; jobs = m.1.jobs; flash = m.2 }
 
 -- ---- less of it
 

@@ -33,6 +33,7 @@ use Rattle.hc_proof.proofs.frames.Lists.{any-counts}
 use Rattle.hc_proof.proofs.frames.Unmarks.{tally_unmarked}
 use Rattle.hc_proof.proofs.shapes.Asides.{unmarked_charges, unmarked_made}
 use Rattle.hc_proof.specs.structure.Parts.{Held, Beside, Stands, FewerPuts}
+use Rattle.hc_proof.proofs.structure.LargeAlone.{take_alone}
 use Rattle.hc_proof.proofs.structure.Parts.{same_puts, same_fills, same_wait, held_less, held_freed, held_linked}
 
 -- ---- lists
@@ -52,6 +53,11 @@ tally_marks f same [] memory = refl
 tally_marks f same (Lose scope cause ∷ notes) memory = tally_marks f same notes (after_unmark memory scope) ∙ tally_unmarked f same memory.flash scope memory.pools
 tally_marks f same (note ∷ notes) memory = tally_marks f same notes memory
 
+pub unmarked_flash : (notes : List Note) (memory : Memory) → (unmarked_by notes memory).flash ≡ memory.flash
+unmarked_flash [] memory = refl
+unmarked_flash (Lose scope cause ∷ notes) memory = unmarked_flash notes (after_unmark memory scope)
+unmarked_flash (note ∷ notes) memory = unmarked_flash notes memory
+
 -- marks aside nothing changes
 pub held_marks : (notes : List Note) (memory : Memory) (queue queue' : List FlashEntry) (seen all : List Fill) → FewerPuts queue queue' → Held memory (items_of memory.pools) queue seen all → Held (unmarked_by notes memory) (items_of (unmarked_by notes memory).pools) queue' seen all
 held_marks notes memory queue queue' seen all puts h =
@@ -65,22 +71,23 @@ pub record Calm (old new : Nvm) : Type 0 where
   pub puts : FewerPuts old.queue new.queue
   pub fills : new.fills ≡ old.fills
   pub beside : Beside (Some old) → Beside (Some new)
+  pub flash : new.pair.small.flash ≡ old.pair.small.flash
 
 calm_same : (nvm : Nvm) → Calm nvm nvm
-calm_same nvm = record { puts = same_puts nvm.queue; fills = refl; beside = λ b. b }
+calm_same nvm = record { puts = same_puts nvm.queue; fills = refl; beside = λ b. b; flash = refl }
 
 calm_both : (a b c : Nvm) → Calm a b → Calm b c → Calm a c
-calm_both a b c x y = record { puts = λ key. omega (arith, x.puts key, y.puts key); fills = y.fills ∙ x.fills; beside = λ h. y.beside (x.beside h) }
+calm_both a b c x y = record { puts = λ key. omega (arith, x.puts key, y.puts key); fills = y.fills ∙ x.fills; beside = λ h. y.beside (x.beside h); flash = y.flash ∙ x.flash }
 
 -- the queue and the tombstones are no part of what is said of jobs
 pub beside_queue : (nvm : Nvm) (queue : List FlashEntry) → Beside (Some nvm) → Beside (Some (record nvm { queue = queue }))
-beside_queue nvm queue b = record { one_stone = b.one_stone; jobs = record { one_job = b.jobs.one_job; one_each = b.jobs.one_each; fresh = b.jobs.fresh; asks = b.jobs.asks } }
+beside_queue nvm queue b = record { one_stone = b.one_stone; jobs = record { one_job = b.jobs.one_job; one_each = b.jobs.one_each; fresh = b.jobs.fresh; asks = b.jobs.asks; large = b.jobs.large } }
 
 unqueue_calm : (key : List ℕ) (nvm : Nvm) → Calm nvm (unqueue key nvm).nvm
 unqueue_calm key nvm = by (is_some (put_at key nvm.queue))
   where
     by : (b : Bool) → Calm nvm (if b then changed (Unqueued key ∷ []) (record nvm { queue = without_put key nvm.queue }) else changed [] nvm).nvm
-    by true = record { puts = λ k. count-fewer (is_put_of k) (λ put. not (is_put_of key put)) nvm.queue; fills = refl; beside = beside_queue nvm (without_put key nvm.queue) }
+    by true = record { puts = λ k. count-fewer (is_put_of k) (λ put. not (is_put_of key put)) nvm.queue; fills = refl; beside = beside_queue nvm (without_put key nvm.queue); flash = refl }
     by false = calm_same nvm
 
 none_of : (o : Option FlashEntry) → is_some o ≡ false → o ≡ None
@@ -118,11 +125,11 @@ bury_calm key nvm = by (is_due nvm key) refl
             tally-push (λ stone. cond (is_stone_of k stone) 1 0) nvm.tombstones (record { key = key; taken = false }),
             one_stone_more (bytes_eq key k) (count (is_stone_of k) nvm.tombstones) (λ same. subst (λ (x : List ℕ). count (is_stone_of x) nvm.tombstones ≡ 0) (same_bytes key k same) none) (b.one_stone k),
           );
-          jobs = record { one_job = b.jobs.one_job; one_each = b.jobs.one_each; fresh = b.jobs.fresh; asks = b.jobs.asks };
+          jobs = record { one_job = b.jobs.one_job; one_each = b.jobs.one_each; fresh = b.jobs.fresh; asks = b.jobs.asks; large = b.jobs.large };
         }
 
     by : (b : Bool) → is_due nvm key ≡ b → Calm nvm (if b then changed (Buried key ∷ []) buried else changed [] nvm).nvm
-    by true due = record { puts = same_puts nvm.queue; fills = refl; beside = beside due }
+    by true due = record { puts = same_puts nvm.queue; fills = refl; beside = beside due; flash = refl }
     by false due = calm_same nvm
 
 -- what a fill's job asks for, where the operations of the engines are as they were
@@ -148,11 +155,12 @@ unindex_calm key nvm = by (is_indexed nvm.pair key)
         one_each = b.jobs.one_each;
         fresh = b.jobs.fresh;
         asks = all_ask nvm.pair taken nvm.fills (λ k n h. record { small = h.small; large = h.large }) b.jobs.asks;
+        large = take_alone nvm.pair.small.flash (hash_in nvm.pair key) nvm.pair.large b.jobs.large;
       };
     }
 
     by : (b : Bool) → Calm nvm (if b then changed (Lose (loss.Hash (hash_in nvm.pair key) (Some key)) (Collision key) ∷ []) (record nvm { pair = taken }) else changed [] nvm).nvm
-    by true = record { puts = same_puts nvm.queue; fills = refl; beside = beside }
+    by true = record { puts = same_puts nvm.queue; fills = refl; beside = beside; flash = refl }
     by false = calm_same nvm
 
 outdate_calm : (key : List ℕ) (nvm : Nvm) → Calm nvm (outdate key nvm).nvm
@@ -182,6 +190,7 @@ flash_passes f calm cache = by cache.nvm
             subst (λ (fills : List Fill). Held (unmarked_by (f nvm).part cache.memory) (items_of (unmarked_by (f nvm).part cache.memory).pools) (f nvm).nvm.queue (seen fills) (loose ++ fills)) (sym c.fills)
                 (held_marks (f nvm).part cache.memory nvm.queue (f nvm).nvm.queue (seen nvm.fills) (loose ++ nvm.fills) c.puts h.0),
             c.beside h.1,
+            unmarked_flash (f nvm).part cache.memory ∙ h.2 ∙ ap Some (sym c.flash),
           );
           fills = c.fills;
           puts = c.puts;
@@ -213,6 +222,7 @@ uproot_passes key cache = passes_both cache (clear key cache).cache (uproot key 
         held_less c.memory (after_unlink c.memory key) (items_of c.memory.pools) (items_of (unlinked key c.memory.pools)) (queue_of c.nvm) (queue_of c.nvm) (seen (fills_of c.nvm)) (seen (fills_of c.nvm)) (loose ++ fills_of c.nvm) (loose ++ fills_of c.nvm)
             (record { charges = refl; made = refl }) (λ f same. omega (arith, ap (tally f) (unlinked-flat key c.memory.pools), without-less f key (items_of c.memory.pools))) (same_puts (queue_of c.nvm)) (same_fills (seen (fills_of c.nvm))) (same_wait (loose ++ fills_of c.nvm)) h.0,
         h.1,
+        h.2,
       );
       fills = refl;
       puts = same_puts (queue_of c.nvm);
@@ -252,6 +262,7 @@ link_stands handle clean cache seen loose is_there no_add nowhere h =
     let linked = held_linked cache.memory rest queue fills all handle clean is_there no_add (omega (arith, gone, nowhere)) less in (
       held_less (after_free cache.memory handle.number) memory (rest ++ item_by clean handle ∷ []) (items_of memory.pools) queue queue fills fills all all (record { charges = refl; made = refl }) (λ f same. linked_fewer cache.memory clean handle f) (same_puts queue) (same_fills fills) (same_wait all) linked,
       h.1,
+      h.2,
     )
 
 -- what is asked before the handle's item is linked in the place of another
@@ -274,4 +285,4 @@ plant_fills handle cache = (clear_passes handle.key cache).fills
 -- ---- an open charge goes
 
 pub free_stands : (n : ℕ) (cache : Cache) (seen : List Fill → List Fill) (loose : List Fill) → count (adds n) (waiters_of (loose ++ fills_of cache.nvm)) ≡ 0 → Stands cache seen loose → Stands (free n cache).cache seen loose
-free_stands n cache seen loose none h = (held_freed cache.memory (items_of cache.memory.pools) (queue_of cache.nvm) (seen (fills_of cache.nvm)) (loose ++ fills_of cache.nvm) n none h.0, h.1)
+free_stands n cache seen loose none h = (held_freed cache.memory (items_of cache.memory.pools) (queue_of cache.nvm) (seen (fills_of cache.nvm)) (loose ++ fills_of cache.nvm) n none h.0, h.1, h.2)

@@ -39,11 +39,11 @@ module _ (pool want : ℕ) (seen : List Fill → List Fill) (loose : List Fill) 
   one_left x items cache h = by x.clean
     where
       gone : (nvm : Option Nvm) → Midst cache.memory (x ∷ items) nvm seen loose → Midst cache.memory items nvm seen loose
-      gone nvm h = (held_gone cache.memory x items (queue_of nvm) (seen (fills_of nvm)) (loose ++ fills_of nvm) h.0, h.1)
+      gone nvm h = (held_gone cache.memory x items (queue_of nvm) (seen (fills_of nvm)) (loose ++ fills_of nvm) h.0, h.1, h.2)
 
       caused : (nvm : Nvm) (cause : Option Cause) → Midst cache.memory (x ∷ items) (Some nvm) seen loose → Left (record cache { nvm = Some nvm }) (left_in (waits_unless cause (entry_of_item x) nvm) (record cache { nvm = Some nvm })).cache items seen loose
       caused nvm (Some cause) h = record { midst = gone (Some nvm) h; memory = refl; fills = refl }
-      caused nvm None h = record { midst = (held_waits cache.memory x items nvm.queue (seen nvm.fills) (loose ++ nvm.fills) h.0, beside_queue nvm (nvm.queue ++ entry_of_item x ∷ []) h.1); memory = refl; fills = refl }
+      caused nvm None h = record { midst = (held_waits cache.memory x items nvm.queue (seen nvm.fills) (loose ++ nvm.fills) h.0, beside_queue nvm (nvm.queue ++ entry_of_item x ∷ []) h.1, h.2); memory = refl; fills = refl }
 
       of : (nvm : Option Nvm) → Midst cache.memory (x ∷ items) nvm seen loose → Left (record cache { nvm = nvm }) (leaves_for nvm pool want x (record cache { nvm = nvm })).cache items seen loose
       of None h = record { midst = gone None h; memory = refl; fills = refl }
@@ -102,6 +102,7 @@ whole_left pool want cache seen loose h =
       held_less cache.memory roomy (items_of cache.memory.pools) (victims_of cache.memory pool want ++ items_of roomy.pools) (queue_of cache.nvm) (queue_of cache.nvm) (seen (fills_of cache.nvm)) (seen (fills_of cache.nvm)) (loose ++ fills_of cache.nvm) (loose ++ fills_of cache.nvm)
           (record { charges = refl; made = refl }) (room_fewer cache.memory pool want) (same_puts (queue_of cache.nvm)) (same_fills (seen (fills_of cache.nvm))) (same_wait (loose ++ fills_of cache.nvm)) h.0,
       h.1,
+      h.2,
     )
 
 pub room_stands : (pool want : ℕ) (cache : Cache) (seen : List Fill → List Fill) (loose : List Fill) → Stands cache seen loose → Roomed cache (make_room pool want cache).cache pool want seen loose
@@ -126,7 +127,7 @@ charge_stands pool key size cache seen loose h =
     let r = room_stands pool (charge_of key size) cache seen loose h in
     let c = (make_room pool (charge_of key size) cache).cache in
     record {
-      stands = (held_charged c.memory (items_of c.memory.pools) (queue_of c.nvm) (seen (fills_of c.nvm)) (loose ++ fills_of c.nvm) pool key size r.stands.0, r.stands.1);
+      stands = (held_charged c.memory (items_of c.memory.pools) (queue_of c.nvm) (seen (fills_of c.nvm)) (loose ++ fills_of c.nvm) pool key size r.stands.0, r.stands.1, r.stands.2);
       memory = ap (λ (m : Memory). with_charge m pool key size) r.memory;
       fills = r.fills;
     }

@@ -30,6 +30,7 @@ stands_less cache seen seen' loose loose' fills wait h = (
   held_less cache.memory cache.memory (items_of cache.memory.pools) (items_of cache.memory.pools) (queue_of cache.nvm) (queue_of cache.nvm) (seen (fills_of cache.nvm)) (seen' (fills_of cache.nvm)) (loose ++ fills_of cache.nvm) (loose' ++ fills_of cache.nvm)
       (record { charges = refl; made = refl }) (same_items (items_of cache.memory.pools)) (same_puts (queue_of cache.nvm)) fills wait h.0,
   h.1,
+  h.2,
 )
 
 waiter_goes : (key : List ℕ) (w : Waiter) (ws : List Waiter) (fills : List Fill) → FewerWait (ghost key (w ∷ ws) ∷ fills) (ghost key ws ∷ fills)
@@ -115,6 +116,7 @@ beside_fewer nvm p b = record {
     one_each = λ n. omega (arith, b.jobs.one_each n, count-fewer (brings n) p nvm.fills);
     fresh = λ n lt. omega (arith, b.jobs.fresh n lt, count-fewer (brings n) p nvm.fills);
     asks = ask_fewer nvm.pair p nvm.fills b.jobs.asks;
+    large = b.jobs.large;
   };
 }
 
@@ -132,7 +134,7 @@ end_fill_stands key there cache h = by cache.nvm h
         left = record nvm { fills = without_fill key nvm.fills }
 
         at : (o : Option Fill) → fill_at key nvm.fills ≡ o → Stands (serve_fill o nvm there own).cache all_of []
-        at None e = (subst (λ (fills : List Fill). Held cache.memory (items_of cache.memory.pools) nvm.queue fills nvm.fills) (all_still key nvm.fills e) h.0, h.1)
+        at None e = (subst (λ (fills : List Fill). Held cache.memory (items_of cache.memory.pools) nvm.queue fills nvm.fills) (all_still key nvm.fills e) h.0, h.1, h.2)
         at (Some fill) e =
             let mine : is_fill_of key fill ≡ true = found-passes (is_fill_of key) nvm.fills fill e in
             let wait : FewerWait nvm.fills (ghost key fill.waiters ∷ without_fill key nvm.fills) = record {
@@ -142,7 +144,7 @@ end_fill_stands key there cache h = by cache.nvm h
             let held = held_less cache.memory cache.memory (items_of cache.memory.pools) (items_of cache.memory.pools) nvm.queue nvm.queue (without_fill key nvm.fills) (without_fill key nvm.fills) nvm.fills (ghost key fill.waiters ∷ without_fill key nvm.fills)
             (record { charges = refl; made = refl }) (same_items (items_of cache.memory.pools)) (same_puts nvm.queue) (same_fills (without_fill key nvm.fills)) wait h.0 in
             subst (λ (k : List ℕ). Stands (serve_all fill.waiters there (with_nvm (record nvm { fills = without_fill k nvm.fills }) own)).cache all_of []) (sym (same_bytes fill.key key mine))
-            (serve_stands key fill.waiters there (with_nvm left own) (none_left (is_fill_of key) nvm.fills) (held, beside_fewer nvm (λ f. not (is_fill_of key f)) h.1))
+            (serve_stands key fill.waiters there (with_nvm left own) (none_left (is_fill_of key) nvm.fills) (held, beside_fewer nvm (λ f. not (is_fill_of key f)) h.1, h.2))
 
 -- ---- what it is for
 

@@ -28,6 +28,8 @@ use Rattle.hc_proof.proofs.frames.JobLists.{gone_fewer, ordered_many}
 use Rattle.hc_proof.specs.structure.Operations.{AnswerIsOf, NextIsOf, Rests}
 use Rattle.hc_proof.specs.structure.Parts.{Beside, FewerPuts}
 use Rattle.hc_proof.specs.structure.Takes.{Under, AllAsked, FilledSo, Leaves, Raised}
+use Rattle.hc_proof.proofs.structure.Keeps.{started_keeps, resumed_keeps}
+use Rattle.hc_proof.proofs.structure.LargeAlone.{reclaim_alone}
 use Rattle.hc_proof.proofs.structure.Operations as engines
 use Rattle.hc_proof.proofs.structure.Operations.{Resumes}
 use Rattle.hc_proof.proofs.structure.Parts.{same_puts, same_fills, same_wait}
@@ -65,7 +67,7 @@ ends_leaves nvm number task outcome one u rests none own =
 -- ---- an operation begins
 
 still : (nvm : Nvm) (stones : List Tombstone) → ((key : List ℕ) → count (is_stone_of key) stones ≤ 1) → JobsStand nvm → Beside (Some (record nvm { tombstones = stones }))
-still nvm stones one j = record { one_stone = one; jobs = record { one_job = j.one_job; one_each = j.one_each; fresh = j.fresh; asks = j.asks } }
+still nvm stones one j = record { one_stone = one; jobs = record { one_job = j.one_job; one_each = j.one_each; fresh = j.fresh; asks = j.asks; large = j.large } }
 
 one_more_job : (b : Bool) (n : ℕ) → (b ≡ true → n ≡ 0) → n ≤ 1 → n + cond b 1 0 ≤ 1
 one_more_job true n none one = omega (arith, none refl)
@@ -102,7 +104,7 @@ launched_leaves : (nvm : Nvm) (task : Task) (next : Next) → Asked nvm task nex
 launched_leaves nvm task Busy a =
     let none = a.busy refl in
     let j = whole_jobs nvm (nvm.made + 1) a.under (λ lt. omega (arith, a.no_job, none.0, none.1)) in
-    record { puts = same_puts nvm.queue; fills = (same_fills nvm.fills, same_wait nvm.fills); beside = record { one_stone = a.stones; jobs = j } }
+    record { puts = same_puts nvm.queue; fills = (same_fills nvm.fills, same_wait nvm.fills); beside = record { one_stone = a.stones; jobs = j }; flash = refl }
 launched_leaves nvm task (Done outcome) a = ends_leaves nvm (nvm.made + 1) task outcome a.stones a.under (λ lt. omega (arith, a.no_job, a.rests outcome refl)) a.brings_none (a.own outcome refl)
 launched_leaves nvm task (Io order outcome) a =
     let job : Job = record { number = nvm.made + 1; task = task; order = order } in
@@ -114,10 +116,11 @@ launched_leaves nvm task (Io order outcome) a =
       one_each = a.under.one_each;
       fresh = λ n lt. omega (arith, more n, not_it nvm.made n lt, a.under.fresh n (omega (arith, lt)) (other_number nvm.made n lt));
       asks = a.under.asks;
+      large = a.under.large;
     } in
     let b = still with_job r.stones (λ key. omega (arith, r.fewer key, a.stones key)) j in
     let part = (holds outcome with_job).part in
-    subst (λ (n : Nvm). Leaves nvm (takes (Work (nvm.made + 1) order) (changed part n))) (sym r.same) (record { puts = same_puts nvm.queue; fills = (same_fills nvm.fills, same_wait nvm.fills); beside = b })
+    subst (λ (n : Nvm). Leaves nvm (takes (Work (nvm.made + 1) order) (changed part n))) (sym r.same) (record { puts = same_puts nvm.queue; fills = (same_fills nvm.fills, same_wait nvm.fills); beside = b; flash = refl })
 
 -- what holds before the next operation
 fresh_next : (nvm : Nvm) → JobsStand nvm → count (is_job (nvm.made + 1)) nvm.jobs + (count (brings (nvm.made + 1)) nvm.fills + operations nvm.pair (nvm.made + 1)) ≡ 0
@@ -131,7 +134,7 @@ asked_of nvm task op r =
     let new : Nvm = record nvm { pair = moved.pair } in
     record {
       stones = r.stones;
-      under = pair_under nvm number op moved d r.asked r.under;
+      under = pair_under nvm number op moved d (started_keeps number op nvm.pair) r.asked r.under;
       no_job = r.no_job;
       rests = λ outcome e. let less : Rests nvm.pair moved.pair (Done outcome) = subst (λ (next : Next). Rests nvm.pair moved.pair next) e d.rests in omega (arith, less number, r.no_operation);
       brings_none = brings_same task r.brings_none;
@@ -151,7 +154,7 @@ launch_leaves : (nvm : Nvm) (task : Task) (op : Op) → Ready nvm task op → Le
 launch_leaves nvm task op r =
     let moved = pairs.start (nvm.made + 1) op nvm.pair in
     let l = launched_leaves (record nvm { pair = moved.pair }) task moved.next (asked_of nvm task op r) in
-    record { puts = l.puts; fills = l.fills; beside = l.beside }
+    record { puts = l.puts; fills = l.fills; beside = l.beside; flash = l.flash ∙ (started_keeps (nvm.made + 1) op nvm.pair).flash }
 
 -- any but a fill
 ready_for : (nvm : Nvm) (task : Task) (op : Op) → ((key : List ℕ) → count (is_stone_of key) nvm.tombstones ≤ 1) → JobsStand nvm → Ready nvm task op
@@ -175,24 +178,24 @@ ready_for nvm task op one j =
     brings_of Flushing z = λ lt. z
 
 -- what comes before it
-leaves_from : (old nvm : Nvm) (taken : Taken) → FewerPuts old.queue nvm.queue → nvm.fills ≡ old.fills → Leaves nvm taken → Leaves old taken
-leaves_from old nvm taken puts same l = record { puts = λ key. omega (arith, puts key, l.puts key); fills = subst (λ (fills : List Fill). FilledSo fills taken.nvm.fills taken.filled) same l.fills; beside = l.beside }
+leaves_from : (old nvm : Nvm) (taken : Taken) → FewerPuts old.queue nvm.queue → nvm.fills ≡ old.fills → nvm.pair.small.flash ≡ old.pair.small.flash → Leaves nvm taken → Leaves old taken
+leaves_from old nvm taken puts same flash l = record { puts = λ key. omega (arith, puts key, l.puts key); fills = subst (λ (fills : List Fill). FilledSo fills taken.nvm.fills taken.filled) same l.fills; beside = l.beside; flash = l.flash ∙ flash }
 
 -- ---- the writer
 
 leaves_idle : (nvm : Nvm) → Beside (Some nvm) → Leaves nvm (idle nvm)
-leaves_idle nvm b = record { puts = same_puts nvm.queue; fills = (same_fills nvm.fills, same_wait nvm.fills); beside = b }
+leaves_idle nvm b = record { puts = same_puts nvm.queue; fills = (same_fills nvm.fills, same_wait nvm.fills); beside = b; flash = refl }
 
 told_leaves : (part : List note.Note) (old : Nvm) (taken : Taken) → Leaves old taken → Leaves old (told_before part taken)
-told_leaves part old taken l = record { puts = l.puts; fills = l.fills; beside = l.beside }
+told_leaves part old taken l = record { puts = l.puts; fills = l.fills; beside = l.beside; flash = l.flash }
 
 -- another queue and other tombstones
 jobs_as : (nvm : Nvm) (queue : List FlashEntry) (stones : List Tombstone) → JobsStand nvm → JobsStand (record nvm { queue = queue; tombstones = stones })
-jobs_as nvm queue stones j = record { one_job = j.one_job; one_each = j.one_each; fresh = j.fresh; asks = j.asks }
+jobs_as nvm queue stones j = record { one_job = j.one_job; one_each = j.one_each; fresh = j.fresh; asks = j.asks; large = j.large }
 
 put_leaves : (o : Option FlashEntry) (nvm : Nvm) → Beside (Some nvm) → Leaves nvm (take_put o nvm)
 put_leaves None nvm b = leaves_idle nvm b
-put_leaves (Some put) nvm b = leaves_from nvm less (take_put (Some put) nvm) (λ k. count-fewer (is_put_of k) (λ p. not (is_put_of put.key p)) nvm.queue) refl (by (is_small_by nvm.pair.small.flash put.key (length put.value)))
+put_leaves (Some put) nvm b = leaves_from nvm less (take_put (Some put) nvm) (λ k. count-fewer (is_put_of k) (λ p. not (is_put_of put.key p)) nvm.queue) refl refl (by (is_small_by nvm.pair.small.flash put.key (length put.value)))
   where
     less : Nvm
     less = record nvm { queue = without_put put.key nvm.queue }
@@ -214,7 +217,7 @@ delete_leaves (Some stone) nvm b =
     let stones = taken_stone stone.key nvm.tombstones in
     let taken : Nvm = record nvm { tombstones = stones } in
     let one : (key : List ℕ) → count (is_stone_of key) stones ≤ 1 = λ key. omega (arith, b.one_stone key, count-map (is_stone_of key) (λ (x : Tombstone). if is_stone_of stone.key x then record x { taken = true } else x) (same_stone stone.key key) nvm.tombstones) in
-    leaves_from nvm taken (take_delete (Some stone) nvm) (same_puts nvm.queue) refl
+    leaves_from nvm taken (take_delete (Some stone) nvm) (same_puts nvm.queue) refl refl
     (launch_leaves taken (Deleting stone.key) (Delete stone.key) (ready_for taken (Deleting stone.key) (Delete stone.key) one (jobs_as nvm nvm.queue stones b.jobs)))
 
 pub writer_leaves : (nvm : Nvm) → Beside (Some nvm) → Leaves nvm (writer_take nvm)
@@ -227,7 +230,7 @@ writer_leaves nvm b = by (pairs.start (nvm.made + 1) Flush nvm.pair).next refl
     by (Io order outcome) e =
         let a = asked_of nvm Flushing Flush (ready_for nvm Flushing Flush b.one_stone b.jobs) in
         let l = launched_leaves (record nvm { pair = moved.pair }) Flushing (Io order outcome) (subst (λ (next : Next). Asked (record nvm { pair = moved.pair }) Flushing next) e a) in
-        record { puts = l.puts; fills = l.fills; beside = l.beside }
+        record { puts = l.puts; fills = l.fills; beside = l.beside; flash = l.flash ∙ (started_keeps (nvm.made + 1) Flush nvm.pair).flash }
     by Busy e = delete_leaves (next_delete nvm) nvm b
     by (Done outcome) e = delete_leaves (next_delete nvm) nvm b
 
@@ -324,6 +327,7 @@ fill_leaves (Some fill) nvm e one b =
       one_each = λ n. each n (n == number) refl;
       fresh = λ n lt o. omega (arith, b.jobs.fresh n lt, taken_others fill.key number n nvm.fills o);
       asks = taken_asks nvm.pair fill.key number nvm.fills no_operation b.jobs.asks;
+      large = b.jobs.large;
     } in
     let l = launch_leaves taken Filling (Get fill.key) (record {
       stones = b.one_stone;
@@ -334,7 +338,7 @@ fill_leaves (Some fill) nvm e one b =
       asked = asked_taken fill.key number nvm.fills no_fill;
       goes = λ busy. absurd (let is_busy = (busy_is_true nvm.pair).0 number (Get fill.key) busy in cc);
     }) in
-    record { puts = l.puts; fills = filled_from (launch Filling (Get fill.key) taken).nvm.fills (launch Filling (Get fill.key) taken).filled l.fills; beside = l.beside }
+    record { puts = l.puts; fills = filled_from (launch Filling (Get fill.key) taken).nvm.fills (launch Filling (Get fill.key) taken).filled l.fills; beside = l.beside; flash = l.flash }
   where
     each : (n : ℕ) (t : Bool) → (n == (nvm.made + 1)) ≡ t → count (brings n) (taken_fill fill.key (nvm.made + 1) nvm.fills) ≤ 1
     each n true t = subst (λ (m : ℕ). count (brings m) (taken_fill fill.key (nvm.made + 1) nvm.fills) ≤ 1) (sym (eqb-true n (nvm.made + 1) t)) (let none = fresh_next nvm b.jobs in omega (arith, taken_own fill.key (nvm.made + 1) nvm.fills (omega (arith, none)), one fill.key))
@@ -366,10 +370,10 @@ goes_leaves nvm job op (Io order outcome) lt is asked b =
     let on : Nvm = record nvm { jobs = ordered job.number order nvm.jobs } in
     let r = raised_holds outcome on in
     let same : (n : ℕ) → count (is_job n) (ordered job.number order nvm.jobs) ≡ count (is_job n) nvm.jobs = λ n. ordered_many (λ (j : Job). cond (is_job n j) 1 0) (λ j o. refl) job.number order nvm.jobs in
-    let j : JobsStand on = record { one_job = λ n. omega (arith, same n, b.jobs.one_job n); one_each = b.jobs.one_each; fresh = λ n l. omega (arith, same n, b.jobs.fresh n l); asks = b.jobs.asks } in
+    let j : JobsStand on = record { one_job = λ n. omega (arith, same n, b.jobs.one_job n); one_each = b.jobs.one_each; fresh = λ n l. omega (arith, same n, b.jobs.fresh n l); asks = b.jobs.asks; large = b.jobs.large } in
     let s = still on r.stones (λ key. omega (arith, r.fewer key, b.one_stone key)) j in
     let part = (holds outcome on).part in
-    subst (λ (n : Nvm). Leaves nvm (takes (Work job.number order) (changed part n))) (sym r.same) (record { puts = same_puts nvm.queue; fills = (same_fills nvm.fills, same_wait nvm.fills); beside = s })
+    subst (λ (n : Nvm). Leaves nvm (takes (Work job.number order) (changed part n))) (sym r.same) (record { puts = same_puts nvm.queue; fills = (same_fills nvm.fills, same_wait nvm.fills); beside = s; flash = refl })
 goes_leaves nvm job op (Done outcome) lt is asked b =
     let off : Nvm = record nvm { jobs = without_job job.number nvm.jobs } in
     let u : Under off job.number = record {
@@ -377,10 +381,11 @@ goes_leaves nvm job op (Done outcome) lt is asked b =
       one_each = b.jobs.one_each;
       fresh = λ n l o. omega (arith, gone_fewer (is_job n) job.number nvm.jobs, b.jobs.fresh n l);
       asks = b.jobs.asks;
+      large = b.jobs.large;
     } in
     let l = ends_leaves off job.number job.task outcome b.one_stone u (λ more. absurd (omega (arith, more, lt))) (brings_of job.task)
     (λ fill found. subst (λ (o : Op). AnswerIsOf o outcome.answer) (asked_found op job.number nvm.fills fill found asked) is) in
-    record { puts = l.puts; fills = l.fills; beside = l.beside }
+    record { puts = l.puts; fills = l.fills; beside = l.beside; flash = l.flash }
   where
     brings_of : (task : Task) → BringsNone task job.number (record nvm { jobs = without_job job.number nvm.jobs })
     brings_of (Putting key) = λ more. absurd (omega (arith, more, lt))
@@ -393,10 +398,11 @@ resumed_leaves nvm job result moved lt made b =
     let r = engines.resumed job.number result nvm.pair moved made in
     let new : Nvm = record nvm { pair = moved.pair } in
     let asked = asked_all r.op job.number nvm.pair nvm.fills r.asked b.jobs.asks in
-    let u = pair_under nvm job.number r.op moved r.does asked (under_of nvm job.number b.jobs) in
+    let k = resumed_keeps job.number result nvm.pair moved made in
+    let u = pair_under nvm job.number r.op moved r.does k asked (under_of nvm job.number b.jobs) in
     let j : JobsStand new = whole_jobs new job.number u (λ more. absurd (omega (arith, more, lt))) in
     let l = goes_leaves new job r.op moved.next lt r.does.answer asked (record { one_stone = b.one_stone; jobs = j }) in
-    record { puts = l.puts; fills = l.fills; beside = l.beside }
+    record { puts = l.puts; fills = l.fills; beside = l.beside; flash = l.flash ∙ k.flash }
 
 number_made : (nvm : Nvm) (number : ℕ) (job : Job) → job_at number nvm.jobs ≡ Some job → JobsStand nvm → job.number ≤ nvm.made
 number_made nvm number job e j = by (nat_lt nvm.made job.number) refl
@@ -438,6 +444,7 @@ reclaim_calm nvm = by moved.outcome.reclaimed
       one_each = j.one_each;
       fresh = λ n lt. omega (arith, j.fresh n lt, ap (λ (js : List block.Job). count (is_large_job n) js) jobs_same);
       asks = all_ask nvm.pair new.pair nvm.fills (λ key n a. record { small = a.small; large = subst (λ (js : List block.Job). count (λ (job : block.Job). is_large_job n job && not (is_read_of key job.work)) js ≡ 0) (sym jobs_same) a.large }) j.asks;
+      large = reclaim_alone nvm.pair.small.flash nvm.pair.large j.large;
     }
 
     of : (change : Changed) → Raised new change.nvm → Calm nvm change.nvm
@@ -445,8 +452,9 @@ reclaim_calm nvm = by moved.outcome.reclaimed
       puts = same_puts nvm.queue;
       fills = refl;
       beside = λ b. still new r.stones (λ key. omega (arith, r.fewer key, b.one_stone key)) (jobs b.jobs);
+      flash = refl;
     })
 
     by : (o : Option ℕ) → Calm nvm (reclaimed_by o moved nvm).change.nvm
-    by None = record { puts = same_puts nvm.queue; fills = refl; beside = λ b. b }
+    by None = record { puts = same_puts nvm.queue; fills = refl; beside = λ b. b; flash = refl }
     by (Some region) = of (settled Flushing moved.outcome new) (raised_settled Flushing moved.outcome new)

@@ -29,7 +29,7 @@ use Rattle.hc_proof.specs.structure.Parts.{Held, Stands, all_of}
 use Rattle.hc_proof.specs.structure.Takes.{EntryIsOf, FilledSo, Leaves}
 use Rattle.hc_proof.specs.structure.Steps.{NewIsStructured, WriterIsStructured, FillerIsStructured, ReclaimIsStructured, FinishIsStructured}
 use Rattle.hc_proof.proofs.structure.Parts.{parts_of, whole_of, next_open, same_items, same_puts, held_less}
-use Rattle.hc_proof.proofs.structure.Pieces.{held_marks, flash_passes, link_stands}
+use Rattle.hc_proof.proofs.structure.Pieces.{held_marks, flash_passes, link_stands, unmarked_flash}
 use Rattle.hc_proof.proofs.structure.Serving.{stands_less, serve_stands}
 use Rattle.hc_proof.proofs.structure.Rooms.{charge_stands}
 use Rattle.hc_proof.proofs.structure.Takes.{writer_leaves, filler_leaves, finish_leaves, reclaim_calm}
@@ -106,17 +106,21 @@ worked cache nvm taken l s = by taken.filled l.fills
     held : Held memory items taken.nvm.queue nvm.fills nvm.fills
     held = held_marks taken.part cache.memory nvm.queue taken.nvm.queue nvm.fills nvm.fills l.puts (parts_of cache.memory (Some nvm) s).0
 
+    same_flash : memory.flash ≡ Some taken.nvm.pair.small.flash
+    same_flash = unmarked_flash taken.part cache.memory ∙ s.flash ∙ ap Some (sym l.flash)
+
     by : (filled : Option Filled) → FilledSo nvm.fills taken.nvm.fills filled → Structured (fill filled taken_in).cache
     by None h = whole_of memory (Some taken.nvm) (
       held_less memory memory items items taken.nvm.queue taken.nvm.queue nvm.fills taken.nvm.fills nvm.fills taken.nvm.fills (record { charges = refl; made = refl }) (same_items items) (same_puts taken.nvm.queue) h.0 h.1 held,
       l.beside,
+      same_flash,
     )
     by (Some filled) h =
         let key = h.0 in
         let ws = filled.waiters in
         let ghosts = ghost key ws ∷ taken.nvm.fills in
         let less = held_less memory memory items items taken.nvm.queue taken.nvm.queue nvm.fills ghosts nvm.fills ghosts (record { charges = refl; made = refl }) (same_items items) (same_puts taken.nvm.queue) h.1.fills h.1.wait held in
-        let b = brought key ws filled.entry taken_in h.1.own (less, l.beside) in
+        let b = brought key ws filled.entry taken_in h.1.own (less, l.beside, same_flash) in
         let c = (bring filled.entry taken_in).cache in
         let stands = serve_stands key ws filled.entry c (subst (λ (fills : List Fill). count (is_fill_of key) fills ≡ 0) (sym b.fills) h.1.gone) b.stands in
         whole_of _ _ stands
@@ -179,6 +183,7 @@ begins config = by config.flash
       one_add = λ n. omega arith;
       one_stone = λ key. omega arith;
       jobs = tt;
+      flash = refl;
     }
     by (Some flash) = record {
       one_place = λ key. omega (arith, none (λ i. cond (is_at key i) 1 0));
@@ -187,5 +192,6 @@ begins config = by config.flash
       wishes = tt;
       one_add = λ n. omega arith;
       one_stone = λ key. omega arith;
-      jobs = record { one_job = λ n. omega arith; one_each = λ n. omega arith; fresh = λ n lt. refl; asks = tt };
+      jobs = record { one_job = λ n. omega arith; one_each = λ n. omega arith; fresh = λ n lt. refl; asks = tt; large = record { current = λ r e. absurd cc; places = λ hash place e. absurd cc } };
+      flash = refl;
     }

@@ -10,7 +10,7 @@ use Rattle.hc_machine.specs.Cache.{Cache}
 use Rattle.hc_invariant.specs.Tells.{waiters_of}
 use Rattle.hc_invariant.specs.Jobs.{AllWishes}
 use Rattle.hc_invariant.specs.Good.{fills_of}
-use Rattle.hc_invariant.specs.Structure.{OnePlace, JobsPart, queue_of, stones_of}
+use Rattle.hc_invariant.specs.Structure.{OnePlace, JobsPart, flash_of, queue_of, stones_of}
 
 -- with these items and this queue; `seen` are the fills whose keys stand nowhere else, `all` those whose calls wait
 pub record Held (memory : Memory) (items : List Item) (queue : List FlashEntry) (seen all : List Fill) : Type 0 where
@@ -26,7 +26,7 @@ pub record Beside (nvm : Option Nvm) : Type 0 where
 
 -- in the midst of a step: which of the cache's fills are seen, and the calls that wait though their fill has left
 abbrev pub Midst : Memory → List Item → Option Nvm → (List Fill → List Fill) → List Fill → Type 0
-Midst memory items nvm seen loose = Held memory items (queue_of nvm) (seen (fills_of nvm)) (loose ++ fills_of nvm) × Beside nvm
+Midst memory items nvm seen loose = Held memory items (queue_of nvm) (seen (fills_of nvm)) (loose ++ fills_of nvm) × Beside nvm × (memory.flash ≡ flash_of nvm)
 
 -- the cache's own items
 abbrev pub Stands : Cache → (List Fill → List Fill) → List Fill → Type 0

@@ -5,6 +5,7 @@ use Rattle.hc_types.specs.FlashEntry.{FlashEntry}
 use Rattle.hc_engines.specs.Engine.{Op, Get}
 use Rattle.hc_machine.specs.Nvm.{Nvm, Tombstone, Fill, is_job, is_stone_of, is_fill_of}
 use Rattle.hc_machine.specs.Takes.{Filled, Taken}
+use Rattle.hc_invariant.specs.LargeAlone.{LargeAlone}
 use Rattle.hc_invariant.specs.Structure.{AllAsk, brings, operations}
 use Rattle.hc_proof.specs.calls.Serving.{ghost}
 use Rattle.hc_proof.specs.structure.Parts.{Beside, FewerPuts, FewerFills, FewerWait}
@@ -17,6 +18,7 @@ pub record Under (nvm : Nvm) (number : ℕ) : Type 0 where
   pub one_each : (n : ℕ) → count (brings n) nvm.fills ≤ 1
   pub fresh : (n : ℕ) → nvm.made < n → (n == number) ≡ false → count (is_job n) nvm.jobs + (count (brings n) nvm.fills + operations nvm.pair n) ≡ 0
   pub asks : AllAsk nvm.pair nvm.fills
+  pub large : LargeAlone nvm.pair.small.flash nvm.pair.large
 
 -- the operation with this number is a get of the key of each fill that it is to bring
 abbrev pub AskedIf : Op → ℕ → List ℕ → Option ℕ → Type 0
@@ -48,6 +50,7 @@ pub record Leaves (old : Nvm) (taken : Taken) : Type 0 where
   pub puts : FewerPuts old.queue taken.nvm.queue
   pub fills : FilledSo old.fills taken.nvm.fills taken.filled
   pub beside : Beside (Some taken.nvm)
+  pub flash : taken.nvm.pair.small.flash ≡ old.pair.small.flash
 
 -- tombstones end, and no more
 pub record Raised (old new : Nvm) : Type 0 where

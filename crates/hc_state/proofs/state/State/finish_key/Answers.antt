@@ -1,4 +1,5 @@
 use Rattle.hc_state.specs.declared.filling.Way.TheVariants.{Handed}
+use Rattle.hc_state.proofs.Owns.{finds-own}
 use Rattle.hc_state.proofs.Ways.{way-bare, ends-reason}
 use Rattle.hc_state.proofs.state.State.finish_key.Goals as goal
 
@@ -6,6 +7,7 @@ pub prepare-requires : goal.prepare-requires
 prepare-requires g c = record {
   structured = c.requires.structured;
   absent = way-bare (Handed c.args.number c.args.came) c.args.ending c.args.key.now c.args.self.now.cache c.requires.ends c.requires.key c.requires.structured;
+  own = finds-own (Handed c.args.number c.args.came) c.args.ending c.args.key.now c.args.self.now.cache c.requires.ends c.requires.key c.requires.structured;
 }
 
 pub end_prepared-requires : goal.end_prepared-requires

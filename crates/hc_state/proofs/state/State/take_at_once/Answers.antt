@@ -1,4 +1,5 @@
 use Rattle.hc_state.specs.declared.filling.Way.TheVariants.{AtOnce}
+use Rattle.hc_state.proofs.Owns.{finds-own}
 use Rattle.hc_state.proofs.Ways.{way-bare, ends-once-in, next-key}
 use Rattle.hc_state.proofs.state.State.take_at_once.Goals as goal
 
@@ -9,6 +10,7 @@ prepare-requires g c =
     record {
       structured = c.requires.structured;
       absent = way-bare {A = g.row.A.Denot} AtOnce c.args.ending c.args.key.now c.args.self.now.cache ends (next-key c.args.key.now nvm c.args.ending c.requires.next ends) c.requires.structured;
+      own = finds-own {A = g.row.A.Denot} AtOnce c.args.ending c.args.key.now c.args.self.now.cache ends (next-key c.args.key.now nvm c.args.ending c.requires.next ends) c.requires.structured;
     }
 
 pub end_prepared-requires : goal.end_prepared-requires
