@@ -38,7 +38,7 @@ fn add_answer(out: &mut Vec<u8>, answer: &Answer) -> Result<(), AllocError> {
     }
 }
 
-/// The answers by the places of their requests in the trace. An error is want of memory, here or in a session.
+/// The answers by the places of their requests in the trace. Requests of a session that lacked memory may have none.
 pub(crate) fn in_order<'b>(
     alloc: Global,
     sessions: &'b [Session<'_>],
@@ -47,9 +47,6 @@ pub(crate) fn in_order<'b>(
     let mut answers = Vec::new(alloc);
     answers.resize(count, None)?;
     for session in sessions {
-        if session.lacked_memory {
-            return Err(AllocError);
-        }
         for one in &session.answers {
             if let Some(slot) = answers.get_mut(one.place) {
                 *slot = Some(&one.answer);
@@ -59,7 +56,8 @@ pub(crate) fn in_order<'b>(
     Ok(answers)
 }
 
-/// Writes the lines of the answers, in their order.
+/// Writes the lines of the answers, in their order, up to the first request that has none: nobody could tell whose answers
+/// those behind it are. Where memory lacks for a line, those before it are written.
 pub(crate) fn write_answers<W: Write>(
     alloc: Global,
     writer: &mut W,
@@ -67,13 +65,25 @@ pub(crate) fn write_answers<W: Write>(
 ) -> io::Result<()> {
     let mut out = Vec::new(alloc);
     for answer in answers {
-        if let Some(answer) = answer {
-            add_answer(&mut out, answer)?;
-        }
-        if out.len() > FULL {
+        let Some(answer) = answer else {
+            break;
+        };
+        let added = add_whole(&mut out, answer);
+        if added.is_err() || out.len() > FULL {
             write_text(writer, &out)?;
             out.clear();
         }
+        added?;
     }
     write_text(writer, &out)
+}
+
+/// Adds the line of the answer, or nothing where memory lacks.
+fn add_whole(out: &mut Vec<u8>, answer: &Answer) -> Result<(), AllocError> {
+    let before = out.len();
+    let added = add_answer(out, answer);
+    if added.is_err() {
+        out.truncate(before);
+    }
+    added
 }

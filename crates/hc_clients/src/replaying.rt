@@ -7,8 +7,8 @@ use crate::plan::{Plan, Unplanned, plan_of};
 use crate::reading::read_all;
 use crate::session::{Session, clients_of, sessions};
 use hc_core::{Core, FlashConfig, Kept, Refusal};
-use hc_flash::Flash;
 use hc_lines::{add_fault, add_refusal};
+use hc_paged::Device;
 use hc_player::new_device;
 use hc_threads::{Client, NoGate, Shared, serve};
 use std::alloc::{AllocError, Global};
@@ -19,7 +19,8 @@ use std::thread::{self, Threads};
 /// Replays the trace that the reader has by so many clients, in threads of their own beside three workers over a device in
 /// memory, and writes the answers in the order of the trace, and then the verdict. A trace with a fault, and one whose
 /// configuration is refused, is answered by that alone, with status 1; a verdict of a mismatch or a lie has status 3. Status
-/// 4 says that reading, writing or memory failed.
+/// 4 says that reading, writing or memory failed. Where memory lacked for a request, the answers before it are written, and no
+/// verdict.
 pub fn replay_by<T: Threads + Wait + Sync, R: Read, W: Write>(
     rt: &T,
     alloc: Global,
@@ -119,7 +120,8 @@ fn play<T: Threads + Wait + Sync, W: Write>(
     }
 }
 
-/// Makes the requests and writes their answers. What is left are the clients, and how often the device failed.
+/// Makes the requests and writes their answers. What is left are the clients, and how often the device failed. An error says
+/// that writing failed, or memory, also for a request.
 fn answered<T: Threads + Wait + Sync, W: Write>(
     rt: &T,
     alloc: Global,
@@ -151,6 +153,9 @@ fn act<T: Threads + Wait + Sync, W: Write>(
     let failures = run_all(rt, alloc, shared, plan.config.flash, sessions, clients)?;
     let answers = in_order(alloc, sessions, plan.requests.len())?;
     write_answers(alloc, writer, &answers)?;
+    if sessions.iter().any(|session| session.lacked_memory) {
+        return Err(io::Error::from(AllocError));
+    }
     Ok(failures)
 }
 

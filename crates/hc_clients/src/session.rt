@@ -63,7 +63,8 @@ impl<'a> Session<'a> {
         client
     }
 
-    /// Makes all requests, one after the other, up to one for which memory lacks.
+    /// Makes all requests, one after the other, up to one for which memory lacks. Then workers and other clients, for which
+    /// it may lack too, look again: what this client held is given back.
     pub(crate) fn run<R: Wait>(&mut self, rt: &R, alloc: Global, shared: &Shared<Kept>) {
         for asked in &self.requests {
             let made = make(
@@ -76,6 +77,7 @@ impl<'a> Session<'a> {
             );
             if made.is_err() {
                 self.lacked_memory = true;
+                shared.stir(rt);
                 return;
             }
         }

@@ -5,6 +5,8 @@ use Rattle.hc_types.specs.declared.refusal.Refusal.TheVariants.{NoMemory, NoPool
 use Rattle.hc_memory.specs.Item.{Handle}
 use Rattle.hc_threads.specs.declared.adding.Unadded.{Unadded}
 use Rattle.hc_threads.specs.declared.adding.Unadded.TheVariants as unadded
+use Rattle.hc_threads.specs.declared.adding.Unstored.{Unstored}
+use Rattle.hc_threads.specs.declared.adding.Unstored.TheVariants as unstored
 
 -- The handle is that of the item that was asked for: with this key, in this pool, with these bytes. It never expires where the
 -- time to live is 0, and else no earlier than after so many seconds.
@@ -28,6 +30,11 @@ abbrev pub RefusesAdd : Refusal → Type 0
 RefusesAdd refusal = (refusal ≡ Exists) ⊎ (refusal ≡ ForeignHandle) ⊎ (refusal ≡ NoMemory)
 
 -- one that wasn't answered
-abbrev pub RefusesAdding : Unadded → Type 0
+abbrev pub RefusesAdding : {A : Type 0} → Unadded A → Type 0
 RefusesAdding (unadded.Refused unlinked) = RefusesAdd unlinked.refusal
 RefusesAdding unadded.Unanswered = Unit {0}
+
+-- the same, with the number of the call that stays open
+abbrev pub RefusesStoring : {A : Type 0} → Unstored A → Type 0
+RefusesStoring (unstored.Refused unlinked) = RefusesAdd unlinked.refusal
+RefusesStoring (unstored.Open call) = Unit {0}

@@ -1,13 +1,14 @@
 // Inserts that don't replace.
 ghost use Rattle.std.specs.Prelude.{◌≡◌, IfErr};
-ghost use Rattle.hc_threads.specs.Asked.{RefusesAdding};
-ghost use Rattle.hc_threads.specs.Seen.{GivesBack};
+ghost use Rattle.hc_threads.specs.Asked.{RefusesStoring};
+ghost use Rattle.hc_threads.specs.Seen.{Returns};
 
 use crate::shared::Shared;
 use hc_history::{Note, Notes, Reply};
 use hc_memory::Sealed;
 use hc_state::{Inserted, Unlinked};
 use hc_types::Refusal;
+use std::alloc::{Allocator, Global};
 use std::sync::Wait;
 
 /// What an insert that doesn't replace is answered.
@@ -20,42 +21,52 @@ pub enum Added {
 }
 
 /// An insert that wasn't answered.
-pub enum Unadded {
+pub enum Unadded<A: Allocator = Global> {
     /// It was refused, and its handle comes back.
-    Refused(Unlinked),
-    /// It waited, and then memory lacked for its reply. It stays open: the cache keeps its item, or has stored it.
+    Refused(Unlinked<A>),
+    /// It waited, and then memory lacked for its reply, or for a worker while none could get on. It stays open: the cache
+    /// keeps its item, or has stored it.
     Unanswered,
 }
 
-impl<N: Notes<Note>> Shared<N> {
-    /// Answers the number of the call, and its reply. A call that waits lets the lock go until its reply is there.
+/// The same, with the number of the call that stays open.
+pub(crate) enum Unstored<A: Allocator> {
+    Refused(Unlinked<A>),
+    Open(u64),
+}
+
+impl<N: Notes<Note<A>>, A: Allocator + Clone + Copy> Shared<N, A> {
+    /// Answers the number of the call, and its reply. A call that waits lets the lock go until its reply is there. It gives
+    /// up where the workers are stuck, and where memory lacks for the reply.
     pub(crate) fn insert<R: Wait>(
         &self,
         rt: &R,
         client: u8,
-        sealed: Sealed,
-    ) -> Result<(u64, Added), Unadded>
-        ensures why { IfErr result RefusesAdding }
-        ensures sealed_returned { IfErr result (λ e. GivesBack e sealed) }
+        sealed: Sealed<A>,
+    ) -> Result<(u64, Added), Unstored<A>>
+        ensures why { IfErr result RefusesStoring }
+        ensures sealed_returned { IfErr result (λ e. Returns e sealed) }
     {
         let mut held = self.guarded.lock(rt);
         let call = match held.core.insert(client, sealed) {
             Ok(Inserted::Stored) => {
-                self.wake();
+                self.wake(&mut held);
                 return Ok((held.core.calls(), Added::Stored));
             }
             Ok(Inserted::Waiting(call)) => call,
-            Err(unlinked) => return Err(Unadded::Refused(unlinked)),
+            Err(unlinked) => return Err(Unstored::Refused(unlinked)),
         };
-        self.work.notify_all();
+        self.call(&mut held);
         for _ in rt.forever() {
             match held.core.take_reply(call) {
                 Ok(Reply::Stored) => return Ok((call, Added::Stored)),
                 Ok(_) => return Ok((call, Added::Exists)),
-                Err(Refusal::NotReady) => held = self.replies.wait(rt, held),
-                // The call's reply is owed until it is taken, which is done here alone: so this isn't `UnknownCall`, and
-                // memory lacks.
-                Err(_) => return Err(Unadded::Unanswered),
+                Err(Refusal::NotReady) if !held.crew.is_stuck() => {
+                    held = self.replies.wait(rt, held);
+                }
+                // The call's reply is owed until it is taken, which is done here alone: so this isn't `UnknownCall`. The
+                // workers are stuck, or memory lacks.
+                Err(_) => return Err(Unstored::Open(call)),
             }
         }
         unreachable!()

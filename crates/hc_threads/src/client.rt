@@ -1,31 +1,31 @@
 // A client.
-ghost use Rattle.std.specs.Prelude.{◌≡◌, ◌⊎◌, ◌<◌, ℕ, List, [], replicate, IfOk, IfErr, OnOk, OnErr};
+ghost use Rattle.std.specs.Prelude.{◌≡◌, ◌⊎◌, ◌<◌, ◌≤◌, ℕ, List, [], replicate, IfOk, IfErr, OnOk, OnErr};
 ghost use Rattle.hc_history.specs.Note.{Insert, Add, Find, Remove, Stored, Hit};
 ghost use Rattle.hc_history.specs.Seen as spec;
-ghost use Rattle.hc_records.specs.Records.{IsRecorded};
+ghost use Rattle.hc_records.specs.Records.{IsRecorded, IsLeftOpen, IsTicked};
 ghost use Rattle.hc_memory.specs.Seen.{filled};
 ghost use Rattle.hc_threads.specs.Asked.{IsAsked, RefusesAllocation, RefusesInsert, RefusesAdding};
-ghost use Rattle.hc_threads.specs.Seen.{found_as, removed_as, added_as, GivesBack};
+ghost use Rattle.hc_threads.specs.Seen.{found_as, removed_as, added_as, GivesBack, LeavesAdd};
 
-use crate::adding::{Added, Unadded};
-use crate::shared::Shared;
+use crate::adding::{Added, Unadded, Unstored};
+use crate::shared::{Shared, Unfound};
 use hc_history::{Listener, Note, Notes, Op, Reply};
 use hc_memory::{Blank, Fill, ReadHandle, Sealed, Uncharged};
-use hc_records::{Entry, Record, Recorded};
+use hc_records::{Entry, OpenCall, Record, Recorded};
 use hc_state::{Removed, Unlinked};
 use hc_types::{Key, Refusal};
-use std::alloc::{AllocError, Global};
+use std::alloc::{AllocError, Allocator, Global};
 use std::marker::Model;
 use std::sync::Wait;
 
-/// A client: its number, and the record of what it was answered. It borrows nothing; each call is lent the `Shared`.
+/// A client: its number, and the record of what it did and was answered. It borrows nothing; each call is lent the `Shared`.
 /// Contracts see its record.
 #[derive(Drop)]
-pub struct Client {
-    record: Record,
+pub struct Client<A: Allocator = Global> {
+    record: Record<A>,
 }
 
-impl Model for Client {
+impl<A: Allocator> Model for Client<A> {
     ghost use Rattle.hc_records.specs.Records.{Record as Answers};
 
     ghost Value = { Answers };
@@ -41,10 +41,10 @@ impl Recorded for Client {
     }
 }
 
-impl<N: Listener> Shared<N> {
+impl<N: Listener, A: Allocator + Clone + Copy> Shared<N, A> {
     /// The next client. Refused with `TooManyClients` after the 64th.
-    pub fn client<R: Wait>(&self, rt: &R, alloc: Global) -> Result<Client, Refusal>
-        ensures ok { IfOk result (λ client. (client.entries ≡ []) × (client.client < 64)) }
+    pub fn client<R: Wait>(&self, rt: &R, alloc: A) -> Result<Client<A>, Refusal>
+        ensures ok { IfOk result (λ client. (client.entries ≡ []) × (client.open_calls ≡ []) × (client.ticks ≡ []) × (client.client < 64)) }
         ensures err { IfErr result (λ refusal. refusal ≡ Refusal.TooManyClients) }
     {
         let number = self.next_client(rt)?;
@@ -54,7 +54,7 @@ impl<N: Listener> Shared<N> {
     }
 }
 
-impl Client {
+impl<A: Allocator + Clone + Copy> Client<A> {
     /// Its number: clients are numbered from 0.
     #[must_use]
     pub fn number(&self) -> u8
@@ -65,31 +65,50 @@ impl Client {
 
     /// Its record.
     #[must_use]
-    pub fn into_record(self) -> Record
+    pub fn into_record(self) -> Record<A>
         ensures { result ≡ self }
     {
         let Client { record: answered } = self;
         answered
     }
 
-    /// Forgets what it was answered, and goes on with an empty record. For a service, whose log isn't kept and so isn't
-    /// judged: the record doesn't grow for good then.
+    /// Forgets what it did, and goes on with an empty record. For a service, whose log isn't kept and so isn't judged: the
+    /// record doesn't grow for good then.
     pub fn forget(&mut self)
-        ensures { self.new ≡ record self.old { entries = [] } }
+        ensures { self.new ≡ record self.old { entries = []; open_calls = []; ticks = [] } }
     {
-        self.record.entries.clear();
+        self.record.clear();
+    }
+
+    /// Moves the clock on to the moment, in seconds, as `Core::tick` does, and records that. Answers the moment that holds
+    /// then. Refused with `NoMemory`.
+    pub fn tick<R: Wait, N: Notes<Note<A>>>(
+        &mut self,
+        rt: &R,
+        shared: &Shared<N, A>,
+        moment: u64,
+    ) -> Result<u64, Refusal>
+        ensures recorded { OnOk result (IsTicked self.old moment self.new) }
+        ensures later { IfOk result (λ now. moment ≤ now) }
+        ensures err { OnErr result (self.new ≡ self.old) }
+        ensures memory { IfErr result (λ refusal. refusal ≡ Refusal.NoMemory) }
+    {
+        self.record.ticks.reserve(1)?;
+        let now = shared.tick(rt, moment)?;
+        self.record.ticks.push_reserved(moment);
+        Ok(now)
     }
 
     /// Allocates an item that begins as zeros, as `Core::allocate` does, and is refused as that is.
-    pub fn allocate<R: Wait, N: Notes<Note>>(
+    pub fn allocate<R: Wait, N: Notes<Note<A>>>(
         &self,
         rt: &R,
-        shared: &Shared<N>,
+        shared: &Shared<N, A>,
         pool: u8,
-        key: Key,
+        key: Key<A>,
         size: u64,
         ttl: u32,
-    ) -> Result<Blank, Uncharged>
+    ) -> Result<Blank<A>, Uncharged<A>>
         ensures ok { IfOk result (λ blank. IsAsked pool key (replicate size 0) ttl blank) }
         ensures why { IfErr result (λ e. RefusesAllocation e.refusal) }
         ensures key_returned { IfErr result (λ e. e.key ≡ key) }
@@ -98,15 +117,15 @@ impl Client {
     }
 
     /// Allocates an item that begins as `fill`, as `Core::allocate_with` does.
-    pub fn allocate_with<R: Wait, N: Notes<Note>>(
+    pub fn allocate_with<R: Wait, N: Notes<Note<A>>>(
         &self,
         rt: &R,
-        shared: &Shared<N>,
+        shared: &Shared<N, A>,
         pool: u8,
-        key: Key,
+        key: Key<A>,
         fill: Fill<'_>,
         ttl: u32,
-    ) -> Result<Blank, Uncharged>
+    ) -> Result<Blank<A>, Uncharged<A>>
         ensures ok { IfOk result (λ blank. IsAsked pool key (filled fill.entry) ttl blank) }
         ensures why { IfErr result (λ e. RefusesAllocation e.refusal) }
         ensures key_returned { IfErr result (λ e. e.key ≡ key) }
@@ -115,36 +134,36 @@ impl Client {
     }
 
     /// Gives up an item that wasn't inserted, as `Core::discard` does.
-    pub fn discard<R: Wait, N: Notes<Note>>(
+    pub fn discard<R: Wait, N: Notes<Note<A>>>(
         &self,
         rt: &R,
-        shared: &Shared<N>,
-        sealed: Sealed,
-    ) -> Result<(), Sealed>
+        shared: &Shared<N, A>,
+        sealed: Sealed<A>,
+    ) -> Result<(), Sealed<A>>
         ensures { IfErr result (λ back. back ≡ sealed) }
     {
         shared.discard(rt, sealed)
     }
 
     /// Gives up an item that wasn't sealed, as `Core::discard_blank` does.
-    pub fn discard_blank<R: Wait, N: Notes<Note>>(
+    pub fn discard_blank<R: Wait, N: Notes<Note<A>>>(
         &self,
         rt: &R,
-        shared: &Shared<N>,
-        blank: Blank,
-    ) -> Result<(), Blank>
+        shared: &Shared<N, A>,
+        blank: Blank<A>,
+    ) -> Result<(), Blank<A>>
         ensures { IfErr result (λ back. back ≡ blank) }
     {
         shared.discard_blank(rt, blank)
     }
 
     /// Inserts the item, as `Core::insert_or_replace` does, and records that.
-    pub fn insert_or_replace<R: Wait, N: Notes<Note>>(
+    pub fn insert_or_replace<R: Wait, N: Notes<Note<A>>>(
         &mut self,
         rt: &R,
-        shared: &Shared<N>,
-        sealed: Sealed,
-    ) -> Result<(), Unlinked>
+        shared: &Shared<N, A>,
+        sealed: Sealed<A>,
+    ) -> Result<(), Unlinked<A>>
         ensures recorded { OnOk result (IsRecorded self.old (Insert sealed.key sealed.value sealed.expiry) Stored self.new) }
         ensures err { OnErr result (self.new ≡ self.old) }
         ensures why { IfErr result (λ e. RefusesInsert e.refusal) }
@@ -162,35 +181,47 @@ impl Client {
     }
 
     /// Inserts the item where the key has no unexpired value, as `Core::insert` does, waits where one may be on flash, and
-    /// records what came.
-    pub fn insert<R: Wait, N: Notes<Note>>(
+    /// records what came. Where it waits and memory lacks, it stays open, and is recorded so.
+    pub fn insert<R: Wait, N: Notes<Note<A>>>(
         &mut self,
         rt: &R,
-        shared: &Shared<N>,
-        sealed: Sealed,
-    ) -> Result<Added, Unadded>
+        shared: &Shared<N, A>,
+        sealed: Sealed<A>,
+    ) -> Result<Added, Unadded<A>>
         ensures recorded { IfOk result (λ added. IsRecorded self.old (Add sealed.key sealed.value sealed.expiry) (added_as added) self.new) }
-        ensures err { OnErr result (self.new ≡ self.old) }
+        ensures err { IfErr result (LeavesAdd (Add sealed.key sealed.value sealed.expiry) self.old self.new) }
         ensures why { IfErr result RefusesAdding }
         ensures sealed_returned { IfErr result (λ e. GivesBack e sealed) }
     {
         let op = match add_op(&sealed) {
-            Ok(op) if self.record.entries.reserve(1).is_ok() => op,
+            Ok(op)
+                if self.record.entries.reserve(1).is_ok()
+                    && self.record.open_calls.reserve(1).is_ok() => { op }
             _ => return Err(Unadded::Refused(unlinked(sealed))),
         };
-        let (call, added) = shared.insert(rt, self.record.client, sealed)?;
-        self.record
-            .entries
-            .push_reserved(Entry::new(call, op, reply_of_added(added)));
-        Ok(added)
+        match shared.insert(rt, self.record.client, sealed) {
+            Ok((call, added)) => {
+                self.record
+                    .entries
+                    .push_reserved(Entry::new(call, op, reply_of_added(added)));
+                Ok(added)
+            }
+            Err(Unstored::Refused(unlinked)) => Err(Unadded::Refused(unlinked)),
+            Err(Unstored::Open(call)) => {
+                self.record
+                    .open_calls
+                    .push_reserved(OpenCall::new(call, op));
+                Err(Unadded::Unanswered)
+            }
+        }
     }
 
     /// Takes what the key has out of the cache, as `Core::remove` does, and records that. Refused with `NoMemory`.
-    pub fn remove<R: Wait, N: Notes<Note>>(
+    pub fn remove<R: Wait, N: Notes<Note<A>>>(
         &mut self,
         rt: &R,
-        shared: &Shared<N>,
-        key: &Key,
+        shared: &Shared<N, A>,
+        key: &Key<A>,
     ) -> Result<Removed, Refusal>
         ensures recorded { IfOk result (λ removed. IsRecorded self.old (Remove key.now) (removed_as removed) self.new) }
         ensures err { OnErr result (self.new ≡ self.old) }
@@ -207,52 +238,60 @@ impl Client {
 
     /// Finds the value under the key, as `Core::find` does, waits for it where it may be on flash, and records what came.
     /// Where memory lacks for another owner of the value, the call is answered and recorded all the same. Where it lacks
-    /// for the reply of a call that waited, the call stays open. Refused with `NoMemory`.
-    pub fn find<R: Wait, N: Notes<Note>>(
+    /// for the reply of a call that waited, or for a worker while none can get on, the call stays open. Refused with
+    /// `NoMemory`.
+    pub fn find<R: Wait, N: Notes<Note<A>>>(
         &mut self,
         rt: &R,
-        shared: &Shared<N>,
-        key: &Key,
-    ) -> Result<Option<ReadHandle>, Refusal>
+        shared: &Shared<N, A>,
+        key: &Key<A>,
+    ) -> Result<Option<ReadHandle<A>>, Refusal>
         ensures recorded { IfOk result (λ found. IsRecorded self.old (Find key.now) (found_as found) self.new) }
-        ensures err { OnErr result ((self.new ≡ self.old) ⊎ ((value : List ℕ) × IsRecorded self.old (Find key.now) (Hit value) self.new)) }
+        ensures err { OnErr result ((self.new ≡ self.old) ⊎ IsLeftOpen self.old (Find key.now) self.new ⊎ ((value : List ℕ) × IsRecorded self.old (Find key.now) (Hit value) self.new)) }
         ensures memory { IfErr result (λ refusal. refusal ≡ Refusal.NoMemory) }
     {
         let op = Op::Find(key.clone()?);
         self.record.entries.reserve(1)?;
-        let (call, found) = shared.find(rt, self.record.client, key)?;
-        match found {
-            None => {
+        self.record.open_calls.reserve(1)?;
+        match shared.find(rt, self.record.client, key) {
+            Ok((call, None)) => {
                 self.record
                     .entries
                     .push_reserved(Entry::new(call, op, Reply::Miss));
                 Ok(None)
             }
-            Some(value) => {
+            Ok((call, Some(value))) => {
                 let copy: Result<_, AllocError> = value.to_bytes();
                 self.record
                     .entries
                     .push_reserved(Entry::new(call, op, Reply::Hit(value.into_bytes())));
                 Ok(Some(ReadHandle::new(copy?)))
             }
+            Err(Unfound::Refused) => Err(Refusal::NoMemory),
+            Err(Unfound::Open(call)) => {
+                self.record
+                    .open_calls
+                    .push_reserved(OpenCall::new(call, op));
+                Err(Refusal::NoMemory)
+            }
         }
     }
 }
 
-fn insert_op(sealed: &Sealed) -> Result<Op, AllocError>
+fn insert_op<A: Allocator + Clone>(sealed: &Sealed<A>) -> Result<Op<A>, AllocError>
     ensures { IfOk result (λ op. spec.op_of op ≡ Insert sealed.now.key sealed.now.value sealed.now.expiry) }
 {
     Ok(Op::Insert(sealed.key().clone()?, sealed.to_bytes()?, sealed.expiry()))
 }
 
-fn add_op(sealed: &Sealed) -> Result<Op, AllocError>
+fn add_op<A: Allocator + Clone>(sealed: &Sealed<A>) -> Result<Op<A>, AllocError>
     ensures { IfOk result (λ op. spec.op_of op ≡ Add sealed.now.key sealed.now.value sealed.now.expiry) }
 {
     Ok(Op::Add(sealed.key().clone()?, sealed.to_bytes()?, sealed.expiry()))
 }
 
 /// The refusal of an item for want of memory.
-fn unlinked(sealed: Sealed) -> Unlinked
+fn unlinked<A: Allocator>(sealed: Sealed<A>) -> Unlinked<A>
     ensures refusal { result.refusal ≡ Refusal.NoMemory }
     ensures sealed { result.sealed ≡ sealed }
 {
@@ -262,7 +301,7 @@ fn unlinked(sealed: Sealed) -> Unlinked
     }
 }
 
-fn reply_of(removed: Removed) -> Reply
+fn reply_of<A: Allocator>(removed: Removed) -> Reply<A>
     ensures { spec.reply_of result ≡ removed_as removed }
 {
     match removed {
@@ -271,7 +310,7 @@ fn reply_of(removed: Removed) -> Reply
     }
 }
 
-fn reply_of_added(added: Added) -> Reply
+fn reply_of_added<A: Allocator>(added: Added) -> Reply<A>
     ensures { spec.reply_of result ≡ added_as added }
 {
     match added {

@@ -1,5 +1,5 @@
 // The end: what the log and the records come to.
-ghost use Rattle.std.specs.Prelude.{◌≡◌, ◌≢◌, ◌⊎◌, ◌<◌, ◌≤◌, [], None, IfOk, OnErr, map};
+ghost use Rattle.std.specs.Prelude.{◌≡◌, ◌≢◌, ◌⊎◌, ◌<◌, ◌≤◌, [], None, IfOk, OnOk, OnErr, map};
 ghost use Rattle.std.specs.Bool.{Decides};
 ghost use Rattle.hc_history.specs.Told.{Log, IfLog};
 ghost use Rattle.hc_history.specs.Stats.{counts_of};
@@ -7,6 +7,8 @@ ghost use Rattle.hc_history.specs.Lawful.{Legal};
 ghost use Rattle.hc_judge_memory.specs.Lies.{IsFirstLie};
 ghost use Rattle.hc_records.specs.Records as records;
 ghost use Rattle.hc_records.specs.Records.{Reconciled};
+ghost use Rattle.hc_core.specs.Logged.{Logged};
+ghost use Rattle.hc_threads.specs.Settled.{IsSettled};
 
 use crate::client::Client;
 use crate::shared::Shared;
@@ -27,9 +29,9 @@ pub struct Report {
 }
 
 /// Judges a core by the configuration that was kept, by the clients' records, and by how often the device failed. The
-/// answer is `Mismatch` only where the configuration isn't the core's, where a record doesn't agree with the log or a
-/// client of the log lacks one, or where more results in the log failed than `failures`; and wherever one of the last two holds.
-/// It takes time in the length of the log, and of what was written to flash.
+/// answer is `Mismatch` exactly where the configuration isn't the core's, where the records aren't those of the log (each
+/// call and each move of the clock is some client's, with what it asked and was answered), or where more results in the log
+/// failed than `failures`. It takes time in the length of the log, and of what was written to flash.
 pub fn settle<T: Recorded>(
     core: Core<Kept>,
     config: Config,
@@ -37,6 +39,7 @@ pub fn settle<T: Recorded>(
     failures: u64,
 ) -> Result<Report, Mismatch>
     ensures config { IfOk result (λ r. r.config ≡ config) }
+    ensures own { OnOk result (core.cache.config ≡ config) }
     ensures log { IfOk result (λ r. Log r.log.items ≡ core.log) }
     ensures stats { IfOk result (λ r. r.stats ≡ counts_of r.log.items) }
     ensures lie { IfOk result (λ r. IsFirstLie [] r.log.items r.lie) }
@@ -55,7 +58,7 @@ pub fn settle<T: Recorded>(
     if failures_of(notes) as u64 > failures {
         return Err(Mismatch);
     }
-    if !reconcile(notes, clients) {
+    if !reconcile(notes, clients, *log.allocator()) {
         return Err(Mismatch);
     }
     let lie = first_lie_in(notes, log.allocator());
@@ -70,7 +73,8 @@ pub fn settle<T: Recorded>(
 impl Shared<Kept> {
     /// Ends the cache, and judges it as `settle` does: by the configuration that was kept as `Shared` was made, by the
     /// clients' records, and by how often the device failed, which is by how much its count rose. Where the answer is a
-    /// report without a lie, the log is legal.
+    /// report without a lie, the log is legal. Contracts can't name the core that lies under the lock; they say that there
+    /// is one of which all holds that `settle` says.
     pub fn close(self, clients: Vec<Client>, failures: u64) -> Result<Report, Mismatch>
         ensures config { IfOk result (λ r. r.config ≡ self) }
         ensures stats { IfOk result (λ r. r.stats ≡ counts_of r.log.items) }
@@ -78,6 +82,7 @@ impl Shared<Kept> {
         ensures legal { IfOk result (λ r. r.lie ≡ None → Legal self r.log.items) }
         ensures agrees { IfOk result (λ r. Reconciled r.log.items clients.items) }
         ensures failed { IfOk result (λ r. records.failures r.log.items ≤ failures) }
+        ensures settled { (core : Logged) × IsSettled core self clients.items failures result }
     {
         let (core, config) = self.into_parts();
         settle(core, config, &clients, failures)

@@ -4,6 +4,7 @@
 mod adding;
 mod client;
 mod close;
+mod crew;
 mod gate;
 mod port;
 mod serving;
@@ -19,4 +20,4 @@ pub use serving::serve;
 pub use shared::Shared;
 
 // The types of the calls' signatures, so that a caller needs no other crate but the core's.
-pub use hc_records::{Entry, Mismatch, Record, Recorded};
+pub use hc_records::{Entry, Mismatch, OpenCall, Record, Recorded};

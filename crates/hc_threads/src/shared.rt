@@ -3,11 +3,13 @@ ghost use Rattle.std.specs.Prelude.{◌≡◌, ◌<◌, ◌≤◌, IfOk, IfErr};
 ghost use Rattle.hc_memory.specs.Seen.{filled};
 ghost use Rattle.hc_threads.specs.Asked.{IsAsked, RefusesAllocation, RefusesInsert};
 
+use crate::crew::Crew;
 use hc_core::Core;
 use hc_history::{Listener, Note, Notes, Reply};
 use hc_memory::{Blank, Fill, ReadHandle, Sealed, Uncharged};
 use hc_state::{Found, Removed, Unlinked};
 use hc_types::{Config, Key, Refusal};
+use std::alloc::{Allocator, Global};
 use std::marker::Model;
 use std::sync::{Condvar, Mutex, Wait};
 
@@ -22,25 +24,41 @@ pub(crate) enum Stage {
 
 /// What lies under the lock. Whoever takes the lock finds a `Core`, and what is true of each core is all that is known.
 #[derive(Drop)]
-pub(crate) struct Guarded<N: Listener> {
-    pub(crate) core: Core<N>,
+pub(crate) struct Guarded<N: Listener, A: Allocator> {
+    pub(crate) core: Core<N, A>,
     pub(crate) stage: Stage,
+    pub(crate) crew: Crew,
     pub(crate) clients: u8,
+}
+
+/// Why a find isn't answered: memory lacked.
+#[derive(Clone, Copy, Debug, PartialEq, Eq)]
+pub(crate) enum Unfound {
+    /// It was refused.
+    Refused,
+    /// It waited, and stays open, as the call of this number.
+    Open(u64),
+}
+
+impl From<Unfound> for Refusal {
+    fn from(_unfound: Unfound) -> Refusal {
+        Refusal::NoMemory
+    }
 }
 
 /// A core that clients and workers share: each call of the core is one hold of the one lock. Contracts see the
 /// configuration of the core that it was made of, of which it keeps a copy beside the lock.
 #[derive(Drop)]
-pub struct Shared<N: Listener> {
-    pub(crate) guarded: Mutex<Guarded<N>>,
+pub struct Shared<N: Listener, A: Allocator = Global> {
+    pub(crate) guarded: Mutex<Guarded<N, A>>,
     /// Wakes workers, for work and to end.
     pub(crate) work: Condvar,
     /// Wakes clients that wait for a reply.
     pub(crate) replies: Condvar,
-    config: Config,
+    config: Config<A>,
 }
 
-impl<N: Listener> Model for Shared<N> {
+impl<N: Listener, A: Allocator> Model for Shared<N, A> {
     ghost use Rattle.hc_types.specs.Config.{Config as Settings};
 
     ghost Value = { Settings };
@@ -48,9 +66,9 @@ impl<N: Listener> Model for Shared<N> {
     ghost view = { λ shared. shared.config };
 }
 
-impl<N: Listener> Shared<N> {
+impl<N: Listener, A: Allocator + Clone + Copy> Shared<N, A> {
     /// Shares the core. Refused only where memory lacks for the copy of its configuration; then the core comes back.
-    pub fn new(core: Core<N>) -> Result<Shared<N>, Core<N>>
+    pub fn new(core: Core<N, A>) -> Result<Shared<N, A>, Core<N, A>>
         ensures config { IfOk result (λ shared. shared ≡ core.cache.config) }
         ensures core_returned { IfErr result (λ back. back ≡ core) }
     {
@@ -61,6 +79,7 @@ impl<N: Listener> Shared<N> {
             guarded: Mutex::new(Guarded {
                 core,
                 stage: Stage::Beginning,
+                crew: Crew::new(),
                 clients: 0,
             }),
             work: Condvar::new(),
@@ -68,7 +87,9 @@ impl<N: Listener> Shared<N> {
             config,
         })
     }
+}
 
+impl<N: Listener, A: Allocator> Shared<N, A> {
     /// The number of the next client. Refused with `TooManyClients` after the 64th.
     pub(crate) fn next_client<R: Wait>(&self, rt: &R) -> Result<u8, Refusal>
         ensures few { IfOk result (λ number. number < 64) }
@@ -84,7 +105,7 @@ impl<N: Listener> Shared<N> {
     }
 
     /// The core, and the configuration that was kept.
-    pub(crate) fn into_parts(self) -> (Core<N>, Config)
+    pub(crate) fn into_parts(self) -> (Core<N, A>, Config<A>)
         ensures { result.1 ≡ self }
     {
         let Shared {
@@ -96,6 +117,7 @@ impl<N: Listener> Shared<N> {
         let Guarded {
             core,
             stage: _,
+            crew: _,
             clients: _,
         } = guarded.into_inner();
         (core, config)
@@ -103,21 +125,34 @@ impl<N: Listener> Shared<N> {
 
     /// The core, which isn't judged.
     #[must_use]
-    pub fn into_core(self) -> Core<N> {
+    pub fn into_core(self) -> Core<N, A> {
         let (core, _config) = self.into_parts();
         core
     }
 
-    /// Wakes whoever waits for work or for a reply.
-    pub(crate) fn wake(&self) {
+    /// Has the workers try again what memory lacked for, and the calls that wait look again. For whoever gave memory back
+    /// elsewhere, or stops calling for want of it: else only calls that change something do that.
+    pub fn stir<R: Wait>(&self, rt: &R) {
+        let mut held = self.guarded.lock(rt);
+        self.wake(&mut held);
+    }
+
+    /// Calls the workers, since something has changed.
+    pub(crate) fn call(&self, held: &mut Guarded<N, A>) {
+        held.crew.call();
         self.work.notify_all();
+    }
+
+    /// The same, and wakes the calls that wait.
+    pub(crate) fn wake(&self, held: &mut Guarded<N, A>) {
+        self.call(held);
         self.replies.notify_all();
     }
 }
 
-impl<N: Notes<Note>> Shared<N> {
+impl<N: Notes<Note<A>>, A: Allocator + Clone + Copy> Shared<N, A> {
     /// Moves the clock on, as `Core::tick` does, and answers the moment that holds then.
-    pub fn tick<R: Wait>(&self, rt: &R, moment: u64) -> Result<u64, Refusal>
+    pub(crate) fn tick<R: Wait>(&self, rt: &R, moment: u64) -> Result<u64, Refusal>
         ensures later { IfOk result (λ now. moment ≤ now) }
         ensures memory { IfErr result (λ refusal. refusal ≡ Refusal.NoMemory) }
     {
@@ -128,36 +163,35 @@ impl<N: Notes<Note>> Shared<N> {
         &self,
         rt: &R,
         pool: u8,
-        key: Key,
+        key: Key<A>,
         fill: Fill<'_>,
         ttl: u32,
-    ) -> Result<Blank, Uncharged>
+    ) -> Result<Blank<A>, Uncharged<A>>
         ensures ok { IfOk result (λ blank. IsAsked pool key (filled fill.entry) ttl blank) }
         ensures why { IfErr result (λ e. RefusesAllocation e.refusal) }
         ensures key_returned { IfErr result (λ e. e.key ≡ key) }
     {
-        let blank = self
-            .guarded
-            .lock(rt)
-            .core
-            .allocate_with(pool, key, fill, ttl);
-        self.work.notify_all();
+        let mut held = self.guarded.lock(rt);
+        let blank = held.core.allocate_with(pool, key, fill, ttl);
+        self.call(&mut held);
         blank
     }
 
-    pub(crate) fn discard<R: Wait>(&self, rt: &R, sealed: Sealed) -> Result<(), Sealed>
+    pub(crate) fn discard<R: Wait>(&self, rt: &R, sealed: Sealed<A>) -> Result<(), Sealed<A>>
         ensures { IfErr result (λ back. back ≡ sealed) }
     {
-        let discarded = self.guarded.lock(rt).core.discard(sealed);
-        self.work.notify_all();
+        let mut held = self.guarded.lock(rt);
+        let discarded = held.core.discard(sealed);
+        self.call(&mut held);
         discarded
     }
 
-    pub(crate) fn discard_blank<R: Wait>(&self, rt: &R, blank: Blank) -> Result<(), Blank>
+    pub(crate) fn discard_blank<R: Wait>(&self, rt: &R, blank: Blank<A>) -> Result<(), Blank<A>>
         ensures { IfErr result (λ back. back ≡ blank) }
     {
-        let discarded = self.guarded.lock(rt).core.discard_blank(blank);
-        self.work.notify_all();
+        let mut held = self.guarded.lock(rt);
+        let discarded = held.core.discard_blank(blank);
+        self.call(&mut held);
         discarded
     }
 
@@ -166,15 +200,15 @@ impl<N: Notes<Note>> Shared<N> {
         &self,
         rt: &R,
         client: u8,
-        sealed: Sealed,
-    ) -> Result<u64, Unlinked>
+        sealed: Sealed<A>,
+    ) -> Result<u64, Unlinked<A>>
         ensures why { IfErr result (λ e. RefusesInsert e.refusal) }
         ensures sealed_returned { IfErr result (λ e. e.sealed ≡ sealed) }
     {
         let mut held = self.guarded.lock(rt);
         held.core.insert_or_replace(client, sealed)?;
         let call = held.core.calls();
-        self.wake();
+        self.wake(&mut held);
         Ok(call)
     }
 
@@ -183,41 +217,43 @@ impl<N: Notes<Note>> Shared<N> {
         &self,
         rt: &R,
         client: u8,
-        key: &Key,
+        key: &Key<A>,
     ) -> Result<(u64, Removed), Refusal>
         ensures { IfErr result (λ refusal. refusal ≡ Refusal.NoMemory) }
     {
         let mut held = self.guarded.lock(rt);
         let removed = held.core.remove(client, key)?;
         let call = held.core.calls();
-        self.wake();
+        self.wake(&mut held);
         Ok((call, removed))
     }
 
-    /// Answers the number of the call, and the value. A find that waits lets the lock go until its reply is there.
+    /// Answers the number of the call, and the value. A find that waits lets the lock go until its reply is there. It gives
+    /// up where the workers are stuck, and where memory lacks for the reply.
     pub(crate) fn find<R: Wait>(
         &self,
         rt: &R,
         client: u8,
-        key: &Key,
-    ) -> Result<(u64, Option<ReadHandle>), Refusal>
-        ensures { IfErr result (λ refusal. refusal ≡ Refusal.NoMemory) }
-    {
+        key: &Key<A>,
+    ) -> Result<(u64, Option<ReadHandle<A>>), Unfound> {
         let mut held = self.guarded.lock(rt);
-        let call = match held.core.find(client, key)? {
-            Found::Hit(value) => return Ok((held.core.calls(), Some(value))),
-            Found::Miss => return Ok((held.core.calls(), None)),
-            Found::Waiting(call) => call,
+        let call = match held.core.find(client, key) {
+            Ok(Found::Hit(value)) => return Ok((held.core.calls(), Some(value))),
+            Ok(Found::Miss) => return Ok((held.core.calls(), None)),
+            Ok(Found::Waiting(call)) => call,
+            Err(_) => return Err(Unfound::Refused),
         };
-        self.work.notify_all();
+        self.call(&mut held);
         for _ in rt.forever() {
             match held.core.take_reply(call) {
                 Ok(Reply::Hit(value)) => return Ok((call, Some(ReadHandle::new(value)))),
                 Ok(_) => return Ok((call, None)),
-                Err(Refusal::NotReady) => held = self.replies.wait(rt, held),
-                // The call's reply is owed until it is taken, which is done here alone: so this isn't `UnknownCall`, and
-                // `NoMemory` is the only other refusal.
-                Err(_) => return Err(Refusal::NoMemory),
+                Err(Refusal::NotReady) if !held.crew.is_stuck() => {
+                    held = self.replies.wait(rt, held);
+                }
+                // The call's reply is owed until it is taken, which is done here alone: so this isn't `UnknownCall`. The
+                // workers are stuck, or memory lacks.
+                Err(_) => return Err(Unfound::Open(call)),
             }
         }
         unreachable!()

@@ -7,12 +7,13 @@ use std::alloc::Global;
 use std::process::Abort;
 use std::sync::Wait;
 
-fn key(rt: &impl Abort, alloc: Global, name: &[u8]) -> Key {
+/// The key of this name.
+pub fn key(rt: &impl Abort, alloc: Global, name: &[u8]) -> Key {
     Key::new(alloc, name).expect(rt, "the key fits")
 }
 
-// An item of this value, which is to stay for good.
-fn sealed<R: Abort + Wait>(
+/// An item of this value, which is to stay for good.
+pub fn sealed<R: Abort + Wait>(
     rt: &R,
     scene: &Scene<'_>,
     client: &Client,

@@ -4,6 +4,10 @@
 #[cfg(test)]
 mod calls;
 #[cfg(test)]
+mod clock;
+#[cfg(test)]
+mod refusals;
+#[cfg(test)]
 mod replays;
 #[cfg(test)]
 mod runs;
@@ -13,6 +17,8 @@ mod said;
 mod scripts;
 #[cfg(test)]
 mod stage;
+#[cfg(test)]
+mod takes;
 #[cfg(test)]
 mod unstarted;
 #[cfg(test)]

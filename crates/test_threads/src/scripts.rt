@@ -109,6 +109,6 @@ fn bring_back<R: Abort + Wait>(rt: &R, scene: &Scene<'_>, client: &mut Client) {
     assert!(rt; comes(&scene.watch.operations, 3));
     give_up(rt, scene, client);
     assert!(rt; holds(rt, scene, client, b"a", b"one"));
-    assert!(rt; scene.shared.tick(rt, 1) == Ok(1));
+    assert!(rt; client.tick(rt, scene.shared, 1) == Ok(1));
     remove(rt, scene, client, b"a");
 }

@@ -3,7 +3,8 @@
 use crate::scripts::{Script, play};
 use crate::watch::{Watch, Watched};
 use hc_core::{Config, Core, FlashConfig, Kept, PoolSize};
-use hc_flash::{FailAt, Flash, MemFlash};
+use hc_flash::{FailAt, MemFlash};
+use hc_paged::Device;
 use hc_threads::{Client, Shared, serve};
 use std::alloc::Global;
 use std::process::Abort;

@@ -1,7 +1,8 @@
 // What a test sees of a device, and how it holds reads up.
 
 use bytes::Bytes;
-use hc_flash::{Flash, FlashError};
+use hc_flash::FlashError;
+use hc_paged::Device;
 use hc_threads::{Gate, Point, Worker};
 use std::alloc::Global;
 use std::sync::atomic::{AtomicU64, Ordering};
@@ -70,15 +71,13 @@ impl Gate for Watch {
 
 /// A device each of whose operations is counted.
 #[derive(Drop)]
-pub struct Watched<'a, F: Flash<Global>> {
-    pub device: F,
+pub struct Watched<'a, D: Device<Global>> {
+    pub device: D,
     pub watch: &'a Watch,
 }
 
-impl<'a, F: Flash<Global>> Flash<Global> for Watched<'a, F> {
-    ghost held = { λ watched. F.held watched.device };
-
-    ghost failed = { λ watched. F.failed watched.device };
+impl<'a, D: Device<Global>> Device<Global> for Watched<'a, D> {
+    ghost failed = { λ watched. D.failed watched.device };
 
     fn read(&mut self, page: u32) -> Result<Bytes, FlashError> {
         add(&self.watch.operations);
