@@ -1,0 +1,23 @@
+-- What the devices of this crate say of their operations.
+use Rattle.std.specs.Prelude.{◌≡◌, ◌<◌, ℕ, List, Some, None, length}
+use Rattle.hc_flash.specs.Operations.{Order, Read, Write, IoResult, Page, Written, Failed}
+use Rattle.hc_paged.specs.Devices.{OnFile, mark_at}
+
+-- a device in a file gives and takes whole pages, inside of it
+abbrev pub GivesPages : OnFile → Order → IoResult → Type 0
+GivesPages device (Read page) (Page bytes) = (page < device.pages) × (length bytes ≡ device.page_size)
+GivesPages device (Write page bytes) Written = (page < device.pages) × (length bytes ≡ device.page_size)
+GivesPages device order came = Unit {0}
+
+-- what is known of the other pages is as it was
+abbrev pub OthersStay : List ℕ → ℕ → List ℕ → Type 0
+OthersStay before page after = (other : ℕ) → ¬ (other ≡ page) → mark_at after other ≡ mark_at before other
+
+-- a device with digests answers a page that has the digest which is kept, keeps that of a page as it is written, and
+-- forgets that of one whose write failed
+abbrev pub GivesMarked : (List ℕ → ℕ) → List ℕ → Order → IoResult → List ℕ → Type 0
+GivesMarked of before (Read page) (Page bytes) after = (mark_at before page ≡ Some (of bytes)) × (after ≡ before)
+GivesMarked of before (Read page) Failed after = after ≡ before
+GivesMarked of before (Write page bytes) Written after = (mark_at after page ≡ Some (of bytes)) × OthersStay before page after
+GivesMarked of before (Write page bytes) Failed after = (mark_at after page ≡ None) × OthersStay before page after
+GivesMarked of before order came after = ⊥

@@ -1,0 +1,21 @@
+//! Paged devices of which nothing is promised but that they count their failures: any device, and what an operation on it
+//! comes to; pages in a file or on a block device; and digests of pages, by which a wrong answer of any device is told.
+#![tactic(auto)]
+
+mod checked;
+mod device;
+mod digest;
+mod file;
+mod flashes;
+mod opening;
+mod operation;
+mod table;
+mod telling;
+
+pub use checked::Checked;
+pub use device::Device;
+pub use digest::{Digest, Folded};
+pub use file::FileDevice;
+pub use opening::{OpenError, open};
+pub use operation::operate;
+pub use telling::{Telling, Told};
