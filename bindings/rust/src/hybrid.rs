@@ -1,5 +1,6 @@
 use crate::library::{self, Handle};
 use crate::{done, found, Cache, Counts, Losses, Pool, Refused, Usage, Value};
+use std::collections::VecDeque;
 use std::io;
 
 const WAITS: u8 = 103;
@@ -161,9 +162,14 @@ pub enum Take {
 pub struct HybridCache {
     cache: Cache,
     page: usize,
-    // what couldn't be handed in for want of memory
+    // what is to be handed in first: what couldn't be for want of memory, or a failure of the operation that is under way
     owed: Option<(u64, Came)>,
+    // calls that were given up while they waited, whose replies are dropped once they are there
+    forgotten: VecDeque<u64>,
 }
+
+// So many forgotten calls that still wait are asked for their replies where a job ends.
+const ASKED: usize = 32;
 
 impl HybridCache {
     /// An empty cache of these pools, with this flash behind them.
@@ -171,7 +177,7 @@ impl HybridCache {
         let mut handle = Handle::none();
         // SAFETY: both are valid, and the handle is an empty one.
         done(unsafe { library::kilambosetry_new_with_flash(&mut handle, pools.as_ptr(), pools.len(), flash) })?;
-        Ok(HybridCache { cache: Cache(handle), page: flash.page as usize, owed: None })
+        Ok(HybridCache { cache: Cache(handle), page: flash.page as usize, owed: None, forgotten: VecDeque::new() })
     }
 
     /// As [`Cache::tick`].
@@ -219,6 +225,38 @@ impl HybridCache {
         Ok(if value.0.is_full() { Reply::Hit(value) } else { Reply::Stored })
     }
 
+    /// Gives up the call with this number, whose reply nobody takes any more: of a request that was cancelled, say. A reply that
+    /// is there is dropped at once, and one that isn't as jobs end (or another call is given up), so that it keeps no value
+    /// alive. What an add was to store is stored all the same. Refused with [`Refused::UNKNOWN_CALL`] where no reply is owed to
+    /// the call.
+    pub fn forget(&mut self, call: u64) -> Result<(), Refused> {
+        self.drop_replies();
+        match self.take_reply(call) {
+            Err(Refused::NOT_READY) => self.forgotten.push_back(call),
+            Err(refused) if refused != Refused::EXISTS => return Err(refused),
+            _ => {}
+        }
+        Ok(())
+    }
+
+    // Drops the replies that came for forgotten calls, up to the first few that still wait.
+    fn drop_replies(&mut self) {
+        let mut waiting = 0;
+        for _ in 0..self.forgotten.len() {
+            let Some(call) = self.forgotten.pop_front() else { return };
+            match self.take_reply(call) {
+                Err(Refused::NOT_READY | Refused::NO_MEMORY) => {
+                    self.forgotten.push_back(call);
+                    waiting += 1;
+                }
+                _ => {}
+            }
+            if waiting == ASKED {
+                return;
+            }
+        }
+    }
+
     /// What was done so far.
     pub fn counts(&mut self) -> Counts {
         self.cache.counts()
@@ -235,7 +273,8 @@ impl HybridCache {
     }
 
     /// What is to be written next: a page of a region, a deleted key's bucket, or an item that left memory. The job waits for
-    /// the operation until what came of it is handed in by [`finish`](HybridCache::finish).
+    /// the operation until what came of it is handed in by [`finish`](HybridCache::finish): [`Came::Failed`] where a worker
+    /// can't say.
     pub fn writer_take(&mut self) -> Result<Take, Refused> {
         let mut job = 0;
         // SAFETY: both are valid for the call.
@@ -273,11 +312,16 @@ impl HybridCache {
                 Came::Failed => library::kilambosetry_finish_failed(handle, job),
             }
         };
-        self.taken(status, job)
+        let take = self.taken(status, job);
+        if take == Ok(Take::Finished) {
+            self.drop_replies();
+        }
+        take
     }
 
     /// Does all that there is to do on this device: regions are made clean, what left memory is written, and what calls wait
-    /// for is read. What couldn't be handed in for want of memory is kept, and is handed in by the next call of this.
+    /// for is read. What couldn't be handed in for want of memory is kept, and is handed in by the next call of this. So is an
+    /// operation in which the device panicked: as one that failed.
     pub fn work(&mut self, device: &mut impl Device) -> Result<(), Refused> {
         if let Some((job, came)) = self.owed.take() {
             let take = self.hand_in(job, came)?;
@@ -335,8 +379,12 @@ impl HybridCache {
             let (job, came) = match take {
                 Take::Idle => return Ok(false),
                 Take::Finished => return Ok(true),
-                Take::Work(job, operation) => (job, operate(device, &operation, self.page)),
+                Take::Work(job, operation) => {
+                    self.owed = Some((job, Came::Failed));
+                    (job, operate(device, &operation, self.page))
+                }
             };
+            self.owed = None;
             take = self.hand_in(job, came)?;
         }
     }

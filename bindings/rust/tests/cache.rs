@@ -4,6 +4,7 @@ use kilambosetry::{
 };
 use std::error::Error;
 use std::io;
+use std::panic::{self, AssertUnwindSafe};
 use std::sync::{Arc, Mutex};
 use std::thread;
 
@@ -216,4 +217,67 @@ fn a_wrong_number_of_the_flash_is_refused() {
     let wrong = Flash { page: 500, ..FLASH };
     let refused = HybridCache::new(&[Pool { bytes: 1000, items: 1 }], &wrong).unwrap_err();
     assert_eq!(refused.to_string(), "refused 4 BadPage");
+}
+
+#[test]
+fn a_call_that_nobody_waits_for_is_given_up() {
+    let (mut cache, mut device) = hybrid();
+    cache.set(0, b"a", b"one", 0).unwrap();
+    cache.set(0, b"b", b"two", 0).unwrap();
+    cache.work(&mut device).unwrap();
+    let first = waiting(cache.get(b"a").unwrap());
+    let second = waiting(cache.get(b"a").unwrap());
+    cache.forget(first).unwrap();
+    assert_eq!(cache.take_reply(first).unwrap_err(), Refused::NOT_READY);
+    cache.work(&mut device).unwrap();
+    // its reply came, and was dropped as its job ended
+    assert_eq!(cache.take_reply(first).unwrap_err(), Refused::UNKNOWN_CALL);
+    assert_eq!(cache.forget(first), Err(Refused::UNKNOWN_CALL));
+    // one that is there is dropped at once
+    cache.forget(second).unwrap();
+    assert_eq!(cache.take_reply(second).unwrap_err(), Refused::UNKNOWN_CALL);
+    let Found::Hit(mut value) = cache.get(b"a").unwrap() else { panic!("the fill brought it") };
+    assert_eq!(value.to_vec(), b"one");
+}
+
+// A device whose reads panic while it is told to.
+struct Panics {
+    pages: Pages,
+    panics: bool,
+}
+
+impl Device for Panics {
+    fn read(&mut self, page: u32, out: &mut [u8]) -> io::Result<()> {
+        assert!(!self.panics, "the device panics");
+        self.pages.read(page, out)
+    }
+
+    fn write(&mut self, page: u32, bytes: &[u8]) -> io::Result<()> {
+        self.pages.write(page, bytes)
+    }
+}
+
+#[test]
+fn an_operation_that_panics_has_failed() {
+    let (mut cache, pages) = hybrid();
+    let mut device = Panics { pages, panics: false };
+    cache.set(0, b"a", b"one", 0).unwrap();
+    cache.set(0, b"b", b"two", 0).unwrap();
+    cache.work(&mut device).unwrap();
+    let call = waiting(cache.get(b"a").unwrap());
+    device.panics = true;
+    let died = panic::catch_unwind(AssertUnwindSafe(|| cache.work(&mut device)));
+    assert!(died.is_err());
+    assert_eq!(cache.take_reply(call).unwrap_err(), Refused::NOT_READY);
+    device.panics = false;
+    cache.work(&mut device).unwrap();
+    assert!(matches!(cache.take_reply(call).unwrap(), Reply::Miss));
+    assert!(cache.losses().fault > 0);
+    // and the cache goes on
+    cache.set(0, b"a", b"three", 0).unwrap();
+    cache.set(0, b"b", b"four", 0).unwrap();
+    cache.work(&mut device).unwrap();
+    let call = waiting(cache.get(b"a").unwrap());
+    cache.work(&mut device).unwrap();
+    assert_eq!(value_of(cache.take_reply(call).unwrap()), b"three");
 }
