@@ -68,6 +68,9 @@ impl<A: Allocator> CleanIndex<A> {
         ensures newest { self.new.newest ≡ self.old.newest }
         ensures stay { (other : List ℕ) (n : ℕ) → bytes_eq key.now other ≡ false → is_listed flash.now self.old other n ≡ true → is_listed flash.now self.new other n ≡ true }
     {
+        if self.large.is_empty() {
+            return;
+        }
         if let Some(flash) = flash {
             self.large.remove(large_place(key, flash), key);
         }

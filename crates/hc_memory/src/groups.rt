@@ -37,6 +37,13 @@ impl<A: Allocator> KeyGroups<A> {
         }
     }
 
+    /// Whether no place has a key.
+    pub(crate) fn is_empty(&self) -> bool
+        ensures { result ≡ true → self.now ≡ [] }
+    {
+        self.groups.is_empty()
+    }
+
     /// The keys of the place.
     pub(crate) fn keys(&self, place: u64) -> &[Key<A>]
         ensures { result.now ≡ keys_at place self.now }
