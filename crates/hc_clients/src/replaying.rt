@@ -8,9 +8,8 @@ use crate::reading::read_all;
 use crate::session::{Session, clients_of, sessions};
 use hc_core::{Core, FlashConfig, Kept, Refusal};
 use hc_lines::{add_fault, add_refusal};
-use hc_paged::Device;
 use hc_player::new_device;
-use hc_threads::{Client, NoGate, Shared, serve};
+use hc_threads::{Client, NoGate, Port, Shared, serve};
 use std::alloc::{AllocError, Global};
 use std::io::{self, Read, Write};
 use std::sync::Wait;
@@ -171,17 +170,19 @@ fn run_all<T: Threads + Wait + Sync>(
     requires { 0 < clients }
 {
     let device = new_device(alloc, flash)?;
-    let (device, answer) = serve(
+    let port = Port::new(alloc, device);
+    let answer = serve(
         rt,
         shared,
-        device,
+        &port,
+        1,
         &NoGate,
         ||
             requires { 0 < clients }
         { run_clients(rt, alloc, shared, sessions, clients) },
     );
     match answer {
-        Ok(()) => Ok(device.failures()),
+        Ok(()) => Ok(port.failures(rt)),
         Err(_) => Err(AllocError),
     }
 }

@@ -8,9 +8,12 @@ ghost use Rattle.hc_threads.specs.Asked.{IsAsked, RefusesAllocation, RefusesInse
 ghost use Rattle.hc_threads.specs.Seen.{found_as, removed_as, added_as, GivesBack, LeavesAdd};
 
 use crate::adding::{Added, Unadded, Unstored};
-use crate::shared::{Shared, Unfound};
+use crate::finding::{Answer, Unfound};
+use crate::port::Port;
+use crate::shared::Shared;
 use hc_history::{Listener, Note, Notes, Op, Reply};
 use hc_memory::{Blank, Fill, ReadHandle, Sealed, Uncharged};
+use hc_paged::Device;
 use hc_records::{Entry, OpenCall, Record, Recorded};
 use hc_state::{Removed, Unlinked};
 use hc_types::{Key, Refusal};
@@ -250,10 +253,41 @@ impl<A: Allocator + Clone + Copy> Client<A> {
         ensures err { OnErr result ((self.new ≡ self.old) ⊎ IsLeftOpen self.old (Find key.now) self.new ⊎ ((value : List ℕ) × IsRecorded self.old (Find key.now) (Hit value) self.new)) }
         ensures memory { IfErr result (λ refusal. refusal ≡ Refusal.NoMemory) }
     {
+        self.find_by(key, |client| shared.find(rt, client, key))
+    }
+
+    /// Finds the value under the key, as `find` does. But a call that waits makes the reads itself, by a handle of the
+    /// device, as long as there are some which no other is making: its own, or those of calls that have waited longer. So
+    /// it mostly wakes no worker and is woken by none. A read for which memory lacks is left to the fillers.
+    pub fn find_filling<R: Wait, N: Notes<Note<A>>, D: Device<A>>(
+        &mut self,
+        rt: &R,
+        shared: &Shared<N, A>,
+        port: &Port<D, A>,
+        key: &Key<A>,
+    ) -> Result<Option<ReadHandle<A>>, Refusal>
+        ensures recorded { IfOk result (λ found. IsRecorded self.old (Find key.now) (found_as found) self.new) }
+        ensures err { OnErr result ((self.new ≡ self.old) ⊎ IsLeftOpen self.old (Find key.now) self.new ⊎ ((value : List ℕ) × IsRecorded self.old (Find key.now) (Hit value) self.new)) }
+        ensures memory { IfErr result (λ refusal. refusal ≡ Refusal.NoMemory) }
+    {
+        self.find_by(key, |client| shared.find_filling(rt, port, client, key))
+    }
+
+    /// Finds the value as `find` does it, which is told the client's number, and records what came.
+    fn find_by<F: FnOnce(u8) -> Result<Answer<A>, Unfound> + Drop>(
+        &mut self,
+        key: &Key<A>,
+        find: F,
+    ) -> Result<Option<ReadHandle<A>>, Refusal>
+        requires { (client : ℕ) → F.pre find client }
+        ensures recorded { IfOk result (λ found. IsRecorded self.old (Find key.now) (found_as found) self.new) }
+        ensures err { OnErr result ((self.new ≡ self.old) ⊎ IsLeftOpen self.old (Find key.now) self.new ⊎ ((value : List ℕ) × IsRecorded self.old (Find key.now) (Hit value) self.new)) }
+        ensures memory { IfErr result (λ refusal. refusal ≡ Refusal.NoMemory) }
+    {
         let op = Op::Find(key.clone()?);
         self.record.entries.reserve(1)?;
         self.record.open_calls.reserve(1)?;
-        match shared.find(rt, self.record.client, key) {
+        match find(self.record.client) {
             Ok((call, None)) => {
                 self.record
                     .entries

@@ -1,15 +1,9 @@
 // Whether the workers can still get on.
 
-use crate::gate::Worker;
-
-/// What is known of a worker.
+/// What a worker is at.
 #[derive(Clone, Copy, Debug, PartialEq, Eq)]
 enum Duty {
-    /// It isn't there.
-    Gone,
-    /// Something has changed since it looked for work, or began what it is at: it looks, or tries, once more.
-    Called,
-    /// It is at work, and nothing has changed since it began.
+    /// It is at work.
     Working,
     /// It found nothing to do, and waits to be called.
     Idle,
@@ -17,20 +11,37 @@ enum Duty {
     Starved,
 }
 
-/// What is known of the workers. It lies under the lock, beside the core.
+/// What a worker knows of itself: what it is at, and of which calls it has heard. It is the worker's own, and changes with
+/// the crew alone.
+#[derive(Clone, Copy, Debug)]
+pub(crate) struct Turn {
+    duty: Duty,
+    calls: u64,
+    rouses: u64,
+}
+
+/// What is known of the workers. It lies under the lock, beside the core. A client that does a filler's job is a worker for
+/// as long as that takes.
 ///
 /// A call that waits is answered by workers alone. Where memory lacks for what a worker is at, the worker waits until it is
 /// called, which each call that changes something does. But whoever would make the next call may be waiting for this very
 /// worker. So a call that waits gives up where the workers are stuck: memory lacked for one of them, and none is at work or
 /// was called. (Where a job was lost, that each is idle or gone is enough: nobody will answer what waits for it.)
 ///
-/// No wake is lost: what is known of a worker is changed in the same hold of the lock as the core, those that wait look at it
-/// before they sleep, and each change by which the workers may come to be stuck wakes the calls that wait.
+/// No wake is lost: what is known of the workers is changed in the same hold of the lock as the core, those that wait look
+/// at it before they sleep, and each change by which they may come to be stuck wakes the calls that wait.
 #[derive(Clone, Copy, Debug)]
 pub(crate) struct Crew {
-    writer: Duty,
-    filler: Duty,
-    reclaimer: Duty,
+    /// How many workers are there.
+    there: u32,
+    /// How many of them found nothing to do, and haven't been called since.
+    idle: u32,
+    /// For how many of them memory lacked, which haven't been called since.
+    starved: u32,
+    /// How often all were called.
+    calls: u64,
+    /// How often those were called that had found nothing to do.
+    rouses: u64,
     /// A worker ended with a job that wasn't over, since memory lacked for it. What waits for it is never answered.
     has_lost: bool,
 }
@@ -39,54 +50,72 @@ impl Crew {
     /// No worker is there.
     pub(crate) fn new() -> Crew {
         Crew {
-            writer: Duty::Gone,
-            filler: Duty::Gone,
-            reclaimer: Duty::Gone,
+            there: 0,
+            idle: 0,
+            starved: 0,
+            calls: 0,
+            rouses: 0,
             has_lost: false,
         }
     }
 
-    /// All three are there, and are to look for work.
-    pub(crate) fn begin(&mut self) {
-        self.writer = Duty::Called;
-        self.filler = Duty::Called;
-        self.reclaimer = Duty::Called;
+    /// So many workers are there, and are to look for work. Each begins with this turn.
+    pub(crate) fn begin(&mut self, workers: u32) -> Turn {
+        let before = self.turn(Duty::Working);
+        self.there = workers;
+        self.call();
+        before
+    }
+
+    /// One more is there, which is at work.
+    pub(crate) fn join(&mut self) -> Turn {
+        self.there = self.there.saturating_add(1);
+        self.turn(Duty::Working)
+    }
+
+    /// The worker is gone.
+    pub(crate) fn leave(&mut self, turn: Turn) {
+        if !self.is_called(turn) {
+            match turn.duty {
+                Duty::Working => {}
+                Duty::Idle => self.idle = self.idle.saturating_sub(1),
+                Duty::Starved => self.starved = self.starved.saturating_sub(1),
+            }
+        }
+        self.there = self.there.saturating_sub(1);
     }
 
     /// Calls those that are there: they look for work, or try what they are at, once more.
     pub(crate) fn call(&mut self) {
-        self.writer = called(self.writer);
-        self.filler = called(self.filler);
-        self.reclaimer = called(self.reclaimer);
+        self.calls = self.calls.wrapping_add(1);
+        self.idle = 0;
+        self.starved = 0;
     }
 
     /// Whether the worker was called.
-    pub(crate) fn is_called(&self, worker: Worker) -> bool {
-        self.duty(worker) == Duty::Called
+    pub(crate) fn is_called(&self, turn: Turn) -> bool {
+        let is_roused = turn.duty == Duty::Idle && turn.rouses != self.rouses;
+        turn.calls != self.calls || is_roused
     }
 
-    /// The worker is at work.
-    pub(crate) fn work(&mut self, worker: Worker) {
-        self.set(worker, Duty::Working);
+    /// The worker, which was called, is at work.
+    pub(crate) fn work(&self, turn: &mut Turn) {
+        *turn = self.turn(Duty::Working);
     }
 
-    /// The worker found nothing to do.
-    pub(crate) fn rest(&mut self, worker: Worker) {
-        self.set(worker, Duty::Idle);
+    /// The worker, which is at work, found nothing to do.
+    pub(crate) fn rest(&mut self, turn: &mut Turn) {
+        self.idle = self.idle.saturating_add(1);
+        *turn = self.turn(Duty::Idle);
     }
 
     /// Memory lacked for what the worker is at. Those that found nothing to do look once more, since it may have changed
     /// something before.
-    pub(crate) fn starve(&mut self, worker: Worker) {
-        self.writer = roused(self.writer);
-        self.filler = roused(self.filler);
-        self.reclaimer = roused(self.reclaimer);
-        self.set(worker, Duty::Starved);
-    }
-
-    /// The worker is gone.
-    pub(crate) fn leave(&mut self, worker: Worker) {
-        self.set(worker, Duty::Gone);
+    pub(crate) fn starve(&mut self, turn: &mut Turn) {
+        self.rouses = self.rouses.wrapping_add(1);
+        self.idle = 0;
+        self.starved = self.starved.saturating_add(1);
+        *turn = self.turn(Duty::Starved);
     }
 
     /// A worker ends with a job that isn't over.
@@ -96,40 +125,16 @@ impl Crew {
 
     /// Whether no worker gets on before something changes, and memory is why.
     pub(crate) fn is_stuck(&self) -> bool {
-        let duties = [self.writer, self.filler, self.reclaimer];
-        let is_starved = self.has_lost || duties.contains(&Duty::Starved);
-        is_starved && !duties.contains(&Duty::Called) && !duties.contains(&Duty::Working)
+        let waiting = self.idle.saturating_add(self.starved);
+        (self.has_lost || self.starved > 0) && waiting == self.there
     }
 
-    fn duty(&self, worker: Worker) -> Duty {
-        match worker {
-            Worker::Writer => self.writer,
-            Worker::Filler => self.filler,
-            Worker::Reclaimer => self.reclaimer,
+    /// The turn of one that has heard of each call.
+    fn turn(&self, duty: Duty) -> Turn {
+        Turn {
+            duty,
+            calls: self.calls,
+            rouses: self.rouses,
         }
-    }
-
-    fn set(&mut self, worker: Worker, duty: Duty) {
-        match worker {
-            Worker::Writer => self.writer = duty,
-            Worker::Filler => self.filler = duty,
-            Worker::Reclaimer => self.reclaimer = duty,
-        }
-    }
-}
-
-/// That of a worker behind a change.
-fn called(duty: Duty) -> Duty {
-    match duty {
-        Duty::Gone => Duty::Gone,
-        _ => Duty::Called,
-    }
-}
-
-/// That of a worker behind a change by one that memory lacked for.
-fn roused(duty: Duty) -> Duty {
-    match duty {
-        Duty::Idle => Duty::Called,
-        other => other,
     }
 }

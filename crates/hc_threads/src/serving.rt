@@ -1,6 +1,7 @@
 // Workers beside clients.
 ghost use Rattle.std.specs.Prelude.{◌≡◌, IfOk, IfErr};
 
+use crate::crew::Turn;
 use crate::gate::{Gate, Point, Worker};
 use crate::port::Port;
 use crate::shared::{Shared, Stage};
@@ -13,9 +14,10 @@ use std::sync::Wait;
 use std::thread;
 use std::thread::Threads;
 
-/// Runs a writer, a filler and a reclaimer beside `body`, ends them after it, and gives the device back. Where a thread
-/// can't be started, those begun are ended, `body` isn't called, and the answer is `NoMemory`. Serve a core by one call at
-/// a time: a call that ends ends the workers of every other.
+/// Runs a writer, a reclaimer and so many fillers, but at least one, beside `body`, and ends them after it. Each makes its
+/// operations by a handle of the device that is free: with a handle for each worker, none waits for another's. Where a
+/// thread can't be started, those begun are ended, `body` isn't called, and the answer is `NoMemory`. Serve a core by one
+/// call at a time: a call that ends ends the workers of every other.
 pub fn serve<
     R: Threads + Wait + Sync,
     N: Notes<Note<A>> + Send,
@@ -24,27 +26,35 @@ pub fn serve<
     G: Gate + Sync,
     T,
     B: FnOnce() -> T + Drop,
->(rt: &R, shared: &Shared<N, A>, device: D, gate: &G, body: B) -> (D, Result<T, Refusal>)
+>(
+    rt: &R,
+    shared: &Shared<N, A>,
+    port: &Port<D, A>,
+    fillers: u32,
+    gate: &G,
+    body: B,
+) -> Result<T, Refusal>
     requires { B.pre body }
-    ensures ok { IfOk result.1 (λ t. B.post body t) }
-    ensures err { IfErr result.1 (λ refusal. refusal ≡ Refusal.NoMemory) }
+    ensures ok { IfOk result (λ t. B.post body t) }
+    ensures err { IfErr result (λ refusal. refusal ≡ Refusal.NoMemory) }
 {
-    let port = Port::new(device);
-    shared.begin(rt);
+    let fillers = fillers.max(1);
+    let turn = shared.begin(rt, fillers.saturating_add(2));
     let post = Post {
         shared,
-        port: &port,
+        port,
         gate,
+        turn,
     };
-    let answer = run(rt, post, body);
-    (port.into_inner(), answer)
+    run(rt, post, fillers, body)
 }
 
-/// Where workers stand: what they share.
+/// Where workers stand: what they share, and how each begins.
 struct Post<'x, N: Listener, A: Allocator, D: Device<A>, G> {
     shared: &'x Shared<N, A>,
     port: &'x Port<D, A>,
     gate: &'x G,
+    turn: Turn,
 }
 
 impl<'x, N: Listener, A: Allocator, D: Device<A>, G> Clone for Post<'x, N, A, D, G> {
@@ -64,7 +74,7 @@ fn run<
     G: Gate + Sync,
     T,
     B: FnOnce() -> T + Drop,
->(rt: &'x R, post: Post<'x, N, A, D, G>, body: B) -> Result<T, Refusal>
+>(rt: &'x R, post: Post<'x, N, A, D, G>, fillers: u32, body: B) -> Result<T, Refusal>
     requires { B.pre body }
     ensures ok { IfOk result (λ t. B.post body t) }
     ensures err { IfErr result (λ refusal. refusal ≡ Refusal.NoMemory) }
@@ -78,9 +88,14 @@ fn run<
             ensures err { IfErr result (λ refusal. refusal ≡ Refusal.NoMemory) }
         {
             let writer = scope.spawn(move || post.work(rt, Worker::Writer));
-            let filler = scope.spawn(move || post.work(rt, Worker::Filler));
             let reclaimer = scope.spawn(move || post.work(rt, Worker::Reclaimer));
-            if writer.is_err() || filler.is_err() || reclaimer.is_err() {
+            let mut are_begun = writer.is_ok() && reclaimer.is_ok();
+            for _ in 0..fillers {
+                if are_begun {
+                    are_begun = scope.spawn(move || post.work(rt, Worker::Filler)).is_ok();
+                }
+            }
+            if !are_begun {
                 post.shared.go_to(rt, Stage::Ending);
                 return Err(Refusal::NoMemory);
             }
@@ -101,21 +116,22 @@ impl<'x, N: Notes<Note<A>>, A: Allocator + Clone + Copy, D: Device<A>, G: Gate> 
 > {
     /// A worker's rounds, a take each. The core's lock isn't held at a gate or during a device operation.
     fn work<R: Wait>(self, rt: &R, worker: Worker) {
+        let mut turn = self.turn;
         for _ in rt.forever() {
-            if !self.shared.goes_on(rt, worker) {
+            if !self.shared.goes_on(rt, &mut turn) {
                 return;
             }
             self.gate.pass(Point::BeforeTake(worker));
-            let taken = self.shared.take(rt, worker);
+            let taken = self.shared.take(rt, worker, &mut turn);
             self.gate.pass(Point::AfterTake(worker));
             if let Some((job, order)) = taken {
-                self.do_job(rt, worker, job, order);
+                self.do_job(rt, worker, &mut turn, job, order);
             }
         }
     }
 
     /// Does the operations of the job, one after the other, until it is over, or the workers are to end and memory lacks.
-    fn do_job<R: Wait>(self, rt: &R, worker: Worker, job: u64, first: Order<A>) {
+    fn do_job<R: Wait>(self, rt: &R, worker: Worker, turn: &mut Turn, job: u64, first: Order<A>) {
         let mut next = Some(first);
         for _ in rt.forever() {
             let Some(order) = next else {
@@ -123,10 +139,10 @@ impl<'x, N: Notes<Note<A>>, A: Allocator + Clone + Copy, D: Device<A>, G: Gate> 
             };
             let page = order.page();
             self.gate.pass(Point::BeforeIo(worker, page));
-            let came = self.perform(rt, worker, &order);
+            let came = self.perform(rt, turn, &order);
             self.gate.pass(Point::AfterIo(worker, page));
             next = match came {
-                Some(came) => self.hand_in(rt, worker, job, came),
+                Some(came) => self.hand_in(rt, turn, job, came),
                 None => None,
             };
         }
@@ -134,13 +150,13 @@ impl<'x, N: Notes<Note<A>>, A: Allocator + Clone + Copy, D: Device<A>, G: Gate> 
 
     /// Makes the operation; where memory lacks, once more when the worker is called. `None` where the workers are to end
     /// before that.
-    fn perform<R: Wait>(self, rt: &R, worker: Worker, order: &Order<A>) -> Option<IoResult<A>> {
+    fn perform<R: Wait>(self, rt: &R, turn: &mut Turn, order: &Order<A>) -> Option<IoResult<A>> {
         for _ in rt.forever() {
             if let Ok(came) = self.port.perform(rt, order) {
                 return Some(came);
             }
-            self.shared.lacks(rt, worker);
-            if !self.shared.tries_again(rt, worker) {
+            self.shared.lacks(rt, turn);
+            if !self.shared.tries_again(rt, turn) {
                 return None;
             }
         }
@@ -152,17 +168,17 @@ impl<'x, N: Notes<Note<A>>, A: Allocator + Clone + Copy, D: Device<A>, G: Gate> 
     fn hand_in<R: Wait>(
         self,
         rt: &R,
-        worker: Worker,
+        turn: &mut Turn,
         job: u64,
         came: IoResult<A>,
     ) -> Option<Order<A>> {
         let mut came = came;
         for _ in rt.forever() {
-            match self.shared.finish(rt, worker, job, came) {
+            match self.shared.finish(rt, turn, job, came) {
                 Ok(next) => return next,
                 Err(back) => came = back,
             }
-            if !self.shared.tries_again(rt, worker) {
+            if !self.shared.tries_again(rt, turn) {
                 return None;
             }
         }

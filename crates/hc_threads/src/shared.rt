@@ -4,10 +4,11 @@ ghost use Rattle.hc_memory.specs.Seen.{filled};
 ghost use Rattle.hc_threads.specs.Asked.{IsAsked, RefusesAllocation, RefusesInsert};
 
 use crate::crew::Crew;
+use crate::left::Left;
 use hc_core::Core;
-use hc_history::{Listener, Note, Notes, Reply};
-use hc_memory::{Blank, Fill, ReadHandle, Sealed, Uncharged};
-use hc_state::{Found, Removed, Unlinked};
+use hc_history::{Listener, Note, Notes};
+use hc_memory::{Blank, Fill, Sealed, Uncharged};
+use hc_state::{Removed, Unlinked};
 use hc_types::{Config, Key, Refusal};
 use std::alloc::{Allocator, Global};
 use std::marker::Model;
@@ -28,22 +29,8 @@ pub(crate) struct Guarded<N: Listener, A: Allocator> {
     pub(crate) core: Core<N, A>,
     pub(crate) stage: Stage,
     pub(crate) crew: Crew,
+    pub(crate) left: Left,
     pub(crate) clients: u8,
-}
-
-/// Why a find isn't answered: memory lacked.
-#[derive(Clone, Copy, Debug, PartialEq, Eq)]
-pub(crate) enum Unfound {
-    /// It was refused.
-    Refused,
-    /// It waited, and stays open, as the call of this number.
-    Open(u64),
-}
-
-impl From<Unfound> for Refusal {
-    fn from(_unfound: Unfound) -> Refusal {
-        Refusal::NoMemory
-    }
 }
 
 /// A core that clients and workers share: each call of the core is one hold of the one lock. Contracts see the
@@ -80,6 +67,7 @@ impl<N: Listener, A: Allocator + Clone + Copy> Shared<N, A> {
                 core,
                 stage: Stage::Beginning,
                 crew: Crew::new(),
+                left: Left::new(),
                 clients: 0,
             }),
             work: Condvar::new(),
@@ -118,6 +106,7 @@ impl<N: Listener, A: Allocator> Shared<N, A> {
             core,
             stage: _,
             crew: _,
+            left: _,
             clients: _,
         } = guarded.into_inner();
         (core, config)
@@ -226,36 +215,5 @@ impl<N: Notes<Note<A>>, A: Allocator + Clone + Copy> Shared<N, A> {
         let call = held.core.calls();
         self.wake(&mut held);
         Ok((call, removed))
-    }
-
-    /// Answers the number of the call, and the value. A find that waits lets the lock go until its reply is there. It gives
-    /// up where the workers are stuck, and where memory lacks for the reply.
-    pub(crate) fn find<R: Wait>(
-        &self,
-        rt: &R,
-        client: u8,
-        key: &Key<A>,
-    ) -> Result<(u64, Option<ReadHandle<A>>), Unfound> {
-        let mut held = self.guarded.lock(rt);
-        let call = match held.core.find(client, key) {
-            Ok(Found::Hit(value)) => return Ok((held.core.calls(), Some(value))),
-            Ok(Found::Miss) => return Ok((held.core.calls(), None)),
-            Ok(Found::Waiting(call)) => call,
-            Err(_) => return Err(Unfound::Refused),
-        };
-        self.call(&mut held);
-        for _ in rt.forever() {
-            match held.core.take_reply(call) {
-                Ok(Reply::Hit(value)) => return Ok((call, Some(ReadHandle::new(value)))),
-                Ok(_) => return Ok((call, None)),
-                Err(Refusal::NotReady) if !held.crew.is_stuck() => {
-                    held = self.replies.wait(rt, held);
-                }
-                // The call's reply is owed until it is taken, which is done here alone: so this isn't `UnknownCall`. The
-                // workers are stuck, or memory lacks.
-                Err(_) => return Err(Unfound::Open(call)),
-            }
-        }
-        unreachable!()
     }
 }

@@ -1,21 +1,21 @@
 // The core under one lock, as workers call it.
 
+use crate::crew::Turn;
 use crate::gate::Worker;
 use crate::shared::{Guarded, Shared, Stage};
-use hc_core::Core;
 use hc_flash::{IoResult, Order};
 use hc_history::{Listener, Note, Notes};
 use hc_nvm::{Take, Unfinished};
 use hc_types::Refusal;
-use std::alloc::Allocator;
+use std::alloc::{AllocError, Allocator};
 use std::sync::Wait;
 
 impl<N: Listener, A: Allocator> Shared<N, A> {
-    /// Has three workers begin, which take no work yet.
-    pub(crate) fn begin<R: Wait>(&self, rt: &R) {
+    /// Has so many workers begin, which take no work yet, each with this turn.
+    pub(crate) fn begin<R: Wait>(&self, rt: &R, workers: u32) -> Turn {
         let mut held = self.guarded.lock(rt);
         held.stage = Stage::Beginning;
-        held.crew.begin();
+        held.crew.begin(workers)
     }
 
     /// Tells the workers to work or to end.
@@ -25,16 +25,16 @@ impl<N: Listener, A: Allocator> Shared<N, A> {
     }
 
     /// Waits until the worker is to work, and was called. Answers whether it goes on then: not where the workers are to end.
-    pub(crate) fn goes_on<R: Wait>(&self, rt: &R, worker: Worker) -> bool {
+    pub(crate) fn goes_on<R: Wait>(&self, rt: &R, turn: &mut Turn) -> bool {
         let mut held = self.guarded.lock(rt);
         for _ in rt.forever() {
             if held.stage == Stage::Ending {
-                held.crew.leave(worker);
+                held.crew.leave(*turn);
                 self.tell_stuck(&held);
                 return false;
             }
-            if held.stage == Stage::Working && held.crew.is_called(worker) {
-                held.crew.work(worker);
+            if held.stage == Stage::Working && held.crew.is_called(*turn) {
+                held.crew.work(turn);
                 return true;
             }
             held = self.work.wait(rt, held);
@@ -43,8 +43,8 @@ impl<N: Listener, A: Allocator> Shared<N, A> {
     }
 
     /// The same of a worker with a job that memory lacked for. The job is lost where the workers are to end.
-    pub(crate) fn tries_again<R: Wait>(&self, rt: &R, worker: Worker) -> bool {
-        let goes_on = self.goes_on(rt, worker);
+    pub(crate) fn tries_again<R: Wait>(&self, rt: &R, turn: &mut Turn) -> bool {
+        let goes_on = self.goes_on(rt, turn);
         if !goes_on {
             let mut held = self.guarded.lock(rt);
             held.crew.lose();
@@ -55,16 +55,16 @@ impl<N: Listener, A: Allocator> Shared<N, A> {
 
     /// Memory lacked for the operation of the worker's job. Where something has changed since that began, it isn't said: the
     /// worker tries again at once.
-    pub(crate) fn lacks<R: Wait>(&self, rt: &R, worker: Worker) {
+    pub(crate) fn lacks<R: Wait>(&self, rt: &R, turn: &mut Turn) {
         let mut held = self.guarded.lock(rt);
-        if !held.crew.is_called(worker) {
-            self.starve(&mut held, worker);
+        if !held.crew.is_called(*turn) {
+            self.starve(&mut held, turn);
         }
     }
 
     /// Memory lacked for what the worker is at.
-    fn starve(&self, held: &mut Guarded<N, A>, worker: Worker) {
-        held.crew.starve(worker);
+    fn starve(&self, held: &mut Guarded<N, A>, turn: &mut Turn) {
+        held.crew.starve(turn);
         self.work.notify_all();
         self.tell_stuck(held);
     }
@@ -79,16 +79,21 @@ impl<N: Listener, A: Allocator> Shared<N, A> {
 
 impl<N: Notes<Note<A>>, A: Allocator + Clone + Copy> Shared<N, A> {
     /// What the worker takes: a job, with its operation, if there is one for it and memory doesn't lack. It doesn't wait.
-    pub(crate) fn take<R: Wait>(&self, rt: &R, worker: Worker) -> Option<(u64, Order<A>)> {
+    pub(crate) fn take<R: Wait>(
+        &self,
+        rt: &R,
+        worker: Worker,
+        turn: &mut Turn,
+    ) -> Option<(u64, Order<A>)> {
         let mut held = self.guarded.lock(rt);
-        match take_as(&mut held.core, worker) {
+        match take_as(&mut held, worker) {
             Ok(Take::Work(job, order)) => return Some((job, order)),
             Ok(Take::Finished) => self.wake(&mut held),
             Ok(Take::Idle) => {
-                held.crew.rest(worker);
+                held.crew.rest(turn);
                 self.tell_stuck(&held);
             }
-            Err(_) => self.starve(&mut held, worker),
+            Err(_) => self.starve(&mut held, turn),
         }
         None
     }
@@ -98,12 +103,12 @@ impl<N: Notes<Note<A>>, A: Allocator + Clone + Copy> Shared<N, A> {
     pub(crate) fn finish<R: Wait>(
         &self,
         rt: &R,
-        worker: Worker,
+        turn: &mut Turn,
         job: u64,
         came: IoResult<A>,
     ) -> Result<Option<Order<A>>, IoResult<A>> {
         let mut held = self.guarded.lock(rt);
-        match finish_as_told(&mut held.core, job, came) {
+        match held.core.finish(job, came) {
             Ok(take) => {
                 self.wake(&mut held);
                 Ok(order_of(take))
@@ -114,7 +119,7 @@ impl<N: Notes<Note<A>>, A: Allocator + Clone + Copy> Shared<N, A> {
                     came,
                 },
             ) => {
-                self.starve(&mut held, worker);
+                self.starve(&mut held, turn);
                 Err(came)
             }
             // (the job isn't known, which doesn't happen: the worker looks for another)
@@ -126,23 +131,6 @@ impl<N: Notes<Note<A>>, A: Allocator + Clone + Copy> Shared<N, A> {
     }
 }
 
-/// Hands the result in. One that isn't of the operation, as a page of another length, is handed in as a failure.
-fn finish_as_told<N: Notes<Note<A>>, A: Allocator + Clone + Copy>(
-    core: &mut Core<N, A>,
-    job: u64,
-    came: IoResult<A>,
-) -> Result<Take<A>, Unfinished<A>> {
-    match core.finish(job, came) {
-        Err(
-            Unfinished {
-                refusal: Refusal::UnknownJob,
-                came: _,
-            },
-        ) => core.finish(job, IoResult::Failed),
-        finished => finished,
-    }
-}
-
 /// The operation that a job waits for next.
 fn order_of<A: Allocator>(take: Take<A>) -> Option<Order<A>> {
     match take {
@@ -151,16 +139,40 @@ fn order_of<A: Allocator>(take: Take<A>) -> Option<Order<A>> {
     }
 }
 
+/// What the worker takes. A filler takes first what clients left.
 fn take_as<N: Notes<Note<A>>, A: Allocator + Clone + Copy>(
-    core: &mut Core<N, A>,
+    held: &mut Guarded<N, A>,
     worker: Worker,
 ) -> Result<Take<A>, Refusal> {
     match worker {
-        Worker::Writer => core.writer_take(),
-        Worker::Filler => core.filler_take(),
-        Worker::Reclaimer => match core.reclaim()? {
+        Worker::Writer => held.core.writer_take(),
+        Worker::Filler => match held.left.first() {
+            Some(job) => take_left(held, job),
+            None => held.core.filler_take(),
+        },
+        Worker::Reclaimer => match held.core.reclaim()? {
             Some(_) => Ok(Take::Finished),
             None => Ok(Take::Idle),
         },
+    }
+}
+
+/// A filler takes a job that was left, with the operation for which it waits, which is made anew.
+fn take_left<N: Notes<Note<A>>, A: Allocator + Clone + Copy>(
+    held: &mut Guarded<N, A>,
+    job: u64,
+) -> Result<Take<A>, Refusal> {
+    let take = match held.core.order(job) {
+        Some(order) => Take::Work(job, again(order)?),
+        None => Take::Finished,
+    };
+    held.left.take(job);
+    Ok(take)
+}
+
+fn again<A: Allocator>(order: &Order<A>) -> Result<Order<A>, AllocError> {
+    match order {
+        Order::Read(page) => Ok(Order::Read(*page)),
+        Order::Write(page, bytes) => Ok(Order::Write(*page, bytes.clone()?)),
     }
 }

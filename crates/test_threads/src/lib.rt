@@ -6,6 +6,8 @@ mod calls;
 #[cfg(test)]
 mod clock;
 #[cfg(test)]
+mod larder;
+#[cfg(test)]
 mod refusals;
 #[cfg(test)]
 mod replays;
@@ -17,6 +19,8 @@ mod said;
 mod scripts;
 #[cfg(test)]
 mod stage;
+#[cfg(test)]
+mod starving;
 #[cfg(test)]
 mod takes;
 #[cfg(test)]

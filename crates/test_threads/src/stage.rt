@@ -4,8 +4,7 @@ use crate::scripts::{Script, play};
 use crate::watch::{Watch, Watched};
 use hc_core::{Config, Core, FlashConfig, Kept, PoolSize};
 use hc_flash::{FailAt, MemFlash};
-use hc_paged::Device;
-use hc_threads::{Client, Shared, serve};
+use hc_threads::{Client, Port, Shared, serve};
 use std::alloc::Global;
 use std::process::Abort;
 use std::sync::Wait;
@@ -110,12 +109,12 @@ fn serve_all<R: Abort + Threads + Wait + Sync>(
     clients: &mut [Client],
     fails: u64,
 ) -> u64 {
-    let device = device(rt, scene, fails);
-    let (device, answer) = serve(rt, scene.shared, device, scene.watch, || {
+    let port = Port::new(scene.alloc, device(rt, scene, fails));
+    let answer = serve(rt, scene.shared, &port, 1, scene.watch, || {
         thread::for_each_mut(rt, clients, 64, &|_, client| play(rt, scene, client));
     });
     assert!(rt; answer.is_ok());
-    device.failures()
+    port.failures(rt)
 }
 
 /// Runs the script from a new cache on.

@@ -5,7 +5,7 @@ use crate::scripts::Script;
 use crate::stage::{Scene, shared};
 use crate::watch::{Watch, add, comes};
 use hc_flash::MemFlash;
-use hc_threads::{Client, Gate, Point, Worker, serve};
+use hc_threads::{Client, Gate, Point, Port, Worker, serve};
 use std::process::Abort;
 use std::sync::Wait;
 use std::sync::atomic::{AtomicU64, Ordering};
@@ -88,10 +88,12 @@ fn a_worker_is_held_between_two_takes(rt: HostRuntime) {
     };
     let gate = Turnstile::new();
     let device = MemFlash::new(alloc, 4, 512).expect(&rt, "there is memory");
-    let (_device, answer) = serve(
+    let port = Port::new(alloc, device);
+    let answer = serve(
         &rt,
         &shared,
-        device,
+        &port,
+        1,
         &gate,
         || take_by_take(&rt, &scene, &mut client, &gate),
     );

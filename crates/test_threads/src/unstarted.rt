@@ -5,7 +5,7 @@ use crate::stage::shared;
 use crate::watch::{Watch, add};
 use hc_core::{Kept, Refusal};
 use hc_flash::MemFlash;
-use hc_threads::{Shared, serve};
+use hc_threads::{Port, Shared, serve};
 use std::alloc::{AllocError, Global};
 use std::process::Abort;
 use std::sync::Wait;
@@ -55,7 +55,8 @@ fn is_served<R: Abort + Threads + Wait + Sync>(
     let hole = chunk(alloc, left).expect(rt, "there is room");
     let taken = take_all(alloc).expect(rt, "there is memory");
     drop(hole);
-    let (_device, answer) = serve(rt, shared, device, watch, || add(&watch.operations));
+    let port = Port::new(alloc, device);
+    let answer = serve(rt, shared, &port, 1, watch, || add(&watch.operations));
     drop(taken);
     match answer {
         Ok(()) => true,

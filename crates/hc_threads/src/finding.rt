@@ -1,0 +1,181 @@
+// Finds, which wait where a value may be on flash.
+
+use crate::crew::Turn;
+use crate::port::Port;
+use crate::shared::{Guarded, Shared};
+use hc_flash::Order;
+use hc_history::{Note, Notes, Reply};
+use hc_memory::ReadHandle;
+use hc_nvm::Take;
+use hc_paged::Device;
+use hc_state::Found;
+use hc_types::{Key, Refusal};
+use std::alloc::Allocator;
+use std::sync::{MutexGuard, Wait};
+
+/// The number of a find that was answered, and the value.
+pub(crate) type Answer<A> = (u64, Option<ReadHandle<A>>);
+
+/// Why a find isn't answered: memory lacked.
+#[derive(Clone, Copy, Debug, PartialEq, Eq)]
+pub(crate) enum Unfound {
+    /// It was refused.
+    Refused,
+    /// It waited, and stays open, as the call of this number.
+    Open(u64),
+}
+
+impl From<Unfound> for Refusal {
+    fn from(_unfound: Unfound) -> Refusal {
+        Refusal::NoMemory
+    }
+}
+
+/// What a find came to at once.
+enum Asked<A: Allocator> {
+    Answered(Answer<A>),
+    /// It waits, as the call of this number.
+    Waits(u64),
+}
+
+impl<N: Notes<Note<A>>, A: Allocator + Clone + Copy> Shared<N, A> {
+    /// Answers the number of the call, and the value. A find that waits lets the lock go until its reply is there. It gives
+    /// up where the workers are stuck, and where memory lacks for the reply.
+    pub(crate) fn find<R: Wait>(
+        &self,
+        rt: &R,
+        client: u8,
+        key: &Key<A>,
+    ) -> Result<Answer<A>, Unfound> {
+        let mut held = self.guarded.lock(rt);
+        let call = match ask(&mut held, client, key)? {
+            Asked::Answered(answer) => return Ok(answer),
+            Asked::Waits(call) => call,
+        };
+        self.call(&mut held);
+        for _ in rt.forever() {
+            if let Some(answer) = reply_to(&mut held, call)? {
+                return Ok(answer);
+            }
+            if held.crew.is_stuck() {
+                return Err(Unfound::Open(call));
+            }
+            held = self.replies.wait(rt, held);
+        }
+        unreachable!()
+    }
+
+    /// The same, but a find that waits does what a filler would do, as long as there is something. It waits where all that
+    /// there is to fill is under way elsewhere.
+    pub(crate) fn find_filling<R: Wait, D: Device<A>>(
+        &self,
+        rt: &R,
+        port: &Port<D, A>,
+        client: u8,
+        key: &Key<A>,
+    ) -> Result<Answer<A>, Unfound> {
+        let mut held = self.guarded.lock(rt);
+        let call = match ask(&mut held, client, key)? {
+            Asked::Answered(answer) => return Ok(answer),
+            Asked::Waits(call) => call,
+        };
+        for _ in rt.forever() {
+            if let Some(answer) = reply_to(&mut held, call)? {
+                return Ok(answer);
+            }
+            match self.take_fill(&mut held, client) {
+                Ok(Take::Work(job, order)) => {
+                    let turn = held.crew.join();
+                    drop(held);
+                    held = self.fill(rt, port, client, turn, job, order);
+                }
+                Ok(Take::Finished) => self.wake(&mut held),
+                Ok(Take::Idle) if held.crew.is_stuck() => return Err(Unfound::Open(call)),
+                Ok(Take::Idle) => held = self.replies.wait(rt, held),
+                // Memory lacks: the fillers try it, and say so where it lacks for them.
+                Err(_) => {
+                    self.call(&mut held);
+                    held = self.replies.wait(rt, held);
+                }
+            }
+        }
+        unreachable!()
+    }
+
+    /// What a client takes of the fillers' work: nothing while a job that it left isn't taken yet.
+    fn take_fill(&self, held: &mut Guarded<N, A>, client: u8) -> Result<Take<A>, Refusal> {
+        if held.left.has(client) {
+            return Ok(Take::Idle);
+        }
+        held.core.filler_take()
+    }
+
+    /// Does the operations of the job, one after the other, until it is over. Where memory lacks, the job is left to the
+    /// fillers. The lock is held again behind it.
+    fn fill<'x, R: Wait, D: Device<A>>(
+        &'x self,
+        rt: &R,
+        port: &Port<D, A>,
+        client: u8,
+        turn: Turn,
+        job: u64,
+        first: Order<A>,
+    ) -> MutexGuard<'x, Guarded<N, A>> {
+        let mut order = first;
+        for _ in rt.forever() {
+            let came = port.perform(rt, &order);
+            let mut held = self.guarded.lock(rt);
+            let finished = match came {
+                Ok(came) => held
+                    .core
+                    .finish(job, came)
+                    .map_err(|unfinished| unfinished.refusal),
+                Err(_) => Err(Refusal::NoMemory),
+            };
+            match finished {
+                Ok(Take::Work(_, next)) => {
+                    self.wake(&mut held);
+                    drop(held);
+                    order = next;
+                }
+                ended => {
+                    if ended.is_err() {
+                        held.left.leave(client, job);
+                    }
+                    held.crew.leave(turn);
+                    self.wake(&mut held);
+                    return held;
+                }
+            }
+        }
+        unreachable!()
+    }
+}
+
+/// Asks for the value under the key.
+fn ask<N: Notes<Note<A>>, A: Allocator + Clone + Copy>(
+    held: &mut Guarded<N, A>,
+    client: u8,
+    key: &Key<A>,
+) -> Result<Asked<A>, Unfound> {
+    match held.core.find(client, key) {
+        Ok(Found::Hit(value)) => Ok(Asked::Answered((held.core.calls(), Some(value)))),
+        Ok(Found::Miss) => Ok(Asked::Answered((held.core.calls(), None))),
+        Ok(Found::Waiting(call)) => Ok(Asked::Waits(call)),
+        Err(_) => Err(Unfound::Refused),
+    }
+}
+
+/// What the find that waits is answered, once it is.
+fn reply_to<N: Notes<Note<A>>, A: Allocator + Clone + Copy>(
+    held: &mut Guarded<N, A>,
+    call: u64,
+) -> Result<Option<Answer<A>>, Unfound> {
+    match held.core.take_reply(call) {
+        Ok(Reply::Hit(value)) => Ok(Some((call, Some(ReadHandle::new(value))))),
+        Ok(_) => Ok(Some((call, None))),
+        Err(Refusal::NotReady) => Ok(None),
+        // The call's reply is owed until it is taken, which is done here alone: so this isn't `UnknownCall`. Memory lacks.
+        Err(_) => Err(Unfound::Open(call)),
+    }
+}
