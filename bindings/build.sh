@@ -36,7 +36,7 @@ echo "built twice: the same bytes"
 rm "$out/first.a"
 # the calls of the C library's heap, which come with the toolchain, go into the same archive
 (cd "$out/objects" && ar x "$crate/out/libhc_c.a" && ar x "$kit/c/liblibc_c.a" && ar rcsD "$out/lib/libkilambosetry.a" ./*)
-cp "$here/c/kilambosetry.h" "$out/include/"
+cp "$here"/c/*.h "$out/include/"
 sed "s|@prefix@|${PREFIX:-$out}|" "$here/c/kilambosetry.pc.in" >"$out/lib/pkgconfig/kilambosetry.pc"
 
 echo "== C"

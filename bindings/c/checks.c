@@ -1,5 +1,5 @@
 /* Checks of the cache from C: what the calls answer, and that nothing is lost. It exits with 1 where a check fails. */
-#include "kilambosetry.h"
+#include "kilambosetry_forget.h"
 
 #include <stdio.h>
 #include <string.h>
@@ -284,6 +284,35 @@ static void check_adds_and_faults(void) {
     kilambosetry_free(&cache);
 }
 
+/* Calls that wait are given up: a reply that is there is dropped at once, and one that comes later as it comes. */
+static void check_forgetting(void) {
+    kilambosetry_cache cache = KILAMBOSETRY_NONE;
+    kilambosetry_value value = KILAMBOSETRY_NONE;
+    kilambosetry_forgotten forgotten = KILAMBOSETRY_NONE_FORGOTTEN;
+    uint64_t first = 0, call = 0;
+    CHECK(kilambosetry_new_with_flash(&cache, one_item, 1, &flash) == KILAMBOSETRY_DONE);
+    CHECK(kilambosetry_set(&cache, 0, BYTES("a"), BYTES("one"), 0) == KILAMBOSETRY_DONE);
+    CHECK(kilambosetry_set(&cache, 0, BYTES("b"), BYTES("two"), 0) == KILAMBOSETRY_DONE);
+    work(&cache);
+    CHECK(kilambosetry_read(&cache, BYTES("a"), &value) == KILAMBOSETRY_WAITS);
+    CHECK(kilambosetry_calls(&cache, &first) == KILAMBOSETRY_DONE);
+    CHECK(kilambosetry_read(&cache, BYTES("a"), &value) == KILAMBOSETRY_WAITS);
+    CHECK(kilambosetry_calls(&cache, &call) == KILAMBOSETRY_DONE && call == first + 1);
+    CHECK(kilambosetry_forget(&cache, &forgotten, first) == KILAMBOSETRY_DONE && forgotten.len == 1);
+    kilambosetry_drop_replies(&cache, &forgotten);
+    CHECK(forgotten.len == 1); /* it still waits */
+    work(&cache);
+    kilambosetry_drop_replies(&cache, &forgotten);
+    CHECK(forgotten.len == 0);
+    CHECK(kilambosetry_take_reply(&cache, first, &value) == KILAMBOSETRY_UNKNOWN_CALL);
+    CHECK(kilambosetry_forget(&cache, &forgotten, call) == KILAMBOSETRY_DONE && forgotten.len == 0); /* it was there */
+    CHECK(kilambosetry_take_reply(&cache, call, &value) == KILAMBOSETRY_UNKNOWN_CALL);
+    CHECK(kilambosetry_forget(&cache, &forgotten, call) == KILAMBOSETRY_UNKNOWN_CALL && forgotten.len == 0);
+    kilambosetry_forgotten_free(&forgotten);
+    kilambosetry_free(&cache);
+    kilambosetry_value_free(&value);
+}
+
 /* Items that find the queue full are told apart from those that a device loses. */
 static void check_full_queue(void) {
     kilambosetry_cache cache = KILAMBOSETRY_NONE;
@@ -319,6 +348,7 @@ int main(void) {
     check_new_with_flash();
     check_flash();
     check_adds_and_faults();
+    check_forgetting();
     check_full_queue();
     check_words();
     printf("%d checks, %d failed\n", checks, failures);
