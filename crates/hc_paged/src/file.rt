@@ -6,9 +6,10 @@ use crate::device::Device;
 use bytes::Bytes;
 use hc_flash::FlashError;
 use std::alloc::{Allocator, Global};
-use std::fmt;
+use std::fs::File;
 use std::marker::Model;
 use std::os::unix::fs::FileExt;
+use std::{fmt, io};
 
 /// A device whose pages lie one behind the other in a file or on a block device, which is read and written at their places.
 /// Nothing is promised of the bytes that it answers: others may write to the file, and a disk may lose what was written to
@@ -68,6 +69,18 @@ impl<T: FileExt + Drop, A: Allocator> FileDevice<T, A> {
             failures: _,
         } = self;
         file
+    }
+}
+
+impl<A: Allocator + Clone> FileDevice<File, A> {
+    /// Another handle of the same file, with a count of its own, so that several operations can be under way at once. The
+    /// file stays locked as long as one of its handles is there.
+    pub fn try_clone(&self) -> io::Result<FileDevice<File, A>>
+        ensures { IfOk result (λ device. device ≡ record self.now { failed = 0 }) }
+    {
+        let alloc = self.alloc.clone()?;
+        let file = self.file.try_clone()?;
+        Ok(FileDevice::new(alloc, file, self.pages, self.page_size))
     }
 }
 

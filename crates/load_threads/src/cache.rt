@@ -1,8 +1,13 @@
-// A shared cache with flash behind it, and a device for it.
+// A shared cache with flash behind it.
 use hc_core::{Config, Core, FlashConfig, PoolSize, Refusal, Silent};
-use hc_flash::MemFlash;
 use hc_threads::Shared;
-use std::alloc::{AllocError, Global};
+use std::alloc::Global;
+
+/// The bytes of a page.
+pub(crate) const PAGE: u32 = 512;
+
+/// The pages: 64 buckets, and 16 regions of 8.
+pub(crate) const PAGES: u32 = 192;
 
 // One pool, which has room for 1,000 items.
 const SIZE: PoolSize = PoolSize {
@@ -32,9 +37,4 @@ pub(crate) fn new_cache(alloc: Global) -> Result<Shared<Silent>, Refusal> {
         Ok(shared) => Ok(shared),
         Err(_) => Err(Refusal::NoMemory),
     }
-}
-
-/// A device in memory for its flash.
-pub(crate) fn new_device(alloc: Global) -> Result<MemFlash, AllocError> {
-    MemFlash::new(alloc, 192, 512)
 }

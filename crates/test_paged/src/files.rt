@@ -2,7 +2,7 @@
 
 use crate::pages::{PAGE, PAGES, by_hand, fails, fill, is_page, opened, page};
 use hc_flash::FlashError;
-use hc_paged::{Checked, Device, FileDevice, Folded};
+use hc_paged::{Checked, Device, FileDevice, Folded, OpenError, open};
 use std::fs::File;
 use std::io::{self, ErrorKind};
 use std::os::unix::fs::FileExt;
@@ -100,5 +100,25 @@ fn a_full_disk_fails_and_what_it_tore_isnt_answered(rt: HostRuntime) -> Result<(
     assert!(rt; is_page(&device.read(1), 7));
     assert!(rt; fails(&device.read(2)));
     assert_eq!(rt; device.failures(), 4);
+    Ok(())
+}
+
+// Each handle counts its own failures, and the file stays locked while one is there.
+#[test]
+fn handles_of_one_file_read_what_the_others_wrote(rt: HostRuntime) -> Result<(), Fail> {
+    let mut first = opened(&rt, "handles");
+    let mut second = first.try_clone()?;
+    fill(&rt, &mut first);
+    assert!(rt; is_page(&second.read(2), 3));
+    assert!(rt; second.write(2, page(9).as_slice()) == Ok(()));
+    assert!(rt; is_page(&first.read(2), 9));
+    assert!(rt; fails(&second.read(PAGES)));
+    assert!(rt; first.failures() == 0 && second.failures() == 1);
+    assert!(rt; second.try_clone()?.failures() == 0);
+    drop(first);
+    let again = open(&rt, rt.alloc(), "handles", PAGES, PAGE);
+    assert!(rt; matches!(again, Err(OpenError::InUse)));
+    drop(second);
+    assert!(rt; open(&rt, rt.alloc(), "handles", PAGES, PAGE).is_ok());
     Ok(())
 }
