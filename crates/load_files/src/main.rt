@@ -1,0 +1,74 @@
+//! Caches over a file some of whose writes go wrong, and what their logs tell:
+//!
+//!     load_files CACHES EVERY bare|checked PATH
+//!
+//! makes so many caches, one after the other, over a device in the file of this name, with digests (`checked`) or without. Of
+//! so many writes of the device one goes wrong, and is answered as made: in turn it isn't made, it is made to the page
+//! before, or only its first half is. 0 says that none does. 64 clients in threads make 50 calls each on 300 keys, of which
+//! memory has room for 80, beside the workers, and close the cache. What is told is how many of the logs tell no lie; on the
+//! other stream, how often the devices failed. The file is removed in the end.
+//!
+//! The status is 0 where each cache was closed and its records agreed with its log, 1 where one didn't, 2 for any other
+//! command line, and 4 where memory or something else lacked.
+#![tactic(auto)]
+
+mod bad;
+mod cache;
+mod closing;
+mod player;
+
+use crate::closing::{Soak, Sums, soak};
+use std::env::{self, Env};
+use std::fs::{self, File};
+use std::io;
+use std::process::ExitCode;
+use std::rt::Files;
+use std::sync::Wait;
+use std::thread::Threads;
+
+/// What the words of a command line ask for, of which the first is the program's name. None where they are wrong.
+fn soak_in(words: &[String]) -> Option<Soak<'_>> {
+    let [_, caches, every, kind, path] = words else {
+        return None;
+    };
+    let has_digests = match kind.as_str() {
+        "bare" => false,
+        "checked" => true,
+        _ => return None,
+    };
+    Some(Soak {
+        caches: caches.as_str().parse().ok()?,
+        every: every.as_str().parse().ok()?,
+        has_digests,
+        path: path.as_str(),
+    })
+}
+
+fn run<R: Threads + Wait + Sync + Print + Eprint + Env + AllocGlobal + Files<File = File>>(
+    rt: &R,
+) -> io::Result<u8> {
+    let words: Vec<String> = env::args(rt)?.collect(rt.alloc())?;
+    let Some(asked) = soak_in(&words) else {
+        eprintln!(rt; "usage: load_files CACHES EVERY bare|checked PATH")?;
+        return Ok(2);
+    };
+    let sums = soak(rt, rt.alloc(), asked);
+    let _ = fs::remove_file(rt, asked.path);
+    let Ok(
+        Sums {
+            agree,
+            are_true,
+            failures,
+        },
+    ) = sums
+    else {
+        return Ok(4);
+    };
+    println!(rt; "{are_true} of {} logs tell no lie", asked.caches)?;
+    eprintln!(rt; "the devices failed {failures} times")?;
+    Ok(u8::from(agree < asked.caches))
+}
+
+fn main(rt: HostRuntime) -> ExitCode {
+    ExitCode::from(run(&rt).unwrap_or(4))
+}
