@@ -1,5 +1,6 @@
 // The replay.
-ghost use Rattle.std.specs.Prelude.{◌≤◌, ◌<◌};
+ghost use Rattle.std.specs.Prelude.{◌≡◌, ◌≤◌, ◌<◌, []};
+ghost use Rattle.hc_history.specs.Told.{IfLog};
 
 use crate::answers::{in_order, write_answers};
 use crate::closing::{verdict, write_text};
@@ -108,7 +109,8 @@ fn play<T: Threads + Wait + Sync, W: Write>(
     plan: &Plan<'_>,
     clients: u8,
 ) -> io::Result<u8>
-    requires { 0 < clients }
+    requires some { 0 < clients }
+    requires log { IfLog core.log (λ log. log ≡ []) }
 {
     let Ok(shared) = Shared::new(core) else {
         return Err(io::Error::from(AllocError));
@@ -182,7 +184,7 @@ fn run_all<T: Threads + Wait + Sync>(
         { run_clients(rt, alloc, shared, sessions, clients) },
     );
     match answer {
-        Ok(()) => Ok(port.failures(rt)),
+        Ok(()) => Ok(port.failures(rt).saturating_add(shared.lies(rt))),
         Err(_) => Err(AllocError),
     }
 }

@@ -8,7 +8,7 @@ use Rattle.hc_history.specs.Honest.{HonestAfter, IsTrueRead}
 use Rattle.hc_marked.specs.Marked.{IsMarkedRead, MarkedAfter, IsApart, ApartAfter, Marks, Keeps, KeepsAll, CheckedLogsAreMarked, MarkedLogsAreHonest}
 
 -- the digests that are kept are those of the pages that are known
-abbrev Agrees : (List ℕ → ℕ) → Marks → List Note → Type 0
+abbrev pub Agrees : (List ℕ → ℕ) → Marks → List Note → Type 0
 Agrees digest marks older = (page : ℕ) (known : List ℕ) → bytes_at older page ≡ Some known → marks page ≡ Some (digest known)
 
 module _ (digest : List ℕ → ℕ) (old new : Marks) (older : List Note) (agrees : Agrees digest old older) where
@@ -24,14 +24,14 @@ module _ (digest : List ℕ → ℕ) (old new : Marks) (older : List Note) (agre
       go true e is = subst (λ (k : ℕ). new k ≡ Some (digest known)) (eqb-true page at e) (here known is)
       go false e is = others at (λ (same : at ≡ page). let yes : (page == at) ≡ true = grind (arith, same) in cc) ∙ agrees at known is
 
-  after : (note : Note) → Keeps digest old note new → Agrees digest new (note ∷ older)
+  pub after : (note : Note) → Keeps digest old note new → Agrees digest new (note ∷ older)
   after (Read page (Some bytes)) k = same k.1
   after (Read page None) k = same k
   after (Wrote page bytes true) k = wrote page (Some bytes) (λ (known : List ℕ) e. let alike : bytes ≡ known = cc in k.0 ∙ ap (λ (b : List ℕ). Some (digest b)) alike) k.1
   after (Wrote page bytes false) k = wrote page None (λ (known : List ℕ) e. absurd cc) k.1
   after note k = same k
 
-  marked : (note : Note) → Keeps digest old note new → IsMarkedRead digest older note
+  pub marked : (note : Note) → Keeps digest old note new → IsMarkedRead digest older note
   marked (Read page (Some bytes)) k = λ known is. let e : Some (digest bytes) ≡ Some (digest known) = sym k.0 ∙ agrees page known is in cc
   marked note k = tt
 

@@ -14,8 +14,9 @@ mod telling;
 
 pub use checked::Checked;
 pub use device::Device;
-pub use digest::{Digest, Folded};
+pub use digest::{Digest, Folded, Undigested};
 pub use file::FileDevice;
 pub use opening::{OpenError, open};
 pub use operation::operate;
+pub use table::known;
 pub use telling::{Telling, Told};

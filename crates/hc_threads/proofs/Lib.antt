@@ -1,3 +1,4 @@
 pub mod Closing
 pub mod Same
 pub mod Asking
+pub mod Tracking

@@ -1,3 +1,4 @@
 pub mod Seen
 pub mod Asked
+pub mod Reading
 pub mod Settled

@@ -1,5 +1,5 @@
 // A client.
-ghost use Rattle.std.specs.Prelude.{◌≡◌, ◌⊎◌, ◌<◌, ◌≤◌, ℕ, List, [], replicate, IfOk, IfErr, OnOk, OnErr};
+ghost use Rattle.std.specs.Prelude.{◌≡◌, ◌⊎◌, ◌<◌, ◌≤◌, ℕ, List, [], replicate, None, IfOk, IfErr, OnOk, OnErr};
 ghost use Rattle.hc_history.specs.Note.{Insert, Add, Find, Remove, Stored, Hit};
 ghost use Rattle.hc_history.specs.Seen as spec;
 ghost use Rattle.hc_records.specs.Records.{IsRecorded, IsLeftOpen, IsTicked};
@@ -8,12 +8,13 @@ ghost use Rattle.hc_threads.specs.Asked.{IsAsked, RefusesAllocation, RefusesInse
 ghost use Rattle.hc_threads.specs.Seen.{found_as, removed_as, added_as, GivesBack, LeavesAdd};
 
 use crate::adding::{Added, Unadded, Unstored};
-use crate::finding::{Answer, Unfound};
+use crate::finding::Unfound;
 use crate::port::Port;
 use crate::shared::Shared;
+use hc_flash::MemFlash;
 use hc_history::{Listener, Note, Notes, Op, Reply};
 use hc_memory::{Blank, Fill, ReadHandle, Sealed, Uncharged};
-use hc_paged::Device;
+use hc_paged::{Device, Digest};
 use hc_records::{Entry, OpenCall, Record, Recorded};
 use hc_state::{Removed, Unlinked};
 use hc_types::{Key, Refusal};
@@ -44,7 +45,7 @@ impl Recorded for Client {
     }
 }
 
-impl<N: Listener, A: Allocator + Clone + Copy> Shared<N, A> {
+impl<N: Listener, A: Allocator + Clone + Copy, G: Digest + Copy> Shared<N, A, G> {
     /// The next client. Refused with `TooManyClients` after the 64th.
     pub fn client<R: Wait>(&self, rt: &R, alloc: A) -> Result<Client<A>, Refusal>
         ensures ok { IfOk result (λ client. (client.entries ≡ []) × (client.open_calls ≡ []) × (client.ticks ≡ []) × (client.client < 64)) }
@@ -85,10 +86,10 @@ impl<A: Allocator + Clone + Copy> Client<A> {
 
     /// Moves the clock on to the moment, in seconds, as `Core::tick` does, and records that. Answers the moment that holds
     /// then. Refused with `NoMemory`.
-    pub fn tick<R: Wait, N: Notes<Note<A>>>(
+    pub fn tick<R: Wait, N: Notes<Note<A>>, G: Digest + Copy>(
         &mut self,
         rt: &R,
-        shared: &Shared<N, A>,
+        shared: &Shared<N, A, G>,
         moment: u64,
     ) -> Result<u64, Refusal>
         ensures recorded { OnOk result (IsTicked self.old moment self.new) }
@@ -103,10 +104,10 @@ impl<A: Allocator + Clone + Copy> Client<A> {
     }
 
     /// Allocates an item that begins as zeros, as `Core::allocate` does, and is refused as that is.
-    pub fn allocate<R: Wait, N: Notes<Note<A>>>(
+    pub fn allocate<R: Wait, N: Notes<Note<A>>, G: Digest + Copy>(
         &self,
         rt: &R,
-        shared: &Shared<N, A>,
+        shared: &Shared<N, A, G>,
         pool: u8,
         key: Key<A>,
         size: u64,
@@ -120,10 +121,10 @@ impl<A: Allocator + Clone + Copy> Client<A> {
     }
 
     /// Allocates an item that begins as `fill`, as `Core::allocate_with` does.
-    pub fn allocate_with<R: Wait, N: Notes<Note<A>>>(
+    pub fn allocate_with<R: Wait, N: Notes<Note<A>>, G: Digest + Copy>(
         &self,
         rt: &R,
-        shared: &Shared<N, A>,
+        shared: &Shared<N, A, G>,
         pool: u8,
         key: Key<A>,
         fill: Fill<'_>,
@@ -137,10 +138,10 @@ impl<A: Allocator + Clone + Copy> Client<A> {
     }
 
     /// Gives up an item that wasn't inserted, as `Core::discard` does.
-    pub fn discard<R: Wait, N: Notes<Note<A>>>(
+    pub fn discard<R: Wait, N: Notes<Note<A>>, G: Digest + Copy>(
         &self,
         rt: &R,
-        shared: &Shared<N, A>,
+        shared: &Shared<N, A, G>,
         sealed: Sealed<A>,
     ) -> Result<(), Sealed<A>>
         ensures { IfErr result (λ back. back ≡ sealed) }
@@ -149,10 +150,10 @@ impl<A: Allocator + Clone + Copy> Client<A> {
     }
 
     /// Gives up an item that wasn't sealed, as `Core::discard_blank` does.
-    pub fn discard_blank<R: Wait, N: Notes<Note<A>>>(
+    pub fn discard_blank<R: Wait, N: Notes<Note<A>>, G: Digest + Copy>(
         &self,
         rt: &R,
-        shared: &Shared<N, A>,
+        shared: &Shared<N, A, G>,
         blank: Blank<A>,
     ) -> Result<(), Blank<A>>
         ensures { IfErr result (λ back. back ≡ blank) }
@@ -161,10 +162,10 @@ impl<A: Allocator + Clone + Copy> Client<A> {
     }
 
     /// Inserts the item, as `Core::insert_or_replace` does, and records that.
-    pub fn insert_or_replace<R: Wait, N: Notes<Note<A>>>(
+    pub fn insert_or_replace<R: Wait, N: Notes<Note<A>>, G: Digest + Copy>(
         &mut self,
         rt: &R,
-        shared: &Shared<N, A>,
+        shared: &Shared<N, A, G>,
         sealed: Sealed<A>,
     ) -> Result<(), Unlinked<A>>
         ensures recorded { OnOk result (IsRecorded self.old (Insert sealed.key sealed.value sealed.expiry) Stored self.new) }
@@ -185,10 +186,10 @@ impl<A: Allocator + Clone + Copy> Client<A> {
 
     /// Inserts the item where the key has no unexpired value, as `Core::insert` does, waits where one may be on flash, and
     /// records what came. Where it waits and memory lacks, it stays open, and is recorded so.
-    pub fn insert<R: Wait, N: Notes<Note<A>>>(
+    pub fn insert<R: Wait, N: Notes<Note<A>>, G: Digest + Copy>(
         &mut self,
         rt: &R,
-        shared: &Shared<N, A>,
+        shared: &Shared<N, A, G>,
         sealed: Sealed<A>,
     ) -> Result<Added, Unadded<A>>
         ensures recorded { IfOk result (λ added. IsRecorded self.old (Add sealed.key sealed.value sealed.expiry) (added_as added) self.new) }
@@ -220,10 +221,10 @@ impl<A: Allocator + Clone + Copy> Client<A> {
     }
 
     /// Takes what the key has out of the cache, as `Core::remove` does, and records that. Refused with `NoMemory`.
-    pub fn remove<R: Wait, N: Notes<Note<A>>>(
+    pub fn remove<R: Wait, N: Notes<Note<A>>, G: Digest + Copy>(
         &mut self,
         rt: &R,
-        shared: &Shared<N, A>,
+        shared: &Shared<N, A, G>,
         key: &Key<A>,
     ) -> Result<Removed, Refusal>
         ensures recorded { IfOk result (λ removed. IsRecorded self.old (Remove key.now) (removed_as removed) self.new) }
@@ -243,26 +244,26 @@ impl<A: Allocator + Clone + Copy> Client<A> {
     /// Where memory lacks for another owner of the value, the call is answered and recorded all the same. Where it lacks
     /// for the reply of a call that waited, or for a worker while none can get on, the call stays open. Refused with
     /// `NoMemory`.
-    pub fn find<R: Wait, N: Notes<Note<A>>>(
+    pub fn find<R: Wait, N: Notes<Note<A>>, G: Digest + Copy>(
         &mut self,
         rt: &R,
-        shared: &Shared<N, A>,
+        shared: &Shared<N, A, G>,
         key: &Key<A>,
     ) -> Result<Option<ReadHandle<A>>, Refusal>
         ensures recorded { IfOk result (λ found. IsRecorded self.old (Find key.now) (found_as found) self.new) }
         ensures err { OnErr result ((self.new ≡ self.old) ⊎ IsLeftOpen self.old (Find key.now) self.new ⊎ ((value : List ℕ) × IsRecorded self.old (Find key.now) (Hit value) self.new)) }
         ensures memory { IfErr result (λ refusal. refusal ≡ Refusal.NoMemory) }
     {
-        self.find_by(key, |client| shared.find(rt, client, key))
+        self.find_by(rt, shared, no_port(shared), key)
     }
 
     /// Finds the value under the key, as `find` does. But a call that waits makes the reads itself, by a handle of the
     /// device, as long as there are some which no other is making: its own, or those of calls that have waited longer. So
     /// it mostly wakes no worker and is woken by none. A read for which memory lacks is left to the fillers.
-    pub fn find_filling<R: Wait, N: Notes<Note<A>>, D: Device<A>>(
+    pub fn find_filling<R: Wait, N: Notes<Note<A>>, D: Device<A>, G: Digest + Copy>(
         &mut self,
         rt: &R,
-        shared: &Shared<N, A>,
+        shared: &Shared<N, A, G>,
         port: &Port<D, A>,
         key: &Key<A>,
     ) -> Result<Option<ReadHandle<A>>, Refusal>
@@ -270,16 +271,17 @@ impl<A: Allocator + Clone + Copy> Client<A> {
         ensures err { OnErr result ((self.new ≡ self.old) ⊎ IsLeftOpen self.old (Find key.now) self.new ⊎ ((value : List ℕ) × IsRecorded self.old (Find key.now) (Hit value) self.new)) }
         ensures memory { IfErr result (λ refusal. refusal ≡ Refusal.NoMemory) }
     {
-        self.find_by(key, |client| shared.find_filling(rt, port, client, key))
+        self.find_by(rt, shared, Some(port), key)
     }
 
-    /// Finds the value as `find` does it, which is told the client's number, and records what came.
-    fn find_by<F: FnOnce(u8) -> Result<Answer<A>, Unfound> + Drop>(
+    /// Finds the value, makes its reads itself where a port is there, and records what came.
+    fn find_by<R: Wait, N: Notes<Note<A>>, D: Device<A>, G: Digest + Copy>(
         &mut self,
+        rt: &R,
+        shared: &Shared<N, A, G>,
+        port: Option<&Port<D, A>>,
         key: &Key<A>,
-        find: F,
     ) -> Result<Option<ReadHandle<A>>, Refusal>
-        requires { (client : ℕ) → F.pre find client }
         ensures recorded { IfOk result (λ found. IsRecorded self.old (Find key.now) (found_as found) self.new) }
         ensures err { OnErr result ((self.new ≡ self.old) ⊎ IsLeftOpen self.old (Find key.now) self.new ⊎ ((value : List ℕ) × IsRecorded self.old (Find key.now) (Hit value) self.new)) }
         ensures memory { IfErr result (λ refusal. refusal ≡ Refusal.NoMemory) }
@@ -287,7 +289,7 @@ impl<A: Allocator + Clone + Copy> Client<A> {
         let op = Op::Find(key.clone()?);
         self.record.entries.reserve(1)?;
         self.record.open_calls.reserve(1)?;
-        match find(self.record.client) {
+        match shared.find(rt, self.record.client, key, port) {
             Ok((call, None)) => {
                 self.record
                     .entries
@@ -310,6 +312,15 @@ impl<A: Allocator + Clone + Copy> Client<A> {
             }
         }
     }
+}
+
+/// No port, of whatever device.
+fn no_port<'x, N: Listener, A: Allocator + Clone + Copy, G: Digest + Copy>(
+    _shared: &'x Shared<N, A, G>,
+) -> Option<&'x Port<MemFlash<A>, A>>
+    ensures { result ≡ None }
+{
+    None
 }
 
 fn insert_op<A: Allocator + Clone>(sealed: &Sealed<A>) -> Result<Op<A>, AllocError>

@@ -8,6 +8,7 @@ ghost use Rattle.hc_judge_memory.specs.Lies.{IsFirstLie};
 ghost use Rattle.hc_records.specs.Records as records;
 ghost use Rattle.hc_records.specs.Records.{Reconciled};
 ghost use Rattle.hc_core.specs.Logged.{Logged};
+ghost use Rattle.hc_marked.specs.Marked.{Marked};
 ghost use Rattle.hc_threads.specs.Settled.{IsSettled};
 
 use crate::client::Client;
@@ -15,8 +16,10 @@ use crate::shared::Shared;
 use hc_core::Core;
 use hc_history::{Kept, Note, Stats};
 use hc_judge_memory::first_lie_in;
+use hc_paged::Digest;
 use hc_records::{Mismatch, Recorded, failures as failures_of, reconcile};
 use hc_types::Config;
+use std::alloc::Global;
 
 /// What is left in the end: the configuration by which the log is legal, the log, its counts, and the place of the first
 /// lie of the device in it, counted from 0.
@@ -70,11 +73,12 @@ pub fn settle<T: Recorded>(
     })
 }
 
-impl Shared<Kept> {
+impl<G: Digest + Copy> Shared<Kept, Global, G> {
     /// Ends the cache, and judges it as `settle` does: by the configuration that was kept as `Shared` was made, by the
-    /// clients' records, and by how often the device failed, which is by how much its count rose. Where the answer is a
-    /// report without a lie, the log is legal. Contracts can't name the core that lies under the lock; they say that there
-    /// is one of which all holds that `settle` says.
+    /// clients' records, and by how often the device failed, which is by how much its count rose, and how many lies
+    /// (`lies`) were told by the digests. Each page that was read in the log has the digest of the page as it was written
+    /// last, whatever the device answered. Where the answer is a report without a lie, the log is legal. Contracts can't
+    /// name the core that lies under the lock; they say that there is one of which all holds that `settle` says.
     pub fn close(self, clients: Vec<Client>, failures: u64) -> Result<Report, Mismatch>
         ensures config { IfOk result (λ r. r.config ≡ self) }
         ensures stats { IfOk result (λ r. r.stats ≡ counts_of r.log.items) }
@@ -82,9 +86,11 @@ impl Shared<Kept> {
         ensures legal { IfOk result (λ r. r.lie ≡ None → Legal self r.log.items) }
         ensures agrees { IfOk result (λ r. Reconciled r.log.items clients.items) }
         ensures failed { IfOk result (λ r. records.failures r.log.items ≤ failures) }
+        ensures marked { IfOk result (λ r. Marked G.of r.log.items) }
         ensures settled { (core : Logged) × IsSettled core self clients.items failures result }
     {
-        let (core, config) = self.into_parts();
+        let (tracked, config) = self.into_parts();
+        let (core, _lies) = tracked.into_parts();
         settle(core, config, &clients, failures)
     }
 }

@@ -3,18 +3,19 @@
 use crate::crew::Turn;
 use crate::port::Port;
 use crate::shared::{Guarded, Shared};
-use hc_flash::Order;
+use crate::tracked::digest_of;
+use hc_flash::{IoResult, Order};
 use hc_history::{Note, Notes, Reply};
 use hc_memory::ReadHandle;
 use hc_nvm::Take;
-use hc_paged::Device;
+use hc_paged::{Device, Digest};
 use hc_state::Found;
 use hc_types::{Key, Refusal};
 use std::alloc::Allocator;
 use std::sync::{MutexGuard, Wait};
 
 /// The number of a find that was answered, and the value.
-pub(crate) type Answer<A> = (u64, Option<ReadHandle<A>>);
+type Answer<A> = (u64, Option<ReadHandle<A>>);
 
 /// Why a find isn't answered: memory lacked.
 #[derive(Clone, Copy, Debug, PartialEq, Eq)]
@@ -38,72 +39,81 @@ enum Asked<A: Allocator> {
     Waits(u64),
 }
 
-impl<N: Notes<Note<A>>, A: Allocator + Clone + Copy> Shared<N, A> {
+impl<N: Notes<Note<A>>, A: Allocator + Clone + Copy, G: Digest + Copy> Shared<N, A, G> {
     /// Answers the number of the call, and the value. A find that waits lets the lock go until its reply is there. It gives
-    /// up where the workers are stuck, and where memory lacks for the reply.
-    pub(crate) fn find<R: Wait>(
+    /// up where the workers are stuck, and where memory lacks for the reply. Where a port is there, it does what a filler
+    /// would do, as long as there is something; it waits where all that there is to fill is under way elsewhere.
+    pub(crate) fn find<R: Wait, D: Device<A>>(
         &self,
         rt: &R,
         client: u8,
         key: &Key<A>,
+        port: Option<&Port<D, A>>,
     ) -> Result<Answer<A>, Unfound> {
         let mut held = self.guarded.lock(rt);
         let call = match ask(&mut held, client, key)? {
             Asked::Answered(answer) => return Ok(answer),
             Asked::Waits(call) => call,
         };
-        self.call(&mut held);
+        if port.is_none() {
+            self.call(&mut held);
+        }
         for _ in rt.forever() {
             if let Some(answer) = reply_to(&mut held, call)? {
                 return Ok(answer);
             }
-            if held.crew.is_stuck() {
-                return Err(Unfound::Open(call));
-            }
-            held = self.replies.wait(rt, held);
+            held = match port {
+                Some(port) => self.help(rt, port, client, call, held)?,
+                None => self.await_change(rt, call, held)?,
+            };
         }
         unreachable!()
     }
 
-    /// The same, but a find that waits does what a filler would do, as long as there is something. It waits where all that
-    /// there is to fill is under way elsewhere.
-    pub(crate) fn find_filling<R: Wait, D: Device<A>>(
-        &self,
+    /// Waits until something has changed, but where the workers are stuck.
+    fn await_change<'x, R: Wait>(
+        &'x self,
+        rt: &R,
+        call: u64,
+        held: MutexGuard<'x, Guarded<N, A, G>>,
+    ) -> Result<MutexGuard<'x, Guarded<N, A, G>>, Unfound> {
+        if held.crew.is_stuck() {
+            return Err(Unfound::Open(call));
+        }
+        Ok(self.replies.wait(rt, held))
+    }
+
+    /// Does a filler's next job, or waits where there is none.
+    fn help<'x, R: Wait, D: Device<A>>(
+        &'x self,
         rt: &R,
         port: &Port<D, A>,
         client: u8,
-        key: &Key<A>,
-    ) -> Result<Answer<A>, Unfound> {
-        let mut held = self.guarded.lock(rt);
-        let call = match ask(&mut held, client, key)? {
-            Asked::Answered(answer) => return Ok(answer),
-            Asked::Waits(call) => call,
-        };
-        for _ in rt.forever() {
-            if let Some(answer) = reply_to(&mut held, call)? {
-                return Ok(answer);
+        call: u64,
+        held: MutexGuard<'x, Guarded<N, A, G>>,
+    ) -> Result<MutexGuard<'x, Guarded<N, A, G>>, Unfound> {
+        let mut held = held;
+        match self.take_fill(&mut held, client) {
+            Ok(Take::Work(job, order)) => {
+                let turn = held.crew.join();
+                drop(held);
+                Ok(self.fill(rt, port, client, turn, job, order))
             }
-            match self.take_fill(&mut held, client) {
-                Ok(Take::Work(job, order)) => {
-                    let turn = held.crew.join();
-                    drop(held);
-                    held = self.fill(rt, port, client, turn, job, order);
-                }
-                Ok(Take::Finished) => self.wake(&mut held),
-                Ok(Take::Idle) if held.crew.is_stuck() => return Err(Unfound::Open(call)),
-                Ok(Take::Idle) => held = self.replies.wait(rt, held),
-                // Memory lacks: the fillers try it, and say so where it lacks for them.
-                Err(_) => {
-                    self.call(&mut held);
-                    held = self.replies.wait(rt, held);
-                }
+            Ok(Take::Finished) => {
+                self.wake(&mut held);
+                Ok(held)
+            }
+            Ok(Take::Idle) => self.await_change(rt, call, held),
+            // Memory lacks: the fillers try it, and say so where it lacks for them.
+            Err(_) => {
+                self.call(&mut held);
+                Ok(self.replies.wait(rt, held))
             }
         }
-        unreachable!()
     }
 
     /// What a client takes of the fillers' work: nothing while a job that it left isn't taken yet.
-    fn take_fill(&self, held: &mut Guarded<N, A>, client: u8) -> Result<Take<A>, Refusal> {
+    fn take_fill(&self, held: &mut Guarded<N, A, G>, client: u8) -> Result<Take<A>, Refusal> {
         if held.left.has(client) {
             return Ok(Take::Idle);
         }
@@ -120,17 +130,12 @@ impl<N: Notes<Note<A>>, A: Allocator + Clone + Copy> Shared<N, A> {
         turn: Turn,
         job: u64,
         first: Order<A>,
-    ) -> MutexGuard<'x, Guarded<N, A>> {
+    ) -> MutexGuard<'x, Guarded<N, A, G>> {
         let mut order = first;
         for _ in rt.forever() {
-            let came = port.perform(rt, &order);
-            let mut held = self.guarded.lock(rt);
-            let finished = match came {
-                Ok(came) => held
-                    .core
-                    .finish(job, came)
-                    .map_err(|unfinished| unfinished.refusal),
-                Err(_) => Err(Refusal::NoMemory),
+            let (mut held, finished) = match port.perform(rt, &order) {
+                Ok(came) => self.hand_in(rt, job, came),
+                Err(_) => (self.guarded.lock(rt), Err(Refusal::NoMemory)),
             };
             match finished {
                 Ok(Take::Work(_, next)) => {
@@ -152,9 +157,27 @@ impl<N: Notes<Note<A>>, A: Allocator + Clone + Copy> Shared<N, A> {
     }
 }
 
+impl<N: Notes<Note<A>>, A: Allocator + Clone + Copy, G: Digest + Copy> Shared<N, A, G> {
+    /// Hands in what came of the operation of the job. The lock is held behind it.
+    fn hand_in<'x, R: Wait>(
+        &'x self,
+        rt: &R,
+        job: u64,
+        came: IoResult<A>,
+    ) -> (MutexGuard<'x, Guarded<N, A, G>>, Result<Take<A>, Refusal>) {
+        let digest = digest_of(&self.digest, &came);
+        let mut held = self.guarded.lock(rt);
+        let finished = match held.core.finish(job, came, digest) {
+            Ok(take) => Ok(take),
+            Err(unfinished) => Err(unfinished.refusal),
+        };
+        (held, finished)
+    }
+}
+
 /// Asks for the value under the key.
-fn ask<N: Notes<Note<A>>, A: Allocator + Clone + Copy>(
-    held: &mut Guarded<N, A>,
+fn ask<N: Notes<Note<A>>, A: Allocator + Clone + Copy, G: Digest + Copy>(
+    held: &mut Guarded<N, A, G>,
     client: u8,
     key: &Key<A>,
 ) -> Result<Asked<A>, Unfound> {
@@ -167,8 +190,8 @@ fn ask<N: Notes<Note<A>>, A: Allocator + Clone + Copy>(
 }
 
 /// What the find that waits is answered, once it is.
-fn reply_to<N: Notes<Note<A>>, A: Allocator + Clone + Copy>(
-    held: &mut Guarded<N, A>,
+fn reply_to<N: Notes<Note<A>>, A: Allocator + Clone + Copy, G: Digest + Copy>(
+    held: &mut Guarded<N, A, G>,
     call: u64,
 ) -> Result<Option<Answer<A>>, Unfound> {
     match held.core.take_reply(call) {

@@ -11,6 +11,7 @@ mod left;
 mod port;
 mod serving;
 mod shared;
+mod tracked;
 mod workers;
 
 pub use adding::{Added, Unadded};

@@ -1,4 +1,5 @@
 // The workers' end of a device.
+ghost use Rattle.std.specs.Prelude.{◌<◌};
 
 use hc_flash::{IoResult, Order};
 use hc_paged::{Device, operate};
@@ -25,7 +26,9 @@ impl<D: Device<A>, A: Allocator> Port<D, A> {
 
     /// How many handles there are.
     #[must_use]
-    pub fn handles(&self) -> usize {
+    pub fn handles(&self) -> usize
+        ensures { 0 < result }
+    {
         self.others.len().saturating_add(1)
     }
 

@@ -7,7 +7,7 @@ use crate::port::Port;
 use crate::shared::{Shared, Stage};
 use hc_flash::{IoResult, Order};
 use hc_history::{Listener, Note, Notes};
-use hc_paged::Device;
+use hc_paged::{Device, Digest};
 use hc_types::Refusal;
 use std::alloc::{AllocError, Allocator};
 use std::sync::Wait;
@@ -24,11 +24,12 @@ pub fn serve<
     A: Allocator + Clone + Copy + Send + Sync,
     D: Device<A> + Send,
     G: Gate + Sync,
+    H: Digest + Copy + Send + Sync,
     T,
     B: FnOnce() -> T + Drop,
 >(
     rt: &R,
-    shared: &Shared<N, A>,
+    shared: &Shared<N, A, H>,
     port: &Port<D, A>,
     fillers: u32,
     gate: &G,
@@ -50,20 +51,22 @@ pub fn serve<
 }
 
 /// Where workers stand: what they share, and how each begins.
-struct Post<'x, N: Listener, A: Allocator, D: Device<A>, G> {
-    shared: &'x Shared<N, A>,
+struct Post<'x, N: Listener, A: Allocator, D: Device<A>, G, H: Digest + Copy> {
+    shared: &'x Shared<N, A, H>,
     port: &'x Port<D, A>,
     gate: &'x G,
     turn: Turn,
 }
 
-impl<'x, N: Listener, A: Allocator, D: Device<A>, G> Clone for Post<'x, N, A, D, G> {
-    fn clone(&self) -> Result<Post<'x, N, A, D, G>, AllocError> {
+impl<'x, N: Listener, A: Allocator, D: Device<A>, G, H: Digest + Copy> Clone
+    for Post<'x, N, A, D, G, H> {
+    fn clone(&self) -> Result<Post<'x, N, A, D, G, H>, AllocError> {
         Ok(*self)
     }
 }
 
-impl<'x, N: Listener, A: Allocator, D: Device<A>, G> Copy for Post<'x, N, A, D, G> {}
+impl<'x, N: Listener, A: Allocator, D: Device<A>, G, H: Digest + Copy> Copy
+    for Post<'x, N, A, D, G, H> {}
 
 fn run<
     'x,
@@ -72,9 +75,10 @@ fn run<
     A: Allocator + Clone + Copy + Send + Sync,
     D: Device<A> + Send,
     G: Gate + Sync,
+    H: Digest + Copy + Send + Sync,
     T,
     B: FnOnce() -> T + Drop,
->(rt: &'x R, post: Post<'x, N, A, D, G>, fillers: u32, body: B) -> Result<T, Refusal>
+>(rt: &'x R, post: Post<'x, N, A, D, G, H>, fillers: u32, body: B) -> Result<T, Refusal>
     requires { B.pre body }
     ensures ok { IfOk result (λ t. B.post body t) }
     ensures err { IfErr result (λ refusal. refusal ≡ Refusal.NoMemory) }
@@ -107,13 +111,14 @@ fn run<
     )
 }
 
-impl<'x, N: Notes<Note<A>>, A: Allocator + Clone + Copy, D: Device<A>, G: Gate> Post<
+impl<
     'x,
-    N,
-    A,
-    D,
-    G,
-> {
+    N: Notes<Note<A>>,
+    A: Allocator + Clone + Copy,
+    D: Device<A>,
+    G: Gate,
+    H: Digest + Copy,
+> Post<'x, N, A, D, G, H> {
     /// A worker's rounds, a take each. The core's lock isn't held at a gate or during a device operation.
     fn work<R: Wait>(self, rt: &R, worker: Worker) {
         let mut turn = self.turn;

@@ -1,13 +1,16 @@
 // The core under one lock, as clients call it.
-ghost use Rattle.std.specs.Prelude.{◌≡◌, ◌<◌, ◌≤◌, IfOk, IfErr};
+ghost use Rattle.std.specs.Prelude.{◌≡◌, ◌<◌, ◌≤◌, [], IfOk, IfErr};
+ghost use Rattle.hc_history.specs.Told.{IfLog};
 ghost use Rattle.hc_memory.specs.Seen.{filled};
 ghost use Rattle.hc_threads.specs.Asked.{IsAsked, RefusesAllocation, RefusesInsert};
 
 use crate::crew::Crew;
 use crate::left::Left;
+use crate::tracked::TrackedCore;
 use hc_core::Core;
 use hc_history::{Listener, Note, Notes};
 use hc_memory::{Blank, Fill, Sealed, Uncharged};
+use hc_paged::{Digest, Folded};
 use hc_state::{Removed, Unlinked};
 use hc_types::{Config, Key, Refusal};
 use std::alloc::{Allocator, Global};
@@ -25,8 +28,8 @@ pub(crate) enum Stage {
 
 /// What lies under the lock. Whoever takes the lock finds a `Core`, and what is true of each core is all that is known.
 #[derive(Drop)]
-pub(crate) struct Guarded<N: Listener, A: Allocator> {
-    pub(crate) core: Core<N, A>,
+pub(crate) struct Guarded<N: Listener, A: Allocator, G: Digest + Copy> {
+    pub(crate) core: TrackedCore<N, A, G>,
     pub(crate) stage: Stage,
     pub(crate) crew: Crew,
     pub(crate) left: Left,
@@ -36,16 +39,17 @@ pub(crate) struct Guarded<N: Listener, A: Allocator> {
 /// A core that clients and workers share: each call of the core is one hold of the one lock. Contracts see the
 /// configuration of the core that it was made of, of which it keeps a copy beside the lock.
 #[derive(Drop)]
-pub struct Shared<N: Listener, A: Allocator = Global> {
-    pub(crate) guarded: Mutex<Guarded<N, A>>,
+pub struct Shared<N: Listener, A: Allocator = Global, G: Digest + Copy = Folded> {
+    pub(crate) guarded: Mutex<Guarded<N, A, G>>,
     /// Wakes workers, for work and to end.
     pub(crate) work: Condvar,
     /// Wakes clients that wait for a reply.
     pub(crate) replies: Condvar,
+    pub(crate) digest: G,
     config: Config<A>,
 }
 
-impl<N: Listener, A: Allocator> Model for Shared<N, A> {
+impl<N: Listener, A: Allocator, G: Digest + Copy> Model for Shared<N, A, G> {
     ghost use Rattle.hc_types.specs.Config.{Config as Settings};
 
     ghost Value = { Settings };
@@ -53,15 +57,18 @@ impl<N: Listener, A: Allocator> Model for Shared<N, A> {
     ghost view = { λ shared. shared.config };
 }
 
-impl<N: Listener, A: Allocator + Clone + Copy> Shared<N, A> {
-    /// Shares the core. Refused only where memory lacks for the copy of its configuration; then the core comes back.
-    pub fn new(core: Core<N, A>) -> Result<Shared<N, A>, Core<N, A>>
+impl<N: Listener, A: Allocator + Clone + Copy, G: Digest + Copy> Shared<N, A, G> {
+    /// Shares a new core. Pages are told apart by this digest. Refused only where memory lacks for the copy of its
+    /// configuration, and for the digests of its pages, which take 8 bytes a page; then the core comes back.
+    pub fn with_digest(core: Core<N, A>, digest: G) -> Result<Shared<N, A, G>, Core<N, A>>
+        requires log { IfLog core.log (λ log. log ≡ []) }
         ensures config { IfOk result (λ shared. shared ≡ core.cache.config) }
         ensures core_returned { IfErr result (λ back. back ≡ core) }
     {
         let Ok(config) = core.config().clone() else {
             return Err(core);
         };
+        let core = TrackedCore::new(core, digest, *config.pools.allocator())?;
         Ok(Shared {
             guarded: Mutex::new(Guarded {
                 core,
@@ -72,12 +79,24 @@ impl<N: Listener, A: Allocator + Clone + Copy> Shared<N, A> {
             }),
             work: Condvar::new(),
             replies: Condvar::new(),
+            digest,
             config,
         })
     }
 }
 
-impl<N: Listener, A: Allocator> Shared<N, A> {
+impl<N: Listener, A: Allocator + Clone + Copy> Shared<N, A, Folded> {
+    /// Shares a new core, whose pages are told apart by the fast hash of the toolchain. Refused as `with_digest` is.
+    pub fn new(core: Core<N, A>) -> Result<Shared<N, A, Folded>, Core<N, A>>
+        requires log { IfLog core.log (λ log. log ≡ []) }
+        ensures config { IfOk result (λ shared. shared ≡ core.cache.config) }
+        ensures core_returned { IfErr result (λ back. back ≡ core) }
+    {
+        Shared::with_digest(core, Folded)
+    }
+}
+
+impl<N: Listener, A: Allocator, G: Digest + Copy> Shared<N, A, G> {
     /// The number of the next client. Refused with `TooManyClients` after the 64th.
     pub(crate) fn next_client<R: Wait>(&self, rt: &R) -> Result<u8, Refusal>
         ensures few { IfOk result (λ number. number < 64) }
@@ -93,13 +112,14 @@ impl<N: Listener, A: Allocator> Shared<N, A> {
     }
 
     /// The core, and the configuration that was kept.
-    pub(crate) fn into_parts(self) -> (Core<N, A>, Config<A>)
+    pub(crate) fn into_parts(self) -> (TrackedCore<N, A, G>, Config<A>)
         ensures { result.1 ≡ self }
     {
         let Shared {
             guarded,
             work: _,
             replies: _,
+            digest: _,
             config,
         } = self;
         let Guarded {
@@ -115,8 +135,16 @@ impl<N: Listener, A: Allocator> Shared<N, A> {
     /// The core, which isn't judged.
     #[must_use]
     pub fn into_core(self) -> Core<N, A> {
-        let (core, _config) = self.into_parts();
+        let (tracked, _config) = self.into_parts();
+        let (core, _lies) = tracked.into_parts();
         core
+    }
+
+    /// How many reads of the device were lies so far: pages that were read otherwise than they were written, of which each
+    /// is a failed read to the cache.
+    #[must_use]
+    pub fn lies<R: Wait>(&self, rt: &R) -> u64 {
+        self.guarded.lock(rt).core.lies()
     }
 
     /// Has the workers try again what memory lacked for, and the calls that wait look again. For whoever gave memory back
@@ -127,19 +155,19 @@ impl<N: Listener, A: Allocator> Shared<N, A> {
     }
 
     /// Calls the workers, since something has changed.
-    pub(crate) fn call(&self, held: &mut Guarded<N, A>) {
+    pub(crate) fn call(&self, held: &mut Guarded<N, A, G>) {
         held.crew.call();
         self.work.notify_all();
     }
 
     /// The same, and wakes the calls that wait.
-    pub(crate) fn wake(&self, held: &mut Guarded<N, A>) {
+    pub(crate) fn wake(&self, held: &mut Guarded<N, A, G>) {
         self.call(held);
         self.replies.notify_all();
     }
 }
 
-impl<N: Notes<Note<A>>, A: Allocator + Clone + Copy> Shared<N, A> {
+impl<N: Notes<Note<A>>, A: Allocator + Clone + Copy, G: Digest + Copy> Shared<N, A, G> {
     /// Moves the clock on, as `Core::tick` does, and answers the moment that holds then.
     pub(crate) fn tick<R: Wait>(&self, rt: &R, moment: u64) -> Result<u64, Refusal>
         ensures later { IfOk result (λ now. moment ≤ now) }

@@ -3,14 +3,16 @@
 use crate::crew::Turn;
 use crate::gate::Worker;
 use crate::shared::{Guarded, Shared, Stage};
+use crate::tracked::digest_of;
 use hc_flash::{IoResult, Order};
 use hc_history::{Listener, Note, Notes};
 use hc_nvm::{Take, Unfinished};
+use hc_paged::Digest;
 use hc_types::Refusal;
 use std::alloc::{AllocError, Allocator};
 use std::sync::Wait;
 
-impl<N: Listener, A: Allocator> Shared<N, A> {
+impl<N: Listener, A: Allocator, G: Digest + Copy> Shared<N, A, G> {
     /// Has so many workers begin, which take no work yet, each with this turn.
     pub(crate) fn begin<R: Wait>(&self, rt: &R, workers: u32) -> Turn {
         let mut held = self.guarded.lock(rt);
@@ -63,21 +65,21 @@ impl<N: Listener, A: Allocator> Shared<N, A> {
     }
 
     /// Memory lacked for what the worker is at.
-    fn starve(&self, held: &mut Guarded<N, A>, turn: &mut Turn) {
+    fn starve(&self, held: &mut Guarded<N, A, G>, turn: &mut Turn) {
         held.crew.starve(turn);
         self.work.notify_all();
         self.tell_stuck(held);
     }
 
     /// Wakes the calls that wait where the workers are stuck.
-    fn tell_stuck(&self, held: &Guarded<N, A>) {
+    fn tell_stuck(&self, held: &Guarded<N, A, G>) {
         if held.crew.is_stuck() {
             self.replies.notify_all();
         }
     }
 }
 
-impl<N: Notes<Note<A>>, A: Allocator + Clone + Copy> Shared<N, A> {
+impl<N: Notes<Note<A>>, A: Allocator + Clone + Copy, G: Digest + Copy> Shared<N, A, G> {
     /// What the worker takes: a job, with its operation, if there is one for it and memory doesn't lack. It doesn't wait.
     pub(crate) fn take<R: Wait>(
         &self,
@@ -107,8 +109,9 @@ impl<N: Notes<Note<A>>, A: Allocator + Clone + Copy> Shared<N, A> {
         job: u64,
         came: IoResult<A>,
     ) -> Result<Option<Order<A>>, IoResult<A>> {
+        let digest = digest_of(&self.digest, &came);
         let mut held = self.guarded.lock(rt);
-        match held.core.finish(job, came) {
+        match held.core.finish(job, came, digest) {
             Ok(take) => {
                 self.wake(&mut held);
                 Ok(order_of(take))
@@ -140,8 +143,8 @@ fn order_of<A: Allocator>(take: Take<A>) -> Option<Order<A>> {
 }
 
 /// What the worker takes. A filler takes first what clients left.
-fn take_as<N: Notes<Note<A>>, A: Allocator + Clone + Copy>(
-    held: &mut Guarded<N, A>,
+fn take_as<N: Notes<Note<A>>, A: Allocator + Clone + Copy, G: Digest + Copy>(
+    held: &mut Guarded<N, A, G>,
     worker: Worker,
 ) -> Result<Take<A>, Refusal> {
     match worker {
@@ -158,8 +161,8 @@ fn take_as<N: Notes<Note<A>>, A: Allocator + Clone + Copy>(
 }
 
 /// A filler takes a job that was left, with the operation for which it waits, which is made anew.
-fn take_left<N: Notes<Note<A>>, A: Allocator + Clone + Copy>(
-    held: &mut Guarded<N, A>,
+fn take_left<N: Notes<Note<A>>, A: Allocator + Clone + Copy, G: Digest + Copy>(
+    held: &mut Guarded<N, A, G>,
     job: u64,
 ) -> Result<Take<A>, Refusal> {
     let take = match held.core.order(job) {

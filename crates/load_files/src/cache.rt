@@ -1,6 +1,7 @@
 // A shared cache with flash behind it.
 
 use hc_core::{Config, Core, FlashConfig, Kept, PoolSize, Refusal};
+use hc_paged::Digest;
 use hc_threads::Shared;
 use std::alloc::Global;
 
@@ -31,10 +32,13 @@ const FLASH: FlashConfig = FlashConfig {
 };
 
 /// A new cache, whose log is kept.
-pub(crate) fn new_cache(alloc: Global) -> Result<Shared<Kept>, Refusal> {
+pub(crate) fn new_cache<G: Digest + Copy>(
+    alloc: Global,
+    digest: G,
+) -> Result<Shared<Kept, Global, G>, Refusal> {
     let pools = Vec::from_slice(alloc, [SIZE].as_slice())?;
     let core = Core::new(alloc, &Config::new(pools, Some(FLASH)), Kept::new(alloc))?;
-    match Shared::new(core) {
+    match Shared::with_digest(core, digest) {
         Ok(shared) => Ok(shared),
         Err(_) => Err(Refusal::NoMemory),
     }

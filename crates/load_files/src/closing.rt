@@ -4,7 +4,7 @@ use crate::bad::Bad;
 use crate::cache::{PAGE, PAGES, new_cache};
 use crate::player::{Player, players};
 use hc_core::{Kept, Refusal};
-use hc_paged::{Checked, Device, FileDevice, Folded, open};
+use hc_paged::{Device, Digest, Folded, Undigested, open};
 use hc_threads::{Client, NoGate, Port, Shared, serve};
 use std::alloc::Global;
 use std::fs::File;
@@ -38,46 +38,52 @@ pub(crate) fn soak<R: Threads + Wait + Sync + Files<File = File>>(
 ) -> Result<Sums, Refusal> {
     let mut sums = Sums::default();
     for number in 0..asked.caches {
-        let Ok(file) = open(rt, alloc, asked.path, PAGES, PAGE) else {
-            return Err(Refusal::NoMemory);
-        };
-        let bad = Bad::new(alloc, file, asked.every, number);
-        let shared = new_cache(alloc)?;
-        let (clients, failures) = if asked.has_digests {
-            use_it(
-                rt,
-                alloc,
-                &shared,
-                number,
-                Checked::new(alloc, bad, Folded, PAGES)?,
-            )?
+        sums = if asked.has_digests {
+            with_one(rt, alloc, asked, number, sums, Folded)?
         } else {
-            use_it(rt, alloc, &shared, number, bad)?
+            with_one(rt, alloc, asked, number, sums, Undigested)?
         };
-        sums = with(sums, shared, clients, failures);
     }
     Ok(sums)
 }
 
-/// Has 64 clients play beside the workers, over this device. Answers them, and how often the device failed.
-fn use_it<R: Threads + Wait + Sync, D: Device<Global> + Send>(
+/// The sums with what one more cache comes to.
+fn with_one<R: Threads + Wait + Sync + Files<File = File>, G: Digest + Copy + Send + Sync>(
     rt: &R,
     alloc: Global,
-    shared: &Shared<Kept>,
+    asked: Soak<'_>,
+    number: u64,
+    sums: Sums,
+    digest: G,
+) -> Result<Sums, Refusal> {
+    let Ok(file) = open(rt, alloc, asked.path, PAGES, PAGE) else {
+        return Err(Refusal::NoMemory);
+    };
+    let port = Port::new(alloc, Bad::new(alloc, file, asked.every, number));
+    let shared = new_cache(alloc, digest)?;
+    let clients = use_it(rt, alloc, &shared, number, &port)?;
+    let failures = port.failures(rt).saturating_add(shared.lies(rt));
+    Ok(with(sums, shared, clients, failures))
+}
+
+/// Has 64 clients play beside the workers, over this device. Answers them.
+fn use_it<R: Threads + Wait + Sync, D: Device<Global> + Send, G: Digest + Copy + Send + Sync>(
+    rt: &R,
+    alloc: Global,
+    shared: &Shared<Kept, Global, G>,
     seed: u64,
-    device: D,
-) -> Result<(Vec<Client>, u64), Refusal> {
+    port: &Port<D>,
+) -> Result<Vec<Client>, Refusal> {
     let mut players = players(rt, alloc, shared, seed)?;
-    let port = Port::new(alloc, device);
-    serve(rt, shared, &port, 1, &NoGate, || {
+    serve(rt, shared, port, 1, &NoGate, || {
         thread::for_each_mut(
             rt,
             &mut players,
             64,
-            &|_, player| player.play(rt, alloc, shared, &port),
+            &|_, player| player.play(rt, alloc, shared, port),
         );
     })?;
-    Ok((clients_of(alloc, players)?, port.failures(rt)))
+    clients_of(alloc, players)
 }
 
 /// The clients of the players. Refused where a call of one was.
@@ -91,7 +97,12 @@ fn clients_of(alloc: Global, players: Vec<Player>) -> Result<Vec<Client>, Refusa
 }
 
 /// The sums with what the close of a cache comes to.
-fn with(sums: Sums, shared: Shared<Kept>, clients: Vec<Client>, failures: u64) -> Sums {
+fn with<G: Digest + Copy>(
+    sums: Sums,
+    shared: Shared<Kept, Global, G>,
+    clients: Vec<Client>,
+    failures: u64,
+) -> Sums {
     let closed = shared.close(clients, failures);
     let agrees = closed.is_ok();
     let is_true = matches!(closed, Ok(report) if report.lie.is_none());

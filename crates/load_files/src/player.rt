@@ -1,7 +1,7 @@
 // A client that draws what it does.
 
 use hc_core::{Blank, Fill, Kept, Key, Refusal, Uncharged, Unlinked};
-use hc_paged::Device;
+use hc_paged::{Device, Digest};
 use hc_threads::{Client, Port, Shared};
 use std::alloc::Global;
 use std::sync::Wait;
@@ -19,10 +19,10 @@ pub(crate) struct Player {
 }
 
 /// 64 players, each a client of this cache, which draw otherwise for another seed.
-pub(crate) fn players<R: Wait>(
+pub(crate) fn players<R: Wait, G: Digest + Copy>(
     rt: &R,
     alloc: Global,
-    shared: &Shared<Kept>,
+    shared: &Shared<Kept, Global, G>,
     seed: u64,
 ) -> Result<Vec<Player>, Refusal> {
     let mut players = Vec::new(alloc);
@@ -40,11 +40,11 @@ pub(crate) fn players<R: Wait>(
 
 impl Player {
     /// Makes its calls, up to one that is refused.
-    pub(crate) fn play<R: Wait, D: Device<Global>>(
+    pub(crate) fn play<R: Wait, D: Device<Global>, G: Digest + Copy>(
         &mut self,
         rt: &R,
         alloc: Global,
-        shared: &Shared<Kept>,
+        shared: &Shared<Kept, Global, G>,
         port: &Port<D>,
     ) {
         for _ in 0..CALLS {
@@ -71,11 +71,11 @@ impl Player {
 
     /// The call that was drawn. Of eight, two store a value, two remove what the key has, two wait for the filler where
     /// they have to, and two make their reads themselves. What isn't found is stored.
-    fn call<R: Wait, D: Device<Global>>(
+    fn call<R: Wait, D: Device<Global>, G: Digest + Copy>(
         &mut self,
         rt: &R,
         alloc: Global,
-        shared: &Shared<Kept>,
+        shared: &Shared<Kept, Global, G>,
         port: &Port<D>,
     ) -> Result<(), Refusal> {
         let number = (self.drawn >> 33) % KEYS;
@@ -96,10 +96,10 @@ impl Player {
     }
 
     /// Stores a value of 20 to 319 bytes for good, of a byte that was drawn, so that an older value is mostly another.
-    fn store<R: Wait>(
+    fn store<R: Wait, G: Digest + Copy>(
         &mut self,
         rt: &R,
-        shared: &Shared<Kept>,
+        shared: &Shared<Kept, Global, G>,
         key: Key,
         number: u64,
     ) -> Result<(), Refusal> {
@@ -111,10 +111,10 @@ impl Player {
     }
 
     /// Inserts what was written. The charge of what can't be is left.
-    fn insert<R: Wait>(
+    fn insert<R: Wait, G: Digest + Copy>(
         &mut self,
         rt: &R,
-        shared: &Shared<Kept>,
+        shared: &Shared<Kept, Global, G>,
         blank: Blank,
     ) -> Result<(), Refusal> {
         let sealed = match blank.seal() {

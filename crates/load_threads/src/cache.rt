@@ -1,5 +1,6 @@
 // A shared cache with flash behind it.
 use hc_core::{Config, Core, FlashConfig, PoolSize, Refusal, Silent};
+use hc_paged::Digest;
 use hc_threads::Shared;
 use std::alloc::Global;
 
@@ -30,10 +31,13 @@ const FLASH: FlashConfig = FlashConfig {
 };
 
 /// A new cache, whose notes nobody hears.
-pub(crate) fn new_cache(alloc: Global) -> Result<Shared<Silent>, Refusal> {
+pub(crate) fn new_cache<G: Digest + Copy>(
+    alloc: Global,
+    digest: G,
+) -> Result<Shared<Silent, Global, G>, Refusal> {
     let pools = Vec::from_slice(alloc, [SIZE].as_slice())?;
     let core = Core::new(alloc, &Config::new(pools, Some(FLASH)), Silent::new())?;
-    match Shared::new(core) {
+    match Shared::with_digest(core, digest) {
         Ok(shared) => Ok(shared),
         Err(_) => Err(Refusal::NoMemory),
     }

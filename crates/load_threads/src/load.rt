@@ -14,9 +14,9 @@ pub(crate) enum Way {
 pub(crate) enum Place<'a> {
     Memory,
     /// In the file of this name.
-    File(&'a str),
-    /// The same, with digests.
     Checked(&'a str),
+    /// The same, without digests.
+    Bare(&'a str),
 }
 
 /// What is asked for.
@@ -80,8 +80,8 @@ fn way_of(word: &String) -> Option<Way> {
 
 fn place_of<'a>(kind: &String, path: &'a String) -> Option<Place<'a>> {
     match kind.as_str() {
-        "file" => Some(Place::File(path.as_str())),
         "checked" => Some(Place::Checked(path.as_str())),
+        "bare" => Some(Place::Bare(path.as_str())),
         _ => None,
     }
 }

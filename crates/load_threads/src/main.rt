@@ -2,8 +2,8 @@
 //!
 //!     load_threads CLIENTS KEYS FINDS                      beside one filler, over a device in memory
 //!     load_threads CLIENTS KEYS FINDS FILLERS waits|fills  beside so many
-//!     load_threads .. FILLERS waits|fills file PATH        over a file, by a handle for each thread
-//!     load_threads .. FILLERS waits|fills checked PATH     over a file with digests, by one handle
+//!     load_threads .. FILLERS waits|fills checked PATH     over a file, by a handle for each thread
+//!     load_threads .. FILLERS waits|fills bare PATH        the same, without digests
 //!
 //! So many clients make so many finds each of so many keys, which all share, and store what isn't found. A find that waits
 //! has a filler make its reads (`waits`), or makes them itself (`fills`). How long they take is for `time` to tell.
@@ -32,7 +32,7 @@ fn run<R: Threads + Wait + Sync + Print + Eprint + Env + AllocGlobal + Files<Fil
     let words: Vec<String> = env::args(rt)?.collect(rt.alloc())?;
     let Some(load) = load_in(&words) else {
         eprintln!(rt;
-            "usage: load_threads CLIENTS KEYS FINDS [FILLERS waits|fills [file|checked PATH]]"
+            "usage: load_threads CLIENTS KEYS FINDS [FILLERS waits|fills [checked|bare PATH]]"
         )?;
         return Ok(2);
     };

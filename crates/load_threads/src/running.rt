@@ -5,7 +5,7 @@ use crate::load::{Load, Place};
 use crate::player::{Player, players};
 use hc_core::{Refusal, Silent};
 use hc_flash::MemFlash;
-use hc_paged::{Checked, Device, FileDevice, Folded, open};
+use hc_paged::{Device, Digest, FileDevice, Folded, Undigested, open};
 use hc_threads::{NoGate, Port, Shared, serve};
 use std::alloc::Global;
 use std::fs::File;
@@ -22,15 +22,15 @@ pub(crate) fn perform<R: Threads + Wait + Sync + Files<File = File>>(
     match load.place {
         Place::Memory => {
             let device = MemFlash::new(alloc, PAGES, PAGE as usize)?;
-            act(rt, alloc, load, &Port::new(alloc, device))
-        }
-        Place::File(path) => {
-            let port = handles(alloc, opened(rt, alloc, path)?, load)?;
-            act(rt, alloc, load, &port)
+            act(rt, alloc, load, &Port::new(alloc, device), Folded)
         }
         Place::Checked(path) => {
-            let device = Checked::new(alloc, opened(rt, alloc, path)?, Folded, PAGES)?;
-            act(rt, alloc, load, &Port::new(alloc, device))
+            let port = handles(alloc, opened(rt, alloc, path)?, load)?;
+            act(rt, alloc, load, &port, Folded)
+        }
+        Place::Bare(path) => {
+            let port = handles(alloc, opened(rt, alloc, path)?, load)?;
+            act(rt, alloc, load, &port, Undigested)
         }
     }
 }
@@ -71,13 +71,14 @@ fn cloned(device: &FileDevice<File>) -> Result<FileDevice<File>, Refusal> {
 }
 
 // Runs the players beside the workers. Whether each made all its finds.
-fn act<R: Threads + Wait + Sync, D: Device<Global> + Send>(
+fn act<R: Threads + Wait + Sync, D: Device<Global> + Send, G: Digest + Copy + Send + Sync>(
     rt: &R,
     alloc: Global,
     load: &Load<'_>,
     port: &Port<D>,
+    digest: G,
 ) -> Result<bool, Refusal> {
-    let shared: Shared<Silent> = new_cache(alloc)?;
+    let shared: Shared<Silent, Global, G> = new_cache(alloc, digest)?;
     let mut players: Vec<Player> = players(rt, alloc, &shared, load.clients)?;
     serve(rt, &shared, port, load.fillers, &NoGate, || {
         thread::for_each_mut(

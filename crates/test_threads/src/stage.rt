@@ -57,20 +57,16 @@ pub struct Played {
     pub late: u64,
 }
 
-// A new cache, with a pool for so many items.
-fn cache(rt: &impl Abort, alloc: Global, items: u64) -> Core<Kept> {
+/// A new cache, with a pool for so many items.
+pub fn shared(rt: &impl Abort, alloc: Global, items: u64) -> Shared<Kept> {
     let size = PoolSize {
         bytes: 100_000,
         items,
     };
     let pools = Vec::from_slice(alloc, [size].as_slice()).expect(rt, "there is memory");
     let config = Config::new(pools, Some(FLASH));
-    Core::new(alloc, &config, Kept::new(alloc)).expect(rt, "the numbers fit")
-}
-
-/// The same, to be shared.
-pub fn shared(rt: &impl Abort, alloc: Global, items: u64) -> Shared<Kept> {
-    match Shared::new(cache(rt, alloc, items)) {
+    let core = Core::new(alloc, &config, Kept::new(alloc)).expect(rt, "the numbers fit");
+    match Shared::new(core) {
         Ok(shared) => shared,
         Err(_) => panic!(rt; "there is memory"),
     }
