@@ -1,10 +1,9 @@
 -- Digests that follow the log, note by note.
-use Rattle.std.proofs.Common.{◌≡◌, ℕ, List, [], ◌∷◌, ◌++◌, Option, Some, None, ap, sym, subst, ◌∙◌}
+use Rattle.std.proofs.Common.{ℕ, List, [], ◌∷◌, ◌++◌, sym, subst}
 use Rattle.hc_history.specs.Note.{Note}
-use Rattle.hc_history.specs.Pages.{bytes_at}
 use Rattle.hc_history.specs.Lawful.{past}
 use Rattle.hc_history.proofs.Appended.{past-append}
-use Rattle.hc_marked.specs.Marked.{Marks, Marked, MarkedAfter, Keeps}
+use Rattle.hc_marked.specs.Marked.{Marks, MarkedAfter, Keeps}
 use Rattle.hc_marked.specs.Tracked.{Tracks}
 use Rattle.hc_marked.proofs.Marking.{Agrees, after, marked}
 

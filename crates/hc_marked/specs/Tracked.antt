@@ -1,5 +1,5 @@
 -- Digests that are kept beside a log, by whoever hands in the results of a device.
-use Rattle.std.specs.Prelude.{◌≡◌, ℕ, List, [], Option, Some}
+use Rattle.std.specs.Prelude.{◌≡◌, ℕ, List, [], Some}
 use Rattle.hc_history.specs.Note.{Note}
 use Rattle.hc_history.specs.Pages.{bytes_at}
 use Rattle.hc_history.specs.Lawful.{past}

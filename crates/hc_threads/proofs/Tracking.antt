@@ -1,5 +1,5 @@
 -- The digests follow the log, call by call.
-use Rattle.std.proofs.Common.{◌≡◌, ◌≢◌, ℕ, ◌==◌, ◌<◌, Bool, true, false, List, [], ◌∷◌, ◌++◌, Option, Some, None, refl, ap, sym, subst, ◌∙◌}
+use Rattle.std.proofs.Common.{◌≡◌, ℕ, ◌<◌, Bool, true, List, [], ◌∷◌, ◌++◌, Option, Some, None, refl, ap, sym, subst, ◌∙◌}
 use Rattle.std.specs.Prelude.{Result, Ok, Err, IfOk, OnOk, OnErr, option_map}
 use Rattle.std.proofs.lemmas.List.{append_assoc}
 use Rattle.hc_flash.specs.Operations.{Order, Read, Write, IoResult, Page, Written, Failed}
@@ -11,7 +11,7 @@ use Rattle.hc_history.specs.Lawful.{past}
 use Rattle.hc_machine.specs.Nvm.{Nvm, Job, job_at}
 use Rattle.hc_machine.specs.Takes as takes
 use Rattle.hc_machine.specs.Takes.{result_note, resumed}
-use Rattle.hc_machine.specs.Cache.{Cache, Moved, Answer, Took, Refused}
+use Rattle.hc_machine.specs.Cache.{Cache, Moved, Answer, Took}
 use Rattle.hc_machine.specs.World.{order_in}
 use Rattle.hc_machine.specs.Workers as workers
 use Rattle.hc_theorem.specs.runs.NoIo.{NoIo, FinishStep}
@@ -21,7 +21,6 @@ use Rattle.hc_theorem.proofs.runs.OrdersStay.{order-is}
 use Rattle.hc_core.specs.Logged.{Logged, IsCall}
 use Rattle.hc_marked.specs.Marked.{Marks, Marked, MarkedAfter, Keeps}
 use Rattle.hc_marked.specs.Tracked.{Tracks}
-use Rattle.hc_marked.proofs.Marking.{Agrees}
 use Rattle.hc_marked.proofs.Tracking.{tracks-part, tracks-note}
 use Rattle.hc_threads.specs.Reading.{IsToldRead, IsToldWrite, WritesAs}
 

@@ -1,7 +1,7 @@
 -- Results that come with digests.
-use Rattle.std.specs.Prelude.{◌≡◌, ◌<◌, ℕ, Bool, true, List, Option, Some, None}
+use Rattle.std.specs.Prelude.{◌≡◌, ◌<◌, ℕ, Bool, true, List, Option, Some}
 use Rattle.hc_core.specs.Logged.{Logged}
-use Rattle.hc_flash.specs.Operations.{Order, Read, Write, IoResult, Page, Written, Failed}
+use Rattle.hc_flash.specs.Operations.{Order, Write, IoResult, Page, Written, Failed}
 
 -- the number is the digest of the page that was read, if one was
 abbrev pub IsDigestOf : (List ℕ → ℕ) → ℕ → IoResult → Type 0

@@ -68,17 +68,21 @@ impl<'x, N: Listener, A: Allocator, D: Device<A>, G, H: Digest + Copy> Clone
 impl<'x, N: Listener, A: Allocator, D: Device<A>, G, H: Digest + Copy> Copy
     for Post<'x, N, A, D, G, H> {}
 
-fn run<
-    'x,
-    R: Threads + Wait + Sync,
-    N: Notes<Note<A>> + Send,
-    A: Allocator + Clone + Copy + Send + Sync,
-    D: Device<A> + Send,
-    G: Gate + Sync,
-    H: Digest + Copy + Send + Sync,
-    T,
-    B: FnOnce() -> T + Drop,
->(rt: &'x R, post: Post<'x, N, A, D, G, H>, fillers: u32, body: B) -> Result<T, Refusal>
+/// Workers, of whatever cache. (Of the thread that begins them, a checker has to know no more.)
+trait Workers<R>: Copy {
+    /// The rounds of this worker, until it is to end.
+    fn work(self, rt: &R, worker: Worker);
+
+    /// Tells all of them to work or to end.
+    fn go_to(self, rt: &R, stage: Stage);
+}
+
+fn run<R: Threads + Wait + Sync, P: Workers<R> + Send, T, B: FnOnce() -> T + Drop>(
+    rt: &R,
+    workers: P,
+    fillers: u32,
+    body: B,
+) -> Result<T, Refusal>
     requires { B.pre body }
     ensures ok { IfOk result (λ t. B.post body t) }
     ensures err { IfErr result (λ refusal. refusal ≡ Refusal.NoMemory) }
@@ -91,21 +95,23 @@ fn run<
             ensures ok { IfOk result (λ t. B.post body t) }
             ensures err { IfErr result (λ refusal. refusal ≡ Refusal.NoMemory) }
         {
-            let writer = scope.spawn(move || post.work(rt, Worker::Writer));
-            let reclaimer = scope.spawn(move || post.work(rt, Worker::Reclaimer));
+            let writer = scope.spawn(move || workers.work(rt, Worker::Writer));
+            let reclaimer = scope.spawn(move || workers.work(rt, Worker::Reclaimer));
             let mut are_begun = writer.is_ok() && reclaimer.is_ok();
             for _ in 0..fillers {
                 if are_begun {
-                    are_begun = scope.spawn(move || post.work(rt, Worker::Filler)).is_ok();
+                    are_begun = scope
+                        .spawn(move || workers.work(rt, Worker::Filler))
+                        .is_ok();
                 }
             }
             if !are_begun {
-                post.shared.go_to(rt, Stage::Ending);
+                workers.go_to(rt, Stage::Ending);
                 return Err(Refusal::NoMemory);
             }
-            post.shared.go_to(rt, Stage::Working);
+            workers.go_to(rt, Stage::Working);
             let answer = body();
-            post.shared.go_to(rt, Stage::Ending);
+            workers.go_to(rt, Stage::Ending);
             Ok(answer)
         },
     )
@@ -113,14 +119,15 @@ fn run<
 
 impl<
     'x,
+    R: Wait,
     N: Notes<Note<A>>,
     A: Allocator + Clone + Copy,
     D: Device<A>,
     G: Gate,
     H: Digest + Copy,
-> Post<'x, N, A, D, G, H> {
-    /// A worker's rounds, a take each. The core's lock isn't held at a gate or during a device operation.
-    fn work<R: Wait>(self, rt: &R, worker: Worker) {
+> Workers<R> for Post<'x, N, A, D, G, H> {
+    /// A take each round. The core's lock isn't held at a gate or during a device operation.
+    fn work(self, rt: &R, worker: Worker) {
         let mut turn = self.turn;
         for _ in rt.forever() {
             if !self.shared.goes_on(rt, &mut turn) {
@@ -135,6 +142,19 @@ impl<
         }
     }
 
+    fn go_to(self, rt: &R, stage: Stage) {
+        self.shared.go_to(rt, stage);
+    }
+}
+
+impl<
+    'x,
+    N: Notes<Note<A>>,
+    A: Allocator + Clone + Copy,
+    D: Device<A>,
+    G: Gate,
+    H: Digest + Copy,
+> Post<'x, N, A, D, G, H> {
     /// Does the operations of the job, one after the other, until it is over, or the workers are to end and memory lacks.
     fn do_job<R: Wait>(self, rt: &R, worker: Worker, turn: &mut Turn, job: u64, first: Order<A>) {
         let mut next = Some(first);

@@ -1,6 +1,5 @@
 use Rattle.std.proofs.Common.{◌≡◌, ℕ, List, Some, sym, subst}
 use Rattle.hc_flash.specs.Operations.{Read}
-use Rattle.hc_flash.specs.Seen.{result_of}
 use Rattle.hc_machine.specs.World.{order_in}
 use Rattle.hc_paged.specs.Devices.{mark_at}
 use Rattle.hc_threads.specs.Reading.{Tracked}

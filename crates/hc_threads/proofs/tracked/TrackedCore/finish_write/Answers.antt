@@ -1,4 +1,4 @@
-use Rattle.std.proofs.Common.{◌≡◌, sym, subst, arith}
+use Rattle.std.proofs.Common.{sym, subst, arith}
 use Rattle.hc_machine.specs.World.{order_in}
 use Rattle.hc_threads.specs.Reading.{Tracked, WritesAs}
 use Rattle.hc_threads.proofs.Tracking.{write-tracks}
