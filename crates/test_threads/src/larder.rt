@@ -3,7 +3,7 @@ ghost use Rattle.std.specs.Prelude.{◌≡◌, IfErr};
 
 use crate::watch::add;
 use bytes::Bytes;
-use hc_flash::{FlashError, MemFlash};
+use hc_flash::FlashError;
 use hc_paged::Device;
 use hc_threads::{Gate, Point, Worker};
 use std::alloc::Global;
@@ -66,27 +66,27 @@ impl Gate for Larder {
     }
 }
 
-/// A device in memory, whose reads want what the larder has.
+/// A device whose reads want what the larder has.
 #[derive(Drop)]
-pub struct Hungry<'a> {
-    pub device: MemFlash,
+pub struct Hungry<'a, D: Device<Global>> {
+    pub device: D,
     pub larder: &'a Larder,
 }
 
-impl<'a> Device<Global> for Hungry<'a> {
-    ghost failed = { λ hungry. hungry.device.failed };
+impl<'a, D: Device<Global>> Device<Global> for Hungry<'a, D> {
+    ghost failed = { λ hungry. D.failed hungry.device };
 
     fn read(&mut self, page: u32) -> Result<Bytes, FlashError> {
         self.larder.take()?;
-        Device::read(&mut self.device, page)
+        self.device.read(page)
     }
 
     fn write(&mut self, page: u32, bytes: &[u8]) -> Result<(), FlashError> {
         add(&self.larder.written);
-        Device::write(&mut self.device, page, bytes)
+        self.device.write(page, bytes)
     }
 
     fn failures(&self) -> u64 {
-        Device::failures(&self.device)
+        self.device.failures()
     }
 }

@@ -27,7 +27,7 @@ enum Way {
 #[derive(Clone, Copy)]
 struct Play<'a, 'l> {
     scene: Scene<'a>,
-    port: &'a Port<Hungry<'l>>,
+    port: &'a Port<Hungry<'l, MemFlash>>,
     larder: &'l Larder,
 }
 
