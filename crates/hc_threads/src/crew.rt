@@ -20,13 +20,12 @@ pub(crate) struct Turn {
     rouses: u64,
 }
 
-/// What is known of the workers. It lies under the lock, beside the core. A client that does a filler's job is a worker for
-/// as long as that takes.
+/// What is known of the workers. It lies under the lock, beside the core.
 ///
 /// A call that waits is answered by workers alone. Where memory lacks for what a worker is at, the worker waits until it is
 /// called, which each call that changes something does. But whoever would make the next call may be waiting for this very
-/// worker. So a call that waits gives up where the workers are stuck: memory lacked for one of them, and none is at work or
-/// was called. (Where a job was lost, that each is idle or gone is enough: nobody will answer what waits for it.)
+/// worker. So a call that waits gives up where the workers are stuck: memory lacked for one of them, none is at work or was
+/// called, and no client does a filler's job. (Where a job was lost, that each is idle or gone is enough: nobody will answer what waits for it.)
 ///
 /// No wake is lost: what is known of the workers is changed in the same hold of the lock as the core, those that wait look
 /// at it before they sleep, and each change by which they may come to be stuck wakes the calls that wait.
@@ -38,6 +37,8 @@ pub(crate) struct Crew {
     idle: u32,
     /// For how many of them memory lacked, which haven't been called since.
     starved: u32,
+    /// How many clients do a filler's job.
+    helpers: u32,
     /// How often all were called.
     calls: u64,
     /// How often those were called that had found nothing to do.
@@ -53,6 +54,7 @@ impl Crew {
             there: 0,
             idle: 0,
             starved: 0,
+            helpers: 0,
             calls: 0,
             rouses: 0,
             has_lost: false,
@@ -67,10 +69,14 @@ impl Crew {
         before
     }
 
-    /// One more is there, which is at work.
-    pub(crate) fn join(&mut self) -> Turn {
-        self.there = self.there.saturating_add(1);
-        self.turn(Duty::Working)
+    /// A client begins to do a filler's job.
+    pub(crate) fn begin_help(&mut self) {
+        self.helpers = self.helpers.saturating_add(1);
+    }
+
+    /// It has done it, or left it.
+    pub(crate) fn end_help(&mut self) {
+        self.helpers = self.helpers.saturating_sub(1);
     }
 
     /// The worker is gone.
@@ -126,7 +132,8 @@ impl Crew {
     /// Whether no worker gets on before something changes, and memory is why.
     pub(crate) fn is_stuck(&self) -> bool {
         let waiting = self.idle.saturating_add(self.starved);
-        (self.has_lost || self.starved > 0) && waiting == self.there
+        let is_starved = self.has_lost || self.starved > 0;
+        is_starved && waiting == self.there && self.helpers == 0
     }
 
     /// The turn of one that has heard of each call.

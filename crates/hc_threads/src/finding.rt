@@ -1,6 +1,5 @@
 // Finds, which wait where a value may be on flash.
 
-use crate::crew::Turn;
 use crate::port::Port;
 use crate::shared::{Guarded, Shared};
 use crate::tracked::digest_of;
@@ -95,16 +94,17 @@ impl<N: Notes<Note<A>>, A: Allocator + Clone + Copy, G: Digest + Copy> Shared<N,
         let mut held = held;
         match self.take_fill(&mut held, client) {
             Ok(Take::Work(job, order)) => {
-                let turn = held.crew.join();
+                held.crew.begin_help();
                 drop(held);
-                Ok(self.fill(rt, port, client, turn, job, order))
+                Ok(self.fill(rt, port, client, job, order))
             }
             Ok(Take::Finished) => {
                 self.wake(&mut held);
                 Ok(held)
             }
             Ok(Take::Idle) => self.await_change(rt, call, held),
-            // Memory lacks: the fillers try it, and say so where it lacks for them.
+            // Memory lacks: the fillers try it, unless it lacked for them already.
+            Err(_) if held.crew.is_stuck() => Err(Unfound::Open(call)),
             Err(_) => {
                 self.call(&mut held);
                 Ok(self.replies.wait(rt, held))
@@ -127,7 +127,6 @@ impl<N: Notes<Note<A>>, A: Allocator + Clone + Copy, G: Digest + Copy> Shared<N,
         rt: &R,
         port: &Port<D, A>,
         client: u8,
-        turn: Turn,
         job: u64,
         first: Order<A>,
     ) -> MutexGuard<'x, Guarded<N, A, G>> {
@@ -147,7 +146,7 @@ impl<N: Notes<Note<A>>, A: Allocator + Clone + Copy, G: Digest + Copy> Shared<N,
                     if ended.is_err() {
                         held.left.leave(client, job);
                     }
-                    held.crew.leave(turn);
+                    held.crew.end_help();
                     self.wake(&mut held);
                     return held;
                 }
