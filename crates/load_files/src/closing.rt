@@ -31,7 +31,7 @@ pub(crate) struct Sums {
 }
 
 /// Makes the caches, one after the other. Refused with `NoMemory` also where the file can't be opened.
-pub(crate) fn soak<R: Threads + Wait + Sync + Files<File = File>>(
+pub(crate) fn close_all<R: Threads + Wait + Sync + Files<File = File>>(
     rt: &R,
     alloc: Global,
     asked: Soak<'_>,

@@ -17,7 +17,7 @@ mod cache;
 mod closing;
 mod player;
 
-use crate::closing::{Soak, Sums, soak};
+use crate::closing::{Soak, Sums, close_all};
 use std::env::{self, Env};
 use std::fs::{self, File};
 use std::io;
@@ -52,7 +52,7 @@ fn run<R: Threads + Wait + Sync + Print + Eprint + Env + AllocGlobal + Files<Fil
         eprintln!(rt; "usage: load_files CACHES EVERY bare|checked PATH")?;
         return Ok(2);
     };
-    let sums = soak(rt, rt.alloc(), asked);
+    let sums = close_all(rt, rt.alloc(), asked);
     let _ = fs::remove_file(rt, asked.path);
     let Ok(
         Sums {
