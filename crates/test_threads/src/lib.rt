@@ -8,8 +8,6 @@ mod clock;
 #[cfg(test)]
 mod larder;
 #[cfg(test)]
-mod lies;
-#[cfg(test)]
 mod refusals;
 #[cfg(test)]
 mod replays;

@@ -6,7 +6,7 @@ use crate::scripts::Script;
 use crate::stage::{Scene, shared};
 use crate::watch::{Watch, comes};
 use hc_core::Refusal;
-use hc_flash::MemFlash;
+use hc_flash::{Liar, MemFlash};
 use hc_threads::{Client, Port, serve, settle};
 use std::alloc::Global;
 use std::process::Abort;
@@ -27,7 +27,7 @@ enum Way {
 #[derive(Clone, Copy)]
 struct Play<'a, 'l> {
     scene: Scene<'a>,
-    port: &'a Port<Hungry<'l, MemFlash>>,
+    port: &'a Port<Hungry<'l, Liar<MemFlash>>>,
     larder: &'l Larder,
 }
 
@@ -92,6 +92,13 @@ fn miss_what_is_lost<R: Abort + Wait>(rt: &R, play: Play<'_, '_>, client: &mut C
     assert!(rt; holds(rt, &play.scene, client, b"b", b"two"));
 }
 
+// The first read of the page has another byte than was written: it is a miss, and so is the item from then on.
+fn meet_a_lie<R: Abort + Wait>(rt: &R, play: Play<'_, '_>, client: &mut Client, way: Way) {
+    spill(rt, play, client);
+    assert!(rt; is_found(rt, play, client, way) == Some(false));
+    assert!(rt; is_found(rt, play, client, way) == Some(false));
+}
+
 // A part of a play, for which the workers are there.
 #[derive(Clone, Copy)]
 enum Act {
@@ -99,6 +106,7 @@ enum Act {
     Starves(Way),
     StarvesToTheEnd(Way),
     MissesWhatIsLost(Way),
+    MeetsALie(Way),
 }
 
 fn act_it<R: Abort + Wait>(rt: &R, play: Play<'_, '_>, client: &mut Client, act: Act) {
@@ -107,18 +115,26 @@ fn act_it<R: Abort + Wait>(rt: &R, play: Play<'_, '_>, client: &mut Client, act:
         Act::Starves(way) => starve(rt, play, client, way),
         Act::StarvesToTheEnd(way) => starve_to_the_end(rt, play, client, way),
         Act::MissesWhatIsLost(way) => miss_what_is_lost(rt, play, client, way),
+        Act::MeetsALie(way) => meet_a_lie(rt, play, client, way),
     }
 }
 
-// Plays the acts, one after the other, with workers of its own for each. Each call that was begun is in the record.
-fn play_all<R: Abort + Threads + Wait + Sync>(rt: &R, alloc: Global, acts: &[Act], open: usize) {
+// Plays the acts, one after the other, with workers of its own for each, over a device whose read of this number is a lie,
+// if one is. Each call that was begun is in the record, so many of them open. No lie is in the log.
+fn play_all<R: Abort + Threads + Wait + Sync>(
+    rt: &R,
+    alloc: Global,
+    acts: &[Act],
+    open: usize,
+    lie: u64,
+) {
     let shared = shared(rt, alloc, 1);
     let mut client = shared.client(rt, alloc).expect(rt, "it is the first");
     let watch = Watch::new(false);
     let larder = Larder::new();
-    let device = MemFlash::new(alloc, 4, 512).expect(rt, "there is memory");
+    let memory = MemFlash::new(alloc, 4, 512).expect(rt, "there is memory");
     let hungry = Hungry {
-        device,
+        device: Liar::new(alloc, memory, lie, 40, 7),
         larder: &larder,
     };
     let port = Port::new(alloc, hungry);
@@ -142,22 +158,23 @@ fn play_all<R: Abort + Threads + Wait + Sync>(rt: &R, alloc: Global, acts: &[Act
     assert!(rt; record.open_calls.len() == open);
     let mut records = Vec::new(alloc);
     records.push(record).expect(rt, "there is memory");
-    let failures = port.failures(rt);
+    assert!(rt; port.failures(rt) == 0 && shared.lies(rt) == lie);
     let core = shared.into_core();
     let config = core.config().clone().expect(rt, "there is memory");
-    assert!(rt; settle(core, config, &records, failures).is_ok());
+    let report = settle(core, config, &records, lie).expect(rt, "the records agree");
+    assert!(rt; report.lie.is_none());
 }
 
 #[test]
 fn a_find_makes_its_read_itself_or_waits_for_the_filler(rt: HostRuntime) {
-    play_all(&rt, rt.alloc(), &[Act::ComesBack(Way::Waits)], 0);
-    play_all(&rt, rt.alloc(), &[Act::ComesBack(Way::Fills)], 0);
+    play_all(&rt, rt.alloc(), &[Act::ComesBack(Way::Waits)], 0, 0);
+    play_all(&rt, rt.alloc(), &[Act::ComesBack(Way::Fills)], 0, 0);
 }
 
 #[test]
 fn a_find_gives_up_where_memory_lacks_for_its_read(rt: HostRuntime) {
-    play_all(&rt, rt.alloc(), &[Act::Starves(Way::Waits)], 1);
-    play_all(&rt, rt.alloc(), &[Act::Starves(Way::Fills)], 1);
+    play_all(&rt, rt.alloc(), &[Act::Starves(Way::Waits)], 1, 0);
+    play_all(&rt, rt.alloc(), &[Act::Starves(Way::Fills)], 1, 0);
 }
 
 #[test]
@@ -166,5 +183,11 @@ fn no_call_waits_for_what_was_lost(rt: HostRuntime) {
         Act::StarvesToTheEnd(Way::Waits),
         Act::MissesWhatIsLost(Way::Waits),
     ];
-    play_all(&rt, rt.alloc(), &waits, 2);
+    play_all(&rt, rt.alloc(), &waits, 2, 0);
+}
+
+#[test]
+fn a_page_that_is_read_otherwise_than_it_was_written_is_a_miss(rt: HostRuntime) {
+    play_all(&rt, rt.alloc(), &[Act::MeetsALie(Way::Waits)], 0, 1);
+    play_all(&rt, rt.alloc(), &[Act::MeetsALie(Way::Fills)], 0, 1);
 }
