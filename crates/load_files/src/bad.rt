@@ -29,13 +29,11 @@ impl<D: Device<Global>> Bad<D> {
         }
     }
 
-    /// Writes the first half of the page, and leaves the other as it was.
+    /// Writes the first half of the page, and leaves the other as it was. Fails where that can't be read.
     fn tear(&mut self, page: u32, bytes: &[u8]) -> Result<(), FlashError>
         ensures counted { D.failed self.new.inner ≡ D.failed self.old.inner + failures_in result }
     {
-        let Ok(old) = self.inner.read(page) else {
-            return self.inner.write(page, bytes);
-        };
+        let old = self.inner.read(page)?;
         let mut torn = Vec::from_slice(self.alloc, bytes)?;
         let half = bytes.len() / 2;
         for (at, place) in torn.iter_mut().enumerate() {

@@ -105,7 +105,10 @@ fn with<G: Digest + Copy>(
 ) -> Sums {
     let closed = shared.close(clients, failures);
     let agrees = closed.is_ok();
-    let is_true = matches!(closed, Ok(report) if report.lie.is_none());
+    let is_true = match &closed {
+        Ok(report) => report.lie.is_none(),
+        Err(_) => false,
+    };
     Sums {
         agree: sums.agree.saturating_add(u64::from(agrees)),
         are_true: sums.are_true.saturating_add(u64::from(is_true)),

@@ -103,7 +103,7 @@ impl Player {
         key: Key,
         number: u64,
     ) -> Result<(), Refusal> {
-        let fill = Fill::Repeated(20 + number, ((self.drawn >> 12) % 256) as u8);
+        let fill = Fill::Repeated(number.saturating_add(20), ((self.drawn >> 12) % 256) as u8);
         match self.client.allocate_with(rt, shared, 0, key, fill, 0) {
             Ok(blank) => self.insert(rt, shared, blank),
             Err(Uncharged { refusal, key: _ }) => Err(refusal),
