@@ -49,6 +49,10 @@ static void check_empty(void) {
     CHECK(kilambosetry_filler_take(&cache, &job) == KILAMBOSETRY_EMPTY);
     CHECK(kilambosetry_order(&cache, 1, &operation, out, sizeof out, &len) == KILAMBOSETRY_EMPTY);
     CHECK(kilambosetry_finish_read(&cache, 1, out, sizeof out) == KILAMBOSETRY_EMPTY);
+    CHECK(kilambosetry_order_page(&cache, 1, &operation, &value) == KILAMBOSETRY_EMPTY && !value.full);
+    CHECK(kilambosetry_finish_page(&cache, 1, &value) == KILAMBOSETRY_EMPTY && !value.full);
+    CHECK(kilambosetry_page_new(&value, BYTES("page")) == KILAMBOSETRY_DONE && value.full);
+    CHECK(kilambosetry_finish_page(&cache, 1, &value) == KILAMBOSETRY_EMPTY && value.full); /* it keeps its page */
     CHECK(kilambosetry_finish_write(&cache, 1) == KILAMBOSETRY_EMPTY);
     CHECK(kilambosetry_finish_failed(&cache, 1) == KILAMBOSETRY_EMPTY);
     CHECK(kilambosetry_reclaim(&cache) == KILAMBOSETRY_EMPTY);
@@ -171,12 +175,34 @@ static void check_values(void) {
 
 static uint8_t device[16][512];
 static bool device_fails;
+static bool by_handles;
 
 static const kilambosetry_pool one_item[] = {{200, 1}};
 static const kilambosetry_flash flash = {512, 8, 4, 2, 1, 256, 16, 16, 1, 200};
 
+/* Does the operation for which the job waits, by handles to pages, and hands in what came of it. */
+static uint8_t operate_by_handles(kilambosetry_cache *cache, uint64_t job) {
+    kilambosetry_operation operation = {0, false};
+    kilambosetry_value page = KILAMBOSETRY_NONE;
+    size_t len = 0;
+    CHECK(kilambosetry_order_page(cache, job, &operation, &page) == KILAMBOSETRY_DONE);
+    CHECK(operation.page < 16 && operation.writes == page.full);
+    if (operation.writes) {
+        CHECK(kilambosetry_value_copy(&page, 0, device[operation.page], 512, &len) == KILAMBOSETRY_DONE && len == 512);
+        kilambosetry_value_free(&page);
+        return kilambosetry_finish_write(cache, job);
+    }
+    CHECK(kilambosetry_page_new(&page, device[operation.page], 512) == KILAMBOSETRY_DONE && page.full);
+    CHECK(kilambosetry_finish_page(cache, job + 1, &page) == KILAMBOSETRY_UNKNOWN_JOB && page.full); /* it keeps its page */
+    uint8_t status = kilambosetry_finish_page(cache, job, &page);
+    CHECK(!page.full);
+    CHECK(kilambosetry_finish_page(cache, job, &page) == KILAMBOSETRY_EMPTY); /* the page went */
+    return status;
+}
+
 /* Does the operation for which the job waits, and hands in what came of it. */
 static uint8_t operate(kilambosetry_cache *cache, uint64_t job) {
+    if (by_handles && !device_fails) return operate_by_handles(cache, job);
     kilambosetry_operation operation = {0, false};
     uint8_t bytes[512];
     size_t len = 0;
@@ -348,6 +374,10 @@ int main(void) {
     check_new_with_flash();
     check_flash();
     check_adds_and_faults();
+    by_handles = true;
+    check_flash();
+    check_adds_and_faults();
+    by_handles = false;
     check_forgetting();
     check_full_queue();
     check_words();

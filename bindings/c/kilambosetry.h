@@ -25,7 +25,7 @@
 extern "C" {
 #endif
 
-/* What holds a cache, and what holds a value that is read. */
+/* What holds a cache, and what holds a value that is read, or a page of flash. */
 typedef struct {
     void *at;
     bool full;
@@ -122,7 +122,7 @@ enum {
     KILAMBOSETRY_UNKNOWN_JOB = 21,    /* no job with this number waits, or not for such a result */
     KILAMBOSETRY_NO_MEMORY = 22,
     KILAMBOSETRY_MISS = 100,          /* the key has no unexpired value; to a delete: no item */
-    KILAMBOSETRY_EMPTY = 101,         /* the handle has no cache, or no value */
+    KILAMBOSETRY_EMPTY = 101,         /* the handle has no cache, no value or no page */
     KILAMBOSETRY_SHORT = 102,         /* the buffer is shorter than the value */
     KILAMBOSETRY_WAITS = 103,         /* the call waits for flash; a cache without flash doesn't answer it */
     KILAMBOSETRY_IDLE = 104,          /* there is nothing for the worker to do */
@@ -198,6 +198,16 @@ uint8_t kilambosetry_order(kilambosetry_cache *cache, uint64_t job, kilambosetry
 uint8_t kilambosetry_finish_read(kilambosetry_cache *cache, uint64_t job, const uint8_t *page, size_t page_len);
 uint8_t kilambosetry_finish_write(kilambosetry_cache *cache, uint64_t job);
 uint8_t kilambosetry_finish_failed(kilambosetry_cache *cache, uint64_t job);
+
+/* The same by handles to pages, so that a cache that threads share is locked for no copy. `kilambosetry_page_new` makes one of
+ * a copy of these bytes, and asks no cache. `kilambosetry_finish_page` hands the page in: the handle has none afterwards, and
+ * keeps it where it is refused; EMPTY, where the handle has no page. `kilambosetry_order_page` tells the operation, and where
+ * the page is to be written hands out a handle to it, which `kilambosetry_value_copy` reads once the lock is free. A page that
+ * a handle has is freed first by the first and the last. `kilambosetry_value_free` frees one. */
+uint8_t kilambosetry_page_new(kilambosetry_value *page, const uint8_t *bytes, size_t bytes_len);
+uint8_t kilambosetry_order_page(kilambosetry_cache *cache, uint64_t job, kilambosetry_operation *operation,
+                                kilambosetry_value *page);
+uint8_t kilambosetry_finish_page(kilambosetry_cache *cache, uint64_t job, kilambosetry_value *page);
 
 /* Gives up the region that was written first, where fewer are clean than are wanted: DONE; else IDLE. To be called before each
  * `kilambosetry_writer_take`. */

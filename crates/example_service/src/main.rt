@@ -9,7 +9,10 @@ use crate::badges::badge;
 use crate::profiles::{open, print_state, profile};
 use crate::worker::Worker;
 use hc_core::{Core, Counting};
-use std::io;
+use std::{fs, io};
+
+// The file of the cache's pages.
+const FILE: &str = "example_service.pages";
 
 // Nine o'clock, in seconds of the day.
 const NINE: u64 = 32_400;
@@ -62,9 +65,20 @@ fn day(
     print_state(rt, cache)
 }
 
+// The day with an empty cache over this worker's file.
+fn with_cache(rt: &(impl Print + Eprint + AllocGlobal), mut worker: Worker) -> io::Result<()> {
+    let Ok(mut cache) = open(rt.alloc(), NINE) else {
+        return eprintln!(rt; "no cache");
+    };
+    day(rt, &mut cache, &mut worker)?;
+    println!(rt; "failures of the device: {}", worker.failures())
+}
+
 fn main(rt: HostRuntime) -> io::Result<()> {
-    match (open(rt.alloc(), NINE), Worker::new(rt.alloc())) {
-        (Ok(mut cache), Ok(mut worker)) => day(&rt, &mut cache, &mut worker),
-        _ => eprintln!(rt; "no cache"),
+    match Worker::new(&rt, rt.alloc(), FILE) {
+        Ok(worker) => with_cache(&rt, worker)?,
+        Err(error) => eprintln!(rt; "no device: {error}")?,
     }
+    // (a service leaves it there for its next start)
+    fs::remove_file(&rt, FILE)
 }

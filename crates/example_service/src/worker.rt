@@ -1,11 +1,22 @@
 // The worker of a cache: it takes jobs, does their operations on the device, and hands in what came of them.
 use hc_core::{Core, Counting, IoResult, Order, Refusal, Take, Unfinished};
-use hc_flash::{MemFlash, perform};
-use std::alloc::{AllocError, Global};
+use hc_paged::{Checked, Device, FileDevice, Folded, OpenError, open, operate};
+use std::alloc::Global;
+use std::fs::File;
+use std::io::{self, ErrorKind};
+use std::rt::Files;
+
+// As many pages as the cache's flash has, and their bytes.
+const PAGES: u32 = 16;
+
+const PAGE: u32 = 512;
+
+// A file, and the digest of each of its pages: what the disk lost or tore isn't served.
+type Disk = Checked<FileDevice<File>, Folded>;
 
 // The device does one operation. One that it can't do for want of memory has failed: the cache does without it.
-fn operate(device: &mut MemFlash, order: &Order) -> IoResult {
-    match perform(device, order) {
+fn make(device: &mut Disk, order: &Order) -> IoResult {
+    match operate(device, order) {
         Ok(came) => came,
         Err(_) => IoResult::Failed,
     }
@@ -14,15 +25,27 @@ fn operate(device: &mut MemFlash, order: &Order) -> IoResult {
 /// The device, and the result, with its job, that couldn't be handed in yet for want of memory.
 #[derive(Drop)]
 pub struct Worker {
-    device: MemFlash,
+    device: Disk,
     owed: Option<(u64, IoResult)>,
 }
 
 impl Worker {
-    /// The worker of such a cache, with a device in memory. A service has a real one, as `hc_paged` has for files.
-    pub fn new(alloc: Global) -> Result<Worker, AllocError> {
-        let device = MemFlash::new(alloc, 16, 512)?;
-        Ok(Worker { device, owed: None })
+    /// The worker of such a cache, whose pages are in the file of this name. What an earlier run left there is written over.
+    pub fn new<R: Files<File = File>>(
+        rt: &R,
+        alloc: Global,
+        path: &str,
+    ) -> Result<Worker, OpenError> {
+        let file = open(rt, alloc, path, PAGES, PAGE)?;
+        match Checked::new(alloc, file, Folded, PAGES) {
+            Ok(device) => Ok(Worker { device, owed: None }),
+            Err(_) => Err(OpenError::System(io::Error::from(ErrorKind::OutOfMemory))),
+        }
+    }
+
+    /// How often the device failed so far: not at all, unless the disk is full or broken.
+    pub fn failures(&self) -> u64 {
+        self.device.failures()
     }
 
     // Hands in what came of a job's operation: what is next of the job.
@@ -48,7 +71,7 @@ impl Worker {
             let (job, came) = match &take {
                 Take::Idle => return Ok(false),
                 Take::Finished => return Ok(true),
-                Take::Work(job, order) => (*job, operate(&mut self.device, order)),
+                Take::Work(job, order) => (*job, make(&mut self.device, order)),
             };
             take = self.hand_in(cache, job, came)?;
         }

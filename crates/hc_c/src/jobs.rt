@@ -21,7 +21,7 @@ pub struct Operation {
 }
 
 // Tells the number of the job that goes on.
-fn tell_take(take: Take, job: &mut u64) -> Status
+pub(crate) fn tell_take(take: Take, job: &mut u64) -> Status
     ensures { TellsTake (take_of take) job.old job.new result }
 {
     match take {

@@ -12,6 +12,7 @@ mod calls;
 mod items;
 mod jobs;
 mod making;
+mod pages;
 mod parts;
 mod reading;
 mod status;
@@ -26,6 +27,7 @@ pub use cache_handle::CacheHandle;
 pub use items::{kilambosetry_add, kilambosetry_delete, kilambosetry_get, kilambosetry_set};
 pub use jobs::Operation;
 pub use making::{Flash, Pool, kilambosetry_free, kilambosetry_new, kilambosetry_new_with_flash};
+pub use pages::{kilambosetry_finish_page, kilambosetry_order_page, kilambosetry_page_new};
 pub use reading::Reading;
 pub use status::Status;
 pub use telling::{

@@ -4,7 +4,7 @@ use crate::bad::Bad;
 use crate::cache::{PAGE, PAGES, new_cache};
 use crate::player::{Player, players};
 use hc_core::{Kept, Refusal};
-use hc_paged::{Device, Digest, Folded, Undigested, open};
+use hc_paged::{Device, Digest, Folded, OpenError, Undigested, open};
 use hc_threads::{Client, NoGate, Port, Shared, serve};
 use std::alloc::Global;
 use std::fs::File;
@@ -30,36 +30,51 @@ pub(crate) struct Sums {
     pub(crate) failures: u64,
 }
 
-/// Makes the caches, one after the other. Refused with `NoMemory` also where the file can't be opened.
+/// Why the caches weren't all made.
+#[derive(Drop)]
+pub(crate) enum Ended {
+    /// A device wasn't opened.
+    NotOpened(OpenError),
+    /// Something was refused, as for want of memory.
+    Refused,
+}
+
+/// Makes the caches, one after the other.
 pub(crate) fn close_all<R: Threads + Wait + Sync + Files<File = File>>(
     rt: &R,
     alloc: Global,
     asked: Soak<'_>,
-) -> Result<Sums, Refusal> {
+) -> Result<Sums, Ended> {
     let mut sums = Sums::default();
     for number in 0..asked.caches {
-        sums = if asked.has_digests {
-            with_one(rt, alloc, asked, number, sums, Folded)?
+        let file = match open(rt, alloc, asked.path, PAGES, PAGE) {
+            Ok(file) => file,
+            Err(error) => return Err(Ended::NotOpened(error)),
+        };
+        let bad = Bad::new(alloc, file, asked.every, number);
+        let with = if asked.has_digests {
+            with_one(rt, alloc, bad, number, sums, Folded)
         } else {
-            with_one(rt, alloc, asked, number, sums, Undigested)?
+            with_one(rt, alloc, bad, number, sums, Undigested)
+        };
+        sums = match with {
+            Ok(sums) => sums,
+            Err(_) => return Err(Ended::Refused),
         };
     }
     Ok(sums)
 }
 
 /// The sums with what one more cache comes to.
-fn with_one<R: Threads + Wait + Sync + Files<File = File>, G: Digest + Copy + Send + Sync>(
+fn with_one<R: Threads + Wait + Sync, D: Device<Global> + Send, G: Digest + Copy + Send + Sync>(
     rt: &R,
     alloc: Global,
-    asked: Soak<'_>,
+    device: D,
     number: u64,
     sums: Sums,
     digest: G,
 ) -> Result<Sums, Refusal> {
-    let Ok(file) = open(rt, alloc, asked.path, PAGES, PAGE) else {
-        return Err(Refusal::NoMemory);
-    };
-    let port = Port::new(alloc, Bad::new(alloc, file, asked.every, number));
+    let port = Port::new(alloc, device);
     let shared = new_cache(alloc, digest)?;
     let clients = use_it(rt, alloc, &shared, number, &port)?;
     let failures = port.failures(rt).saturating_add(shared.lies(rt));

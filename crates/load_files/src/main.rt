@@ -6,7 +6,8 @@
 //! so many writes of the device one goes wrong, and is answered as made: in turn it isn't made, it is made to the page
 //! before, or only its first half is. 0 says that none does. 64 clients in threads make 50 calls each on 300 keys, of which
 //! memory has room for 80, beside the workers, and close the cache. What is told is how many of the logs tell no lie; on the
-//! other stream, how often the devices failed. The file is removed in the end.
+//! other stream, how often the devices failed. The file is removed in the end, unless it couldn't be opened as a device: then
+//! the other stream says why.
 //!
 //! The status is 0 where each cache was closed and its records agreed with its log, 1 where one didn't, 2 for any other
 //! command line, and 4 where memory or something else lacked.
@@ -17,7 +18,7 @@ mod cache;
 mod closing;
 mod player;
 
-use crate::closing::{Soak, Sums, close_all};
+use crate::closing::{Ended, Soak, Sums, close_all};
 use std::env::{self, Env};
 use std::fs::{self, File};
 use std::io;
@@ -52,7 +53,11 @@ fn run<R: Threads + Wait + Sync + Print + Eprint + Env + AllocGlobal + Files<Fil
         eprintln!(rt; "usage: load_files CACHES EVERY bare|checked PATH")?;
         return Ok(2);
     };
-    let sums = close_all(rt, rt.alloc(), asked);
+    let ended = close_all(rt, rt.alloc(), asked);
+    if let Err(Ended::NotOpened(error)) = ended {
+        eprintln!(rt; "{}: {error}", asked.path)?;
+        return Ok(4);
+    }
     let _ = fs::remove_file(rt, asked.path);
     let Ok(
         Sums {
@@ -60,7 +65,7 @@ fn run<R: Threads + Wait + Sync + Print + Eprint + Env + AllocGlobal + Files<Fil
             are_true,
             failures,
         },
-    ) = sums
+    ) = ended
     else {
         return Ok(4);
     };
