@@ -1,5 +1,6 @@
 use crate::library::{self, Handle};
 use crate::{done, found, Cache, Counts, Losses, Pool, Refused, Usage, Value};
+use std::alloc::{self, Layout};
 use std::collections::VecDeque;
 use std::io;
 
@@ -82,19 +83,19 @@ pub enum Reply {
 }
 
 /// A device operation.
-#[derive(Clone, Debug, PartialEq, Eq)]
+#[derive(Debug)]
 pub enum Operation {
     /// This page is to be read.
     Read(u32),
-    /// This page is to have these bytes.
-    Write(u32, Vec<u8>),
+    /// This page is to have these bytes, which the value shares with the cache.
+    Write(u32, Value),
 }
 
 /// What came of a device operation.
-#[derive(Clone, Debug, PartialEq, Eq)]
+#[derive(Debug)]
 pub enum Came {
-    /// The page was read, and has these bytes.
-    Page(Vec<u8>),
+    /// The page was read, and has these bytes ([`Value::copy_of`]).
+    Page(Value),
     /// The page was written.
     Written,
     /// The device failed.
@@ -102,7 +103,7 @@ pub enum Came {
 }
 
 /// What a worker is to do.
-#[derive(Clone, Debug, PartialEq, Eq)]
+#[derive(Debug)]
 pub enum Take {
     /// Nothing.
     Idle,
@@ -301,19 +302,20 @@ impl HybridCache {
 
     /// Hands in what came of the operation for which the job waits, and answers what is next of it. Refused with
     /// [`Refused::UNKNOWN_JOB`] where no job with this number waits for such a result, and with [`Refused::NO_MEMORY`]; then
-    /// it must be handed in again, since the job waits for it.
-    pub fn finish(&mut self, job: u64, came: &Came) -> Result<Take, Refused> {
+    /// it must be handed in again, since the job waits for it. A page isn't copied: it is the cache's afterwards, and its value
+    /// is empty, unless it is refused.
+    pub fn finish(&mut self, job: u64, came: &mut Came) -> Result<Take, Refused> {
         let handle = &mut self.cache.0;
-        // SAFETY: the page is valid for its length, and the handle is this cache's own.
+        // SAFETY: the handles are this cache's and this page's own.
         let status = unsafe {
             match came {
-                Came::Page(page) => library::kilambosetry_finish_read(handle, job, page.as_ptr(), page.len()),
+                Came::Page(page) => library::kilambosetry_finish_page(handle, job, &mut page.0),
                 Came::Written => library::kilambosetry_finish_write(handle, job),
                 Came::Failed => library::kilambosetry_finish_failed(handle, job),
             }
         };
         let take = self.taken(status, job);
-        if take == Ok(Take::Finished) {
+        if matches!(take, Ok(Take::Finished)) {
             self.drop_replies();
         }
         take
@@ -348,25 +350,25 @@ impl HybridCache {
         }
     }
 
-    // The operation for which the job waits.
+    // The operation for which the job waits. A page that is to be written isn't copied here, where a lock may be held.
     fn operation(&mut self, job: u64) -> Result<Operation, Refused> {
         let mut operation = library::Operation { page: 0, writes: false };
-        let mut page = vec![0; self.page];
-        let mut len = 0;
-        // SAFETY: `page` is valid for its length, and nothing that is written overlaps.
-        done(unsafe {
-            library::kilambosetry_order(&mut self.cache.0, job, &mut operation, page.as_mut_ptr(), page.len(), &mut len)
-        })?;
-        Ok(match operation.writes {
-            true => Operation::Write(operation.page, page),
-            false => Operation::Read(operation.page),
-        })
+        let mut page = Value::none();
+        // SAFETY: all are valid for the call, and nothing that is written overlaps.
+        let status = unsafe { library::kilambosetry_order_page(&mut self.cache.0, job, &mut operation, &mut page.0) };
+        match done(status) {
+            Ok(()) if operation.writes => Ok(Operation::Write(operation.page, page)),
+            Ok(()) => Ok(Operation::Read(operation.page)),
+            // the job is under way: as for any memory that this crate wants itself
+            Err(Refused::NO_MEMORY) => alloc::handle_alloc_error(Layout::new::<Operation>()),
+            Err(refused) => Err(refused),
+        }
     }
 
     // Hands a result in, and keeps it where memory lacks.
-    fn hand_in(&mut self, job: u64, came: Came) -> Result<Take, Refused> {
-        let next = self.finish(job, &came);
-        if next == Err(Refused::NO_MEMORY) {
+    fn hand_in(&mut self, job: u64, mut came: Came) -> Result<Take, Refused> {
+        let next = self.finish(job, &mut came);
+        if matches!(next, Err(Refused::NO_MEMORY)) {
             self.owed = Some((job, came));
         }
         next
@@ -381,7 +383,7 @@ impl HybridCache {
                 Take::Finished => return Ok(true),
                 Take::Work(job, operation) => {
                     self.owed = Some((job, Came::Failed));
-                    (job, operate(device, &operation, self.page))
+                    (job, operate(device, operation, self.page))
                 }
             };
             self.owed = None;
@@ -390,17 +392,17 @@ impl HybridCache {
     }
 }
 
-// The device does one operation.
-fn operate(device: &mut impl Device, operation: &Operation, page_bytes: usize) -> Came {
+// The device does one operation. One for which memory lacks has failed.
+fn operate(device: &mut impl Device, operation: Operation, page_bytes: usize) -> Came {
     match operation {
         Operation::Read(page) => {
             let mut bytes = vec![0; page_bytes];
-            match device.read(*page, &mut bytes) {
-                Ok(()) => Came::Page(bytes),
+            match device.read(page, &mut bytes) {
+                Ok(()) => Value::copy_of(&bytes).map_or(Came::Failed, Came::Page),
                 Err(_) => Came::Failed,
             }
         }
-        Operation::Write(page, bytes) => match device.write(*page, bytes) {
+        Operation::Write(page, mut bytes) => match device.write(page, &bytes.to_vec()) {
             Ok(()) => Came::Written,
             Err(_) => Came::Failed,
         },

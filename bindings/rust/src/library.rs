@@ -2,7 +2,7 @@
 use std::ffi::c_void;
 use std::ptr;
 
-/// What holds a cache, or a value that is read.
+/// What holds a cache, a value that is read, or a page of flash.
 #[repr(C)]
 #[derive(Debug)]
 pub struct Handle {
@@ -38,15 +38,9 @@ extern "C" {
     pub fn kilambosetry_writer_take(cache: *mut Handle, job: *mut u64) -> u8;
     pub fn kilambosetry_filler_take(cache: *mut Handle, job: *mut u64) -> u8;
     pub fn kilambosetry_reclaim(cache: *mut Handle) -> u8;
-    pub fn kilambosetry_order(
-        cache: *mut Handle,
-        job: u64,
-        operation: *mut Operation,
-        out: *mut u8,
-        out_len: usize,
-        len: *mut usize,
-    ) -> u8;
-    pub fn kilambosetry_finish_read(cache: *mut Handle, job: u64, page: *const u8, page_len: usize) -> u8;
+    pub fn kilambosetry_page_new(page: *mut Handle, bytes: *const u8, bytes_len: usize) -> u8;
+    pub fn kilambosetry_order_page(cache: *mut Handle, job: u64, operation: *mut Operation, page: *mut Handle) -> u8;
+    pub fn kilambosetry_finish_page(cache: *mut Handle, job: u64, page: *mut Handle) -> u8;
     pub fn kilambosetry_finish_write(cache: *mut Handle, job: u64) -> u8;
     pub fn kilambosetry_finish_failed(cache: *mut Handle, job: u64) -> u8;
     pub fn kilambosetry_new(cache: *mut Handle, pools: *const crate::Pool, pools_len: usize) -> u8;

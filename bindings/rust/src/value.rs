@@ -1,6 +1,7 @@
 use crate::library::{self, Handle};
+use crate::{done, Refused};
 
-/// A value that was read. It stays as it is, whatever becomes of the cache, and is freed when it is dropped.
+/// A value that was read, or a page of flash. It stays as it is, whatever becomes of the cache, and is freed when it is dropped.
 #[derive(Debug)]
 pub struct Value(pub(crate) Handle);
 
@@ -11,6 +12,15 @@ impl Value {
     // A handle that holds nothing.
     pub(crate) fn none() -> Value {
         Value(Handle::none())
+    }
+
+    /// A copy of these bytes, as a page that is to be handed in. No cache is asked, so that no lock is needed. Refused with
+    /// [`Refused::NO_MEMORY`].
+    pub fn copy_of(bytes: &[u8]) -> Result<Value, Refused> {
+        let mut value = Value::none();
+        // SAFETY: the bytes are valid for their length, and the handle is this value's own.
+        done(unsafe { library::kilambosetry_page_new(&mut value.0, bytes.as_ptr(), bytes.len()) })?;
+        Ok(value)
     }
 
     /// How many bytes it has.

@@ -1,6 +1,6 @@
 //! What the wrapper answers.
 use kilambosetry::{
-    Added, Cache, Came, Device, Flash, Found, HybridCache, Losses, Operation, Pool, Refused, Reply, Take,
+    Added, Cache, Came, Device, Flash, Found, HybridCache, Losses, Operation, Pool, Refused, Reply, Take, Value,
 };
 use std::error::Error;
 use std::io;
@@ -194,22 +194,43 @@ fn what_a_device_loses_is_a_miss_and_a_loss() {
 #[test]
 fn jobs_are_out_at_the_same_time() {
     let (mut cache, mut device) = hybrid();
-    assert_eq!(cache.writer_take().unwrap(), Take::Idle);
+    assert!(matches!(cache.writer_take(), Ok(Take::Idle)));
     cache.set(0, b"a", b"one", 0).unwrap();
     cache.set(0, b"b", b"two", 0).unwrap();
-    let Take::Work(job, Operation::Write(page, bytes)) = cache.writer_take().unwrap() else {
+    let Take::Work(job, Operation::Write(page, mut bytes)) = cache.writer_take().unwrap() else {
         panic!("a is to be written")
     };
-    assert_eq!(cache.finish(job, &Came::Page(vec![0; 512])).unwrap_err(), Refused::UNKNOWN_JOB);
     cache.set(0, b"c", b"three", 0).unwrap();
-    let second = cache.writer_take().unwrap();
-    assert_ne!(second, Take::Work(job, Operation::Write(page, bytes.clone())));
-    device.write(page, &bytes).unwrap();
-    assert_eq!(cache.finish(job, &Came::Written).unwrap(), Take::Finished);
-    assert_eq!(cache.finish(job, &Came::Written).unwrap_err(), Refused::UNKNOWN_JOB);
-    if let Take::Work(job, _) = second {
-        assert_eq!(cache.finish(job, &Came::Failed).unwrap(), Take::Finished);
+    let Take::Work(second, _) = cache.writer_take().unwrap() else { panic!("b is to be written") };
+    assert_ne!(second, job);
+    device.write(page, &bytes.to_vec()).unwrap();
+    assert!(matches!(cache.finish(job, &mut Came::Written), Ok(Take::Finished)));
+    assert_eq!(cache.finish(job, &mut Came::Written).unwrap_err(), Refused::UNKNOWN_JOB);
+    assert!(matches!(cache.finish(second, &mut Came::Failed), Ok(Take::Finished)));
+}
+
+// How many bytes the page has.
+fn length_of(came: &mut Came) -> usize {
+    match came {
+        Came::Page(page) => page.length(),
+        Came::Written | Came::Failed => panic!("it is a page"),
     }
+}
+
+#[test]
+fn a_page_is_handed_in_once_and_stays_where_it_is_refused() {
+    let (mut cache, mut device) = hybrid();
+    cache.set(0, b"a", b"one", 0).unwrap();
+    cache.set(0, b"b", b"two", 0).unwrap();
+    cache.work(&mut device).unwrap();
+    let call = waiting(cache.get(b"a").unwrap());
+    let Take::Work(job, Operation::Read(page)) = cache.filler_take().unwrap() else { panic!("a is to be read") };
+    let mut came = Came::Page(Value::copy_of(&device.pages[page as usize]).unwrap());
+    assert_eq!(cache.finish(job + 1, &mut came).unwrap_err(), Refused::UNKNOWN_JOB);
+    assert_eq!(length_of(&mut came), 512);
+    assert!(matches!(cache.finish(job, &mut came), Ok(Take::Finished)));
+    assert_eq!(length_of(&mut came), 0);
+    assert_eq!(value_of(cache.take_reply(call).unwrap()), b"one");
 }
 
 #[test]
