@@ -339,6 +339,42 @@ static void check_forgetting(void) {
     kilambosetry_value_free(&value);
 }
 
+/* Workers are worth waking where they find something to do, and who was answered is told until each reply is taken. */
+static void check_work_and_replies(void) {
+    kilambosetry_cache cache = KILAMBOSETRY_NONE;
+    kilambosetry_value value = KILAMBOSETRY_NONE;
+    uint64_t calls[2] = {0, 0}, call = 0, job = 0;
+    CHECK(kilambosetry_new_with_flash(&cache, one_item, 1, &flash) == KILAMBOSETRY_DONE);
+    CHECK(kilambosetry_writer_has_work(&cache) == KILAMBOSETRY_IDLE && kilambosetry_filler_has_work(&cache) == KILAMBOSETRY_IDLE);
+    CHECK(kilambosetry_set(&cache, 0, BYTES("a"), BYTES("one"), 0) == KILAMBOSETRY_DONE);
+    CHECK(kilambosetry_writer_has_work(&cache) == KILAMBOSETRY_IDLE);
+    CHECK(kilambosetry_set(&cache, 0, BYTES("b"), BYTES("two"), 0) == KILAMBOSETRY_DONE);
+    CHECK(kilambosetry_writer_has_work(&cache) == KILAMBOSETRY_DONE && kilambosetry_filler_has_work(&cache) == KILAMBOSETRY_IDLE);
+    CHECK(kilambosetry_writer_take(&cache, &job) == KILAMBOSETRY_DONE);
+    CHECK(kilambosetry_writer_has_work(&cache) == KILAMBOSETRY_IDLE); /* it is out */
+    CHECK(complete(&cache, KILAMBOSETRY_DONE, job));
+    CHECK(kilambosetry_next_reply(&cache, &call) == KILAMBOSETRY_IDLE && call == 0);
+    for (int i = 0; i < 2; i++) {
+        CHECK(kilambosetry_read(&cache, BYTES("a"), &value) == KILAMBOSETRY_WAITS);
+        CHECK(kilambosetry_calls(&cache, &calls[i]) == KILAMBOSETRY_DONE);
+    }
+    CHECK(kilambosetry_filler_has_work(&cache) == KILAMBOSETRY_DONE && kilambosetry_writer_has_work(&cache) == KILAMBOSETRY_IDLE);
+    CHECK(kilambosetry_next_reply(&cache, &call) == KILAMBOSETRY_IDLE && call == 0); /* both wait */
+    work(&cache);
+    CHECK(kilambosetry_filler_has_work(&cache) == KILAMBOSETRY_IDLE);
+    for (int i = 0; i < 2; i++) {
+        call = 0;
+        CHECK(kilambosetry_next_reply(&cache, &call) == KILAMBOSETRY_DONE && (call == calls[0] || call == calls[1]));
+        CHECK(kilambosetry_take_reply(&cache, call, &value) == KILAMBOSETRY_DONE && value.full);
+        CHECK(kilambosetry_take_reply(&cache, call, &value) == KILAMBOSETRY_UNKNOWN_CALL);
+    }
+    CHECK(kilambosetry_next_reply(&cache, &call) == KILAMBOSETRY_IDLE);
+    kilambosetry_free(&cache);
+    CHECK(kilambosetry_next_reply(&cache, &call) == KILAMBOSETRY_EMPTY && kilambosetry_writer_has_work(&cache) == KILAMBOSETRY_EMPTY);
+    CHECK(kilambosetry_filler_has_work(&cache) == KILAMBOSETRY_EMPTY);
+    kilambosetry_value_free(&value);
+}
+
 /* Items that find the queue full are told apart from those that a device loses. */
 static void check_full_queue(void) {
     kilambosetry_cache cache = KILAMBOSETRY_NONE;
@@ -379,6 +415,7 @@ int main(void) {
     check_adds_and_faults();
     by_handles = false;
     check_forgetting();
+    check_work_and_replies();
     check_full_queue();
     check_words();
     printf("%d checks, %d failed\n", checks, failures);

@@ -209,6 +209,15 @@ uint8_t kilambosetry_order_page(kilambosetry_cache *cache, uint64_t job, kilambo
                                 kilambosetry_value *page);
 uint8_t kilambosetry_finish_page(kilambosetry_cache *cache, uint64_t job, kilambosetry_value *page);
 
+/* Whether a worker is worth waking: DONE, where it finds something to do if it takes now, and IDLE, where it doesn't. To be asked
+ * after a call that may have made work, under the same lock; NO_MEMORY says neither: then wake it. */
+uint8_t kilambosetry_writer_has_work(kilambosetry_cache *cache);
+uint8_t kilambosetry_filler_has_work(kilambosetry_cache *cache);
+
+/* Who was answered: tells the number of a call whose reply can be taken now, whichever of them it is; IDLE, where no reply is
+ * ready. It looks for none, however many wait. To be asked after each job that ended, and again until it is IDLE. */
+uint8_t kilambosetry_next_reply(kilambosetry_cache *cache, uint64_t *call);
+
 /* Gives up the region that was written first, where fewer are clean than are wanted: DONE; else IDLE. To be called before each
  * `kilambosetry_writer_take`. */
 uint8_t kilambosetry_reclaim(kilambosetry_cache *cache);

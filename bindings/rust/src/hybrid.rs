@@ -226,6 +226,15 @@ impl HybridCache {
         Ok(if value.0.is_full() { Reply::Hit(value) } else { Reply::Stored })
     }
 
+    /// The number of a call whose reply can be taken now, whichever of them it is; none, where no reply is ready. It looks for
+    /// none, however many calls wait. To be asked after each job that ended, and again until there is none.
+    pub fn next_reply(&mut self) -> Option<u64> {
+        let mut call = 0;
+        // SAFETY: both are valid for the call.
+        let status = unsafe { library::kilambosetry_next_reply(&mut self.cache.0, &mut call) };
+        (status == 0).then_some(call)
+    }
+
     /// Gives up the call with this number, whose reply nobody takes any more: of a request that was cancelled, say. A reply that
     /// is there is dropped at once, and one that isn't as jobs end (or another call is given up), so that it keeps no value
     /// alive. What an add was to store is stored all the same. Refused with [`Refused::UNKNOWN_CALL`] where no reply is owed to
@@ -291,13 +300,23 @@ impl HybridCache {
         self.taken(status, job)
     }
 
+    /// Whether [`writer_take`](HybridCache::writer_take) finds something to do, if it is called now: then a writer is worth
+    /// waking. Refused with [`Refused::NO_MEMORY`], which says neither.
+    pub fn writer_has_work(&mut self) -> Result<bool, Refused> {
+        // SAFETY: the handle is this cache's own.
+        has_work(unsafe { library::kilambosetry_writer_has_work(&mut self.cache.0) })
+    }
+
+    /// Whether [`filler_take`](HybridCache::filler_take) does.
+    pub fn filler_has_work(&mut self) -> Result<bool, Refused> {
+        // SAFETY: the handle is this cache's own.
+        has_work(unsafe { library::kilambosetry_filler_has_work(&mut self.cache.0) })
+    }
+
     /// Gives up the region that was written first, where fewer are clean than are wanted, and answers whether it did.
     pub fn reclaim(&mut self) -> Result<bool, Refused> {
         // SAFETY: the handle is this cache's own.
-        match unsafe { library::kilambosetry_reclaim(&mut self.cache.0) } {
-            IDLE => Ok(false),
-            status => done(status).map(|()| true),
-        }
+        has_work(unsafe { library::kilambosetry_reclaim(&mut self.cache.0) })
     }
 
     /// Hands in what came of the operation for which the job waits, and answers what is next of it. Refused with
@@ -389,6 +408,14 @@ impl HybridCache {
             self.owed = None;
             take = self.hand_in(job, came)?;
         }
+    }
+}
+
+// Whether there was, or is, something to do.
+fn has_work(status: u8) -> Result<bool, Refused> {
+    match status {
+        IDLE => Ok(false),
+        status => done(status).map(|()| true),
     }
 }
 

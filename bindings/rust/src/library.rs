@@ -37,6 +37,9 @@ extern "C" {
     pub fn kilambosetry_take_reply(cache: *mut Handle, call: u64, value: *mut Handle) -> u8;
     pub fn kilambosetry_writer_take(cache: *mut Handle, job: *mut u64) -> u8;
     pub fn kilambosetry_filler_take(cache: *mut Handle, job: *mut u64) -> u8;
+    pub fn kilambosetry_writer_has_work(cache: *mut Handle) -> u8;
+    pub fn kilambosetry_filler_has_work(cache: *mut Handle) -> u8;
+    pub fn kilambosetry_next_reply(cache: *mut Handle, call: *mut u64) -> u8;
     pub fn kilambosetry_reclaim(cache: *mut Handle) -> u8;
     pub fn kilambosetry_page_new(page: *mut Handle, bytes: *const u8, bytes_len: usize) -> u8;
     pub fn kilambosetry_order_page(cache: *mut Handle, job: u64, operation: *mut Operation, page: *mut Handle) -> u8;

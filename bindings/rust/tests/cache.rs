@@ -209,6 +209,29 @@ fn jobs_are_out_at_the_same_time() {
     assert!(matches!(cache.finish(second, &mut Came::Failed), Ok(Take::Finished)));
 }
 
+#[test]
+fn workers_are_woken_where_there_is_work_and_callers_where_they_are_answered() {
+    let (mut cache, mut device) = hybrid();
+    assert_eq!((cache.writer_has_work(), cache.filler_has_work()), (Ok(false), Ok(false)));
+    cache.set(0, b"a", b"one", 0).unwrap();
+    cache.set(0, b"b", b"two", 0).unwrap();
+    assert_eq!((cache.writer_has_work(), cache.filler_has_work()), (Ok(true), Ok(false)));
+    cache.work(&mut device).unwrap();
+    assert_eq!(cache.writer_has_work(), Ok(false));
+    let mut calls = [waiting(cache.get(b"a").unwrap()), waiting(cache.get(b"a").unwrap())];
+    assert_eq!((cache.filler_has_work(), cache.next_reply()), (Ok(true), None));
+    cache.work(&mut device).unwrap();
+    assert_eq!(cache.filler_has_work(), Ok(false));
+    let mut answered = [0; 2];
+    for call in &mut answered {
+        *call = cache.next_reply().unwrap();
+        assert_eq!(value_of(cache.take_reply(*call).unwrap()), b"one");
+    }
+    calls.sort_unstable();
+    answered.sort_unstable();
+    assert_eq!((calls, cache.next_reply()), (answered, None));
+}
+
 // How many bytes the page has.
 fn length_of(came: &mut Came) -> usize {
     match came {

@@ -8,6 +8,7 @@ use Rattle.hc_machine.specs.Takes as takes
 use Rattle.hc_machine.specs.Takes.{Take, Work}
 use Rattle.hc_machine.specs.Workers.{reclaim, finish}
 use Rattle.hc_machine.specs.World.{order_in}
+use Rattle.hc_core.specs.Answers.{IsNextReply, is_work}
 use Rattle.hc_core.specs.Logged.{Logged, IsCall}
 use Rattle.hc_core.specs.Plain.{MayRefuse}
 use Rattle.hc_c.specs.Calls.{Buffer, Copies}
@@ -56,6 +57,19 @@ Finishes job came Idle old new = IsCall (finish job came old.cache) (Took takes.
 Finishes job came Finished old new = IsCall (finish job came old.cache) (Took takes.Finished) old new
 Finishes job came (Refused refusal) old new = (new ≡ old) × MayRefuse (finish job came old.cache).answer refusal
 Finishes job came status old new = ⊥
+
+-- whether a worker that takes now finds something to do: nothing changes
+abbrev pub HasWork : (Cache → Moved) → Status → Logged → Logged → Type 0
+HasWork step Done old new = (new ≡ old) × (is_work (step old.cache).answer ≡ true)
+HasWork step Idle old new = (new ≡ old) × (is_work (step old.cache).answer ≡ false)
+HasWork step (Refused refusal) old new = (new ≡ old) × (refusal ≡ NoMemory)
+HasWork step status old new = ⊥
+
+-- the number of a call whose reply can be taken is told, where there is one: nothing changes
+abbrev pub NamesReply : ℕ → ℕ → Status → Logged → Logged → Type 0
+NamesReply was is Done old new = (new ≡ old) × IsNextReply old.cache.owed (Some is)
+NamesReply was is Idle old new = (new ≡ old) × (IsNextReply old.cache.owed None × (is ≡ was))
+NamesReply was is status old new = ⊥
 
 -- ---- the device operation for which a job waits
 

@@ -5,7 +5,7 @@ ghost use Rattle.hc_machine.specs.World.{order_in};
 ghost use Rattle.hc_machine.specs.Workers.{writer_take as writer_step, filler_take as filler_step};
 ghost use Rattle.hc_nvm.specs.Seen.{take_of};
 ghost use Rattle.hc_flash.specs.Seen.{order_of};
-ghost use Rattle.hc_c.specs.Jobs.{TellsTake, Takes, Reclaims, Finishes, TellsOrder, IsOrdered};
+ghost use Rattle.hc_c.specs.Jobs.{TellsTake, Takes, Reclaims, Finishes, HasWork, NamesReply, TellsOrder, IsOrdered};
 
 use crate::calls::copy;
 use crate::status::Status;
@@ -63,6 +63,41 @@ pub fn reclaim(core: &mut Core<Totals>) -> Status
         Ok(Some(_)) => Status::Done,
         Ok(None) => Status::Idle,
         Err(refusal) => Status::Refused(refusal),
+    }
+}
+
+/// Says whether the writer finds something to do.
+pub fn writer_has_work(core: &mut Core<Totals>) -> Status
+    ensures { HasWork writer_step result core.old core.new }
+{
+    match core.writer_has_work() {
+        Ok(true) => Status::Done,
+        Ok(false) => Status::Idle,
+        Err(refusal) => Status::Refused(refusal),
+    }
+}
+
+/// Says whether the filler finds something to do.
+pub fn filler_has_work(core: &mut Core<Totals>) -> Status
+    ensures { HasWork filler_step result core.old core.new }
+{
+    match core.filler_has_work() {
+        Ok(true) => Status::Done,
+        Ok(false) => Status::Idle,
+        Err(refusal) => Status::Refused(refusal),
+    }
+}
+
+/// Tells the number of a call whose reply can be taken.
+pub fn next_reply(core: &Core<Totals>, call: &mut u64) -> Status
+    ensures { NamesReply call.old call.new result core.now core.now }
+{
+    match core.next_reply() {
+        Some(number) => {
+            *call = number;
+            Status::Done
+        }
+        None => Status::Idle,
     }
 }
 

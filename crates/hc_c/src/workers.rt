@@ -1,7 +1,7 @@
 // The calls of workers, who write to flash what left memory, and read from there what calls wait for.
 ghost use Rattle.hc_engines.specs.Engine.{Page, Written, Failed};
 ghost use Rattle.hc_machine.specs.Workers.{writer_take as writer_step, filler_take as filler_step};
-ghost use Rattle.hc_c.specs.Jobs.{Takes, Reclaims, Finishes, Orders};
+ghost use Rattle.hc_c.specs.Jobs.{Takes, Reclaims, Finishes, HasWork, NamesReply, Orders};
 ghost use Rattle.hc_c.specs.Statuses.{OnCache};
 
 use crate::cache_handle::CacheHandle;
@@ -43,6 +43,50 @@ pub extern "C" fn kilambosetry_filler_take(
         return Status::Empty.number();
     };
     let status = jobs::filler_take(&mut cache.core, job);
+    handle.put(cache);
+    status.number()
+}
+
+/// Says whether the writer is worth waking: `Done`, where it finds something to do if it takes now, and `Idle`, where it doesn't.
+/// Refused with `NoMemory`.
+#[unsafe(no_mangle)]
+pub extern "C" fn kilambosetry_writer_has_work(alloc: Global, handle: &mut CacheHandle) -> u8
+    ensures { OnCache handle.old.seat.cache handle.new.seat.cache result (HasWork writer_step) }
+{
+    let Some(mut cache) = handle.take(alloc) else {
+        return Status::Empty.number();
+    };
+    let status = jobs::writer_has_work(&mut cache.core);
+    handle.put(cache);
+    status.number()
+}
+
+/// Says the same of the filler.
+#[unsafe(no_mangle)]
+pub extern "C" fn kilambosetry_filler_has_work(alloc: Global, handle: &mut CacheHandle) -> u8
+    ensures { OnCache handle.old.seat.cache handle.new.seat.cache result (HasWork filler_step) }
+{
+    let Some(mut cache) = handle.take(alloc) else {
+        return Status::Empty.number();
+    };
+    let status = jobs::filler_has_work(&mut cache.core);
+    handle.put(cache);
+    status.number()
+}
+
+/// Tells the number of a call whose reply can be taken now, whichever of them it is; `Idle`, where no reply is ready.
+#[unsafe(no_mangle)]
+pub extern "C" fn kilambosetry_next_reply(
+    alloc: Global,
+    handle: &mut CacheHandle,
+    call: &mut u64,
+) -> u8
+    ensures { OnCache handle.old.seat.cache handle.new.seat.cache result (NamesReply call.old call.new) }
+{
+    let Some(cache) = handle.take(alloc) else {
+        return Status::Empty.number();
+    };
+    let status = jobs::next_reply(&cache.core, call);
     handle.put(cache);
     status.number()
 }

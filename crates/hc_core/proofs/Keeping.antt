@@ -88,6 +88,9 @@ unchanged_holds old new h same = record {
   guarded = guarded-as old.log new.log old.cache new.cache same.log same.cache h.guarded;
 }
 
+pub stays_holds : (old new : Whole) → Holds old → Stays old new → Holds new
+stays_holds old new h stays = unchanged_holds old new h (stays-unchanged old new stays)
+
 -- ---- calls
 
 module _ {T E : Type 0} (event : Event) (old new : Whole) (fits : EventFits event) (h : Holds old) where

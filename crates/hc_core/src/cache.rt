@@ -8,7 +8,7 @@ ghost use Rattle.hc_memory.specs.Seen.{filled};
 ghost use Rattle.hc_machine.specs.Cache.{new_cache, Opened, Discarded, Replied, Moment, Refused};
 ghost use Rattle.hc_machine.specs.Evicting.{allocate as allocate_step};
 ghost use Rattle.hc_machine.specs.Calls.{is_known, discard as discard_step, find as find_step, take_reply as reply_step, tick as tick_step};
-ghost use Rattle.hc_state.specs.Answering.{IsReason};
+ghost use Rattle.hc_state.specs.Answering.{IsNextReply, IsReason};
 ghost use Rattle.hc_state.specs.Copying.{copied_by, left_by};
 ghost use Rattle.hc_state.specs.Finding.{found_answer};
 ghost use Rattle.hc_core.specs.Holds.{Holds};
@@ -123,6 +123,14 @@ impl<N: Notes<Note<A>>, A: Allocator + Clone + Copy> Core<N, A> {
         ensures memory { IfErr result (λ refusal. refusal ≡ Refusal.NoMemory) }
     {
         self.state.find_into(client, key, buffer)
+    }
+
+    /// A call whose reply can be taken, whichever of them it is, found without a scan. None, where no reply is ready.
+    #[must_use]
+    pub fn next_reply(&self) -> Option<u64>
+        ensures { IsNextReply self.now.cache.owed result }
+    {
+        self.state.next_reply()
     }
 
     /// Takes the reply of the call that waited. Refused with `UnknownCall` where none is owed to the call, with `NotReady`

@@ -4,7 +4,7 @@ ghost use Rattle.hc_machine.specs.Cache.{Took, Reclaimed};
 ghost use Rattle.hc_flash.specs.Seen.{result_of};
 ghost use Rattle.hc_machine.specs.Workers.{writer_take as writer_step, filler_take as filler_step, finish as finish_step, reclaim as reclaim_step};
 ghost use Rattle.hc_nvm.specs.Seen.{take_of};
-ghost use Rattle.hc_state.specs.Answering.{IsReason};
+ghost use Rattle.hc_state.specs.Answering.{IsReason, is_work};
 ghost use Rattle.hc_core.specs.Logged.{IsCall};
 
 use crate::cache::Core;
@@ -15,6 +15,26 @@ use hc_types::Refusal;
 use std::alloc::Allocator;
 
 impl<N: Notes<Note<A>>, A: Allocator + Clone + Copy> Core<N, A> {
+    /// Whether the writer finds something to do, if it takes now: then it is worth waking. Nothing changes. Refused with
+    /// `NoMemory`.
+    pub fn writer_has_work(&mut self) -> Result<bool, Refusal>
+        ensures ok { IfOk result (λ has. has ≡ is_work (writer_step self.old.cache).answer) }
+        ensures same { self.new ≡ self.old }
+        ensures memory { IfErr result (λ refusal. refusal ≡ Refusal.NoMemory) }
+    {
+        self.state.writer_has_work()
+    }
+
+    /// Whether the filler finds something to do, if it takes now: then it is worth waking. Nothing changes. Refused with
+    /// `NoMemory`.
+    pub fn filler_has_work(&mut self) -> Result<bool, Refusal>
+        ensures ok { IfOk result (λ has. has ≡ is_work (filler_step self.old.cache).answer) }
+        ensures same { self.new ≡ self.old }
+        ensures memory { IfErr result (λ refusal. refusal ≡ Refusal.NoMemory) }
+    {
+        self.state.filler_has_work()
+    }
+
     /// The writer takes what is next: a region's page, or else a delete, or else a put. Where that goes on with a page, the
     /// job waits for that device operation. Refused with `NoMemory`.
     pub fn writer_take(&mut self) -> Result<Take<A>, Refusal>

@@ -97,7 +97,7 @@ brought_after flash (Done outcome) stones jobs made key fills free h = brought_e
 
 -- ---- it isn't put off
 
-passes : {X : Type 0} (test : X → Bool) (xs : List X) (x : X) → find test xs ≡ Some x → test x ≡ true
+pub passes : {X : Type 0} (test : X → Bool) (xs : List X) (x : X) → find test xs ≡ Some x → test x ≡ true
 passes test [] x e = absurd cc
 passes {X} test (y ∷ ys) x e = of (test y) refl (passes test ys x)
   where

@@ -16,3 +16,4 @@ pub mod Reclaimed
 pub mod Finished
 pub mod Free
 pub mod FillEnds
+pub mod Works

@@ -1,4 +1,5 @@
 -- How contracts see jobs, and what a take answers.
+use Rattle.std.specs.Prelude.{Bool, true, false}
 use Rattle.hc_flash.specs.Seen.{order_of}
 use Rattle.hc_machine.specs.Nvm.{Task, Putting, Deleting, Filling, Flushing}
 use Rattle.hc_machine.specs.Takes.{Take, Idle, Finished, Work}
@@ -17,3 +18,9 @@ abbrev pub take_of : {A : Type 0} → Answers A → Take
 take_of answers.Idle = Idle
 take_of answers.Finished = Finished
 take_of (answers.Work job order) = Work job (order_of order)
+
+-- the take found something to do
+abbrev pub finds_work : Take → Bool
+finds_work Idle = false
+finds_work Finished = true
+finds_work (Work job order) = true

@@ -18,6 +18,7 @@ mod starting;
 mod takes;
 mod telling;
 mod waiting;
+mod working;
 
 pub use endings::Ending;
 pub use filler::{Filled, Taken};

@@ -22,3 +22,4 @@ pub mod Setting
 pub mod Storing
 pub mod Telling
 pub mod Whole
+pub mod Working

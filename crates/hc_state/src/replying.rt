@@ -4,7 +4,7 @@ ghost use Rattle.hc_history.specs.Seen.{reply_of};
 ghost use Rattle.hc_history.specs.Told.{Hears};
 ghost use Rattle.hc_machine.specs.Cache.{Replied};
 ghost use Rattle.hc_machine.specs.Calls.{take_reply as take_step};
-ghost use Rattle.hc_state.specs.Answering.{IsReason};
+ghost use Rattle.hc_state.specs.Answering.{IsNextReply, IsReason};
 ghost use Rattle.hc_state.specs.Whole.{IsReady, IsStep, Stays};
 
 use crate::beginning::room_for_notes;
@@ -15,6 +15,14 @@ use hc_types::Refusal;
 use std::alloc::Allocator;
 
 impl<N: Notes<Note<A>>, A: Allocator + Clone + Copy> State<N, A> {
+    /// A call whose reply can be taken, whichever of them it is, found without a scan. None, where no reply is ready.
+    #[must_use]
+    pub fn next_reply(&self) -> Option<u64>
+        ensures { IsNextReply self.now.cache.owed result }
+    {
+        self.replies.next()
+    }
+
     /// Takes the reply of the call that waited. Refused with `UnknownCall` where none is owed to the call, with `NotReady`
     /// where it still waits, and with `NoMemory`, only where something is heard of the log.
     pub fn take_reply(&mut self, call: u64) -> Result<Reply<A>, Refusal>

@@ -7,3 +7,4 @@ pub mod Filling
 pub mod Led
 pub mod Apart
 pub mod Owing
+pub mod Readied

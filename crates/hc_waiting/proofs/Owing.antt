@@ -100,7 +100,7 @@ module _ {A : Type 0} where
   pub found-is : (call : ℕ) (es : List (ℕ × Option (Reply A))) (o : Option (Option (Reply A))) → lookup (is_at (nat_cmp call)) es ≡ o → owed_at call (owed_of es) ≡ option_map (owed_to call) o
   found-is call es o e = sym (lookup-is call es) ∙ ap (option_map (owed_to call)) e
 
-  answered-is : (call : ℕ) (r : Option (Reply A)) → is_some r ≡ is_answered (owed_to call r)
+  pub answered-is : (call : ℕ) (r : Option (Reply A)) → is_some r ≡ is_answered (owed_to call r)
   answered-is call None = refl
   answered-is call (Some r) = refl
 

@@ -1,14 +1,17 @@
 // The replies that are owed to calls that wait.
-ghost use Rattle.std.specs.Prelude.{◌≡◌, ◌==◌, [], length, None, Some, true, option_map, is_some, IfOk, OnOk, IfErr, OnErr};
+ghost use Rattle.std.specs.Prelude.{◌≡◌, ◌==◌, ◌<◌, ◌≤◌, ◌+◌, ℕ, [], length, None, Some, true, false, nat_eq, if◌then◌else◌, option_map, is_some, IfOk, OnOk, IfErr, OnErr};
+ghost use Rattle.indexmap.specs.IndexSet.{contains, spare};
 ghost use Rattle.hc_history.specs.Seen.{reply_of};
 ghost use Rattle.hc_machine.specs.Cache.{owed_at, owed_anew, owed_with, owed_less};
-ghost use Rattle.hc_waiting.specs.Replies.{AreBefore, is_answered};
+ghost use Rattle.hc_waiting.specs.Replies.{AreBefore, IsNextReply, is_answered};
 ghost use Rattle.hc_waiting.specs.declared.replies.Untaken.TheVariants.{Unknown, NotReady};
 
 use hc_history::Reply;
 use hc_types::Refusal;
+use indexmap::IndexSet;
 use std::alloc::{AllocError, Allocator, Global};
 use std::collections::BTreeMap;
+use std::hash::{BuildHasherDefault, FoldHasher};
 use std::marker::Model;
 
 /// Why a reply can't be taken.
@@ -38,19 +41,42 @@ impl From<Untaken> for Refusal {
 #[derive(Drop)]
 pub struct Replies<A: Allocator = Global> {
     owed: BTreeMap<u64, Option<Reply<A>>, A>,
+    /// The calls that have their reply. There is room for each that waits.
+    ready: Ready<A>,
 }
+
+type Ready<A> = IndexSet<u64, BuildHasherDefault<FoldHasher>, A>;
 
 impl<A: Allocator> Model for Replies<A> {
     ghost use Rattle.std.specs.Prelude.{List};
     ghost use Rattle.hc_machine.specs.Cache.{Owed};
-    ghost use Rattle.hc_waiting.specs.Replies.{owed_of};
+    ghost use Rattle.hc_waiting.specs.Replies.{owed_of, AreReady};
 
     ghost Value = { List Owed };
 
     ghost view = { λ r. owed_of r.owed.entries };
+
+    ghost invariant = { λ r. AreReady (owed_of r.owed.entries) r.ready };
 }
 
-impl<A: Allocator> Replies<A> {
+/// The call, which waited, has its reply from here on.
+fn enter<A: Allocator>(ready: &mut Ready<A>, call: u64)
+    requires { 0 < spare ready.old }
+    ensures calls { (n : ℕ) → contains nat_eq ready.new n ≡ (if call == n then true else contains nat_eq ready.old n) }
+    ensures room { spare ready.old ≤ spare ready.new + 1 }
+{
+    let _ = ready.insert(call);
+}
+
+/// No reply is ready for the call from here on.
+fn leave<A: Allocator>(ready: &mut Ready<A>, call: u64)
+    ensures calls { (n : ℕ) → contains nat_eq ready.new n ≡ (if call == n then false else contains nat_eq ready.old n) }
+    ensures room { spare ready.old ≤ spare ready.new }
+{
+    ready.swap_remove(&call);
+}
+
+impl<A: Allocator + Copy> Replies<A> {
     /// No reply is owed.
     #[must_use]
     pub fn new(alloc: A) -> Replies<A>
@@ -58,9 +84,12 @@ impl<A: Allocator> Replies<A> {
     {
         Replies {
             owed: BTreeMap::new(alloc),
+            ready: IndexSet::new(alloc),
         }
     }
+}
 
+impl<A: Allocator> Replies<A> {
     /// How many are owed.
     #[must_use]
     pub fn len(&self) -> usize
@@ -88,6 +117,14 @@ impl<A: Allocator> Replies<A> {
         }
     }
 
+    /// A call that has its reply, whichever of them it is, found without a scan. None, where no call has one.
+    #[must_use]
+    pub fn next(&self) -> Option<u64>
+        ensures { IsNextReply self.now result }
+    {
+        self.ready.first().copied()
+    }
+
     /// The call that waits is answered.
     pub fn answer(&mut self, call: u64, reply: Reply<A>)
         ensures { self.new ≡ owed_with call (reply_of reply) self.old }
@@ -95,7 +132,11 @@ impl<A: Allocator> Replies<A> {
         let Some(place) = self.owed.get_mut(&call) else {
             return;
         };
+        let waits = place.is_none();
         *place = Some(reply);
+        if waits {
+            enter(&mut self.ready, call);
+        }
     }
 
     /// No reply is owed to the call any longer, whether it had one or not.
@@ -104,6 +145,7 @@ impl<A: Allocator> Replies<A> {
     {
         let _len = self.owed.len();
         let _ = self.owed.remove(&call);
+        leave(&mut self.ready, call);
     }
 
     /// Takes the reply of the call that waited. Where there is none, nothing changes.
@@ -119,7 +161,10 @@ impl<A: Allocator> Replies<A> {
             None => Err(Untaken::Unknown),
             Some(false) => Err(Untaken::NotReady),
             Some(true) => match self.owed.remove(&call) {
-                Some(Some(reply)) => Ok(reply),
+                Some(Some(reply)) => {
+                    leave(&mut self.ready, call);
+                    Ok(reply)
+                }
                 Some(None) => unreachable!(),
                 None => unreachable!(),
             },
@@ -134,6 +179,10 @@ impl<A: Allocator + Clone> Replies<A> {
         ensures ok { OnOk result (self.new ≡ owed_anew call self.old) }
         ensures err { OnErr result (self.new ≡ self.old) }
     {
+        let Some(places) = self.owed.len().checked_add(1) else {
+            return Err(AllocError);
+        };
+        self.ready.reserve(places)?;
         match self.owed.insert(call, None) {
             Ok(_) => Ok(()),
             Err(_) => Err(AllocError),

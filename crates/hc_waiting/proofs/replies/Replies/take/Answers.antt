@@ -1,9 +1,15 @@
 use Rattle.std.proofs.Common.{◌≡◌, List, Some, ap, sym, subst, ◌∙◌}
 use Rattle.std.specs.Prelude.{option_map}
 use Rattle.hc_machine.specs.Cache.{Owed, owed_at}
-use Rattle.hc_waiting.specs.Replies.{owed_of, is_answered}
+use Rattle.hc_waiting.specs.Replies.{owed_of, is_answered, AreReady}
 use Rattle.hc_waiting.proofs.Owing.{found-is, less-is, not-gone, not-waiting, waits-is}
+use Rattle.hc_waiting.proofs.Readied.{left}
 use Rattle.hc_waiting.proofs.replies.Replies.take.Goals as goal
+
+pub invariant_of-self : goal.invariant_of-self
+invariant_of-self g c =
+    let less = ap owed_of c.remove.ensures.entries ∙ less-is c.args.call c.self.inside.owed.entries c.len-len.ensures.ordered in
+    subst (λ (all : List Owed). AreReady all c.leave.new.ready) (sym less) (left c.args.call _ c.self.inside.ready _ c.self.invariant c.leave.ensures.calls c.leave.ensures.room)
 
 pub unreachable-requires : goal.unreachable-requires
 unreachable-requires g c =
