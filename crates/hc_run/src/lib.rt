@@ -8,7 +8,9 @@ mod runs;
 mod slots;
 mod stage;
 mod steps;
+mod tracked;
 
 pub use laws::{chains_are_runs, runs_keep_promise, runs_stand};
 pub use runs::{Ran, Stopped, run, run_quiet};
 pub use steps::{Answer, Outcome, Request, Step};
+pub use tracked::{RanTracked, run_tracked};

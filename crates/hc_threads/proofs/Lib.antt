@@ -1,4 +1,2 @@
 pub mod Closing
-pub mod Same
 pub mod Asking
-pub mod Tracking

@@ -1,4 +1,3 @@
 pub mod Seen
 pub mod Asked
-pub mod Reading
 pub mod Settled

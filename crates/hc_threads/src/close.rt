@@ -1,14 +1,14 @@
 // The end: what the log and the records come to.
 ghost use Rattle.std.specs.Prelude.{◌≡◌, ◌≢◌, ◌⊎◌, ◌<◌, ◌≤◌, [], None, IfOk, OnOk, OnErr, map};
-ghost use Rattle.std.specs.Bool.{Decides};
 ghost use Rattle.hc_history.specs.Told.{Log, IfLog};
 ghost use Rattle.hc_history.specs.Stats.{counts_of};
+ghost use Rattle.hc_history.specs.Honest.{Honest};
 ghost use Rattle.hc_history.specs.Lawful.{Legal};
 ghost use Rattle.hc_judge_memory.specs.Lies.{IsFirstLie};
 ghost use Rattle.hc_records.specs.Records as records;
 ghost use Rattle.hc_records.specs.Records.{Reconciled};
 ghost use Rattle.hc_core.specs.Logged.{Logged};
-ghost use Rattle.hc_marked.specs.Marked.{Marked};
+ghost use Rattle.hc_marked.specs.Marked.{Marked, NoneCollides};
 ghost use Rattle.hc_threads.specs.Settled.{IsSettled};
 
 use crate::client::Client;
@@ -18,6 +18,7 @@ use hc_history::{Kept, Note, Stats};
 use hc_judge_memory::first_lie_in;
 use hc_paged::Digest;
 use hc_records::{Mismatch, Recorded, failures as failures_of, reconcile};
+use hc_tracked::is_same;
 use hc_types::Config;
 use std::alloc::Global;
 
@@ -77,8 +78,9 @@ impl<G: Digest + Copy> Shared<Kept, Global, G> {
     /// Ends the cache, and judges it as `settle` does: by the configuration that was kept as `Shared` was made, by the
     /// clients' records, and by how often the device failed, which is by how much its count rose, and how many lies
     /// (`lies`) were told by the digests. Each page that was read in the log has the digest of the page as it was written
-    /// last, whatever the device answered. Where the answer is a report without a lie, the log is legal. Contracts can't
-    /// name the core that lies under the lock; they say that there is one of which all holds that `settle` says.
+    /// last, whatever the device answered. So unless a page that was read has the digest of another that was written there
+    /// last, the report is without a lie; and where it is, the log is legal. Contracts can't name the core that lies under
+    /// the lock; they say that there is one of which all holds that `settle` says.
     pub fn close(self, clients: Vec<Client>, failures: u64) -> Result<Report, Mismatch>
         ensures config { IfOk result (λ r. r.config ≡ self) }
         ensures stats { IfOk result (λ r. r.stats ≡ counts_of r.log.items) }
@@ -87,17 +89,13 @@ impl<G: Digest + Copy> Shared<Kept, Global, G> {
         ensures agrees { IfOk result (λ r. Reconciled r.log.items clients.items) }
         ensures failed { IfOk result (λ r. records.failures r.log.items ≤ failures) }
         ensures marked { IfOk result (λ r. Marked G.of r.log.items) }
+        ensures honest { IfOk result (λ r. NoneCollides G.of r.log.items → Honest r.log.items) }
+        ensures no_lie { IfOk result (λ r. NoneCollides G.of r.log.items → r.lie ≡ None) }
+        ensures lawful { IfOk result (λ r. NoneCollides G.of r.log.items → Legal self r.log.items) }
         ensures settled { (core : Logged) × IsSettled core self clients.items failures result }
     {
         let (tracked, config) = self.into_parts();
         let (core, _lies) = tracked.into_parts();
         settle(core, config, &clients, failures)
     }
-}
-
-/// Whether two configurations are the same.
-fn is_same(a: &Config, b: &Config) -> bool
-    ensures { Decides result (a.now ≡ b.now) }
-{
-    a.flash == b.flash && a.pools == b.pools
 }

@@ -2,13 +2,13 @@
 
 use crate::port::Port;
 use crate::shared::{Guarded, Shared};
-use crate::tracked::digest_of;
 use hc_flash::{IoResult, Order};
 use hc_history::{Note, Notes, Reply};
 use hc_memory::ReadHandle;
 use hc_nvm::Take;
 use hc_paged::{Device, Digest};
 use hc_state::Found;
+use hc_tracked::digest_of;
 use hc_types::{Key, Refusal};
 use std::alloc::Allocator;
 use std::sync::{MutexGuard, Wait};

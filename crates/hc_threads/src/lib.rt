@@ -11,7 +11,6 @@ mod left;
 mod port;
 mod serving;
 mod shared;
-mod tracked;
 mod workers;
 
 pub use adding::{Added, Unadded};

@@ -1,23 +1,36 @@
 // The workers' end of a device.
-ghost use Rattle.std.specs.Prelude.{◌<◌};
+ghost use Rattle.std.specs.Prelude.{◌≡◌, ◌<◌, ◌+◌, OnOk, OnErr, IfErr};
 
 use hc_flash::{IoResult, Order};
 use hc_paged::{Device, operate};
 use std::alloc::{AllocError, Allocator, Global};
+use std::marker::Model;
 use std::sync::{Mutex, Wait};
 
 /// A device by one or more handles, each behind a lock of its own, which is held for one operation at a time: so as many
 /// operations are under way at once as there are handles. That none is on a page on which another is at work is the core's
-/// doing.
+/// doing. Contracts see how many handles there are.
 #[derive(Drop)]
 pub struct Port<D: Device<A>, A: Allocator = Global> {
     first: Mutex<D>,
     others: Vec<Mutex<D>, A>,
 }
 
+impl<D: Device<A>, A: Allocator> Model for Port<D, A> {
+    ghost use Rattle.std.specs.Prelude.{ℕ, ◌+◌, ◌<◌, length};
+
+    ghost Value = { ℕ };
+
+    ghost view = { λ port. length port.others.items + 1 };
+
+    ghost invariant = { λ port. length port.others.items < 4294967295 };
+}
+
 impl<D: Device<A>, A: Allocator> Port<D, A> {
     /// By this handle alone.
-    pub fn new(alloc: A, device: D) -> Port<D, A> {
+    pub fn new(alloc: A, device: D) -> Port<D, A>
+        ensures { result ≡ 1 }
+    {
         Port {
             first: Mutex::new(device),
             others: Vec::new(alloc),
@@ -27,9 +40,10 @@ impl<D: Device<A>, A: Allocator> Port<D, A> {
     /// How many handles there are.
     #[must_use]
     pub fn handles(&self) -> usize
-        ensures { 0 < result }
+        ensures count { result ≡ self.now }
+        ensures some { 0 < result }
     {
-        self.others.len().saturating_add(1)
+        self.others.len() + 1
     }
 
     /// Makes the operation of the order, as `operate` does it, by a handle that is free, or else once one is.
@@ -73,9 +87,13 @@ impl<D: Device<A>, A: Allocator> Port<D, A> {
 }
 
 impl<D: Device<A>, A: Allocator + Clone> Port<D, A> {
-    /// Adds another handle of the same device. Where memory lacks, it comes back.
-    pub fn add(&mut self, device: D) -> Result<(), D> {
-        if self.others.reserve(1).is_err() {
+    /// Adds another handle of the same device. Where memory lacks, and beyond 4,294,967,295, it comes back.
+    pub fn add(&mut self, device: D) -> Result<(), D>
+        ensures added { OnOk result (self.new ≡ self.old + 1) }
+        ensures kept { OnErr result (self.new ≡ self.old) }
+        ensures device_returned { IfErr result (λ back. back ≡ device) }
+    {
+        if self.handles() >= 4_294_967_295 || self.others.reserve(1).is_err() {
             return Err(device);
         }
         self.others.push_reserved(Mutex::new(device));

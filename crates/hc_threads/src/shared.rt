@@ -1,17 +1,17 @@
 // The core under one lock, as clients call it.
-ghost use Rattle.std.specs.Prelude.{◌≡◌, ◌<◌, ◌≤◌, [], IfOk, IfErr};
+ghost use Rattle.std.specs.Prelude.{◌≡◌, ◌<◌, ◌≤◌, ◌+◌, [], IfOk, IfErr, OnErr};
 ghost use Rattle.hc_history.specs.Told.{IfLog};
 ghost use Rattle.hc_memory.specs.Seen.{filled};
 ghost use Rattle.hc_threads.specs.Asked.{IsAsked, RefusesAllocation, RefusesInsert};
 
 use crate::crew::Crew;
 use crate::left::Left;
-use crate::tracked::TrackedCore;
 use hc_core::Core;
 use hc_history::{Listener, Note, Notes};
 use hc_memory::{Blank, Fill, Sealed, Uncharged};
 use hc_paged::{Digest, Folded};
 use hc_state::{Removed, Unlinked};
+use hc_tracked::TrackedCore;
 use hc_types::{Config, Key, Refusal};
 use std::alloc::{Allocator, Global};
 use std::marker::Model;
@@ -34,6 +34,22 @@ pub(crate) struct Guarded<N: Listener, A: Allocator, G: Digest + Copy> {
     pub(crate) crew: Crew,
     pub(crate) left: Left,
     pub(crate) clients: u8,
+}
+
+/// The number of the next client, which none before it has. Refused with `TooManyClients` after the 64th.
+fn numbered(clients: &mut u8) -> Result<u8, Refusal>
+    ensures next { IfOk result (λ number. number ≡ clients.old) }
+    ensures counted { IfOk result (λ number. clients.new ≡ number + 1) }
+    ensures few { IfOk result (λ number. number < 64) }
+    ensures kept { OnErr result (clients.new ≡ clients.old) }
+    ensures err { IfErr result (λ refusal. refusal ≡ Refusal.TooManyClients) }
+{
+    let number = *clients;
+    if number >= 64 {
+        return Err(Refusal::TooManyClients);
+    }
+    *clients = number + 1;
+    Ok(number)
 }
 
 /// A core that clients and workers share: each call of the core is one hold of the one lock. Contracts see the
@@ -103,12 +119,7 @@ impl<N: Listener, A: Allocator, G: Digest + Copy> Shared<N, A, G> {
         ensures err { IfErr result (λ refusal. refusal ≡ Refusal.TooManyClients) }
     {
         let mut held = self.guarded.lock(rt);
-        let number = held.clients;
-        if number >= 64 {
-            return Err(Refusal::TooManyClients);
-        }
-        held.clients = number + 1;
-        Ok(number)
+        numbered(&mut held.clients)
     }
 
     /// The core, and the configuration that was kept.

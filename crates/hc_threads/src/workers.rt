@@ -3,11 +3,11 @@
 use crate::crew::Turn;
 use crate::gate::Worker;
 use crate::shared::{Guarded, Shared, Stage};
-use crate::tracked::digest_of;
 use hc_flash::{IoResult, Order};
 use hc_history::{Listener, Note, Notes};
 use hc_nvm::{Take, Unfinished};
 use hc_paged::Digest;
+use hc_tracked::digest_of;
 use hc_types::Refusal;
 use std::alloc::{AllocError, Allocator};
 use std::sync::Wait;

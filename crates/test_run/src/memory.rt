@@ -1,5 +1,5 @@
 // A run for which memory lacks stops before a step, and what it did before stands.
-use crate::steps::{config, device, find, open, push};
+use crate::steps::{config, device, trip};
 use hc_flash::MemFlash;
 use hc_history::{Note, Said};
 use hc_run::{Ran, Request, Step, Stopped, run};
@@ -15,48 +15,6 @@ type Run<'a> = Ran<MemFlash<Heap<'a>>, Heap<'a>>;
 
 // No run makes as many growths.
 const MANY: u64 = 500;
-
-// `a` leaves memory for `b`, and is written to flash.
-fn push_sent<'a>(rt: &impl Abort, alloc: Heap<'a>, steps: &mut Vec<Step<Heap<'a>>, Heap<'a>>) {
-    push(rt, steps, open(rt, alloc, 0, b"a", b"one"));
-    push(rt, steps, Request::Put { slot: 0 });
-    push(rt, steps, open(rt, alloc, 7, b"b", b"two"));
-    push(rt, steps, Request::Put { slot: 7 });
-    push(rt, steps, Request::WriterTake);
-    push(
-        rt,
-        steps,
-        Request::Io {
-            job: 1,
-            fails: false,
-        },
-    );
-    push(rt, steps, Request::Finish { job: 1 });
-}
-
-// It is read again for a find.
-fn push_back<'a>(rt: &impl Abort, alloc: Heap<'a>, steps: &mut Vec<Step<Heap<'a>>, Heap<'a>>) {
-    push(rt, steps, find(rt, alloc));
-    push(rt, steps, Request::FillerTake);
-    push(
-        rt,
-        steps,
-        Request::Io {
-            job: 2,
-            fails: false,
-        },
-    );
-    push(rt, steps, Request::Finish { job: 2 });
-    push(rt, steps, Request::Reply { call: 3 });
-}
-
-// `a` leaves memory for flash, and comes back.
-fn trip<'a>(rt: &impl Abort, alloc: Heap<'a>) -> Vec<Step<Heap<'a>>, Heap<'a>> {
-    let mut steps = Vec::new(alloc);
-    push_sent(rt, alloc, &mut steps);
-    push_back(rt, alloc, &mut steps);
-    steps
-}
 
 // A run that is refused from this growth on.
 fn cut<'a>(

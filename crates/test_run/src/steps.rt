@@ -70,3 +70,45 @@ pub fn push<A: Allocator>(rt: &impl Abort, steps: &mut Vec<Step<A>, A>, request:
     let step = Step { client: 1, request };
     steps.push(step).expect(rt, "there is memory");
 }
+
+// `a` leaves memory for `b`, and is written to flash.
+fn push_sent<A: Allocator + Copy>(rt: &impl Abort, alloc: A, steps: &mut Vec<Step<A>, A>) {
+    push(rt, steps, open(rt, alloc, 0, b"a", b"one"));
+    push(rt, steps, Request::Put { slot: 0 });
+    push(rt, steps, open(rt, alloc, 7, b"b", b"two"));
+    push(rt, steps, Request::Put { slot: 7 });
+    push(rt, steps, Request::WriterTake);
+    push(
+        rt,
+        steps,
+        Request::Io {
+            job: 1,
+            fails: false,
+        },
+    );
+    push(rt, steps, Request::Finish { job: 1 });
+}
+
+// It is read again for a find.
+fn push_back<A: Allocator + Copy>(rt: &impl Abort, alloc: A, steps: &mut Vec<Step<A>, A>) {
+    push(rt, steps, find(rt, alloc));
+    push(rt, steps, Request::FillerTake);
+    push(
+        rt,
+        steps,
+        Request::Io {
+            job: 2,
+            fails: false,
+        },
+    );
+    push(rt, steps, Request::Finish { job: 2 });
+    push(rt, steps, Request::Reply { call: 3 });
+}
+
+/// `a` leaves memory for flash, and comes back.
+pub fn trip<A: Allocator + Copy>(rt: &impl Abort, alloc: A) -> Vec<Step<A>, A> {
+    let mut steps = Vec::new(alloc);
+    push_sent(rt, alloc, &mut steps);
+    push_back(rt, alloc, &mut steps);
+    steps
+}

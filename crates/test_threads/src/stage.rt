@@ -80,10 +80,11 @@ fn clients<R: Abort + Wait>(
     count: usize,
 ) -> Vec<Client> {
     let mut clients = Vec::new(alloc);
-    for _ in 0..count {
+    for number in 0..count {
         let client = shared
             .client(rt, alloc)
             .expect(rt, "there are fewer than 64");
+        assert!(rt; usize::from(client.number()) == number);
         clients.push(client).expect(rt, "there is memory");
     }
     clients

@@ -100,3 +100,14 @@ fn a_worker_is_held_between_two_takes(rt: HostRuntime) {
     assert!(&rt; answer.is_ok());
     assert!(&rt; gate.late.load(Ordering::SeqCst) == 0);
 }
+
+#[test]
+fn a_port_counts_its_handles(rt: HostRuntime) {
+    let alloc = rt.alloc();
+    let first = MemFlash::new(alloc, 4, 512).expect(&rt, "there is memory");
+    let second = MemFlash::new(alloc, 4, 512).expect(&rt, "there is memory");
+    let mut port = Port::new(alloc, first);
+    assert!(&rt; port.handles() == 1);
+    assert!(&rt; port.add(second).is_ok());
+    assert!(&rt; port.handles() == 2);
+}

@@ -1,10 +1,12 @@
-use Rattle.std.proofs.Common.{◌≡◌, ◌≢◌, ◌⊎◌, ◌<◌, List, IfOk, OnOk, OnErr, subst}
+use Rattle.std.proofs.Common.{◌≡◌, ◌≢◌, ◌⊎◌, ◌<◌, List, None, IfOk, OnOk, OnErr, subst}
 use Rattle.std.proofs.lemmas.List.{map-id}
 use Rattle.hc_types.specs.Config.{Config}
+use Rattle.hc_history.specs.Lawful.{Legal}
 use Rattle.hc_history.specs.Told.{IfLog}
 use Rattle.hc_records.specs.Records as records
 use Rattle.hc_records.specs.Records.{Record, Reconciled}
-use Rattle.hc_threads.proofs.Tracking.{marked-report}
+use Rattle.hc_threads.proofs.Closing.{honest_report, true_report, lawful_report}
+use Rattle.hc_tracked.proofs.Tracking.{marked-report}
 use Rattle.hc_threads.proofs.close.Shared+Kept+Global+G.close.Goals as goal
 
 -- the record of a client is how contracts see it
@@ -28,3 +30,14 @@ returns-clause-settled g c =
 -- the log is that of a core whose digests followed it
 pub returns-clause-marked : goal.returns-clause-marked
 returns-clause-marked g c = marked-report _ _ _ _ c.settle.ensures.log (rw c.into_parts-core.ensures.core c.into_parts-core.ensures.marked)
+
+-- so it is honest where no page collides, and then there is no lie in it, and it is legal
+pub returns-clause-honest : goal.returns-clause-honest
+returns-clause-honest g c = honest_report g.G.Digest.of c.args.self c.settle.result (returns-clause-marked g c)
+
+pub returns-clause-no_lie : goal.returns-clause-no_lie
+returns-clause-no_lie g c = true_report g.G.Digest.of c.args.self c.settle.result (returns-clause-marked g c) c.settle.ensures.lie
+
+pub returns-clause-lawful : goal.returns-clause-lawful
+returns-clause-lawful g c = lawful_report g.G.Digest.of c.args.self c.settle.result (returns-clause-marked g c) c.settle.ensures.lie
+    (subst (λ (config : Config). IfOk c.settle.result (λ r. r.lie ≡ None → Legal config r.log.items)) c.into_parts-tracked.ensures c.settle.ensures.legal)

@@ -1,6 +1,0 @@
-use Rattle.hc_theorem.proofs.runs.SilentSteps.{discard_no_io}
-use Rattle.hc_threads.proofs.Tracking.{calmly-so}
-use Rattle.hc_threads.proofs.tracked.TrackedCore.discard.Goals as goal
-
-pub invariant_of-self : goal.invariant_of-self
-invariant_of-self g c = calmly-so _ _ _ _ _ _ _ (discard_no_io c.args.sealed c.self.inside.core.cache).silent c.discard.ensures.ok c.discard.ensures.err c.self.invariant

@@ -1,6 +1,0 @@
-use Rattle.hc_theorem.proofs.runs.SilentSteps.{find_no_io}
-use Rattle.hc_threads.proofs.Tracking.{calmly}
-use Rattle.hc_threads.proofs.tracked.TrackedCore.find.Goals as goal
-
-pub invariant_of-self : goal.invariant_of-self
-invariant_of-self g c = calmly _ _ _ _ _ _ _ (find_no_io c.args.client c.args.key.now c.self.inside.core.cache).silent c.find.ensures.ok c.find.ensures.err c.self.invariant

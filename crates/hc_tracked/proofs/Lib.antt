@@ -1,0 +1,3 @@
+-- The digests follow the log.
+pub mod Tracking
+pub mod Alike

@@ -1,0 +1,6 @@
+use Rattle.hc_theorem.proofs.runs.SilentSteps.{remove_no_io}
+use Rattle.hc_tracked.proofs.Tracking.{calmly}
+use Rattle.hc_tracked.proofs.tracked.TrackedCore.remove.Goals as goal
+
+pub invariant_of-self : goal.invariant_of-self
+invariant_of-self g c = calmly _ _ _ _ _ _ _ (remove_no_io c.args.client c.args.key.now c.self.inside.core.cache).silent c.remove.ensures.ok c.remove.ensures.err c.self.invariant
