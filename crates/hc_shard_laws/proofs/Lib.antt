@@ -1,0 +1,2 @@
+-- A run begins calls of the keys that its steps name.
+pub mod Keys
