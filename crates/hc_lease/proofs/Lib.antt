@@ -1,0 +1,5 @@
+pub mod Stamping
+pub mod Serving
+pub mod Turning
+pub mod Keeping
+pub mod Worked
