@@ -77,7 +77,7 @@ fn with_cache(rt: &(impl Print + Eprint + AllocGlobal), mut worker: Worker) -> i
 fn main(rt: HostRuntime) -> io::Result<()> {
     match Worker::new(&rt, rt.alloc(), FILE) {
         Ok(worker) => with_cache(&rt, worker)?,
-        Err(error) => eprintln!(rt; "no device: {error}")?,
+        Err(error) => return eprintln!(rt; "no device: {error}"),
     }
     // (a service leaves it there for its next start)
     fs::remove_file(&rt, FILE)

@@ -1,0 +1,272 @@
+//! A cache that threads share, with flash in a file: a lock round it, one thread that writes, and callers that make the reads
+//! for which they wait themselves. No page is read, written or copied under the lock.
+//!
+//! It is also a load, beside which memcached with extstore can be measured:
+//!
+//!     threads PATH THREADS SECONDS            over the file PATH, which is made, and removed in the end
+//!     threads memcached SOCKET THREADS SECONDS
+//!
+//! 200,000 values of 1,000 bytes are set, in a pool of 64 MB (memcached: as it was started), and then got at random by so many
+//! threads for so many seconds; what isn't found is set again. It prints how many gets were made in a second, and how many of
+//! 100 hit.
+use kilambosetry::{Came, Flash, Found, HybridCache, Operation, Pool, Refused, Reply, Take, Value};
+use std::env;
+use std::fs::{self, File, OpenOptions};
+use std::io::{self, BufRead, BufReader, Read, Write};
+use std::os::unix::fs::FileExt;
+use std::os::unix::net::UnixStream;
+use std::sync::atomic::{AtomicBool, Ordering};
+use std::sync::{Condvar, Mutex, MutexGuard};
+use std::thread;
+use std::time::{Duration, Instant};
+
+const FLASH: Flash = Flash {
+    page: 4096,
+    buckets: 1,
+    regions: 400,
+    region_pages: 256, // a region of 1 MiB
+    clean: 4,
+    small_max: 0,
+    queue: 4096,
+    bits: 40,
+    admit_min: 1,
+    admit_max: 100_000,
+};
+
+/// A cache under a lock, and its file.
+struct Shared {
+    cache: Mutex<HybridCache>,
+    pages: File,
+    /// Wakes the writer.
+    work: Condvar,
+    /// Wakes callers that wait for what another reads.
+    answered: Condvar,
+    ends: AtomicBool,
+}
+
+impl Shared {
+    fn new(path: &str) -> io::Result<Shared> {
+        let pages = OpenOptions::new().read(true).write(true).create_new(true).open(path)?;
+        pages.set_len(FLASH.pages() * FLASH.page)?;
+        let cache = HybridCache::new(&[Pool { bytes: 64_000_000, items: 1_000_000 }], &FLASH)
+            .map_err(|refused| io::Error::new(io::ErrorKind::Other, refused))?;
+        Ok(Shared {
+            cache: Mutex::new(cache),
+            pages,
+            work: Condvar::new(),
+            answered: Condvar::new(),
+            ends: AtomicBool::new(false),
+        })
+    }
+
+    fn set(&self, key: &[u8], value: &[u8]) -> Result<(), Refused> {
+        let mut cache = self.cache.lock().unwrap();
+        cache.set(0, key, value, 0)?;
+        self.wake(&mut cache);
+        Ok(())
+    }
+
+    // The value, from memory or flash. Whoever waits takes the reads that are to be made, his own and those of who waits longer.
+    fn get(&self, key: &[u8]) -> Result<Option<Value>, Refused> {
+        let mut cache = self.cache.lock().unwrap();
+        let call = match cache.get(key)? {
+            Found::Hit(value) => return Ok(Some(value)),
+            Found::Miss => return Ok(None),
+            Found::Waits(call) => call,
+        };
+        loop {
+            match cache.take_reply(call) {
+                Ok(Reply::Hit(value)) => return Ok(Some(value)),
+                Ok(_) => return Ok(None),
+                Err(Refused::NOT_READY) => {}
+                Err(refused) => return Err(refused),
+            }
+            cache = match cache.filler_take()? {
+                Take::Work(job, operation) => self.complete(cache, job, operation),
+                Take::Finished => cache,
+                Take::Idle => self.answered.wait(cache).unwrap(), // another reads it
+            };
+        }
+    }
+
+    // Does a job to its end, with no lock held while it reads or writes.
+    fn complete<'a>(
+        &'a self,
+        cache: MutexGuard<'a, HybridCache>,
+        job: u64,
+        first: Operation,
+    ) -> MutexGuard<'a, HybridCache> {
+        let (mut cache, mut operation) = (cache, first);
+        loop {
+            drop(cache);
+            let mut came = self.operate(operation);
+            cache = self.cache.lock().unwrap();
+            let mut next = cache.finish(job, &mut came);
+            while matches!(next, Err(Refused::NO_MEMORY)) {
+                next = cache.finish(job, &mut came); // a result must not be lost
+            }
+            match next {
+                Ok(Take::Work(_, more)) => operation = more,
+                _ => {
+                    self.answered.notify_all();
+                    self.wake(&mut cache);
+                    return cache;
+                }
+            }
+        }
+    }
+
+    fn operate(&self, operation: Operation) -> Came {
+        let at = |page: u32| u64::from(page) * FLASH.page;
+        match operation {
+            Operation::Read(page) => {
+                let mut bytes = [0; FLASH.page as usize];
+                match self.pages.read_exact_at(&mut bytes, at(page)) {
+                    Ok(()) => Value::copy_of(&bytes).map_or(Came::Failed, Came::Page),
+                    Err(_) => Came::Failed,
+                }
+            }
+            Operation::Write(page, mut bytes) => match self.pages.write_all_at(&bytes.to_vec(), at(page)) {
+                Ok(()) => Came::Written,
+                Err(_) => Came::Failed,
+            },
+        }
+    }
+
+    // Wakes the writer, where it has work.
+    fn wake(&self, cache: &mut HybridCache) {
+        if cache.writer_has_work() != Ok(false) {
+            self.work.notify_one();
+        }
+    }
+
+    // The writer, until all ends.
+    fn write(&self) -> Result<(), Refused> {
+        let mut cache = self.cache.lock().unwrap();
+        while !self.ends.load(Ordering::SeqCst) {
+            while cache.reclaim()? {}
+            cache = match cache.writer_take()? {
+                Take::Work(job, operation) => self.complete(cache, job, operation),
+                Take::Finished => cache,
+                Take::Idle => self.work.wait_timeout(cache, Duration::from_millis(100)).unwrap().0,
+            };
+        }
+        Ok(())
+    }
+}
+
+const KEYS: u64 = 200_000;
+const VALUE: [u8; 1000] = [b'v'; 1000];
+
+/// A store under a load.
+trait Store {
+    fn put(&mut self, key: &[u8]);
+    fn has(&mut self, key: &[u8]) -> bool;
+}
+
+impl Store for &Shared {
+    fn put(&mut self, key: &[u8]) {
+        self.set(key, &VALUE).unwrap();
+    }
+
+    fn has(&mut self, key: &[u8]) -> bool {
+        match Shared::get(self, key).unwrap() {
+            Some(mut value) => value.copy(0, &mut [0; VALUE.len()]) == VALUE.len(),
+            None => false,
+        }
+    }
+}
+
+/// memcached, by its text protocol over a socket of the system.
+struct Memcached(BufReader<UnixStream>);
+
+impl Memcached {
+    fn line(&mut self) -> String {
+        let mut line = String::new();
+        self.0.read_line(&mut line).unwrap();
+        line
+    }
+
+    fn say(&mut self, bytes: &[u8]) {
+        self.0.get_mut().write_all(bytes).unwrap();
+    }
+}
+
+impl Store for Memcached {
+    fn put(&mut self, key: &[u8]) {
+        let head = [b"set ", key, b" 0 0 1000\r\n"].concat();
+        self.say(&[&head, &VALUE[..], b"\r\n"].concat());
+        assert_eq!(self.line(), "STORED\r\n");
+    }
+
+    fn has(&mut self, key: &[u8]) -> bool {
+        self.say(&[b"get ", key, b"\r\n"].concat());
+        if self.line() == "END\r\n" {
+            return false;
+        }
+        self.0.read_exact(&mut [0; VALUE.len() + 2]).unwrap();
+        assert_eq!(self.line(), "END\r\n");
+        true
+    }
+}
+
+fn key(number: u64) -> Vec<u8> {
+    format!("key:{number:08}").into_bytes()
+}
+
+// Gets at random until the time is over: how many, and how many hit.
+fn gets(store: &mut impl Store, seed: u64, time: Duration) -> (u64, u64) {
+    let (mut random, begin, mut made, mut hits) = (seed, Instant::now(), 0, 0);
+    while made % 64 != 0 || begin.elapsed() < time {
+        random = random.wrapping_mul(6_364_136_223_846_793_005).wrapping_add(1_442_695_040_888_963_407);
+        let key = key((random >> 33) % KEYS);
+        made += 1;
+        if store.has(&key) {
+            hits += 1;
+        } else {
+            store.put(&key);
+        }
+    }
+    (made, hits)
+}
+
+// The load by so many threads, each of which has a store of its own making.
+fn load<S: Store>(open: impl Fn() -> S + Sync, threads: u64, seconds: u64) {
+    let mut first = open();
+    (0..KEYS).for_each(|number| first.put(&key(number)));
+    let time = Duration::from_secs(seconds);
+    let totals = thread::scope(|scope| {
+        let open = &open;
+        let clients: Vec<_> = (1..=threads).map(|seed| scope.spawn(move || gets(&mut open(), seed, time))).collect();
+        clients.into_iter().map(|client| client.join().unwrap()).fold((0, 0), |all, one| (all.0 + one.0, all.1 + one.1))
+    });
+    println!("{} gets a second, {} of 100 hit", totals.0 / seconds, totals.1 * 100 / totals.0);
+}
+
+fn main() -> io::Result<()> {
+    let words: Vec<String> = env::args().skip(1).collect();
+    let words: Vec<&str> = words.iter().map(String::as_str).collect();
+    match words[..] {
+        ["memcached", socket, threads, seconds] => {
+            let open = || Memcached(BufReader::new(UnixStream::connect(socket).unwrap()));
+            load(open, threads.parse().unwrap(), seconds.parse().unwrap());
+            Ok(())
+        }
+        [path, threads, seconds] => {
+            let shared = Shared::new(path)?;
+            thread::scope(|scope| {
+                let writer = scope.spawn(|| shared.write());
+                load(|| &shared, threads.parse().unwrap(), seconds.parse().unwrap());
+                shared.ends.store(true, Ordering::SeqCst);
+                shared.work.notify_one();
+                writer.join().unwrap().unwrap();
+            });
+            println!("{:?}", shared.cache.lock().unwrap().losses());
+            fs::remove_file(path)
+        }
+        _ => {
+            eprintln!("usage: threads PATH THREADS SECONDS, or threads memcached SOCKET THREADS SECONDS");
+            Ok(())
+        }
+    }
+}
