@@ -116,7 +116,7 @@ fn play<T: Threads + Wait + Sync, W: Write>(
         return Err(io::Error::from(AllocError));
     };
     match answered(rt, alloc, writer, &shared, plan, clients) {
-        Ok((clients, failures)) => Ok(verdict(alloc, writer, &shared.close(clients, failures))),
+        Ok((clients, failures)) => Ok(verdict(alloc, writer, &shared.close(&clients, failures))),
         Err(error) => Err(error),
     }
 }

@@ -11,7 +11,6 @@ ghost use Rattle.hc_core.specs.Logged.{Logged};
 ghost use Rattle.hc_marked.specs.Marked.{Marked, NoneCollides};
 ghost use Rattle.hc_threads.specs.Settled.{IsSettled};
 
-use crate::client::Client;
 use crate::shared::Shared;
 use hc_core::Core;
 use hc_history::{Kept, Note, Stats};
@@ -81,21 +80,21 @@ impl<G: Digest + Copy> Shared<Kept, Global, G> {
     /// last, whatever the device answered. So unless a page that was read has the digest of another that was written there
     /// last, the report is without a lie; and where it is, the log is legal. Contracts can't name the core that lies under
     /// the lock; they say that there is one of which all holds that `settle` says.
-    pub fn close(self, clients: Vec<Client>, failures: u64) -> Result<Report, Mismatch>
+    pub fn close<T: Recorded>(self, clients: &[T], failures: u64) -> Result<Report, Mismatch>
         ensures config { IfOk result (λ r. r.config ≡ self) }
         ensures stats { IfOk result (λ r. r.stats ≡ counts_of r.log.items) }
         ensures lie { IfOk result (λ r. IsFirstLie [] r.log.items r.lie) }
         ensures legal { IfOk result (λ r. r.lie ≡ None → Legal self r.log.items) }
-        ensures agrees { IfOk result (λ r. Reconciled r.log.items clients.items) }
+        ensures agrees { IfOk result (λ r. Reconciled r.log.items (map T.recorded clients.now)) }
         ensures failed { IfOk result (λ r. records.failures r.log.items ≤ failures) }
         ensures marked { IfOk result (λ r. Marked G.of r.log.items) }
         ensures honest { IfOk result (λ r. NoneCollides G.of r.log.items → Honest r.log.items) }
         ensures no_lie { IfOk result (λ r. NoneCollides G.of r.log.items → r.lie ≡ None) }
         ensures lawful { IfOk result (λ r. NoneCollides G.of r.log.items → Legal self r.log.items) }
-        ensures settled { (core : Logged) × IsSettled core self clients.items failures result }
+        ensures settled { (core : Logged) × IsSettled core self (map T.recorded clients.now) failures result }
     {
         let (tracked, config) = self.into_parts();
         let (core, _lies) = tracked.into_parts();
-        settle(core, config, &clients, failures)
+        settle(core, config, clients, failures)
     }
 }

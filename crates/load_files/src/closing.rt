@@ -118,7 +118,7 @@ fn with<G: Digest + Copy>(
     clients: Vec<Client>,
     failures: u64,
 ) -> Sums {
-    let closed = shared.close(clients, failures);
+    let closed = shared.close(&clients, failures);
     let agrees = closed.is_ok();
     let is_true = match &closed {
         Ok(report) => report.lie.is_none(),

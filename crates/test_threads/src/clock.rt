@@ -82,6 +82,6 @@ fn an_item_expires_by_the_shared_clock(rt: HostRuntime) {
 
     let mut clients = Vec::new(alloc);
     clients.push(client).expect(&rt, "there is memory");
-    let report = shared.close(clients, 0);
+    let report = shared.close(&clients, 0);
     assert!(&rt; report.expect(&rt, "the records agree").stats.hits == 2);
 }

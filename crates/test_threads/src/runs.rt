@@ -17,7 +17,7 @@ fn closed(rt: &impl Abort, played: Played, failures: u64) -> Report {
         failures: _,
         late: _,
     } = played;
-    let report = shared.close(clients, failures);
+    let report = shared.close(&clients, failures);
     let report = report.expect(rt, "the records agree");
     assert!(rt; report.lie.is_none());
     report

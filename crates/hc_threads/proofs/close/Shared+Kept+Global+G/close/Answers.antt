@@ -1,29 +1,23 @@
-use Rattle.std.proofs.Common.{◌≡◌, ◌≢◌, ◌⊎◌, ◌<◌, List, None, IfOk, OnOk, OnErr, subst}
-use Rattle.std.proofs.lemmas.List.{map-id}
+use Rattle.std.proofs.Common.{◌≡◌, ◌≢◌, ◌⊎◌, ◌<◌, None, IfOk, OnOk, OnErr, map, subst}
 use Rattle.hc_types.specs.Config.{Config}
 use Rattle.hc_history.specs.Lawful.{Legal}
 use Rattle.hc_history.specs.Told.{IfLog}
 use Rattle.hc_records.specs.Records as records
-use Rattle.hc_records.specs.Records.{Record, Reconciled}
+use Rattle.hc_records.specs.Records.{Reconciled}
 use Rattle.hc_threads.proofs.Closing.{honest_report, true_report, lawful_report}
 use Rattle.hc_tracked.proofs.Tracking.{marked-report}
 use Rattle.hc_threads.proofs.close.Shared+Kept+Global+G.close.Goals as goal
-
--- the record of a client is how contracts see it
-pub returns-clause-agrees : goal.returns-clause-agrees
-returns-clause-agrees g c = subst (λ (records : List Record). IfOk c.settle.result (λ r. Reconciled r.log.items records)) (map-id c.args.clients.items) (rw (← c.deref.ensures.value) c.settle.ensures.agrees)
 
 -- the cache is the one that lay under the lock
 pub returns-clause-settled : goal.returns-clause-settled
 returns-clause-settled g c =
     let core = c.into_parts-core.result.0 in
-    let own : OnErr c.settle.result ((core.cache.config ≢ c.into_parts-tracked.result.1) ⊎ IfLog core.log (λ log. (Reconciled log c.args.clients.items → ⊥) ⊎ (c.args.failures < records.failures log))) =
-    subst (λ (all : List Record). OnErr c.settle.result ((core.cache.config ≢ c.into_parts-tracked.result.1) ⊎ IfLog core.log (λ log. (Reconciled log all → ⊥) ⊎ (c.args.failures < records.failures log)))) (map-id c.args.clients.items) (rw (← c.deref.ensures.value) c.settle.ensures.mismatch) in (
+    let all = map g.T.Recorded.recorded c.args.clients.now in (
       core,
       record {
         own = subst (λ (config : Config). OnOk c.settle.result (core.cache.config ≡ config)) c.into_parts-tracked.ensures c.settle.ensures.own;
         log = c.settle.ensures.log;
-        mismatch = subst (λ (config : Config). OnErr c.settle.result ((core.cache.config ≢ config) ⊎ IfLog core.log (λ log. (Reconciled log c.args.clients.items → ⊥) ⊎ (c.args.failures < records.failures log)))) c.into_parts-tracked.ensures own;
+        mismatch = subst (λ (config : Config). OnErr c.settle.result ((core.cache.config ≢ config) ⊎ IfLog core.log (λ log. (Reconciled log all → ⊥) ⊎ (c.args.failures < records.failures log)))) c.into_parts-tracked.ensures c.settle.ensures.mismatch;
       },
     )
 
