@@ -1,5 +1,5 @@
-//! The code of README.md, and what becomes of it: one value is found in memory, on its way to flash, on flash, and nowhere. `tools/check-docs`
-//! compares the text with the page, and `bindings/build.sh` runs it.
+//! The code of README.md, and what becomes of it: one value is found in memory, on its way to flash, on flash, and nowhere.
+//! `tools/check-docs` compares the text with the page, and `bindings/build.sh` runs it.
 use kilambosetry::{Device, Flash, Found, HybridCache, Pool, Refused, Reply, Value};
 use std::{env, fs::File, io, os::unix::fs::FileExt, process};
 
