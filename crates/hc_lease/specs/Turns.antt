@@ -8,8 +8,12 @@ abbrev pub turn_in : Option (Option Turn) → Option Turn
 turn_in None = None
 turn_in (Some turn) = turn
 
+-- where the keys of a digest have their place, and the turn there
+abbrev pub place_at : ℕ → List (Option Turn) → ℕ
+place_at digest turns = digest % length turns
+
 abbrev pub place_of : List ℕ → List (Option Turn) → ℕ
-place_of key turns = digest_of key % length turns
+place_of key turns = place_at (digest_of key) turns
 
 abbrev pub turn_at : List ℕ → List (Option Turn) → Option Turn
 turn_at key turns = turn_in (slice_get turns (place_of key turns))
@@ -32,9 +36,12 @@ abbrev pub turned : List ℕ → ℕ → Option ℕ → List (Option Turn) → L
 turned key now None turns = slice_set turns (place_of key turns) (Some (record { digest = digest_of key; since = now }))
 turned key now (Some since) turns = turns
 
--- the load is over, or given up
+-- the load of a key of the digest is over, or given up
+abbrev pub without_turn_at : ℕ → List (Option Turn) → List (Option Turn)
+without_turn_at digest turns = if is_turn_of digest (turn_in (slice_get turns (place_at digest turns))) then slice_set turns (place_at digest turns) None else turns
+
 abbrev pub without_turn : List ℕ → List (Option Turn) → List (Option Turn)
-without_turn key turns = if is_turn_of (digest_of key) (turn_at key turns) then slice_set turns (place_of key turns) None else turns
+without_turn key turns = without_turn_at (digest_of key) turns
 
 -- Who asks for a key while another has its turn is told so, for as long as patience lasts.
 abbrev pub OneAtATime : Type 0

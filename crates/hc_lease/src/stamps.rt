@@ -180,8 +180,9 @@ impl<A: Allocator> Stamps<A> {
         self.slot_at(digest_of(key))
     }
 
-    // The slot of a key of which maps are fed this.
-    fn slot_at(&self, digest: u64) -> usize
+    /// The slot of a key of which maps are fed this digest (`Key::digest`, `digest_of`).
+    #[must_use]
+    pub fn slot_at(&self, digest: u64) -> usize
         ensures is { result ≡ digest % length self.now.slots }
         ensures within { result < length self.now.slots }
     {

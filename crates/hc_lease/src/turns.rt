@@ -1,6 +1,6 @@
 // Who loads what.
 ghost use Rattle.std.specs.Prelude.{◌≡◌, ◌<◌, ◌%◌, None, length, replicate, slice_get, slice_set, IfOk};
-ghost use Rattle.hc_lease.specs.Turns.{turn_in, busy_in, busy_at, turned, without_turn, is_turn_of};
+ghost use Rattle.hc_lease.specs.Turns.{turn_in, busy_in, busy_at, turned, without_turn, without_turn_at, is_turn_of};
 
 use hc_types::Key;
 use std::alloc::{AllocError, Allocator, Global};
@@ -73,7 +73,13 @@ impl<A: Allocator> Turns<A> {
     pub fn end(&mut self, key: &Key<A>)
         ensures { self.new ≡ without_turn key.now self.old }
     {
-        let digest = key.digest();
+        self.end_at(key.digest());
+    }
+
+    /// As `end`, by what maps are fed of the key (`Key::digest`, `digest_of`).
+    pub fn end_at(&mut self, digest: u64)
+        ensures { self.new ≡ without_turn_at digest self.old }
+    {
         let place = self.place(digest);
         if is_of(self.turn(place), digest) {
             self.put(place, None);
