@@ -4,3 +4,4 @@ pub mod Running
 pub mod Deleting
 pub mod Storing
 pub mod Serving
+pub mod Worked
