@@ -4,4 +4,5 @@ pub mod Running
 pub mod Deleting
 pub mod Storing
 pub mod Serving
+pub mod Replying
 pub mod Worked

@@ -64,7 +64,7 @@ log-is (Ask key ticket ∷ deeds) s = log-is deeds (after (Ask key ticket) s)
 -- ---- what the service owes is all that the log's pattern asks
 
 module _ (version : List ℕ → ℕ) (config : Config) where
-  no-wait : (event : Event) (answer : Answer) (w : World) → MayCall version event w → IsNoWait (kind_of event answer)
+  pub no-wait : (event : Event) (answer : Answer) (w : World) → MayCall version event w → IsNoWait (kind_of event answer)
   no-wait (Allocates pool key value ttl) answer w may = tt
   no-wait (Inserts client handle) (Replied reply) w may = tt
   no-wait (Inserts client handle) answer w may = tt
@@ -87,7 +87,7 @@ module _ (version : List ℕ → ℕ) (config : Config) where
   insert-stores client handle cache w false e may =
       subst (λ (t : Bool). Stores (MayStore version w) (if t then answers (Replied Stored) (and_then (begin client (Insert handle.key handle.value handle.expiry) cache) (store handle)) else stays (Refused ForeignHandle) cache).part) (sym e) tt
 
-  stores : (event : Event) (cache : Cache) (w : World) → MayCall version event w → Stores (MayStore version w) (act event cache).part
+  pub stores : (event : Event) (cache : Cache) (w : World) → MayCall version event w → Stores (MayStore version w) (act event cache).part
   stores (Allocates pool key value ttl) cache w may = (calls-store version w 0 cache).allocated pool key value ttl
   stores (Inserts client handle) cache w may = insert-stores client handle cache w (is_known cache handle) refl may
   stores (Adds client handle) cache w may = absurd may
@@ -150,12 +150,11 @@ hit-value : (v : Option FlashEntry) (value : List ℕ) → ◌≡◌ {A = Answer
 hit-value None value e = absurd cc
 hit-value (Some x) value e = let same : x.value ≡ value = cc in ap Some same
 
-found_if : Bool → List ℕ → Cache → Moved
+abbrev pub found_if : Bool → List ℕ → Cache → Moved
 found_if t key cache = if t then answers (Waits cache.calls) (wait_for key ToFind cache) else find_now (find_reply (live cache.now (in_memory cache key))) (used key cache)
 
 hit-is : (config : Config) (older : List Note) (cache : Cache) (finder : ℕ) (key value : List ℕ) (b : Bool) → must_wait cache key ≡ b → Agrees config older cache
     → (found_if b key (record cache { calls = cache.calls + 1 })).answer ≡ Replied (Hit value) → value_at config.flash older key ≡ Some value
-unfolding found_if
 hit-is config older cache finder key value true w g e = absurd cc
 hit-is config older cache finder key value false w g e =
     let r = good_is_rest config older cache g in
@@ -163,7 +162,6 @@ hit-is config older cache finder key value false w g e =
     sym has ∙ hit-value (live cache.now (in_memory cache key)) value e
 
 pub no-hit-is-stale : NoHitIsStale
-unfolding found_if
 no-hit-is-stale version config stamps versions earlier later client finder key value serves hit =
     let s = new_service config stamps versions in
     let deeds = earlier ++ Calls (Removes client key) ∷ later in

@@ -6,9 +6,9 @@ use Rattle.hc_types.specs.Limits.{first_wrong}
 use Rattle.hc_history.specs.Note.{Hit}
 use Rattle.hc_history.specs.Books.{value_at}
 use Rattle.hc_history.specs.Honest.{Honest}
-use Rattle.hc_machine.specs.Cache.{Cache, Replied, new_cache}
-use Rattle.hc_machine.specs.Calls.{find}
-use Rattle.hc_theorem.specs.runs.Events.{Event, Inserts, Adds, Removes, act, acts, AllEventSized}
+use Rattle.hc_machine.specs.Cache.{Cache, Replied, Waits, new_cache}
+use Rattle.hc_machine.specs.Calls.{find, take_reply}
+use Rattle.hc_theorem.specs.runs.Events.{Event, Inserts, Adds, Finds, Removes, act, acts, AllEventSized}
 use Rattle.hc_lease.specs.Stamps.{Stamps}
 use Rattle.hc_lease.specs.Service.{IsAmong}
 use Rattle.hc_lease_log.specs.Rows as rows
@@ -97,4 +97,13 @@ abbrev pub NoHitIsStale : Type 0
 NoHitIsStale = (version : List ℕ → ℕ) (config : Config) (stamps : Stamps) (versions : List ℕ → ℕ) (earlier later : List Deed) (client finder : ℕ) (key value : List ℕ)
     → Serves version config (earlier ++ Calls (Removes client key) ∷ later) (new_service config stamps versions)
     → (find finder key (run (earlier ++ Calls (Removes client key) ∷ later) (new_service config stamps versions)).cache).answer ≡ Replied (Hit value)
+    → (run earlier (new_service config stamps versions)).world.rows key ≤ version value
+
+-- Nor does a find that waits for flash, where it was begun after that remove: its reply, whenever it is taken, brings no such
+-- value.
+abbrev pub NoReplyIsStale : Type 0
+NoReplyIsStale = (version : List ℕ → ℕ) (config : Config) (stamps : Stamps) (versions : List ℕ → ℕ) (earlier between later : List Deed) (client finder call : ℕ) (key value : List ℕ)
+    → Serves version config (earlier ++ Calls (Removes client key) ∷ (between ++ Calls (Finds finder key) ∷ later)) (new_service config stamps versions)
+    → (find finder key (run between (after (Calls (Removes client key)) (run earlier (new_service config stamps versions)))).cache).answer ≡ Waits call
+    → (take_reply call (run later (after (Calls (Finds finder key)) (run between (after (Calls (Removes client key)) (run earlier (new_service config stamps versions)))))).cache).answer ≡ Replied (Hit value)
     → (run earlier (new_service config stamps versions)).world.rows key ≤ version value

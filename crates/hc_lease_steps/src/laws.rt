@@ -2,7 +2,7 @@
 ghost use Rattle.hc_lease_steps.specs.Calls.{CallsTell};
 ghost use Rattle.hc_lease_steps.specs.Deleting.{RemovesDelete};
 ghost use Rattle.hc_lease_steps.specs.Runs.{TicketsHold};
-ghost use Rattle.hc_lease_steps.specs.Serving.{NothingStale, NoHitIsStale};
+ghost use Rattle.hc_lease_steps.specs.Serving.{NothingStale, NoHitIsStale, NoReplyIsStale};
 ghost use Rattle.hc_lease_steps.specs.Storing.{CallsStore};
 
 /// The law that each call of the cache tells what its stamps take it for. It does nothing when it runs.
@@ -37,4 +37,10 @@ pub fn nothing_stale()
 /// The law that no find then hits such a value. It does nothing when it runs.
 pub fn no_hit_is_stale()
     ensures { NoHitIsStale }
+{}
+
+/// The law that no find then hits such a value which waits for flash and whose reply is taken later. It does nothing when it
+/// runs.
+pub fn no_reply_is_stale()
+    ensures { NoReplyIsStale }
 {}

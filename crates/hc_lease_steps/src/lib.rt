@@ -5,5 +5,6 @@
 mod laws;
 
 pub use laws::{
-    calls_store, calls_tell, no_hit_is_stale, nothing_stale, removes_delete, tickets_hold,
+    calls_store, calls_tell, no_hit_is_stale, no_reply_is_stale, nothing_stale, removes_delete,
+    tickets_hold,
 };
