@@ -1,5 +1,5 @@
--- A worked run of a service over the machine, by computing: what is loaded before a change is stored before its delete, and not
--- after it. All that the laws ask is met.
+-- A worked run of a service over the machine, by computing: what is loaded before a change is stored before its delete,
+-- and not after it. All that the laws ask is met.
 use Rattle.std.proofs.Common.{◌≡◌, inl, ℕ, true, false, List, [], ◌∷◌, ◌++◌, refl, arith, slice_index, replicate}
 use Rattle.std.specs.Hash.FoldHasher.{initial, write, folded_multiply, read_short}
 use Rattle.hc_types.specs.Config.{Config}

@@ -29,8 +29,9 @@ steps_of (event ∷ events) cache = step_of event (act event cache) ∷ steps_of
 abbrev pub stamps_by : List Event → Cache → Stamps → Stamps
 stamps_by events cache stamps = stamps_after (steps_of events cache) stamps
 
--- Of any calls of a new cache, whatever results are handed in: as long as its log is honest, a ticket that was handed out
--- after some of them and is fresh for a key after all of them was handed out after the last answer that changed the key.
+-- Of any calls of a new cache, whatever results are handed in: as long as its log is honest, a ticket that was handed
+-- out after some of them and is fresh for a key after all of them was handed out after the last answer that changed the
+-- key.
 abbrev pub TicketsHold : Type 0
 TicketsHold = (config : Config) (stamps : Stamps) (earlier later : List Event) (key : List ℕ) (ticket : ℕ)
     → first_wrong config ≡ None → AllEventSized (earlier ++ later) → Honest (acts (earlier ++ later) (new_cache config)).log

@@ -1,5 +1,5 @@
--- A service with a cache before its database, over the machine: what it finds is never older than what was committed before a
--- delete that was answered.
+-- A service with a cache before its database, over the machine: what it finds is never older than what was committed
+-- before a delete that was answered.
 use Rattle.std.specs.Prelude.{◌≡◌, ℕ, ◌<◌, ◌≤◌, List, [], ◌∷◌, ◌++◌, length, Some, None}
 use Rattle.hc_types.specs.Config.{Config}
 use Rattle.hc_types.specs.Limits.{first_wrong}
@@ -55,9 +55,9 @@ calls_of [] = []
 calls_of (Calls event ∷ deeds) = event ∷ calls_of deeds
 calls_of (deed ∷ deeds) = calls_of deeds
 
--- What the service and its database owe: who asks the database has a ticket already; what is stored is what the database
--- answered with a ticket that is fresh, no older than what was committed before it was asked, or the newest row, while nobody
--- else can change it; and nothing is added.
+-- What the service and its database owe: who asks the database has a ticket already; what is stored is what the
+-- database answered with a ticket that is fresh, no older than what was committed before it was asked, or the newest
+-- row, while nobody else can change it; and nothing is added.
 abbrev pub MayCall : (List ℕ → ℕ) → Event → World → Type 0
 MayCall version (Inserts client handle) world = MayStore version world handle.key handle.value
 MayCall version (Adds client handle) world = ⊥
@@ -84,8 +84,9 @@ pub record Serves (version : List ℕ → ℕ) (config : Config) (deeds : List D
   pub slots : 0 < length begins.world.stamps.slots
   pub may : AllMay version deeds begins
 
--- Once a remove of a key is answered, the map has no value under it whose row is older than what was committed before that
--- remove: whatever clients and workers do, and in whatever order. `version` is what a stored value tells of its row.
+-- Once a remove of a key is answered, the map has no value under it whose row is older than what was committed before
+-- that remove: whatever clients and workers do, and in whatever order. `version` is what a stored value tells of its
+-- row.
 abbrev pub NothingStale : Type 0
 NothingStale = (version : List ℕ → ℕ) (config : Config) (stamps : Stamps) (versions : List ℕ → ℕ) (earlier later : List Deed) (client : ℕ) (key value : List ℕ)
     → Serves version config (earlier ++ Calls (Removes client key) ∷ later) (new_service config stamps versions)
@@ -99,8 +100,8 @@ NoHitIsStale = (version : List ℕ → ℕ) (config : Config) (stamps : Stamps) 
     → (find finder key (run (earlier ++ Calls (Removes client key) ∷ later) (new_service config stamps versions)).cache).answer ≡ Replied (Hit value)
     → (run earlier (new_service config stamps versions)).world.rows key ≤ version value
 
--- Nor does a find that waits for flash, where it was begun after that remove: its reply, whenever it is taken, brings no such
--- value.
+-- Nor does a find that waits for flash, where it was begun after that remove: its reply, whenever it is taken, brings
+-- no such value.
 abbrev pub NoReplyIsStale : Type 0
 NoReplyIsStale = (version : List ℕ → ℕ) (config : Config) (stamps : Stamps) (versions : List ℕ → ℕ) (earlier between later : List Deed) (client finder call : ℕ) (key value : List ℕ)
     → Serves version config (earlier ++ Calls (Removes client key) ∷ (between ++ Calls (Finds finder key) ∷ later)) (new_service config stamps versions)

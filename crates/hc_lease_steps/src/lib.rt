@@ -1,5 +1,5 @@
-//! What each call of the cache's machine tells its stamps, and what a ticket promises of any calls of clients and workers. No
-//! code, but functions that do nothing and whose contracts are the laws.
+//! What each call of the cache's machine tells its stamps, and what a ticket promises of any calls of clients and
+//! workers. No code, but functions that do nothing and whose contracts are the laws.
 #![tactic(auto)]
 
 mod laws;
