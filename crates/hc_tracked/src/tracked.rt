@@ -124,6 +124,22 @@ impl<N: Listener, A: Allocator, G: Digest + Copy> TrackedCore<N, A, G> {
         self.lies
     }
 
+    /// How many calls were begun: inserts, finds and removes that weren't refused.
+    #[must_use]
+    pub fn calls(&self) -> u64
+        ensures { result ≡ self.now.core.cache.calls }
+    {
+        self.core.calls()
+    }
+
+    /// The moment that holds, in seconds.
+    #[must_use]
+    pub fn now(&self) -> u64
+        ensures { result ≡ self.now.core.cache.now }
+    {
+        self.core.now()
+    }
+
     /// The configuration that the core was made with.
     #[must_use]
     pub fn config(&self) -> &Config<A>
@@ -158,14 +174,6 @@ impl<A: Allocator, G: Digest + Copy> TrackedCore<Kept<A>, A, G> {
 }
 
 impl<N: Listener, A: Allocator + Clone + Copy, G: Digest + Copy> TrackedCore<N, A, G> {
-    /// How many calls were begun: inserts, finds and removes that weren't refused.
-    #[must_use]
-    pub fn calls(&self) -> u64
-        ensures { result ≡ self.now.core.cache.calls }
-    {
-        self.core.calls()
-    }
-
     /// The operation for which the job waits.
     #[must_use]
     pub fn order(&self, job: u64) -> Option<&Order<A>>
