@@ -1,0 +1,5 @@
+-- Proofs. Calls of a cache with leases, one after the other.
+pub mod Runs
+pub mod Sized
+pub mod Ticketing
+pub mod Followed

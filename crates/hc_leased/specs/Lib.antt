@@ -1,0 +1,6 @@
+-- A cache with leases.
+pub mod Answers
+pub mod Leased
+pub mod Runs
+pub mod Serving
+pub mod Tracked
