@@ -62,3 +62,13 @@ pub enum KeptItem<A: Allocator = Global> {
     /// As `Kept::Stale`: the item isn't inserted, and its handle comes back, to be given up.
     Stale(Sealed<A>),
 }
+
+/// By what it answers, without the handle.
+impl<A: Allocator> fmt::Debug for KeptItem<A> {
+    fn fmt<W: fmt::Write>(&self, f: &mut fmt::Formatter<W>) -> fmt::Result {
+        match self {
+            KeptItem::Stored => f.write_str("Stored"),
+            KeptItem::Stale(_) => f.write_str("Stale"),
+        }
+    }
+}
