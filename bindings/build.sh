@@ -71,6 +71,7 @@ if has cargo; then
             speed() { (cd "$here/speed" && CARGO_TARGET_DIR="$out/target" cargo run --offline --quiet --release -- "$@"); }
             speed
             speed least 1000
+            speed threads
         else
             echo "skipped: no crate lru (Debian's librust-lru-dev)"
         fi

@@ -401,6 +401,37 @@ static void check_words(void) {
     CHECK(strcmp(kilambosetry_strerror(106), "Unknown") == 0);
 }
 
+/* Shards: which a key is of, what a shard's share is, and what is refused. */
+static void check_shards(void) {
+    static const kilambosetry_pool whole[] = {{4096, 40}};
+    kilambosetry_flash flash = {512, 1, 3, 1, 1, 100, 8, 8, 0, 2000};
+    kilambosetry_cache shards[2] = {KILAMBOSETRY_NONE, KILAMBOSETRY_NONE};
+    kilambosetry_usage_t usage;
+    uint8_t out[4];
+    size_t len;
+    CHECK(kilambosetry_shard_of(BYTES("a"), 2) == 0 && kilambosetry_shard_of(BYTES("b"), 2) == 1);
+    CHECK(kilambosetry_shard_of(BYTES("a"), 4) == 0 && kilambosetry_shard_of(BYTES("b"), 4) == 3);
+    CHECK(kilambosetry_shard_of(BYTES("c"), 4) == 2 && kilambosetry_shard_of(BYTES("d"), 4) == 1);
+    CHECK(kilambosetry_shard_of(BYTES("b"), 1) == 0 && kilambosetry_shard_of(BYTES("b"), 0) == 0);
+    CHECK(kilambosetry_new_shard(&shards[0], whole, 1, 0) == KILAMBOSETRY_BAD_SHARDS && !shards[0].full);
+    CHECK(kilambosetry_new_shard(&shards[0], whole, 1, 17) == KILAMBOSETRY_BAD_SHARDS);
+    CHECK(kilambosetry_new_shard(&shards[0], whole, 1, 41) == KILAMBOSETRY_BAD_POOL);
+    for (uint8_t shard = 0; shard < 2; shard++) {
+        CHECK(kilambosetry_new_shard(&shards[shard], whole, 1, 2) == KILAMBOSETRY_DONE);
+        CHECK(kilambosetry_usage(&shards[shard], 0, &usage) == KILAMBOSETRY_DONE);
+        CHECK(usage.limit_bytes == 2048 && usage.limit_items == 20);
+    }
+    CHECK(kilambosetry_set(&shards[kilambosetry_shard_of(BYTES("b"), 2)], 0, BYTES("b"), BYTES("two"), 0) == KILAMBOSETRY_DONE);
+    CHECK(kilambosetry_get(&shards[1], BYTES("b"), out, sizeof out, &len) == KILAMBOSETRY_DONE && len == 3);
+    CHECK(kilambosetry_get(&shards[0], BYTES("b"), out, sizeof out, &len) == KILAMBOSETRY_MISS);
+    CHECK(kilambosetry_new_shard_with_flash(&shards[0], whole, 1, &flash, 16) == KILAMBOSETRY_DONE);
+    flash.page = 100;
+    CHECK(kilambosetry_new_shard_with_flash(&shards[0], whole, 1, &flash, 16) == KILAMBOSETRY_BAD_PAGE);
+    CHECK(kilambosetry_usage(&shards[0], 0, &usage) == KILAMBOSETRY_DONE && usage.limit_items == 2);
+    kilambosetry_free(&shards[0]);
+    kilambosetry_free(&shards[1]);
+}
+
 int main(void) {
     check_empty();
     check_making();
@@ -417,6 +448,7 @@ int main(void) {
     check_forgetting();
     check_work_and_replies();
     check_full_queue();
+    check_shards();
     check_words();
     printf("%d checks, %d failed\n", checks, failures);
     return failures == 0 ? 0 : 1;

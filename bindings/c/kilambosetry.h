@@ -1,6 +1,6 @@
 /* Kilambosetry for C: a cache of up to 16 pools in memory, with flash behind them or without.
  *
- * Each call answers a status: 0 (done), the number of a refusal (1 to 23), or one of the other numbers below.
+ * Each call answers a status: 0 (done), the number of a refusal (1 to 25), or one of the other numbers below.
  * `kilambosetry_strerror` has a word for each. A call that is refused leaves the cache as it was, but for what
  * `kilambosetry_set` and `kilambosetry_add` say.
  *
@@ -121,6 +121,7 @@ enum {
     KILAMBOSETRY_NOT_READY = 20,      /* the call still waits */
     KILAMBOSETRY_UNKNOWN_JOB = 21,    /* no job with this number waits, or not for such a result */
     KILAMBOSETRY_NO_MEMORY = 22,
+    KILAMBOSETRY_BAD_SHARDS = 24,     /* not 1 to 16 shards, or with more than 4,294,967,295 pages together */
     KILAMBOSETRY_MISS = 100,          /* the key has no unexpired value; to a delete: no item */
     KILAMBOSETRY_EMPTY = 101,         /* the handle has no cache, no value or no page */
     KILAMBOSETRY_SHORT = 102,         /* the buffer is shorter than the value */
@@ -136,6 +137,20 @@ uint8_t kilambosetry_new(kilambosetry_cache *cache, const kilambosetry_pool *poo
 /* The same with flash behind the pools. */
 uint8_t kilambosetry_new_with_flash(kilambosetry_cache *cache, const kilambosetry_pool *pools, size_t pools_len,
                                     const kilambosetry_flash *flash);
+
+/* Makes an empty shard of a cache of these pools that is cut into `shards` shards, 1 to 16: a cache by itself, which has of
+ * each pool its bytes and its items divided by that number and rounded down. A share of less than 64 bytes or one item is
+ * KILAMBOSETRY_BAD_POOL. Keep the shards in an array, each beside a lock of its own, and call the one that
+ * `kilambosetry_shard_of` gives for the key, while its lock is held. Each shard has a clock and call numbers of its own. */
+uint8_t kilambosetry_new_shard(kilambosetry_cache *cache, const kilambosetry_pool *pools, size_t pools_len, uint8_t shards);
+
+/* The same with flash behind the shard's share of the pools; the flash is that of one shard. Its pages are numbered from 0:
+ * on one device for all of them, page p of shard s is page s * (buckets + regions * region_pages) + p. */
+uint8_t kilambosetry_new_shard_with_flash(kilambosetry_cache *cache, const kilambosetry_pool *pools, size_t pools_len,
+                                          const kilambosetry_flash *flash, uint8_t shards);
+
+/* The shard, from 0, that the key is of, where there are so many. */
+uint8_t kilambosetry_shard_of(const uint8_t *key, size_t key_len, uint8_t shards);
 
 /* Frees the cache. A handle without one is left as it is. */
 void kilambosetry_free(kilambosetry_cache *cache);

@@ -178,7 +178,22 @@ impl HybridCache {
         let mut handle = Handle::none();
         // SAFETY: both are valid, and the handle is an empty one.
         done(unsafe { library::kilambosetry_new_with_flash(&mut handle, pools.as_ptr(), pools.len(), flash) })?;
-        Ok(HybridCache { cache: Cache(handle), page: flash.page as usize, owed: None, forgotten: VecDeque::new() })
+        Ok(HybridCache::of(handle, flash))
+    }
+
+    /// An empty shard of these pools cut into so many shards, with this flash behind its share of them: the flash is that of
+    /// one shard. [`shard_of`](crate::shard_of) says which keys it is to be asked for.
+    pub fn new_shard(pools: &[Pool], flash: &Flash, shards: u8) -> Result<HybridCache, Refused> {
+        let mut handle = Handle::none();
+        // SAFETY: as in `new`.
+        done(unsafe {
+            library::kilambosetry_new_shard_with_flash(&mut handle, pools.as_ptr(), pools.len(), flash, shards)
+        })?;
+        Ok(HybridCache::of(handle, flash))
+    }
+
+    fn of(handle: Handle, flash: &Flash) -> HybridCache {
+        HybridCache { cache: Cache(handle), page: flash.page as usize, owed: None, forgotten: VecDeque::new() }
     }
 
     /// As [`Cache::tick`].

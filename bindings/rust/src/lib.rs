@@ -13,7 +13,7 @@
 //! # Ok::<(), kilambosetry::Refused>(())
 //! ```
 //!
-//! A cache has no lock. Threads share one as a `Mutex<Cache>`:
+//! A cache has no lock. Threads share a [`ShardedCache`], whose shards have one each, or one cache as a `Mutex<Cache>`:
 //!
 //! ```
 //! use kilambosetry::{Cache, Pool};
@@ -35,10 +35,12 @@
 mod hybrid;
 mod library;
 mod refused;
+mod sharded;
 mod value;
 
 pub use hybrid::{Added, Came, Device, Flash, Found, HybridCache, Operation, Reply, Take};
 pub use refused::Refused;
+pub use sharded::{shard_of, ShardedCache};
 pub use value::Value;
 
 use library::Handle;
@@ -164,6 +166,15 @@ impl Cache {
         let mut handle = Handle::none();
         // SAFETY: `pools` is valid for its length; the handle is an empty one.
         done(unsafe { library::kilambosetry_new(&mut handle, pools.as_ptr(), pools.len()) })?;
+        Ok(Cache(handle))
+    }
+
+    /// An empty shard of these pools cut into so many shards, 1 to 16: of each pool it has its bytes and its items divided by
+    /// the number of shards and rounded down. [`shard_of`] says which keys it is to be asked for.
+    pub fn new_shard(pools: &[Pool], shards: u8) -> Result<Cache, Refused> {
+        let mut handle = Handle::none();
+        // SAFETY: as in `new`.
+        done(unsafe { library::kilambosetry_new_shard(&mut handle, pools.as_ptr(), pools.len(), shards) })?;
         Ok(Cache(handle))
     }
 

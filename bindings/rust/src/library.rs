@@ -47,6 +47,15 @@ extern "C" {
     pub fn kilambosetry_finish_write(cache: *mut Handle, job: u64) -> u8;
     pub fn kilambosetry_finish_failed(cache: *mut Handle, job: u64) -> u8;
     pub fn kilambosetry_new(cache: *mut Handle, pools: *const crate::Pool, pools_len: usize) -> u8;
+    pub fn kilambosetry_new_shard(cache: *mut Handle, pools: *const crate::Pool, pools_len: usize, shards: u8) -> u8;
+    pub fn kilambosetry_new_shard_with_flash(
+        cache: *mut Handle,
+        pools: *const crate::Pool,
+        pools_len: usize,
+        flash: *const crate::Flash,
+        shards: u8,
+    ) -> u8;
+    pub fn kilambosetry_shard_of(key: *const u8, key_len: usize, shards: u8) -> u8;
     pub fn kilambosetry_free(cache: *mut Handle);
     pub fn kilambosetry_tick(cache: *mut Handle, moment: u64) -> u8;
     pub fn kilambosetry_set(

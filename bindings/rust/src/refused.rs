@@ -58,6 +58,8 @@ impl Refused {
     pub const UNKNOWN_JOB: Refused = Refused(21);
     /// Memory was refused.
     pub const NO_MEMORY: Refused = Refused(22);
+    /// Not 1 to 16 shards, or more than 4,294,967,295 pages of all of them.
+    pub const BAD_SHARDS: Refused = Refused(24);
 
     /// The number that it is known by.
     pub fn number(self) -> u8 {

@@ -1,6 +1,6 @@
 //! What the wrapper answers.
 use kilambosetry::{
-    Added, Cache, Came, Device, Flash, Found, HybridCache, Losses, Operation, Pool, Refused, Reply, Take, Value,
+    Added, Cache, Came, Device, Flash, Found, HybridCache, Losses, Operation, Pool, Refused, Reply, ShardedCache, Take, Value,
 };
 use std::error::Error;
 use std::io;
@@ -39,6 +39,37 @@ fn items_that_were_used_longest_ago_go() {
     assert_eq!((counts.stored, counts.hits, counts.misses, counts.losses), (5, 2, 1, 1));
     assert_eq!(cache.losses(), Losses { no_flash: 1, ..Losses::default() });
     assert_eq!(cache.calls(), 8);
+}
+
+#[test]
+fn shards_are_asked_for_their_own_keys() {
+    let pools = [Pool { bytes: 40_960, items: 400 }];
+    let cache = ShardedCache::new(&pools, 4).unwrap();
+    thread::scope(|scope| {
+        for number in 0..8u8 {
+            let cache = &cache;
+            scope.spawn(move || {
+                for round in 0..8u8 {
+                    cache.set(0, &[number, round], &[round; 10], 0).unwrap();
+                    assert_eq!(cache.get(&[number, round]).unwrap().as_deref(), Some(&[round; 10][..]));
+                }
+                assert!(cache.delete(&[number, 0]).unwrap());
+                assert_eq!(cache.read(&[number, 0]).unwrap().map(|mut value| value.to_vec()), None);
+            });
+        }
+    });
+    let counts = cache.counts();
+    assert_eq!((counts.stored, counts.hits, counts.misses, counts.removes, counts.losses), (64, 64, 8, 8, 0));
+    assert_eq!((cache.shards(), cache.calls()), (4, 144));
+    let usage = cache.usage(0).unwrap();
+    assert_eq!((usage.limit_bytes, usage.limit_items, usage.items), (40_960, 400, 56));
+    assert_eq!(cache.losses(), Losses::default());
+    cache.tick(7).unwrap();
+    assert_eq!(cache.add(0, &[1, 1], b"again", 0), Err(Refused::EXISTS));
+    assert_eq!(ShardedCache::new(&pools, 0).unwrap_err(), Refused::BAD_SHARDS);
+    assert_eq!(ShardedCache::new(&pools, 17).unwrap_err(), Refused::BAD_SHARDS);
+    assert_eq!(ShardedCache::new(&pools, 255).unwrap_err(), Refused::BAD_POOL);
+    assert_eq!(ShardedCache::new(&pools, 2).unwrap().usage(1), Err(Refused::NO_POOL));
 }
 
 #[test]

@@ -5,7 +5,10 @@
 //! are written just before, as those of a key that is put together for the call, but for `hit by a ready key`: those were
 //! written long before, and are read from a list.
 //! `speed least KEYS` makes finds alone, of this cache and of `lru` in turn, in many short rounds, and tells the least of each.
+//! `speed threads` makes finds by threads that share a cache in shards, beside `lru` behind as many mutexes.
 //! `speed hits KEYS` and `speed replaces KEYS` run 200,000 of these of this cache alone, for a profiler.
+mod threads;
+
 use kilambosetry::{Cache, Pool};
 use std::collections::HashMap;
 use std::env;
@@ -259,6 +262,10 @@ fn alone(word: &str, keys: u64) {
 
 fn main() {
     let arguments: Vec<String> = env::args().collect();
+    if let [_, word] = arguments.as_slice() {
+        assert_eq!(word, "threads");
+        return threads::tables();
+    }
     if let [_, word, keys] = arguments.as_slice() {
         let keys = keys.parse().unwrap();
         return if word == "least" { least(keys) } else { alone(word, keys) };

@@ -9,6 +9,7 @@ use Rattle.hc_types.specs.declared.refusal.Refusal.TheVariants.{NoMemory}
 use Rattle.hc_history.specs.Losses.{no_losses}
 use Rattle.hc_history.specs.Told.{Sums, no_counts}
 use Rattle.hc_machine.specs.Cache.{new_cache}
+use Rattle.hc_shards.specs.Shards.{Sharded, share_of, sharded_wrong}
 use Rattle.hc_c.specs.declared.cache.Cache.{Cache}
 use Rattle.hc_c.specs.declared.making.Flash.{Flash}
 use Rattle.hc_c.specs.declared.making.Pool.{Pool}
@@ -49,3 +50,19 @@ abbrev pub Makes : Config → Status → Option Cache → Option Cache → Type 
 Makes config Done old new = (new ≡ Some (fresh config)) × (first_wrong config ≡ None)
 Makes config (Refused refusal) old new = (new ≡ old) × MayNotMake config refusal
 Makes config status old new = ⊥
+
+-- ---- shards
+
+-- these pools, and this flash or none, cut into so many shards
+abbrev pub sharded_of : List Pool → Option FlashConfig → ℕ → Sharded
+sharded_of pools flash shards = record { config = config_of pools flash; shards = shards }
+
+-- why no shard is made: for the first number that is wrong, or for want of memory
+abbrev pub MayNotMakeShard : Sharded → Refusal → Type 0
+MayNotMakeShard sharded refusal = (sharded_wrong sharded ≡ Some refusal) ⊎ (refusal ≡ NoMemory)
+
+-- an empty shard was made in place of the old cache, or what was there stays
+abbrev pub MakesShard : Sharded → Status → Option Cache → Option Cache → Type 0
+MakesShard sharded Done old new = (new ≡ Some (fresh (share_of sharded))) × (sharded_wrong sharded ≡ None)
+MakesShard sharded (Refused refusal) old new = (new ≡ old) × MayNotMakeShard sharded refusal
+MakesShard sharded status old new = ⊥

@@ -26,7 +26,10 @@ pub use cache::Cache;
 pub use cache_handle::CacheHandle;
 pub use items::{kilambosetry_add, kilambosetry_delete, kilambosetry_get, kilambosetry_set};
 pub use jobs::Operation;
-pub use making::{Flash, Pool, kilambosetry_free, kilambosetry_new, kilambosetry_new_with_flash};
+pub use making::{
+    Flash, Pool, kilambosetry_free, kilambosetry_new, kilambosetry_new_shard,
+    kilambosetry_new_shard_with_flash, kilambosetry_new_with_flash, kilambosetry_shard_of,
+};
 pub use pages::{kilambosetry_finish_page, kilambosetry_order_page, kilambosetry_page_new};
 pub use reading::Reading;
 pub use status::Status;

@@ -1,14 +1,17 @@
 // Caches are made and freed.
-ghost use Rattle.std.specs.Prelude.{◌≡◌, None, Some, IfOk, IfErr, OnOk, map};
+ghost use Rattle.std.specs.Prelude.{◌≡◌, ◌<◌, None, Some, IfOk, IfErr, OnOk, map};
 ghost use Rattle.hc_types.specs.Limits.{first_wrong};
 ghost use Rattle.hc_types.specs.declared.refusal.Refusal.TheVariants.{NoMemory};
-ghost use Rattle.hc_c.specs.Making.{config_of, size_of, numbers_of, fresh, Makes, MayNotMake};
+ghost use Rattle.hc_shards.specs.Shards.{shard_of, share_of, sharded_wrong};
+ghost use Rattle.hc_c.specs.Making.{config_of, sharded_of, size_of, numbers_of, fresh, Makes, MakesShard, MayNotMake, MayNotMakeShard};
 ghost use Rattle.hc_c.specs.Statuses.{Says};
 
 use crate::cache::Cache;
 use crate::cache_handle::CacheHandle;
 use crate::status::Status;
 use hc_core::{Config, Core, FlashConfig, PoolSize, Refusal, Totals};
+use hc_shards::{Sharded, shares_are_right};
+use hc_types::hash_of;
 use std::alloc::{AllocError, Global};
 
 /// The limits of a pool: 64 to 4,294,967,296 bytes, and 1 to 1,048,576 items.
@@ -133,6 +136,94 @@ pub extern "C" fn kilambosetry_new_with_flash(
     ensures { Says result (λ status. Makes (config_of pools.now (Some (numbers_of flash.now))) status handle.old.seat.cache handle.new.seat.cache) }
 {
     new(alloc, handle, pools, Some(flash.config())).number()
+}
+
+// An empty shard of these pools, with this flash behind its share of them, in a box.
+fn shard_of_pools(
+    alloc: Global,
+    pools: &[Pool],
+    flash: Option<FlashConfig>,
+    shards: u8,
+) -> Result<Box<Cache>, Refusal>
+    ensures ok { IfOk result (λ cache. cache.value ≡ fresh (share_of (sharded_of pools.now flash shards))) }
+    ensures fits { OnOk result (sharded_wrong (sharded_of pools.now flash shards) ≡ None) }
+    ensures err { IfErr result (λ refusal. MayNotMakeShard (sharded_of pools.now flash shards) refusal) }
+{
+    let sharded = Sharded {
+        config: Config::new(sizes_of(alloc, pools)?, flash),
+        shards,
+    };
+    sharded.check()?;
+    let share = sharded.share(alloc)?;
+    shares_are_right();
+    match boxed(alloc, &share) {
+        Ok(cache) => Ok(cache),
+        Err(_) => Err(Refusal::NoMemory),
+    }
+}
+
+fn new_shard(
+    alloc: Global,
+    handle: &mut CacheHandle,
+    pools: &[Pool],
+    flash: Option<FlashConfig>,
+    shards: u8,
+) -> Status
+    ensures { MakesShard (sharded_of pools.now flash shards) result handle.old.seat.cache handle.new.seat.cache }
+{
+    match shard_of_pools(alloc, pools, flash, shards) {
+        Ok(cache) => {
+            *handle = CacheHandle::of(cache);
+            Status::Done
+        }
+        Err(refusal) => Status::Refused(refusal),
+    }
+}
+
+/// Makes an empty shard of a cache of these pools that is cut into so many shards, without flash, in place of the cache that
+/// the handle has, which is freed: a cache by itself, which has of each pool its bytes and its items divided by the number
+/// of shards and rounded down. Which keys it is to be asked for says `kilambosetry_shard_of`. Refused with `BadPool`, also
+/// where a share is less than 64 bytes or an item, with `BadShards` for other than 1 to 16 shards, and with `NoMemory`; then
+/// the handle keeps what it has.
+#[unsafe(no_mangle)]
+pub extern "C" fn kilambosetry_new_shard(
+    alloc: Global,
+    handle: &mut CacheHandle,
+    pools: &[Pool],
+    shards: u8,
+) -> u8
+    ensures { Says result (λ status. MakesShard (sharded_of pools.now None shards) status handle.old.seat.cache handle.new.seat.cache) }
+{
+    new_shard(alloc, handle, pools, None, shards).number()
+}
+
+/// The same with flash behind each shard's share of the pools: the flash is that of one shard. Refused also for the first
+/// number of the flash that is outside its limits, and with `BadShards` where all shards together have more than
+/// 4,294,967,295 pages.
+#[unsafe(no_mangle)]
+pub extern "C" fn kilambosetry_new_shard_with_flash(
+    alloc: Global,
+    handle: &mut CacheHandle,
+    pools: &[Pool],
+    flash: &Flash,
+    shards: u8,
+) -> u8
+    ensures { Says result (λ status. MakesShard (sharded_of pools.now (Some (numbers_of flash.now)) shards) status handle.old.seat.cache handle.new.seat.cache) }
+{
+    new_shard(alloc, handle, pools, Some(flash.config()), shards).number()
+}
+
+/// The shard, from 0, that a key of these bytes is of, where there are so many: by the upper 24 bits of its hash. With one
+/// shard, or none, it is 0.
+#[unsafe(no_mangle)]
+pub extern "C" fn kilambosetry_shard_of(key: &[u8], shards: u8) -> u8
+    ensures value { 0 < shards → result ≡ shard_of shards key.now }
+    ensures below { 0 < shards → result < shards }
+{
+    if shards <= 1 {
+        return 0;
+    }
+    ((hash_of(key) >> 40) % u64::from(shards)) as u8
 }
 
 /// Frees the cache, if there is one.

@@ -26,7 +26,7 @@ pub enum Status {
 }
 
 impl Status {
-    /// The number that C is told: that of the refusal, which is 1 to 23, or one of no refusal.
+    /// The number that C is told: that of the refusal, which is 1 to 25, or one of no refusal.
     #[must_use]
     pub fn number(self) -> u8
         ensures { result ≡ status_number self }
