@@ -1,6 +1,6 @@
 //! The code of README.md, and what becomes of it: one value is found in memory, on its way to flash, on flash, and nowhere.
 //! `tools/check-docs` compares the text with the page, and `bindings/build.sh` runs it.
-use kilambosetry::{Device, Flash, Found, HybridCache, Pool, Refused, Reply, Value};
+use kilambosetry::{Device, Engine, Flash, Found, Held, Pool, Refused, Reply};
 use std::{env, fs::File, io, os::unix::fs::FileExt, process};
 
 struct Disk(File); // the flash: pages of 4,096 bytes in a file
@@ -14,7 +14,7 @@ impl Device for Disk {
     }
 }
 
-fn profile(cache: &mut HybridCache, disk: &mut Disk) -> Result<Option<Value>, Refused> {
+fn profile(cache: &mut Engine, disk: &mut Disk) -> Result<Option<Held>, Refused> {
     match cache.get(b"user:7")? {
         Found::Hit(value) => Ok(Some(value)), // it was in memory
         Found::Miss => Ok(None),              // load it from the database, and `set` it for an hour
@@ -41,7 +41,7 @@ const FLASH: Flash = Flash {
     admit_max: 1_000_000,
 };
 
-fn found(cache: &mut HybridCache, disk: &mut Disk) -> Result<Option<Vec<u8>>, Refused> {
+fn found(cache: &mut Engine, disk: &mut Disk) -> Result<Option<Vec<u8>>, Refused> {
     Ok(profile(cache, disk)?.map(|mut value| value.to_vec()))
 }
 
@@ -51,7 +51,7 @@ fn main() -> Result<(), Box<dyn std::error::Error>> {
     std::fs::remove_file(&path)?;
     file.set_len(FLASH.pages() * FLASH.page)?;
     let mut disk = Disk(file);
-    let mut cache = HybridCache::new(&[Pool { bytes: 100, items: 10 }], &FLASH)?;
+    let mut cache = Engine::new(&[Pool { bytes: 100, items: 10 }], &FLASH)?;
     cache.tick(1_700_000_000)?;
     assert_eq!(found(&mut cache, &mut disk)?, None);
     cache.set(0, b"user:7", b"Ada", 3600)?;

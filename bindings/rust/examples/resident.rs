@@ -7,7 +7,7 @@
 //!
 //! `resident` alone runs all cases; `resident POOL VALUE SMALL` one of them, with so many bytes in the pool and in each value,
 //! and as many in an item that is still small. Linux alone tells (/proc/self/status).
-use kilambosetry::{Device, Flash, Found, HybridCache, Pool, Refused, Reply};
+use kilambosetry::{Device, Engine, Flash, Found, Pool, Refused, Reply};
 use std::env;
 use std::fs::{self, File};
 use std::io;
@@ -64,7 +64,7 @@ fn flash_for(items: u64, value: u64, small_max: u64) -> Flash {
 }
 
 // The items from 0 on are read, in another order.
-fn read_all(cache: &mut HybridCache, device: &mut Pages, items: u64, value: u64) -> Result<u64, Refused> {
+fn read_all(cache: &mut Engine, device: &mut Pages, items: u64, value: u64) -> Result<u64, Refused> {
     let mut hits = 0;
     for i in 0..items {
         let found = match cache.get(&key(i * PRIME % items))? {
@@ -92,7 +92,7 @@ fn case(pool: u64, value: u64, small_max: u64) -> Result<(), Refused> {
     device.0.set_len(flash.pages() * PAGE).unwrap();
     let bytes = vec![7; value as usize];
     let before = resident();
-    let mut cache = HybridCache::new(&[Pool { bytes: pool, items: 1_048_576 }], &flash)?;
+    let mut cache = Engine::new(&[Pool { bytes: pool, items: 1_048_576 }], &flash)?;
     let empty = resident() - before;
     for i in 0..2 * items {
         cache.set(0, &key(i), &bytes, 0)?;

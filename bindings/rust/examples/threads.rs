@@ -9,7 +9,7 @@
 //! 200,000 values of 1,000 bytes are set, in a pool of 64 MB (memcached: as it was started), and then got at random by so many
 //! threads for so many seconds; what isn't found is set again. It prints how many gets were made in a second, and how many of
 //! 100 hit.
-use kilambosetry::{Came, Flash, Found, HybridCache, Operation, Pool, Refused, Reply, Take, Value};
+use kilambosetry::{Came, Engine, Flash, Found, Held, Operation, Pool, Refused, Reply, Take};
 use std::env;
 use std::fs::{self, File, OpenOptions};
 use std::io::{self, BufRead, BufReader, Read, Write};
@@ -35,7 +35,7 @@ const FLASH: Flash = Flash {
 
 /// A cache under a lock, and its file.
 struct Shared {
-    cache: Mutex<HybridCache>,
+    cache: Mutex<Engine>,
     pages: File,
     /// Wakes the writer.
     work: Condvar,
@@ -48,7 +48,7 @@ impl Shared {
     fn new(path: &str) -> io::Result<Shared> {
         let pages = OpenOptions::new().read(true).write(true).create_new(true).open(path)?;
         pages.set_len(FLASH.pages() * FLASH.page)?;
-        let cache = HybridCache::new(&[Pool { bytes: 64_000_000, items: 1_000_000 }], &FLASH)
+        let cache = Engine::new(&[Pool { bytes: 64_000_000, items: 1_000_000 }], &FLASH)
             .map_err(|refused| io::Error::new(io::ErrorKind::Other, refused))?;
         Ok(Shared {
             cache: Mutex::new(cache),
@@ -67,7 +67,7 @@ impl Shared {
     }
 
     // The value, from memory or flash. Whoever waits takes the reads that are to be made, his own and those of who waits longer.
-    fn get(&self, key: &[u8]) -> Result<Option<Value>, Refused> {
+    fn get(&self, key: &[u8]) -> Result<Option<Held>, Refused> {
         let mut cache = self.cache.lock().unwrap();
         let call = match cache.get(key)? {
             Found::Hit(value) => return Ok(Some(value)),
@@ -82,7 +82,8 @@ impl Shared {
                 Err(refused) => return Err(refused),
             }
             cache = match cache.filler_take()? {
-                Take::Work(job, operation) => self.complete(cache, job, operation),
+                Take::Work(job, operation) => self.complete(cache, job, Some(operation)),
+                Take::Untold(job) => self.complete(cache, job, None),
                 Take::Finished => cache,
                 Take::Idle => self.answered.wait(cache).unwrap(), // another reads it
             };
@@ -92,21 +93,22 @@ impl Shared {
     // Does a job to its end, with no lock held while it reads or writes.
     fn complete<'a>(
         &'a self,
-        cache: MutexGuard<'a, HybridCache>,
+        cache: MutexGuard<'a, Engine>,
         job: u64,
-        first: Operation,
-    ) -> MutexGuard<'a, HybridCache> {
+        first: Option<Operation>,
+    ) -> MutexGuard<'a, Engine> {
         let (mut cache, mut operation) = (cache, first);
         loop {
             drop(cache);
-            let mut came = self.operate(operation);
+            let mut came = operation.map_or(Came::Failed, |operation| self.operate(operation));
             cache = self.cache.lock().unwrap();
             let mut next = cache.finish(job, &mut came);
             while matches!(next, Err(Refused::NO_MEMORY)) {
                 next = cache.finish(job, &mut came); // a result must not be lost
             }
             match next {
-                Ok(Take::Work(_, more)) => operation = more,
+                Ok(Take::Work(_, more)) => operation = Some(more),
+                Ok(Take::Untold(_)) => operation = None,
                 _ => {
                     self.answered.notify_all();
                     self.wake(&mut cache);
@@ -122,7 +124,7 @@ impl Shared {
             Operation::Read(page) => {
                 let mut bytes = [0; FLASH.page as usize];
                 match self.pages.read_exact_at(&mut bytes, at(page)) {
-                    Ok(()) => Value::copy_of(&bytes).map_or(Came::Failed, Came::Page),
+                    Ok(()) => Held::copy_of(&bytes).map_or(Came::Failed, Came::Page),
                     Err(_) => Came::Failed,
                 }
             }
@@ -134,7 +136,7 @@ impl Shared {
     }
 
     // Wakes the writer, where it has work.
-    fn wake(&self, cache: &mut HybridCache) {
+    fn wake(&self, cache: &mut Engine) {
         if cache.writer_has_work() != Ok(false) {
             self.work.notify_one();
         }
@@ -146,7 +148,8 @@ impl Shared {
         while !self.ends.load(Ordering::SeqCst) {
             while cache.reclaim()? {}
             cache = match cache.writer_take()? {
-                Take::Work(job, operation) => self.complete(cache, job, operation),
+                Take::Work(job, operation) => self.complete(cache, job, Some(operation)),
+                Take::Untold(job) => self.complete(cache, job, None),
                 Take::Finished => cache,
                 Take::Idle => self.work.wait_timeout(cache, Duration::from_millis(100)).unwrap().0,
             };

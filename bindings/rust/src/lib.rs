@@ -1,4 +1,4 @@
-//! Kilambosetry: a cache of up to 16 pools in memory ([`Cache`]), or with flash behind them ([`HybridCache`]), whose promises
+//! Kilambosetry: a cache of up to 16 pools in memory ([`Cache`]), or with flash behind them ([`Engine`]), whose promises
 //! are proved in the library below this crate. This wrapper is plain Rust; it is tested, and not proved.
 //!
 //! ```
@@ -32,16 +32,16 @@
 //! ```
 #![warn(missing_docs)]
 
-mod hybrid;
+mod engine;
+mod held;
 mod library;
 mod refused;
 mod sharded;
-mod value;
 
-pub use hybrid::{Added, Came, Device, Flash, Found, HybridCache, Operation, Reply, Take};
+pub use engine::{Added, Came, Device, Engine, Flash, Found, Operation, Reply, Take};
+pub use held::Held;
 pub use refused::Refused;
 pub use sharded::{shard_of, ShardedCache};
-pub use value::Value;
 
 use library::Handle;
 
@@ -234,19 +234,21 @@ impl Cache {
     #[inline]
     pub fn get_into(&mut self, key: &[u8], out: &mut [u8]) -> Result<Option<usize>, Refused> {
         let mut len = 0;
-        // SAFETY: each slice is valid for its length, and nothing that is written overlaps anything.
-        let status = unsafe {
-            library::kilambosetry_get(&mut self.0, key.as_ptr(), key.len(), out.as_mut_ptr(), out.len(), &mut len)
-        };
-        match status {
+        match self.get_status(key, out, &mut len) {
             SHORT => Ok(Some(len)),
             status => Ok(found(status)?.then_some(len)),
         }
     }
 
+    #[inline]
+    fn get_status(&mut self, key: &[u8], out: &mut [u8], len: &mut usize) -> u8 {
+        // SAFETY: each slice is valid for its length, and nothing that is written overlaps anything.
+        unsafe { library::kilambosetry_get(&mut self.0, key.as_ptr(), key.len(), out.as_mut_ptr(), out.len(), len) }
+    }
+
     /// A copy of the value under the key.
     pub fn get(&mut self, key: &[u8]) -> Result<Option<Vec<u8>>, Refused> {
-        Ok(self.read(key)?.map(|mut value| value.to_vec()))
+        self.read(key)?.map(|mut value| value.try_to_vec()).transpose()
     }
 
     /// Finds the value under the key and holds it, without copying it.
@@ -260,13 +262,13 @@ impl Cache {
     /// assert_eq!(value.to_vec(), b"value");
     /// # Ok::<(), Refused>(())
     /// ```
-    pub fn read(&mut self, key: &[u8]) -> Result<Option<Value>, Refused> {
-        let mut value = Value::none();
+    pub fn read(&mut self, key: &[u8]) -> Result<Option<Held>, Refused> {
+        let mut value = Held::none();
         let status = self.read_status(key, &mut value);
         Ok(found(status)?.then_some(value))
     }
 
-    fn read_status(&mut self, key: &[u8], value: &mut Value) -> u8 {
+    fn read_status(&mut self, key: &[u8], value: &mut Held) -> u8 {
         // SAFETY: the key is valid for its length, and nothing that is written overlaps anything.
         unsafe { library::kilambosetry_read(&mut self.0, key.as_ptr(), key.len(), &mut value.0) }
     }

@@ -1,4 +1,4 @@
-use crate::{library, Cache, Counts, Losses, Pool, Refused, Usage, Value};
+use crate::{library, Cache, Counts, Held, Losses, Pool, Refused, Usage};
 use std::sync::{Mutex, MutexGuard, PoisonError};
 
 /// The shard, from 0, that the key is of, where there are so many: by the upper 24 bits of its FNV-1a hash.
@@ -92,11 +92,11 @@ impl ShardedCache {
     /// As [`Cache::get`].
     pub fn get(&self, key: &[u8]) -> Result<Option<Vec<u8>>, Refused> {
         // (copied behind the lock)
-        Ok(self.read(key)?.map(|mut value| value.to_vec()))
+        self.read(key)?.map(|mut value| value.try_to_vec()).transpose()
     }
 
     /// As [`Cache::read`].
-    pub fn read(&self, key: &[u8]) -> Result<Option<Value>, Refused> {
+    pub fn read(&self, key: &[u8]) -> Result<Option<Held>, Refused> {
         self.shard(key).read(key)
     }
 

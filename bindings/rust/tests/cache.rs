@@ -1,6 +1,6 @@
 //! What the wrapper answers.
 use kilambosetry::{
-    Added, Cache, Came, Device, Flash, Found, HybridCache, Losses, Operation, Pool, Refused, Reply, ShardedCache, Take, Value,
+    Added, Cache, Came, Device, Engine, Flash, Found, Held, Losses, Operation, Pool, Refused, Reply, ShardedCache, Take,
 };
 use std::error::Error;
 use std::io;
@@ -68,7 +68,8 @@ fn shards_are_asked_for_their_own_keys() {
     assert_eq!(cache.add(0, &[1, 1], b"again", 0), Err(Refused::EXISTS));
     assert_eq!(ShardedCache::new(&pools, 0).unwrap_err(), Refused::BAD_SHARDS);
     assert_eq!(ShardedCache::new(&pools, 17).unwrap_err(), Refused::BAD_SHARDS);
-    assert_eq!(ShardedCache::new(&pools, 255).unwrap_err(), Refused::BAD_POOL);
+    assert_eq!(ShardedCache::new(&pools, 255).unwrap_err(), Refused::BAD_SHARDS);
+    assert_eq!(ShardedCache::new(&[Pool { items: 200, ..pools[0] }], 255).unwrap_err(), Refused::BAD_POOL);
     assert_eq!(ShardedCache::new(&pools, 2).unwrap().usage(1), Err(Refused::NO_POOL));
 }
 
@@ -152,15 +153,15 @@ const FLASH: Flash = Flash {
     clean: 1,
     small_max: 256,
     queue: 16,
-    bits: 16,
+    bits: 64,
     admit_min: 1,
     admit_max: 900,
 };
 
 // A cache for one item, and its device.
-fn hybrid() -> (HybridCache, Pages) {
+fn hybrid() -> (Engine, Pages) {
     let device = Pages { pages: vec![[0; 512]; FLASH.pages() as usize], fails: false };
-    (HybridCache::new(&[Pool { bytes: 1000, items: 1 }], &FLASH).unwrap(), device)
+    (Engine::new(&[Pool { bytes: 1000, items: 1 }], &FLASH).unwrap(), device)
 }
 
 fn value_of(found: Reply) -> Vec<u8> {
@@ -279,7 +280,7 @@ fn a_page_is_handed_in_once_and_stays_where_it_is_refused() {
     cache.work(&mut device).unwrap();
     let call = waiting(cache.get(b"a").unwrap());
     let Take::Work(job, Operation::Read(page)) = cache.filler_take().unwrap() else { panic!("a is to be read") };
-    let mut came = Came::Page(Value::copy_of(&device.pages[page as usize]).unwrap());
+    let mut came = Came::Page(Held::copy_of(&device.pages[page as usize]).unwrap());
     assert_eq!(cache.finish(job + 1, &mut came).unwrap_err(), Refused::UNKNOWN_JOB);
     assert_eq!(length_of(&mut came), 512);
     assert!(matches!(cache.finish(job, &mut came), Ok(Take::Finished)));
@@ -290,7 +291,7 @@ fn a_page_is_handed_in_once_and_stays_where_it_is_refused() {
 #[test]
 fn a_wrong_number_of_the_flash_is_refused() {
     let wrong = Flash { page: 500, ..FLASH };
-    let refused = HybridCache::new(&[Pool { bytes: 1000, items: 1 }], &wrong).unwrap_err();
+    let refused = Engine::new(&[Pool { bytes: 1000, items: 1 }], &wrong).unwrap_err();
     assert_eq!(refused.to_string(), "refused 4 BadPage");
 }
 

@@ -1,6 +1,6 @@
+use crate::held::zeros;
 use crate::library::{self, Handle};
-use crate::{done, found, Cache, Counts, Losses, Pool, Refused, Usage, Value};
-use std::alloc::{self, Layout};
+use crate::{done, found, Cache, Counts, Held, Losses, Pool, Refused, Usage, SHORT};
 use std::collections::VecDeque;
 use std::io;
 
@@ -55,7 +55,18 @@ pub trait Device {
 #[derive(Debug)]
 pub enum Found {
     /// The value under the key.
-    Hit(Value),
+    Hit(Held),
+    /// There is none.
+    Miss,
+    /// The value may be on flash: the call with this number waits until a worker has looked.
+    Waits(u64),
+}
+
+/// What a get into a buffer comes to.
+#[derive(Clone, Copy, Debug, PartialEq, Eq)]
+pub enum Copied {
+    /// The value has so many bytes, which were copied, if the buffer has room for all of them.
+    Hit(usize),
     /// There is none.
     Miss,
     /// The value may be on flash: the call with this number waits until a worker has looked.
@@ -75,7 +86,7 @@ pub enum Added {
 #[derive(Debug)]
 pub enum Reply {
     /// A get found this value.
-    Hit(Value),
+    Hit(Held),
     /// An add has stored its value.
     Stored,
     /// A get found none.
@@ -88,14 +99,14 @@ pub enum Operation {
     /// This page is to be read.
     Read(u32),
     /// This page is to have these bytes, which the value shares with the cache.
-    Write(u32, Value),
+    Write(u32, Held),
 }
 
 /// What came of a device operation.
 #[derive(Debug)]
 pub enum Came {
-    /// The page was read, and has these bytes ([`Value::copy_of`]).
-    Page(Value),
+    /// The page was read, and has these bytes ([`Held::copy_of`]).
+    Page(Held),
     /// The page was written.
     Written,
     /// The device failed.
@@ -111,15 +122,18 @@ pub enum Take {
     Finished,
     /// The job with this number waits for this operation.
     Work(u64, Operation),
+    /// The job with this number waits for an operation, and memory lacks to tell which. Hand in [`Came::Failed`] for it.
+    Untold(u64),
 }
 
-/// A cache with flash behind its pools.
+/// A cache with flash behind its pools, for who makes its device operations himself: it has no lock, no thread and no file.
+/// [`HybridCache`](crate::HybridCache) has them all.
 ///
 /// What leaves memory is written to flash, and what a get misses is read from there, by workers. Here one worker does all that
 /// there is to do, over a device in memory:
 ///
 /// ```
-/// use kilambosetry::{Device, Flash, Found, HybridCache, Pool, Reply};
+/// use kilambosetry::{Device, Flash, Found, Engine, Pool, Reply};
 /// use std::io;
 ///
 /// struct Pages(Vec<[u8; 512]>);
@@ -144,12 +158,12 @@ pub enum Take {
 ///     clean: 1,
 ///     small_max: 256,
 ///     queue: 16,
-///     bits: 16,
+///     bits: 64,
 ///     admit_min: 1,
 ///     admit_max: 200,
 /// };
 /// let mut device = Pages(vec![[0; 512]; flash.pages() as usize]);
-/// let mut cache = HybridCache::new(&[Pool { bytes: 200, items: 1 }], &flash)?;
+/// let mut cache = Engine::new(&[Pool { bytes: 200, items: 1 }], &flash)?;
 /// cache.set(0, b"a", b"one", 0)?;
 /// cache.set(0, b"b", b"two", 0)?; // a goes to flash
 /// cache.work(&mut device)?;
@@ -160,7 +174,7 @@ pub enum Take {
 /// # Ok::<(), kilambosetry::Refused>(())
 /// ```
 #[derive(Debug)]
-pub struct HybridCache {
+pub struct Engine {
     cache: Cache,
     page: usize,
     // what is to be handed in first: what couldn't be for want of memory, or a failure of the operation that is under way
@@ -172,28 +186,34 @@ pub struct HybridCache {
 // So many forgotten calls that still wait are asked for their replies where a job ends.
 const ASKED: usize = 32;
 
-impl HybridCache {
+impl Engine {
     /// An empty cache of these pools, with this flash behind them.
-    pub fn new(pools: &[Pool], flash: &Flash) -> Result<HybridCache, Refused> {
+    pub fn new(pools: &[Pool], flash: &Flash) -> Result<Engine, Refused> {
         let mut handle = Handle::none();
         // SAFETY: both are valid, and the handle is an empty one.
         done(unsafe { library::kilambosetry_new_with_flash(&mut handle, pools.as_ptr(), pools.len(), flash) })?;
-        Ok(HybridCache::of(handle, flash))
+        Ok(Engine::of(handle, flash))
     }
 
     /// An empty shard of these pools cut into so many shards, with this flash behind its share of them: the flash is that of
     /// one shard. [`shard_of`](crate::shard_of) says which keys it is to be asked for.
-    pub fn new_shard(pools: &[Pool], flash: &Flash, shards: u8) -> Result<HybridCache, Refused> {
+    pub fn new_shard(pools: &[Pool], flash: &Flash, shards: u8) -> Result<Engine, Refused> {
         let mut handle = Handle::none();
         // SAFETY: as in `new`.
         done(unsafe {
             library::kilambosetry_new_shard_with_flash(&mut handle, pools.as_ptr(), pools.len(), flash, shards)
         })?;
-        Ok(HybridCache::of(handle, flash))
+        Ok(Engine::of(handle, flash))
     }
 
-    fn of(handle: Handle, flash: &Flash) -> HybridCache {
-        HybridCache { cache: Cache(handle), page: flash.page as usize, owed: None, forgotten: VecDeque::new() }
+    // A shard without flash. No call of it waits, and it has no work.
+    pub(crate) fn new_shard_in_memory(pools: &[Pool], shards: u8) -> Result<Engine, Refused> {
+        let cache = Cache::new_shard(pools, shards)?;
+        Ok(Engine { cache, page: 0, owed: None, forgotten: VecDeque::new() })
+    }
+
+    fn of(handle: Handle, flash: &Flash) -> Engine {
+        Engine { cache: Cache(handle), page: flash.page as usize, owed: None, forgotten: VecDeque::new() }
     }
 
     /// As [`Cache::tick`].
@@ -221,10 +241,21 @@ impl HybridCache {
 
     /// Finds the value under the key, and holds it without copying it. It waits where flash alone may have one.
     pub fn get(&mut self, key: &[u8]) -> Result<Found, Refused> {
-        let mut value = Value::none();
+        let mut value = Held::none();
         match self.cache.read_status(key, &mut value) {
             WAITS => Ok(Found::Waits(self.cache.calls())),
             status => Ok(if found(status)? { Found::Hit(value) } else { Found::Miss }),
+        }
+    }
+
+    /// Copies the value under the key to the head of `out`, and answers its length. Where that is more than `out` has, nothing is
+    /// copied. It waits where flash alone may have a value.
+    pub fn get_into(&mut self, key: &[u8], out: &mut [u8]) -> Result<Copied, Refused> {
+        let mut len = 0;
+        match self.cache.get_status(key, out, &mut len) {
+            WAITS => Ok(Copied::Waits(self.cache.calls())),
+            SHORT => Ok(Copied::Hit(len)),
+            status => Ok(if found(status)? { Copied::Hit(len) } else { Copied::Miss }),
         }
     }
 
@@ -232,7 +263,7 @@ impl HybridCache {
     /// with [`Refused::UNKNOWN_CALL`] where no reply is owed to it, and with [`Refused::EXISTS`] where an add found a value. A
     /// reply is owed until it is taken, and takes memory until then.
     pub fn take_reply(&mut self, call: u64) -> Result<Reply, Refused> {
-        let mut value = Value::none();
+        let mut value = Held::none();
         // SAFETY: the cache's handle is its own, and the value's is an empty one.
         let status = unsafe { library::kilambosetry_take_reply(&mut self.cache.0, call, &mut value.0) };
         if !found(status)? {
@@ -298,7 +329,7 @@ impl HybridCache {
     }
 
     /// What is to be written next: a page of a region, a deleted key's bucket, or an item that left memory. The job waits for
-    /// the operation until what came of it is handed in by [`finish`](HybridCache::finish): [`Came::Failed`] where a worker
+    /// the operation until what came of it is handed in by [`finish`](Engine::finish): [`Came::Failed`] where a worker
     /// can't say.
     pub fn writer_take(&mut self) -> Result<Take, Refused> {
         let mut job = 0;
@@ -315,14 +346,14 @@ impl HybridCache {
         self.taken(status, job)
     }
 
-    /// Whether [`writer_take`](HybridCache::writer_take) finds something to do, if it is called now: then a writer is worth
+    /// Whether [`writer_take`](Engine::writer_take) finds something to do, if it is called now: then a writer is worth
     /// waking. Refused with [`Refused::NO_MEMORY`], which says neither.
     pub fn writer_has_work(&mut self) -> Result<bool, Refused> {
         // SAFETY: the handle is this cache's own.
         has_work(unsafe { library::kilambosetry_writer_has_work(&mut self.cache.0) })
     }
 
-    /// Whether [`filler_take`](HybridCache::filler_take) does.
+    /// Whether [`filler_take`](Engine::filler_take) does.
     pub fn filler_has_work(&mut self) -> Result<bool, Refused> {
         // SAFETY: the handle is this cache's own.
         has_work(unsafe { library::kilambosetry_filler_has_work(&mut self.cache.0) })
@@ -380,23 +411,28 @@ impl HybridCache {
         match status {
             IDLE => Ok(Take::Idle),
             FINISHED => Ok(Take::Finished),
-            status => done(status).and_then(|()| Ok(Take::Work(job, self.operation(job)?))),
+            status => {
+                done(status)?;
+                match self.operation(job) {
+                    Ok(operation) => Ok(Take::Work(job, operation)),
+                    Err(Refused::NO_MEMORY) => Ok(Take::Untold(job)),
+                    Err(refused) => Err(refused),
+                }
+            }
         }
     }
 
     // The operation for which the job waits. A page that is to be written isn't copied here, where a lock may be held.
     fn operation(&mut self, job: u64) -> Result<Operation, Refused> {
         let mut operation = library::Operation { page: 0, writes: false };
-        let mut page = Value::none();
+        let mut page = Held::none();
         // SAFETY: all are valid for the call, and nothing that is written overlaps.
         let status = unsafe { library::kilambosetry_order_page(&mut self.cache.0, job, &mut operation, &mut page.0) };
-        match done(status) {
-            Ok(()) if operation.writes => Ok(Operation::Write(operation.page, page)),
-            Ok(()) => Ok(Operation::Read(operation.page)),
-            // the job is under way: as for any memory that this crate wants itself
-            Err(Refused::NO_MEMORY) => alloc::handle_alloc_error(Layout::new::<Operation>()),
-            Err(refused) => Err(refused),
-        }
+        done(status)?;
+        Ok(match operation.writes {
+            true => Operation::Write(operation.page, page),
+            false => Operation::Read(operation.page),
+        })
     }
 
     // Hands a result in, and keeps it where memory lacks.
@@ -417,8 +453,9 @@ impl HybridCache {
                 Take::Finished => return Ok(true),
                 Take::Work(job, operation) => {
                     self.owed = Some((job, Came::Failed));
-                    (job, operate(device, operation, self.page))
+                    (job, operate(device, operation, self.page).unwrap_or(Came::Failed))
                 }
+                Take::Untold(job) => (job, Came::Failed),
             };
             self.owed = None;
             take = self.hand_in(job, came)?;
@@ -434,19 +471,17 @@ fn has_work(status: u8) -> Result<bool, Refused> {
     }
 }
 
-// The device does one operation. One for which memory lacks has failed.
-fn operate(device: &mut impl Device, operation: Operation, page_bytes: usize) -> Came {
+// The device does one operation: none, where it failed, or memory lacks for the page.
+fn operate(device: &mut impl Device, operation: Operation, page_bytes: usize) -> Option<Came> {
     match operation {
         Operation::Read(page) => {
-            let mut bytes = vec![0; page_bytes];
-            match device.read(page, &mut bytes) {
-                Ok(()) => Value::copy_of(&bytes).map_or(Came::Failed, Came::Page),
-                Err(_) => Came::Failed,
-            }
+            let mut bytes = zeros(page_bytes).ok()?;
+            device.read(page, &mut bytes).ok()?;
+            Some(Came::Page(Held::copy_of(&bytes).ok()?))
         }
-        Operation::Write(page, mut bytes) => match device.write(page, &bytes.to_vec()) {
-            Ok(()) => Came::Written,
-            Err(_) => Came::Failed,
-        },
+        Operation::Write(page, mut bytes) => {
+            device.write(page, &bytes.try_to_vec().ok()?).ok()?;
+            Some(Came::Written)
+        }
     }
 }
