@@ -32,18 +32,43 @@
 //! ```
 #![warn(missing_docs)]
 
+mod bell;
+mod buffer;
+mod calls;
+mod checked;
+mod clock;
 mod engine;
+mod errors;
+mod file;
+mod future;
 mod held;
+mod hybrid;
 mod library;
+mod numbers;
+mod options;
 mod refused;
 mod sharded;
+mod shards;
+mod stats;
+mod value;
 
-pub use engine::{Added, Came, Device, Engine, Flash, Found, Operation, Reply, Take};
+pub use checked::{DeviceCounts, PageDevice};
+pub use clock::Clock;
+pub use engine::{Added, Came, Copied, Device, Engine, Flash, Found, Operation, Reply, Take};
+pub use errors::{Error, OpenError};
+pub use file::PageFile;
+pub use future::GetAsync;
 pub use held::Held;
+pub use hybrid::HybridCache;
+pub use numbers::Numbers;
+pub use options::Options;
 pub use refused::Refused;
 pub use sharded::{shard_of, ShardedCache};
+pub use stats::Stats;
+pub use value::Value;
 
 use library::Handle;
+use std::ops::AddAssign;
 
 const DONE: u8 = 0;
 const MISS: u8 = 100;
@@ -107,6 +132,22 @@ pub struct Losses {
     pub collision: u64,
     /// The device failed.
     pub fault: u64,
+}
+
+impl AddAssign for Losses {
+    fn add_assign(&mut self, other: Losses) {
+        self.no_flash += other.no_flash;
+        self.tombstone += other.tombstone;
+        self.not_admitted += other.not_admitted;
+        self.too_large += other.too_large;
+        self.queue_full += other.queue_full;
+        self.expired += other.expired;
+        self.bucket_full += other.bucket_full;
+        self.reclaimed += other.reclaimed;
+        self.no_clean_region += other.no_clean_region;
+        self.collision += other.collision;
+        self.fault += other.fault;
+    }
 }
 
 /// The limits of a pool, what its items take, and what is taken by items that aren't in it yet: none, between two calls.

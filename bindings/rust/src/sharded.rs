@@ -126,18 +126,9 @@ impl ShardedCache {
 
     /// How many losses came of each reason, of all shards together.
     pub fn losses(&self) -> Losses {
-        self.shards.iter().map(|shard| locked(shard).losses()).fold(Losses::default(), |sum, one| Losses {
-            no_flash: sum.no_flash + one.no_flash,
-            tombstone: sum.tombstone + one.tombstone,
-            not_admitted: sum.not_admitted + one.not_admitted,
-            too_large: sum.too_large + one.too_large,
-            queue_full: sum.queue_full + one.queue_full,
-            expired: sum.expired + one.expired,
-            bucket_full: sum.bucket_full + one.bucket_full,
-            reclaimed: sum.reclaimed + one.reclaimed,
-            no_clean_region: sum.no_clean_region + one.no_clean_region,
-            collision: sum.collision + one.collision,
-            fault: sum.fault + one.fault,
+        self.shards.iter().fold(Losses::default(), |mut sum, shard| {
+            sum += locked(shard).losses();
+            sum
         })
     }
 

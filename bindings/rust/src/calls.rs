@@ -1,0 +1,145 @@
+use crate::{Engine, Error, Refused, Reply};
+use std::collections::HashMap;
+use std::panic::{self, AssertUnwindSafe};
+use std::sync::{Arc, Condvar};
+use std::task::Waker;
+
+/// What a call that waited is answered.
+pub(crate) type Answer = Result<Reply, Error>;
+
+/// Who is to be woken once a call is answered.
+enum Waits {
+    Thread(Arc<Condvar>),
+    Task(Waker),
+}
+
+/// A call that waits, or whose answer isn't taken yet.
+#[derive(Default)]
+pub(crate) struct Call {
+    waits: Option<Waits>,
+    answer: Option<Answer>,
+}
+
+/// The calls of a shard that wait for flash.
+#[derive(Default)]
+pub(crate) struct Calls {
+    waiting: HashMap<u64, Call>,
+    // replies that the engine owes, also to calls that were given up
+    owed: usize,
+    // tasks to be woken, once the shard's lock is free: they may do anything
+    woken: Vec<Waker>,
+    /// Gets that waited and found a value.
+    pub from_flash: u64,
+    /// Calls that were given up while they waited.
+    pub given_up: u64,
+}
+
+impl Calls {
+    /// Lists a call that waits from now on.
+    pub fn begin(&mut self, call: u64) -> Result<(), Refused> {
+        self.owed += 1;
+        self.waiting.try_reserve(1).map_err(|_| Refused::NO_MEMORY)?;
+        self.waiting.insert(call, Call::default());
+        Ok(())
+    }
+
+    /// How many calls wait.
+    pub fn len(&self) -> usize {
+        self.waiting.len()
+    }
+
+    /// Whether replies may come.
+    pub fn is_owed(&self) -> bool {
+        self.owed > 0
+    }
+
+    /// The call's answer, once it is there.
+    pub fn take(&mut self, call: u64) -> Option<Answer> {
+        self.waiting.get(&call)?.answer.as_ref()?;
+        self.waiting.remove(&call)?.answer
+    }
+
+    /// What wakes the thread that waits for the call.
+    pub fn thread(&mut self, call: u64) -> Arc<Condvar> {
+        let waits = self.waiting.get_mut(&call).map(|call| &mut call.waits);
+        match waits {
+            Some(Some(Waits::Thread(wakes))) => Arc::clone(wakes),
+            waits => {
+                let wakes = Arc::new(Condvar::new());
+                if let Some(waits) = waits {
+                    *waits = Some(Waits::Thread(Arc::clone(&wakes)));
+                }
+                wakes
+            }
+        }
+    }
+
+    /// Has the task woken for the call. What is handed back is to be dropped without the lock.
+    #[must_use]
+    pub fn task(&mut self, call: u64, waker: Waker) -> Option<Waker> {
+        let Some(call) = self.waiting.get_mut(&call) else { return Some(waker) };
+        match call.waits.replace(Waits::Task(waker)) {
+            Some(Waits::Task(before)) => Some(before),
+            _ => None,
+        }
+    }
+
+    /// Gives the call up. Its reply is dropped when it comes. What is handed back is to be dropped without the lock.
+    #[must_use]
+    pub fn give_up(&mut self, call: u64) -> Option<Call> {
+        let given_up = self.waiting.remove(&call)?;
+        self.given_up += u64::from(given_up.answer.is_none());
+        Some(given_up)
+    }
+
+    /// Hands out the replies that are there.
+    pub fn sweep(&mut self, engine: &mut Engine) {
+        while self.owed > 0 {
+            let Some(call) = engine.next_reply() else { return };
+            let reply = engine.take_reply(call);
+            if matches!(reply, Err(Refused::NO_MEMORY)) {
+                // it is still owed, and dropped once there is memory
+                return self.answer(call, Err(Error::Refused(Refused::NO_MEMORY)));
+            }
+            self.owed -= 1;
+            self.from_flash += u64::from(matches!(reply, Ok(Reply::Hit(_))));
+            self.answer(call, reply.map_err(Error::Refused));
+        }
+    }
+
+    fn answer(&mut self, number: u64, answer: Answer) {
+        // (what it is told first holds: that memory lacks, or that the cache is closed)
+        if let Some(call) = self.waiting.get_mut(&number).filter(|call| call.answer.is_none()) {
+            call.answer = Some(answer);
+            match call.waits.take() {
+                Some(Waits::Thread(wakes)) => {
+                    wakes.notify_one();
+                    call.waits = Some(Waits::Thread(wakes));
+                }
+                Some(Waits::Task(waker)) => self.woken.push(waker),
+                None => {}
+            }
+        }
+    }
+
+    /// Answers all that wait that the cache is closed.
+    pub fn close(&mut self) {
+        let unanswered = self.waiting.iter().filter(|(_, call)| call.answer.is_none());
+        for call in unanswered.map(|(call, _)| *call).collect::<Vec<_>>() {
+            self.answer(call, Err(Error::Closed));
+        }
+    }
+
+    /// The tasks to be woken now: by `wake`, without the lock.
+    #[must_use]
+    pub fn woken(&mut self) -> Vec<Waker> {
+        std::mem::take(&mut self.woken)
+    }
+}
+
+/// Wakes these tasks. One that panics ends no worker.
+pub(crate) fn wake(tasks: Vec<Waker>) {
+    for task in tasks {
+        let _ = panic::catch_unwind(AssertUnwindSafe(|| task.wake()));
+    }
+}

@@ -1,0 +1,220 @@
+use crate::Refused;
+use std::fmt;
+use std::io;
+use std::panic::{self, AssertUnwindSafe};
+use std::sync::atomic::{AtomicU64, Ordering::Relaxed};
+
+/// A device of pages that threads share. An error says that nothing was read, or that nothing is known any more of the page
+/// that was to be written. No page is read or written by two threads at once.
+///
+/// A [`HybridCache`](crate::HybridCache) keeps a digest of each page as it was last written: a page that comes back otherwise
+/// counts as one that wasn't read. A call that panics has failed.
+pub trait PageDevice: Send + Sync {
+    /// Reads the page into `out`, which has its length.
+    fn read(&self, page: u32, out: &mut [u8]) -> io::Result<()>;
+    /// Writes the page.
+    fn write(&self, page: u32, bytes: &[u8]) -> io::Result<()>;
+}
+
+/// Operations of a device.
+#[derive(Clone, Copy, Debug, Default, PartialEq, Eq)]
+pub struct DeviceCounts {
+    /// Pages that were read, or tried.
+    pub reads: u64,
+    /// Pages that were written, or tried.
+    pub writes: u64,
+    /// Reads that failed: the device said so, the page was never written or its write had failed, or it was a lie.
+    pub read_failures: u64,
+    /// Writes that failed.
+    pub write_failures: u64,
+    /// Pages that came back otherwise than they were last written.
+    pub lies: u64,
+    /// Pages of which it is known what they have.
+    pub pages: u64,
+}
+
+#[derive(Default)]
+struct Counters {
+    reads: AtomicU64,
+    writes: AtomicU64,
+    read_failures: AtomicU64,
+    write_failures: AtomicU64,
+    lies: AtomicU64,
+    pages: AtomicU64,
+}
+
+/// A device with a digest of each page as it was last written. 0 stands for a page of which nothing is known.
+pub(crate) struct Checked {
+    device: Box<dyn PageDevice>,
+    digests: Vec<AtomicU64>,
+    counters: Counters,
+}
+
+impl Checked {
+    /// The device, of so many pages, of which nothing is known yet.
+    pub fn new(device: Box<dyn PageDevice>, pages: u64) -> Result<Checked, Refused> {
+        let pages = usize::try_from(pages).map_err(|_| Refused::NO_MEMORY)?;
+        let mut digests = Vec::new();
+        digests.try_reserve_exact(pages).map_err(|_| Refused::NO_MEMORY)?;
+        digests.resize_with(pages, AtomicU64::default);
+        Ok(Checked { device, digests, counters: Counters::default() })
+    }
+
+    /// Reads the page, and answers whether it is as it was written.
+    pub fn read(&self, page: u32, out: &mut [u8]) -> bool {
+        self.counters.reads.fetch_add(1, Relaxed);
+        let is_read = self.has_read(page, out);
+        if !is_read {
+            self.counters.read_failures.fetch_add(1, Relaxed);
+        }
+        is_read
+    }
+
+    fn has_read(&self, page: u32, out: &mut [u8]) -> bool {
+        let known = self.digests.get(page as usize).map_or(0, |digest| digest.load(Relaxed));
+        if known == 0 || !succeeds(|| self.device.read(page, out)) {
+            return false;
+        }
+        let is_same = digest_of(out) == known;
+        if !is_same {
+            self.counters.lies.fetch_add(1, Relaxed);
+        }
+        is_same
+    }
+
+    /// Writes the page, and answers whether that is done.
+    pub fn write(&self, page: u32, bytes: &[u8]) -> bool {
+        self.counters.writes.fetch_add(1, Relaxed);
+        let is_written = self.has_written(page, bytes);
+        if !is_written {
+            self.counters.write_failures.fetch_add(1, Relaxed);
+        }
+        is_written
+    }
+
+    fn has_written(&self, page: u32, bytes: &[u8]) -> bool {
+        let Some(digest) = self.digests.get(page as usize) else { return false };
+        if digest.swap(0, Relaxed) != 0 {
+            self.counters.pages.fetch_sub(1, Relaxed);
+        }
+        if !succeeds(|| self.device.write(page, bytes)) {
+            return false;
+        }
+        digest.store(digest_of(bytes), Relaxed);
+        self.counters.pages.fetch_add(1, Relaxed);
+        true
+    }
+
+    pub fn counts(&self) -> DeviceCounts {
+        let Counters { reads, writes, read_failures, write_failures, lies, pages } = &self.counters;
+        DeviceCounts {
+            reads: reads.load(Relaxed),
+            writes: writes.load(Relaxed),
+            read_failures: read_failures.load(Relaxed),
+            write_failures: write_failures.load(Relaxed),
+            lies: lies.load(Relaxed),
+            pages: pages.load(Relaxed),
+        }
+    }
+}
+
+impl fmt::Debug for Checked {
+    fn fmt(&self, f: &mut fmt::Formatter<'_>) -> fmt::Result {
+        f.debug_struct("Checked").field("pages", &self.digests.len()).field("counts", &self.counts()).finish()
+    }
+}
+
+// Whether the device did it. It may panic.
+fn succeeds(operate: impl FnOnce() -> io::Result<()>) -> bool {
+    matches!(panic::catch_unwind(AssertUnwindSafe(operate)), Ok(Ok(())))
+}
+
+fn folded(a: u64, b: u64) -> u64 {
+    let product = u128::from(a) * u128::from(b);
+    product as u64 ^ (product >> 64) as u64
+}
+
+/// A digest of 64 bits, never 0: 16 bytes at a time are folded by a product into those before. It tells a page that was torn,
+/// lost or misplaced. It isn't made against who chooses both pages.
+pub(crate) fn digest_of(bytes: &[u8]) -> u64 {
+    let mut state = 0x243f_6a88_85a3_08d3u64.wrapping_add(bytes.len() as u64);
+    for block in bytes.chunks(16) {
+        let mut words = [0; 16];
+        words[..block.len()].copy_from_slice(block);
+        let word = u128::from_le_bytes(words);
+        state = folded(word as u64 ^ state, (word >> 64) as u64 ^ 0x9e37_79b9_7f4a_7c15);
+    }
+    state.max(1)
+}
+
+#[cfg(test)]
+mod tests {
+    use super::*;
+    use std::sync::Mutex;
+
+    struct Pages(Mutex<Vec<Vec<u8>>>);
+
+    impl PageDevice for Pages {
+        fn read(&self, page: u32, out: &mut [u8]) -> io::Result<()> {
+            out.copy_from_slice(&self.0.lock().unwrap()[page as usize]);
+            Ok(())
+        }
+
+        fn write(&self, page: u32, bytes: &[u8]) -> io::Result<()> {
+            assert_ne!(bytes[0], 13, "the device panics");
+            if bytes[0] == 0 {
+                return Err(io::ErrorKind::StorageFull.into());
+            }
+            self.0.lock().unwrap()[page as usize].copy_from_slice(bytes);
+            Ok(())
+        }
+    }
+
+    fn checked() -> Checked {
+        Checked::new(Box::new(Pages(Mutex::new(vec![vec![9; 512]; 4]))), 4).unwrap()
+    }
+
+    #[test]
+    fn a_page_is_answered_as_it_was_written_or_not_at_all() {
+        let checked = checked();
+        let mut out = [0; 512];
+        assert!(!checked.read(1, &mut out)); // it was never written
+        assert!(checked.write(1, &[5; 512]));
+        assert!(checked.read(1, &mut out));
+        assert_eq!(out, [5; 512]);
+        assert!(!checked.write(1, &[0; 512]));
+        assert!(!checked.read(1, &mut out)); // its write failed
+        assert!(!checked.write(1, &[13; 512]));
+        assert!(!checked.read(4, &mut out) && !checked.write(4, &[5; 512])); // there is none
+        let counts = checked.counts();
+        assert_eq!((counts.reads, counts.read_failures, counts.lies), (4, 3, 0));
+        assert_eq!((counts.writes, counts.write_failures, counts.pages), (4, 3, 0));
+    }
+
+    #[test]
+    fn a_page_that_comes_back_otherwise_is_a_lie() {
+        let pages = Box::new(Pages(Mutex::new(vec![vec![9; 512]; 4])));
+        let checked = Checked::new(pages, 4).unwrap();
+        assert!(checked.write(2, &[5; 512]));
+        checked.digests[2].store(digest_of(&[6; 512]), Relaxed);
+        assert!(!checked.read(2, &mut [0; 512]));
+        let counts = checked.counts();
+        assert_eq!((counts.reads, counts.read_failures, counts.lies, counts.pages), (1, 1, 1, 1));
+    }
+
+    #[test]
+    fn digests_tell_each_bit_and_each_order() {
+        let page: Vec<u8> = (0..4096u32).map(|i| (i * i >> 3) as u8).collect();
+        let known = digest_of(&page);
+        for bit in 0..4096 * 8 {
+            let mut other = page.clone();
+            other[bit / 8] ^= 1 << (bit % 8);
+            assert_ne!(digest_of(&other), known);
+        }
+        let mut other = page.clone();
+        other.rotate_left(16);
+        assert_ne!(digest_of(&other), known);
+        assert_ne!(digest_of(&page[..2048]), known);
+        assert_ne!(digest_of(&[0; 512]), 0);
+    }
+}

@@ -1,0 +1,127 @@
+use crate::Refused;
+use std::error;
+use std::fmt;
+use std::io;
+
+/// Why a call of a [`HybridCache`](crate::HybridCache) has no answer.
+#[derive(Clone, Copy, Debug, PartialEq, Eq)]
+pub enum Error {
+    /// The cache refused it, and is as it was.
+    Refused(Refused),
+    /// The time limit passed first. The call is given up.
+    TimedOut,
+    /// The cache was closed.
+    Closed,
+}
+
+impl From<Refused> for Error {
+    fn from(refused: Refused) -> Error {
+        Error::Refused(refused)
+    }
+}
+
+impl fmt::Display for Error {
+    fn fmt(&self, f: &mut fmt::Formatter<'_>) -> fmt::Result {
+        match self {
+            Error::Refused(refused) => refused.fmt(f),
+            Error::TimedOut => f.write_str("the time limit has passed"),
+            Error::Closed => f.write_str("the cache is closed"),
+        }
+    }
+}
+
+impl error::Error for Error {
+    fn source(&self) -> Option<&(dyn error::Error + 'static)> {
+        match self {
+            Error::Refused(refused) => Some(refused),
+            Error::TimedOut | Error::Closed => None,
+        }
+    }
+}
+
+/// Why a cache wasn't opened.
+#[derive(Debug)]
+#[non_exhaustive]
+pub enum OpenError {
+    /// A number of the options is outside its limits.
+    Number {
+        /// Its name.
+        name: &'static str,
+        /// What it is.
+        given: u64,
+        /// The least that it may be, with the other numbers as they are.
+        least: u64,
+        /// The most.
+        most: u64,
+    },
+    /// The page has another length than 512, 1024, 2048 or 4096 bytes.
+    Page(u64),
+    /// The library refused the pool or the flash: the refusal's name says which number.
+    Refused(Refused),
+    /// Another has the file open, in this process or in another one.
+    InUse,
+    /// There is a file that isn't empty and has another length, so that it may be something else. Where it is the flash of a
+    /// cache with other options, remove it first.
+    OtherLength {
+        /// The bytes that it has.
+        found: u64,
+        /// The bytes that it would have.
+        wanted: u64,
+    },
+    /// It is neither a file nor a block device.
+    OtherKind,
+    /// The block device has fewer bytes than the flash.
+    TooSmall {
+        /// The bytes that it has.
+        found: u64,
+        /// The bytes that it would have.
+        wanted: u64,
+    },
+    /// Memory was refused.
+    NoMemory,
+    /// The system refused to open the file, or to start a thread.
+    Io(io::Error),
+}
+
+impl From<Refused> for OpenError {
+    fn from(refused: Refused) -> OpenError {
+        match refused {
+            Refused::NO_MEMORY => OpenError::NoMemory,
+            refused => OpenError::Refused(refused),
+        }
+    }
+}
+
+impl From<io::Error> for OpenError {
+    fn from(error: io::Error) -> OpenError {
+        OpenError::Io(error)
+    }
+}
+
+impl fmt::Display for OpenError {
+    fn fmt(&self, f: &mut fmt::Formatter<'_>) -> fmt::Result {
+        match self {
+            OpenError::Number { name, given, least, most } => write!(f, "{name} is {given}, and not {least} to {most}"),
+            OpenError::Page(given) => write!(f, "page is {given}, and not 512, 1024, 2048 or 4096"),
+            OpenError::Refused(refused) => refused.fmt(f),
+            OpenError::InUse => f.write_str("another has the file open"),
+            OpenError::OtherLength { found, wanted } => {
+                write!(f, "the file has {found} bytes, and not {wanted}: remove it, if it is an old flash")
+            }
+            OpenError::OtherKind => f.write_str("neither a file nor a block device"),
+            OpenError::TooSmall { found, wanted } => write!(f, "the device has {found} bytes, and not {wanted}"),
+            OpenError::NoMemory => f.write_str("out of memory"),
+            OpenError::Io(error) => error.fmt(f),
+        }
+    }
+}
+
+impl error::Error for OpenError {
+    fn source(&self) -> Option<&(dyn error::Error + 'static)> {
+        match self {
+            OpenError::Refused(refused) => Some(refused),
+            OpenError::Io(error) => Some(error),
+            _ => None,
+        }
+    }
+}

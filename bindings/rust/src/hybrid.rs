@@ -1,0 +1,295 @@
+use crate::calls::Answer;
+use crate::checked::{Checked, PageDevice};
+use crate::engine::Copied;
+use crate::future::GetAsync;
+use crate::numbers::Numbers;
+use crate::shards::{Locked, Shards};
+use crate::{Added, Error, Found, Held, OpenError, Options, PageFile, Refused, Reply, Stats, Value};
+use std::fmt;
+use std::path::Path;
+use std::sync::{Arc, Mutex, PoisonError};
+use std::thread::{self, JoinHandle};
+use std::time::{Duration, Instant};
+
+/// A cache in memory with flash behind it, for the threads of a service. A clone is another handle to the same cache.
+///
+/// ```
+/// use kilambosetry::{HybridCache, Options};
+/// # let path = std::env::temp_dir().join(format!("hybrid-{}", std::process::id()));
+///
+/// let options = Options { memory: 64_000_000, flash: 200_000_000, mean_value: 400, ..Options::default() };
+/// let cache = HybridCache::open(&path, &options)?;
+/// cache.set(b"user:7", b"Ada", 3600)?;
+/// assert_eq!(cache.get(b"user:7")?.as_deref(), Some(&b"Ada"[..]));
+/// cache.delete(b"user:7")?;
+/// assert!(cache.get(b"user:7")?.is_none());
+/// # cache.close();
+/// # std::fs::remove_file(path)?;
+/// # Ok::<(), Box<dyn std::error::Error>>(())
+/// ```
+///
+/// It is cut into shards, and a call locks its key's shard alone. Evicted items are written to flash by threads of its own. A
+/// get that finds its value on flash alone makes the read itself, unless another thread does so already, with no lock held. A
+/// page that comes back otherwise than it was written, and one that can't be read, is a miss. Nothing outlasts the cache: it
+/// begins empty, whatever the file has.
+///
+/// What was loaded before a change may still be stored after it: hold a lock of your own from the miss to the `set`, and from
+/// the change to the `delete`.
+#[derive(Clone)]
+pub struct HybridCache {
+    inner: Arc<Inner>,
+}
+
+// What all handles share. The workers end with it.
+struct Inner {
+    shards: Arc<Shards>,
+    numbers: Numbers,
+    workers: Mutex<Vec<JoinHandle<()>>>,
+}
+
+impl HybridCache {
+    /// An empty cache with its flash in this file, or on this block device. A file is made where there is none, readable and
+    /// writable for its owner alone. It is locked as long as the cache is open.
+    pub fn open(path: impl AsRef<Path>, options: &Options) -> Result<HybridCache, OpenError> {
+        let numbers = options.numbers()?;
+        let page = numbers.flash.map_or(0, |flash| flash.page);
+        HybridCache::make(numbers, options, || {
+            let file = PageFile::open(path.as_ref(), numbers.pages(), page, options.direct)?;
+            Ok(Some(Box::new(file)))
+        })
+    }
+
+    /// An empty cache with its flash on a device of your own, which has as many pages as `options.numbers()` tells.
+    pub fn over(device: impl PageDevice + 'static, options: &Options) -> Result<HybridCache, OpenError> {
+        HybridCache::make(options.numbers()?, options, || Ok(Some(Box::new(device))))
+    }
+
+    /// An empty cache without flash, and without threads: what is evicted is forgotten.
+    pub fn in_memory(options: &Options) -> Result<HybridCache, OpenError> {
+        HybridCache::make(options.numbers_in_memory()?, options, || Ok(None))
+    }
+
+    // The device is opened once the numbers are known to be right.
+    fn make(
+        numbers: Numbers,
+        options: &Options,
+        open: impl FnOnce() -> Result<Option<Box<dyn PageDevice>>, OpenError>,
+    ) -> Result<HybridCache, OpenError> {
+        let mut shards = Shards::new(&numbers, options.clock.clone())?;
+        shards.device = open()?.map(|device| Checked::new(device, numbers.pages())).transpose()?;
+        let has_flash = shards.device.is_some();
+        let inner = Inner { shards: Arc::new(shards), numbers, workers: Mutex::default() };
+        let cache = HybridCache { inner: Arc::new(inner) };
+        if has_flash {
+            // (where one can't be started, those that were are ended as the cache is dropped)
+            (0..options.writers).try_for_each(|_| cache.inner.start("cache-writer", Shards::write_out))?;
+            (0..options.fillers).try_for_each(|_| cache.inner.start("cache-filler", Shards::fill))?;
+        }
+        Ok(cache)
+    }
+
+    /// The value under the key. Where flash alone may have it, the thread waits until it was looked for there.
+    pub fn get(&self, key: &[u8]) -> Result<Option<Value>, Error> {
+        self.find(key, |shards, shard, state, call| shards.fill_for(shard, state, call))
+    }
+
+    /// The same for so long at most, and then [`Error::TimedOut`]: the call is given up. A filler makes its read.
+    pub fn get_timeout(&self, key: &[u8], limit: Duration) -> Result<Option<Value>, Error> {
+        let until = Instant::now().checked_add(limit);
+        self.find(key, |shards, shard, state, call| shards.wait_for(shard, state, call, until))
+    }
+
+    /// The same as a future, for any executor: a filler makes its read, and wakes the task. Where the future is dropped, the
+    /// call is given up. The call begins when the future is polled first.
+    pub fn get_async<'a>(&'a self, key: &'a [u8]) -> GetAsync<'a> {
+        GetAsync::new(self, key)
+    }
+
+    fn find<'a>(
+        &'a self,
+        key: &[u8],
+        wait: impl FnOnce(&'a Shards, usize, Locked<'a>, u64) -> Answer,
+    ) -> Result<Option<Value>, Error> {
+        let (shards, shard) = self.shard_of(key);
+        let mut state = shards.enter(shard)?;
+        match state.engine.get(key)? {
+            Found::Hit(held) => {
+                drop(state);
+                Ok(Some(Value::of(held)?))
+            }
+            Found::Miss => Ok(None),
+            Found::Waits(call) => value_of(wait(shards, shard, state, call)?),
+        }
+    }
+
+    /// Copies the value under the key to the head of `out`, and answers its length. Where that is more than `out` has, nothing
+    /// is copied. It waits as `get` does.
+    pub fn get_into(&self, key: &[u8], out: &mut [u8]) -> Result<Option<usize>, Error> {
+        let (shards, shard) = self.shard_of(key);
+        let mut state = shards.enter(shard)?;
+        match state.engine.get_into(key, out)? {
+            Copied::Hit(length) => Ok(Some(length)),
+            Copied::Miss => Ok(None),
+            Copied::Waits(call) => match shards.fill_for(shard, state, call)? {
+                Reply::Hit(held) => Ok(Some(copy(held, out))),
+                Reply::Stored | Reply::Miss => Ok(None),
+            },
+        }
+    }
+
+    /// Stores a copy of the value under the key, in place of what the key has, for `ttl` seconds from now (0: for good). What
+    /// was used longest ago is evicted to make room, and goes to flash.
+    pub fn set(&self, key: &[u8], value: &[u8], ttl: u32) -> Result<(), Error> {
+        let (shards, shard) = self.shard_of(key);
+        let mut state = shards.enter(shard)?;
+        let stored = state.engine.set(shards.pool_of(key), key, value, ttl);
+        shards.leave(shard, state);
+        Ok(stored?)
+    }
+
+    /// Stores it where the key has no unexpired value, and answers whether it did. Where flash alone may have one, the thread
+    /// waits until it was looked for there. Don't store by it what was loaded before: it may be stored behind a `delete` that
+    /// came while it waited.
+    pub fn add(&self, key: &[u8], value: &[u8], ttl: u32) -> Result<bool, Error> {
+        let (shards, shard) = self.shard_of(key);
+        let mut state = shards.enter(shard)?;
+        let added = match state.engine.add(shards.pool_of(key), key, value, ttl) {
+            Ok(Added::Waits(call)) => shards.fill_for(shard, state, call).map(|_| ()),
+            stored => {
+                shards.leave(shard, state);
+                stored.map(|_| ()).map_err(Error::Refused)
+            }
+        };
+        match added {
+            Err(Error::Refused(Refused::EXISTS)) => Ok(false),
+            added => added.map(|()| true),
+        }
+    }
+
+    /// Takes the key out of the cache, from memory and flash, and answers whether there was an item in memory.
+    pub fn delete(&self, key: &[u8]) -> Result<bool, Error> {
+        let (shards, shard) = self.shard_of(key);
+        let mut state = shards.enter(shard)?;
+        let deleted = state.engine.delete(key);
+        shards.leave(shard, state);
+        Ok(deleted?)
+    }
+
+    /// Waits until each shard had nothing that waits to be written to flash, at some moment since.
+    pub fn flush(&self) -> Result<(), Error> {
+        let shards = &self.inner.shards;
+        if shards.device.is_none() {
+            return Ok(());
+        }
+        (0..shards.len()).try_for_each(|shard| shards.flush(shard))
+    }
+
+    /// What was done so far, and what the cache has.
+    #[must_use]
+    pub fn stats(&self) -> Stats {
+        let Inner { shards, numbers, .. } = &*self.inner;
+        let mut stats = Stats { lock_waits: shards.lock_waits(), ..Stats::default() };
+        for shard in 0..shards.len() {
+            add_shard(&mut stats, &mut shards.lock(shard), shards);
+        }
+        if let Some(device) = &shards.device {
+            stats.device = device.counts();
+            stats.flash_bytes = stats.device.pages * numbers.flash.map_or(0, |flash| flash.page);
+            stats.flash_limit_bytes = numbers.flash_bytes();
+        }
+        stats
+    }
+
+    /// What the options came to.
+    #[must_use]
+    pub fn numbers(&self) -> Numbers {
+        self.inner.numbers
+    }
+
+    /// Ends the cache for all its handles: calls that wait, and later ones, are [`Error::Closed`]. It waits for the operations
+    /// of the device that are under way, and answers what was done. What isn't written yet never is.
+    pub fn close(self) -> Stats {
+        self.inner.end();
+        self.stats()
+    }
+
+    #[inline]
+    fn shard_of(&self, key: &[u8]) -> (&Shards, usize) {
+        let shards = &*self.inner.shards;
+        (shards, shards.of(key))
+    }
+
+    pub(crate) fn shards(&self) -> &Shards {
+        &self.inner.shards
+    }
+}
+
+// What a get that waited comes to.
+pub(crate) fn value_of(reply: Reply) -> Result<Option<Value>, Error> {
+    Ok(match reply {
+        Reply::Hit(held) => Some(Value::of(held)?),
+        Reply::Stored | Reply::Miss => None,
+    })
+}
+
+// Copies the value, where there is room for it, and answers its length.
+fn copy(mut held: Held, out: &mut [u8]) -> usize {
+    let length = held.length();
+    if length <= out.len() {
+        held.copy(0, out);
+    }
+    length
+}
+
+// Adds what a shard did, and has.
+fn add_shard(stats: &mut Stats, state: &mut Locked<'_>, shards: &Shards) {
+    let counts = state.engine.counts();
+    let from_flash = state.calls.from_flash;
+    stats.hits_from_memory += counts.hits.saturating_sub(from_flash);
+    stats.hits_from_flash += from_flash;
+    stats.misses += counts.misses;
+    stats.stored += counts.stored;
+    stats.deletes += counts.removes;
+    stats.losses += state.engine.losses();
+    stats.waiting += state.calls.len() as u64;
+    stats.given_up += state.calls.given_up;
+    stats.shards_behind += u64::from(shards.device.is_some() && state.engine.writer_has_work() != Ok(false));
+    for pool in 0..shards.pools() {
+        let usage = state.engine.usage(pool).unwrap_or_default();
+        stats.memory_items += usage.items;
+        stats.memory_bytes += usage.bytes;
+        stats.memory_limit_bytes += usage.limit_bytes;
+    }
+}
+
+impl Inner {
+    fn start(&self, name: &str, work: fn(&Shards)) -> Result<(), OpenError> {
+        let shards = Arc::clone(&self.shards);
+        let worker = thread::Builder::new().name(name.to_string()).spawn(move || work(&shards))?;
+        self.workers.lock().unwrap_or_else(PoisonError::into_inner).push(worker);
+        Ok(())
+    }
+
+    fn end(&self) {
+        self.shards.close();
+        let mut workers = self.workers.lock().unwrap_or_else(PoisonError::into_inner);
+        for worker in workers.drain(..) {
+            // (a worker may drop the last handle, with a task that it wakes)
+            if worker.thread().id() != thread::current().id() {
+                let _ = worker.join();
+            }
+        }
+    }
+}
+
+impl Drop for Inner {
+    fn drop(&mut self) {
+        self.end();
+    }
+}
+
+impl fmt::Debug for HybridCache {
+    fn fmt(&self, f: &mut fmt::Formatter<'_>) -> fmt::Result {
+        f.debug_struct("HybridCache").field("numbers", &self.inner.numbers).finish_non_exhaustive()
+    }
+}

@@ -1,0 +1,358 @@
+use crate::bell::Bell;
+use crate::buffer::with_page;
+use crate::calls::{wake, Answer, Call, Calls};
+use crate::checked::Checked;
+use crate::numbers::Numbers;
+use crate::{shard_of, Came, Clock, Engine, Error, Held, Operation, Refused, Take};
+use std::sync::atomic::{AtomicU64, Ordering::Relaxed};
+use std::sync::{Condvar, Mutex, MutexGuard, PoisonError, TryLockError};
+use std::task::Waker;
+use std::thread;
+use std::time::{Duration, Instant};
+
+// How long one waits for memory, before one tries again.
+const PAUSE: Duration = Duration::from_millis(5);
+
+/// What a shard's lock holds.
+pub(crate) struct State {
+    pub engine: Engine,
+    pub calls: Calls,
+    // the last second that the engine was told
+    now: u64,
+    // jobs of writers that are under way
+    writing: usize,
+    closed: bool,
+}
+
+/// A shard, on lines of the processor's memory of its own.
+#[repr(align(128))]
+pub(crate) struct Shard {
+    state: Mutex<State>,
+    // a writer has no more to do
+    quiet: Condvar,
+    lock_waits: AtomicU64,
+}
+
+/// The shards, and all that their threads share.
+pub(crate) struct Shards {
+    shards: Box<[Shard]>,
+    pub device: Option<Checked>,
+    page: usize,
+    pages: u32,
+    pools: u8,
+    clock: Clock,
+    writers: Bell,
+    fillers: Bell,
+}
+
+/// A shard, locked.
+pub(crate) type Locked<'a> = MutexGuard<'a, State>;
+
+impl Shards {
+    /// Empty shards with these numbers, over a device that is still to come, where there is flash.
+    pub fn new(numbers: &Numbers, clock: Clock) -> Result<Shards, Refused> {
+        let pools = numbers.pools();
+        let now = clock.now();
+        let made = (0..numbers.shards).map(|_| {
+            let mut engine = match &numbers.flash {
+                Some(flash) => Engine::new_shard(&pools, flash, numbers.shards)?,
+                None => Engine::new_shard_in_memory(&pools, numbers.shards)?,
+            };
+            engine.tick(now)?;
+            let state = State { engine, calls: Calls::default(), now, writing: 0, closed: false };
+            Ok(Shard { state: Mutex::new(state), quiet: Condvar::new(), lock_waits: AtomicU64::new(0) })
+        });
+        let (page, pages) = numbers.flash.map_or((0, 0), |flash| (flash.page as usize, flash.pages() as u32));
+        Ok(Shards {
+            shards: made.collect::<Result<_, Refused>>()?,
+            device: None,
+            page,
+            pages,
+            pools: pools.len() as u8,
+            clock,
+            writers: Bell::default(),
+            fillers: Bell::default(),
+        })
+    }
+
+    pub fn len(&self) -> usize {
+        self.shards.len()
+    }
+
+    pub fn pools(&self) -> u8 {
+        self.pools
+    }
+
+    /// The key's shard.
+    #[inline]
+    pub fn of(&self, key: &[u8]) -> usize {
+        usize::from(shard_of(key, self.shards.len() as u8))
+    }
+
+    /// The key's pool: its items are spread over all of them, where one can't hold as many.
+    #[inline]
+    pub fn pool_of(&self, key: &[u8]) -> u8 {
+        match self.pools {
+            1 => 0,
+            pools => (crate::checked::digest_of(key) % u64::from(pools)) as u8,
+        }
+    }
+
+    /// The shard, locked. A thread that panicked while it held the lock left the shard as a call leaves it.
+    #[inline]
+    pub fn lock(&self, shard: usize) -> Locked<'_> {
+        let Shard { state, lock_waits, .. } = &self.shards[shard];
+        match state.try_lock() {
+            Ok(state) => state,
+            Err(TryLockError::Poisoned(state)) => state.into_inner(),
+            Err(TryLockError::WouldBlock) => {
+                lock_waits.fetch_add(1, Relaxed);
+                state.lock().unwrap_or_else(PoisonError::into_inner)
+            }
+        }
+    }
+
+    /// How often a shard's lock was waited for.
+    pub fn lock_waits(&self) -> u64 {
+        self.shards.iter().map(|shard| shard.lock_waits.load(Relaxed)).sum()
+    }
+
+    /// The shard, locked for a call, with its clock told.
+    #[inline]
+    pub fn enter(&self, shard: usize) -> Result<Locked<'_>, Error> {
+        let now = self.clock.now();
+        let mut state = self.lock(shard);
+        if state.closed {
+            return Err(Error::Closed);
+        }
+        if now > state.now {
+            state.engine.tick(now)?;
+            state.now = now;
+        }
+        Ok(state)
+    }
+
+    /// Lets the shard go after a step that may have answered calls or made work: who waits for that is told.
+    pub fn leave(&self, shard: usize, mut state: Locked<'_>) {
+        let State { engine, calls, .. } = &mut *state;
+        calls.sweep(engine);
+        let has_fills = calls.is_owed() && engine.filler_has_work() != Ok(false);
+        let has_writes = self.device.is_some() && engine.writer_has_work() != Ok(false);
+        let woken = calls.woken();
+        drop(state);
+        if has_writes {
+            self.writers.ring(shard);
+        }
+        if has_fills {
+            self.fillers.ring(shard);
+        }
+        wake(woken);
+    }
+
+    /// Waits for the answer of a call that begins to wait, and makes the reads that are to be made meanwhile: its own, and
+    /// those of who waits longer. Where another thread makes it, it sleeps.
+    pub fn fill_for<'a>(&'a self, shard: usize, mut state: Locked<'a>, call: u64) -> Answer {
+        state.calls.begin(call)?;
+        loop {
+            if let Some(answer) = state.calls.take(call) {
+                return answer;
+            }
+            match state.engine.filler_take() {
+                Ok(Take::Idle) => drop(sleep(state, call, None)),
+                Err(_) => drop(sleep(state, call, Some(PAUSE))),
+                Ok(take) => self.complete(shard, state, take),
+            }
+            state = self.lock(shard);
+        }
+    }
+
+    /// Waits for the answer of a call that begins to wait, until this moment at most. The fillers make its read.
+    pub fn wait_for<'a>(&'a self, shard: usize, mut state: Locked<'a>, call: u64, until: Option<Instant>) -> Answer {
+        state.calls.begin(call)?;
+        self.fillers.ring(shard);
+        loop {
+            if let Some(answer) = state.calls.take(call) {
+                return answer;
+            }
+            let left = until.map(|until| until.saturating_duration_since(Instant::now()));
+            if left == Some(Duration::ZERO) {
+                let given_up = state.calls.give_up(call);
+                drop(state);
+                drop(given_up);
+                return Err(Error::TimedOut);
+            }
+            state = sleep(state, call, left);
+        }
+    }
+
+    /// Lists a call that begins to wait and wakes this task, and has the fillers make its read.
+    pub fn begin(&self, shard: usize, mut state: Locked<'_>, call: u64, waker: Waker) -> Result<(), Refused> {
+        state.calls.begin(call)?;
+        let before = state.calls.task(call, waker);
+        drop(state);
+        drop(before);
+        self.fillers.ring(shard);
+        Ok(())
+    }
+
+    /// Gives a call up.
+    pub fn give_up(&self, shard: usize, call: u64) {
+        let given_up: Option<Call> = self.lock(shard).calls.give_up(call);
+        drop(given_up);
+    }
+
+    /// Does what was taken to its end, with no lock held while the device works, and lets the shard go.
+    fn complete<'a>(&'a self, shard: usize, state: Locked<'a>, take: Take) {
+        let (mut state, mut take) = (state, take);
+        loop {
+            let (job, operation) = match take {
+                Take::Idle | Take::Finished => return self.leave(shard, state),
+                Take::Untold(job) => (job, None),
+                Take::Work(job, operation) => (job, Some(operation)),
+            };
+            self.leave(shard, state);
+            let mut came = operation.map_or(Came::Failed, |operation| self.operate(shard, operation));
+            (take, state) = self.hand_in(shard, job, &mut came);
+        }
+    }
+
+    // Hands a result in, as often as memory lacks for it, and answers what is next of the job.
+    fn hand_in(&self, shard: usize, job: u64, came: &mut Came) -> (Take, Locked<'_>) {
+        loop {
+            let mut state = self.lock(shard);
+            match state.engine.finish(job, came) {
+                Err(Refused::NO_MEMORY) if !state.closed => {
+                    drop(state);
+                    thread::sleep(PAUSE);
+                }
+                Ok(take) if !state.closed => return (take, state),
+                _ => return (Take::Finished, state),
+            }
+        }
+    }
+
+    fn operate(&self, shard: usize, operation: Operation) -> Came {
+        let came = match operation {
+            Operation::Read(page) => self.read(self.place_of(shard, page)),
+            Operation::Write(page, bytes) => self.write(self.place_of(shard, page), bytes),
+        };
+        came.unwrap_or(Came::Failed)
+    }
+
+    // The shard's page among those of all shards.
+    fn place_of(&self, shard: usize, page: u32) -> u32 {
+        shard as u32 * self.pages + page
+    }
+
+    fn read(&self, page: u32) -> Option<Came> {
+        let device = self.device.as_ref()?;
+        let read = |out: &mut [u8]| device.read(page, out).then(|| Held::copy_of(out).ok()).flatten();
+        with_page(self.page, read)?.map(Came::Page)
+    }
+
+    fn write(&self, page: u32, mut bytes: Held) -> Option<Came> {
+        let device = self.device.as_ref()?;
+        let write = |out: &mut [u8]| bytes.copy(0, out) == out.len() && device.write(page, out);
+        with_page(self.page, write)?.then_some(Came::Written)
+    }
+
+    /// A filler, until the end.
+    pub fn fill(&self) {
+        while let Some(shard) = self.fillers.next() {
+            while self.fill_once(shard) {}
+        }
+    }
+
+    // Does a job for those who wait, and answers whether there was one.
+    fn fill_once(&self, shard: usize) -> bool {
+        let mut state = self.lock(shard);
+        if state.closed {
+            return false;
+        }
+        match state.engine.filler_take() {
+            Ok(Take::Idle) => return false,
+            Ok(take) => self.complete(shard, state, take),
+            Err(_) => {
+                drop(state);
+                thread::sleep(PAUSE);
+            }
+        }
+        true
+    }
+
+    /// A writer, which makes regions clean too, until the end.
+    pub fn write_out(&self) {
+        while let Some(shard) = self.writers.next() {
+            while self.write_once(shard) {}
+        }
+    }
+
+    // Does a job for what left memory, and answers whether there was one.
+    fn write_once(&self, shard: usize) -> bool {
+        let mut state = self.lock(shard);
+        if state.closed {
+            return false;
+        }
+        match take_write(&mut state.engine) {
+            Ok(Take::Idle) => {
+                self.shards[shard].quiet.notify_all();
+                return false;
+            }
+            Ok(take) => {
+                state.writing += 1;
+                self.complete(shard, state, take);
+                self.lock(shard).writing -= 1;
+            }
+            Err(_) => {
+                drop(state);
+                thread::sleep(PAUSE);
+            }
+        }
+        true
+    }
+
+    /// Waits until nothing of the shard is to be written.
+    pub fn flush(&self, shard: usize) -> Result<(), Error> {
+        let mut state = self.enter(shard)?;
+        while !state.closed {
+            if state.writing == 0 && state.engine.writer_has_work() == Ok(false) {
+                return Ok(());
+            }
+            self.writers.ring(shard);
+            // (looked at again also where another writer did the last job)
+            let wait = self.shards[shard].quiet.wait_timeout(state, PAUSE);
+            state = wait.unwrap_or_else(PoisonError::into_inner).0;
+        }
+        Err(Error::Closed)
+    }
+
+    /// Answers all calls that wait that the cache is closed, and ends the workers as soon as their operation is done.
+    pub fn close(&self) {
+        for shard in 0..self.len() {
+            let mut state = self.lock(shard);
+            state.closed = true;
+            state.calls.close();
+            let woken = state.calls.woken();
+            drop(state);
+            self.shards[shard].quiet.notify_all();
+            wake(woken);
+        }
+        self.writers.end();
+        self.fillers.end();
+    }
+}
+
+// What is to be written next. Regions are made clean first.
+fn take_write(engine: &mut Engine) -> Result<Take, Refused> {
+    while engine.reclaim()? {}
+    engine.writer_take()
+}
+
+// Sleeps until the call is answered, or for so long.
+fn sleep(mut state: Locked<'_>, call: u64, most: Option<Duration>) -> Locked<'_> {
+    let wakes = state.calls.thread(call);
+    match most {
+        None => wakes.wait(state).unwrap_or_else(PoisonError::into_inner),
+        Some(most) => wakes.wait_timeout(state, most).unwrap_or_else(PoisonError::into_inner).0,
+    }
+}

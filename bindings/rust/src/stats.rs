@@ -1,0 +1,159 @@
+use crate::{DeviceCounts, Losses};
+use std::fmt::{self, Write};
+
+/// What a [`HybridCache`](crate::HybridCache) did so far, and what it has, of all shards together. Each shard is asked by
+/// itself, so that no two numbers need be of one moment.
+#[derive(Clone, Copy, Debug, Default, PartialEq, Eq)]
+pub struct Stats {
+    /// Gets that found a value in memory, items that wait for flash too.
+    pub hits_from_memory: u64,
+    /// Gets that waited for flash, and found a value.
+    pub hits_from_flash: u64,
+    /// Gets that found none.
+    pub misses: u64,
+    /// Values that were stored.
+    pub stored: u64,
+    /// Deletes, whether or not there was an item.
+    pub deletes: u64,
+    /// Items that were forgotten, by the reason.
+    pub losses: Losses,
+    /// Items in memory.
+    pub memory_items: u64,
+    /// Bytes that they are charged: 32, and those of key and value. What they take is more.
+    pub memory_bytes: u64,
+    /// The most bytes that they may be charged.
+    pub memory_limit_bytes: u64,
+    /// Bytes of the pages of flash that were written.
+    pub flash_bytes: u64,
+    /// Bytes of flash.
+    pub flash_limit_bytes: u64,
+    /// Operations of the device.
+    pub device: DeviceCounts,
+    /// Shards for whose flash something waits to be written. How much can't be told.
+    pub shards_behind: u64,
+    /// Calls that wait for flash now.
+    pub waiting: u64,
+    /// Calls that were given up while they waited.
+    pub given_up: u64,
+    /// How often a shard's lock was waited for.
+    pub lock_waits: u64,
+}
+
+impl Stats {
+    /// Gets that found a value.
+    #[must_use]
+    pub fn hits(&self) -> u64 {
+        self.hits_from_memory + self.hits_from_flash
+    }
+
+    // The losses, each with its reason.
+    fn losses_by_reason(&self) -> [(&'static str, u64); 11] {
+        let it = &self.losses;
+        [
+            ("no_flash", it.no_flash),
+            ("tombstone", it.tombstone),
+            ("not_admitted", it.not_admitted),
+            ("too_large", it.too_large),
+            ("queue_full", it.queue_full),
+            ("expired", it.expired),
+            ("bucket_full", it.bucket_full),
+            ("reclaimed", it.reclaimed),
+            ("no_clean_region", it.no_clean_region),
+            ("collision", it.collision),
+            ("fault", it.fault),
+        ]
+    }
+
+    /// The text that Prometheus reads.
+    ///
+    /// ```
+    /// use kilambosetry::Stats;
+    ///
+    /// let text = Stats { misses: 3, ..Stats::default() }.to_prometheus();
+    /// assert!(text.contains("# TYPE kilambosetry_misses_total counter\nkilambosetry_misses_total 3\n"));
+    /// ```
+    #[must_use]
+    pub fn to_prometheus(&self) -> String {
+        let mut text = String::new();
+        let hits = [("memory", self.hits_from_memory), ("flash", self.hits_from_flash)];
+        let operations = [("read", self.device.reads), ("write", self.device.writes)];
+        let failures = [("read", self.device.read_failures), ("write", self.device.write_failures)];
+        counters(&mut text, "hits", "Gets that found a value.", "from", &hits);
+        counter(&mut text, "misses", "Gets that found none.", self.misses);
+        counter(&mut text, "stored", "Values that were stored.", self.stored);
+        counter(&mut text, "deletes", "Deletes.", self.deletes);
+        counters(&mut text, "losses", "Items that were forgotten.", "reason", &self.losses_by_reason());
+        counters(&mut text, "device_operations", "Pages read and written.", "operation", &operations);
+        counters(&mut text, "device_failures", "Operations that failed.", "operation", &failures);
+        counter(&mut text, "device_lies", "Pages that came back otherwise than written.", self.device.lies);
+        counter(&mut text, "given_up", "Calls given up while they waited.", self.given_up);
+        counter(&mut text, "lock_waits", "Times that a lock was waited for.", self.lock_waits);
+        gauge(&mut text, "memory_items", "Items in memory.", self.memory_items);
+        gauge(&mut text, "memory_bytes", "Bytes charged to items in memory.", self.memory_bytes);
+        gauge(&mut text, "memory_limit_bytes", "The most bytes charged.", self.memory_limit_bytes);
+        gauge(&mut text, "flash_bytes", "Bytes of written pages.", self.flash_bytes);
+        gauge(&mut text, "flash_limit_bytes", "Bytes of flash.", self.flash_limit_bytes);
+        gauge(&mut text, "shards_behind", "Shards with something to be written.", self.shards_behind);
+        gauge(&mut text, "waiting_calls", "Calls that wait for flash.", self.waiting);
+        text
+    }
+}
+
+fn head(text: &mut String, name: &str, kind: &str, help: &str) {
+    let _ = write!(text, "# HELP kilambosetry_{name} {help}\n# TYPE kilambosetry_{name} {kind}\n");
+}
+
+fn counter(text: &mut String, name: &str, help: &str, count: u64) {
+    head(text, &format!("{name}_total"), "counter", help);
+    let _ = writeln!(text, "kilambosetry_{name}_total {count}");
+}
+
+fn counters(text: &mut String, name: &str, help: &str, label: &str, counts: &[(&str, u64)]) {
+    head(text, &format!("{name}_total"), "counter", help);
+    for (of, count) in counts {
+        let _ = writeln!(text, "kilambosetry_{name}_total{{{label}=\"{of}\"}} {count}");
+    }
+}
+
+fn gauge(text: &mut String, name: &str, help: &str, value: u64) {
+    head(text, name, "gauge", help);
+    let _ = writeln!(text, "kilambosetry_{name} {value}");
+}
+
+impl fmt::Display for Stats {
+    fn fmt(&self, f: &mut fmt::Formatter<'_>) -> fmt::Result {
+        let device = &self.device;
+        writeln!(
+            f,
+            "gets     {} from memory, {} from flash, {} missed",
+            self.hits_from_memory, self.hits_from_flash, self.misses
+        )?;
+        writeln!(f, "changes  {} stored, {} deletes", self.stored, self.deletes)?;
+        writeln!(
+            f,
+            "memory   {} items, {} of {} bytes",
+            self.memory_items, self.memory_bytes, self.memory_limit_bytes
+        )?;
+        writeln!(
+            f,
+            "flash    {} of {} bytes, {} shards behind",
+            self.flash_bytes, self.flash_limit_bytes, self.shards_behind
+        )?;
+        writeln!(
+            f,
+            "device   {} reads ({} failed, {} lies), {} writes ({} failed)",
+            device.reads, device.read_failures, device.lies, device.writes, device.write_failures
+        )?;
+        writeln!(
+            f,
+            "waits    {} calls wait, {} given up, {} waits for a lock",
+            self.waiting, self.given_up, self.lock_waits
+        )?;
+        f.write_str("losses  ")?;
+        let mut losses = self.losses_by_reason().into_iter().filter(|(_, count)| *count > 0).peekable();
+        if losses.peek().is_none() {
+            return f.write_str(" none");
+        }
+        losses.try_for_each(|(reason, count)| write!(f, " {reason} {count}"))
+    }
+}
