@@ -11,7 +11,12 @@ fn main() {
             PathBuf::from(env::var_os("CARGO_MANIFEST_DIR").expect("cargo names the crate's folder")).join("../out/lib")
         }
     };
-    println!("cargo:rerun-if-changed={}", folder.join("libkilambosetry.a").display());
+    let library = folder.join("libkilambosetry.a");
+    if !library.exists() {
+        // (it isn't needed to check the crate, nor for its documents)
+        println!("cargo:warning=there is no {}: run bindings/build.sh, or set KILAMBOSETRY_LIB", library.display());
+    }
+    println!("cargo:rerun-if-changed={}", library.display());
     println!("cargo:rustc-link-search=native={}", folder.display());
     println!("cargo:rustc-link-lib=static=kilambosetry");
 }

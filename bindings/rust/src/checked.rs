@@ -204,7 +204,7 @@ mod tests {
 
     #[test]
     fn digests_tell_each_bit_and_each_order() {
-        let page: Vec<u8> = (0..4096u32).map(|i| (i * i >> 3) as u8).collect();
+        let page: Vec<u8> = (0..4096u32).map(|i| ((i * i) >> 3) as u8).collect();
         let known = digest_of(&page);
         for bit in 0..4096 * 8 {
             let mut other = page.clone();

@@ -300,12 +300,9 @@ impl Engine {
         let mut waiting = 0;
         for _ in 0..self.forgotten.len() {
             let Some(call) = self.forgotten.pop_front() else { return };
-            match self.take_reply(call) {
-                Err(Refused::NOT_READY | Refused::NO_MEMORY) => {
-                    self.forgotten.push_back(call);
-                    waiting += 1;
-                }
-                _ => {}
+            if matches!(self.take_reply(call), Err(Refused::NOT_READY | Refused::NO_MEMORY)) {
+                self.forgotten.push_back(call);
+                waiting += 1;
             }
             if waiting == ASKED {
                 return;

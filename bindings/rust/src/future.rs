@@ -1,4 +1,4 @@
-use crate::hybrid::value_of;
+use crate::hybrid::held_of;
 use crate::{Error, Found, HybridCache, Value};
 use std::future::Future;
 use std::pin::Pin;
@@ -47,7 +47,7 @@ impl<'a> GetAsync<'a> {
             Some(answer) => {
                 drop(state);
                 self.call = None;
-                Poll::Ready(value_of(answer?))
+                Poll::Ready(Ok(held_of(answer?).map(Value::of).transpose()?))
             }
             None => {
                 let before = state.calls.task(call, waker);

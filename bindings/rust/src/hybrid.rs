@@ -4,7 +4,7 @@ use crate::engine::Copied;
 use crate::future::GetAsync;
 use crate::numbers::Numbers;
 use crate::shards::{Locked, Shards};
-use crate::{Added, Error, Found, Held, OpenError, Options, PageFile, Refused, Reply, Stats, Value};
+use crate::{Added, Engine, Error, Found, Held, OpenError, Options, PageFile, Refused, Reply, Stats, Value};
 use std::fmt;
 use std::path::Path;
 use std::sync::{Arc, Mutex, PoisonError};
@@ -112,14 +112,16 @@ impl HybridCache {
     ) -> Result<Option<Value>, Error> {
         let (shards, shard) = self.shard_of(key);
         let mut state = shards.enter(shard)?;
-        match state.engine.get(key)? {
+        let held = match state.engine.get(key)? {
             Found::Hit(held) => {
                 drop(state);
-                Ok(Some(Value::of(held)?))
+                Some(held)
             }
-            Found::Miss => Ok(None),
-            Found::Waits(call) => value_of(wait(shards, shard, state, call)?),
-        }
+            Found::Miss => None,
+            Found::Waits(call) => held_of(wait(shards, shard, state, call)?),
+        };
+        // (a miss ends here, at once or after it waited: the place for a ticket, which a `set` takes by `change`)
+        Ok(held.map(Value::of).transpose()?)
     }
 
     /// Copies the value under the key to the head of `out`, and answers its length. Where that is more than `out` has, nothing
@@ -130,21 +132,27 @@ impl HybridCache {
         match state.engine.get_into(key, out)? {
             Copied::Hit(length) => Ok(Some(length)),
             Copied::Miss => Ok(None),
-            Copied::Waits(call) => match shards.fill_for(shard, state, call)? {
-                Reply::Hit(held) => Ok(Some(copy(held, out))),
-                Reply::Stored | Reply::Miss => Ok(None),
-            },
+            Copied::Waits(call) => {
+                let held = held_of(shards.fill_for(shard, state, call)?);
+                Ok(held.map(|held| copy(held, out)))
+            }
         }
     }
 
     /// Stores a copy of the value under the key, in place of what the key has, for `ttl` seconds from now (0: for good). What
     /// was used longest ago is evicted to make room, and goes to flash.
     pub fn set(&self, key: &[u8], value: &[u8], ttl: u32) -> Result<(), Error> {
+        self.change(key, |engine, pool| engine.set(pool, key, value, ttl))
+    }
+
+    // A step of the key's shard, with the key's pool, that may answer calls and make work.
+    #[inline]
+    fn change<T>(&self, key: &[u8], step: impl FnOnce(&mut Engine, u8) -> Result<T, Refused>) -> Result<T, Error> {
         let (shards, shard) = self.shard_of(key);
         let mut state = shards.enter(shard)?;
-        let stored = state.engine.set(shards.pool_of(key), key, value, ttl);
+        let done = step(&mut state.engine, shards.pool_of(key));
         shards.leave(shard, state);
-        Ok(stored?)
+        Ok(done?)
     }
 
     /// Stores it where the key has no unexpired value, and answers whether it did. Where flash alone may have one, the thread
@@ -168,11 +176,7 @@ impl HybridCache {
 
     /// Takes the key out of the cache, from memory and flash, and answers whether there was an item in memory.
     pub fn delete(&self, key: &[u8]) -> Result<bool, Error> {
-        let (shards, shard) = self.shard_of(key);
-        let mut state = shards.enter(shard)?;
-        let deleted = state.engine.delete(key);
-        shards.leave(shard, state);
-        Ok(deleted?)
+        self.change(key, |engine, _| engine.delete(key))
     }
 
     /// Waits until each shard had nothing that waits to be written to flash, at some moment since.
@@ -224,12 +228,12 @@ impl HybridCache {
     }
 }
 
-// What a get that waited comes to.
-pub(crate) fn value_of(reply: Reply) -> Result<Option<Value>, Error> {
-    Ok(match reply {
-        Reply::Hit(held) => Some(Value::of(held)?),
+// What a get that waited found.
+pub(crate) fn held_of(reply: Reply) -> Option<Held> {
+    match reply {
+        Reply::Hit(held) => Some(held),
         Reply::Stored | Reply::Miss => None,
-    })
+    }
 }
 
 // Copies the value, where there is room for it, and answers its length.

@@ -1,5 +1,24 @@
-//! Kilambosetry: a cache of up to 16 pools in memory ([`Cache`]), or with flash behind them ([`Engine`]), whose promises
-//! are proved in the library below this crate. This wrapper is plain Rust; it is tested, and not proved.
+//! Kilambosetry: a hybrid cache, in memory and on flash. The core, whose promises are proved, is in the library below this
+//! crate; the crate itself is plain Rust, and is tested.
+//!
+//! [`HybridCache`] is the cache of a service, for any number of threads, with its flash in a file:
+//!
+//! ```
+//! use kilambosetry::{HybridCache, Options};
+//! # let path = std::env::temp_dir().join(format!("lib-{}", std::process::id()));
+//!
+//! let options = Options { memory: 64_000_000, flash: 200_000_000, mean_value: 400, ..Options::default() };
+//! println!("{}", options.numbers()?); // what they come to
+//! let cache = HybridCache::open(&path, &options)?;
+//! cache.set(b"user:7", b"Ada", 3600)?;
+//! assert_eq!(cache.get(b"user:7")?.as_deref(), Some(&b"Ada"[..]));
+//! println!("{}", cache.close());
+//! # std::fs::remove_file(path)?;
+//! # Ok::<(), Box<dyn std::error::Error>>(())
+//! ```
+//!
+//! Below it there are a [`Cache`] of up to 16 pools in memory, a [`ShardedCache`] of such caches under locks of their own, and
+//! an [`Engine`] with flash behind its pools, for who makes its device operations himself:
 //!
 //! ```
 //! use kilambosetry::{Cache, Pool};
@@ -10,24 +29,6 @@
 //! assert_eq!(cache.get(b"user:7")?.as_deref(), Some(&b"Ada"[..]));
 //! assert!(cache.delete(b"user:7")?);
 //! assert_eq!(cache.get(b"user:7")?, None);
-//! # Ok::<(), kilambosetry::Refused>(())
-//! ```
-//!
-//! A cache has no lock. Threads share a [`ShardedCache`], whose shards have one each, or one cache as a `Mutex<Cache>`:
-//!
-//! ```
-//! use kilambosetry::{Cache, Pool};
-//! use std::sync::Mutex;
-//! use std::thread;
-//!
-//! let shared = Mutex::new(Cache::new(&[Pool { bytes: 1 << 20, items: 1000 }])?);
-//! thread::scope(|scope| {
-//!     for name in [b"a", b"b"] {
-//!         let shared = &shared;
-//!         scope.spawn(move || shared.lock().unwrap().set(0, name, b"here", 0).unwrap());
-//!     }
-//! });
-//! assert_eq!(shared.lock().unwrap().counts().stored, 2);
 //! # Ok::<(), kilambosetry::Refused>(())
 //! ```
 #![warn(missing_docs)]

@@ -54,7 +54,7 @@ pub struct Options {
 }
 
 impl Default for Options {
-    /// 64 MB of memory, 1 GB of flash, values of 1,000 bytes, 8 shards, a writer and two fillers, and the system's clock.
+    /// 64 MB of memory, 1 GB of flash, values of 1,000 bytes, 8 shards, two writers and two fillers, and the system's clock.
     fn default() -> Options {
         Options {
             memory: 64_000_000,
@@ -62,7 +62,7 @@ impl Default for Options {
             mean_key: 24,
             mean_value: 1000,
             shards: 8,
-            writers: 1,
+            writers: 2,
             fillers: 2,
             page: 4096,
             direct: false,

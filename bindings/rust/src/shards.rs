@@ -187,12 +187,12 @@ impl Shards {
 
     /// Lists a call that begins to wait and wakes this task, and has the fillers make its read.
     pub fn begin(&self, shard: usize, mut state: Locked<'_>, call: u64, waker: Waker) -> Result<(), Refused> {
-        state.calls.begin(call)?;
+        let begun = state.calls.begin(call);
         let before = state.calls.task(call, waker);
         drop(state);
         drop(before);
         self.fillers.ring(shard);
-        Ok(())
+        begun
     }
 
     /// Gives a call up.
@@ -296,6 +296,7 @@ impl Shards {
         match take_write(&mut state.engine) {
             Ok(Take::Idle) => {
                 self.shards[shard].quiet.notify_all();
+                self.leave(shard, state); // (a region may have been made clean)
                 return false;
             }
             Ok(take) => {

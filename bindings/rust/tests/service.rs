@@ -128,7 +128,7 @@ fn key(number: u64) -> [u8; 8] {
 // Short ones go to buckets, and long ones to regions.
 fn value(number: u64, version: u64) -> Vec<u8> {
     let mut value = [number.to_be_bytes(), version.to_be_bytes()].concat();
-    value.resize(if number % 3 == 0 { 700 } else { 60 }, version as u8);
+    value.resize(if number.is_multiple_of(3) { 700 } else { 60 }, version as u8);
     value
 }
 
