@@ -63,9 +63,12 @@ if has cargo; then
     (cd "$here/rust" && CARGO_TARGET_DIR="$out/target" cargo test --offline --quiet)
     # the code of README.md: it is the example's, word for word, and does what it says
     sed -n '/^```rust$/,/^```$/{/^```/!p;}' "$here/../README.md" >"$out/readme.txt"
-    sed -n '/^struct Disk/,/^const FLASH/p' "$here/rust/examples/readme.rs" | sed '/^const FLASH/d' | sed '$d' | cmp - "$out/readme.txt"
-    (cd "$here/rust" && CARGO_TARGET_DIR="$out/target" cargo run --offline --quiet --example readme)
+    sed -n '/^fn open/,/^fn main/p' "$here/rust/examples/readme.rs" | sed '/^fn main/d' | sed '$d' | cmp - "$out/readme.txt"
+    example() { (cd "$here/rust" && CARGO_TARGET_DIR="$out/target" cargo run --offline --quiet --release --example "$@"); }
+    example readme
     echo "the README's code: does what it says"
+    example service
+    echo "the service: no row was older than it may be"
     if [ "${1-}" = --speed ]; then
         if ls -d /usr/share/cargo/registry/lru-0.7* >/dev/null 2>&1; then
             speed() { (cd "$here/speed" && CARGO_TARGET_DIR="$out/target" cargo run --offline --quiet --release -- "$@"); }

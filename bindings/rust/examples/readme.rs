@@ -1,68 +1,46 @@
-//! The code of README.md, and what becomes of it: one value is found in memory, on its way to flash, on flash, and nowhere.
+//! The code of README.md, and what becomes of it: each row is loaded once, and found in memory or on flash from then on.
 //! `tools/check-docs` compares the text with the page, and `bindings/build.sh` runs it.
-use kilambosetry::{Device, Engine, Flash, Found, Held, Pool, Refused, Reply};
-use std::{env, fs::File, io, os::unix::fs::FileExt, process};
+use kilambosetry::{Error, HybridCache, OpenError, Options};
+use std::path::Path;
+use std::{env, fs, process};
 
-struct Disk(File); // the flash: pages of 4,096 bytes in a file
-
-impl Device for Disk {
-    fn read(&mut self, page: u32, out: &mut [u8]) -> io::Result<()> {
-        self.0.read_exact_at(out, u64::from(page) * 4096)
-    }
-    fn write(&mut self, page: u32, bytes: &[u8]) -> io::Result<()> {
-        self.0.write_all_at(bytes, u64::from(page) * 4096)
+mod database {
+    pub fn load(user: &str) -> Vec<u8> {
+        format!("{user} has {}", "a long row ".repeat(30)).into_bytes()
     }
 }
 
-fn profile(cache: &mut Engine, disk: &mut Disk) -> Result<Option<Held>, Refused> {
-    match cache.get(b"user:7")? {
-        Found::Hit(value) => Ok(Some(value)), // it was in memory
-        Found::Miss => Ok(None),              // load it from the database, and `set` it for an hour
-        Found::Waits(call) => {
-            cache.work(disk)?; // it may be on flash: the worker reads it
-            match cache.take_reply(call)? {
-                Reply::Hit(value) => Ok(Some(value)),
-                _ => Ok(None),
-            }
-        }
-    }
+fn open(path: &Path) -> Result<HybridCache, OpenError> {
+    let options = Options { memory: 10_000_000, flash: 200_000_000, mean_value: 400, ..Options::default() };
+    HybridCache::open(path, &options) // a handle, to be cloned for any number of threads
 }
 
-const FLASH: Flash = Flash {
-    page: 4096,
-    buckets: 64,
-    regions: 8,
-    region_pages: 256,
-    clean: 1,
-    small_max: 512,
-    queue: 1024,
-    bits: 64,
-    admit_min: 1,
-    admit_max: 1_000_000,
-};
-
-fn found(cache: &mut Engine, disk: &mut Disk) -> Result<Option<Vec<u8>>, Refused> {
-    Ok(profile(cache, disk)?.map(|mut value| value.to_vec()))
+fn profile(cache: &HybridCache, user: &str) -> Result<Vec<u8>, Error> {
+    if let Some(value) = cache.get(user.as_bytes())? {
+        return Ok(value.into_vec()); // it was in memory or on flash
+    }
+    let row = database::load(user);
+    cache.set(user.as_bytes(), &row, 3600)?; // for an hour; what is evicted for it goes to flash
+    Ok(row)
 }
 
 fn main() -> Result<(), Box<dyn std::error::Error>> {
     let path = env::temp_dir().join(format!("readme-{}", process::id()));
-    let file = File::options().read(true).write(true).create_new(true).open(&path)?;
-    std::fs::remove_file(&path)?;
-    file.set_len(FLASH.pages() * FLASH.page)?;
-    let mut disk = Disk(file);
-    let mut cache = Engine::new(&[Pool { bytes: 100, items: 10 }], &FLASH)?;
-    cache.tick(1_700_000_000)?;
-    assert_eq!(found(&mut cache, &mut disk)?, None);
-    cache.set(0, b"user:7", b"Ada", 3600)?;
-    assert_eq!(found(&mut cache, &mut disk)?, Some(b"Ada".to_vec()));
-    cache.set(0, b"user:8", &[7; 50], 3600)?; // there is no room for both: user:7 is evicted, and waits for flash
-    assert_eq!(found(&mut cache, &mut disk)?, Some(b"Ada".to_vec()));
-    cache.work(&mut disk)?; // now it is written
-    assert_eq!(cache.counts().reads, 0);
-    assert_eq!(found(&mut cache, &mut disk)?, Some(b"Ada".to_vec()));
-    assert_eq!(cache.counts().reads, 1);
+    let cache = open(&path)?;
+    for _ in 0..2 {
+        for number in 0..50_000 {
+            let user = format!("user:{number}");
+            assert_eq!(profile(&cache, &user)?, database::load(&user));
+            if number % 100 == 0 {
+                cache.flush()?; // (as slow as a database)
+            }
+        }
+    }
     cache.delete(b"user:7")?;
-    assert_eq!(found(&mut cache, &mut disk)?, None);
+    assert!(cache.get(b"user:7")?.is_none());
+    let stats = cache.close();
+    fs::remove_file(path)?;
+    println!("{stats}");
+    assert!(stats.hits() > 49_000 && stats.hits_from_flash > 40_000);
     Ok(())
 }

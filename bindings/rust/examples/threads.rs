@@ -1,15 +1,16 @@
-//! A cache that threads share, with flash in a file: a lock round it, one thread that writes, and callers that make the reads
-//! for which they wait themselves. No page is read, written or copied under the lock.
+//! An engine that threads share, with flash in a file: a lock round it, one thread that writes, and callers that make the
+//! reads for which they wait themselves. No page is read, written or copied under the lock. A `HybridCache` does so by itself.
 //!
-//! It is also a load, beside which memcached with extstore can be measured:
+//! It is also a load, beside which that one, and memcached with extstore, can be measured:
 //!
 //!     threads PATH THREADS SECONDS            over the file PATH, which is made, and removed in the end
+//!     threads service PATH SHARDS THREADS SECONDS
 //!     threads memcached SOCKET THREADS SECONDS
 //!
 //! 200,000 values of 1,000 bytes are set, in a pool of 64 MB (memcached: as it was started), and then got at random by so many
 //! threads for so many seconds; what isn't found is set again. It prints how many gets were made in a second, and how many of
 //! 100 hit.
-use kilambosetry::{Came, Engine, Flash, Found, Held, Operation, Pool, Refused, Reply, Take};
+use kilambosetry::{Came, Engine, Flash, Found, Held, HybridCache, Operation, Options, Pool, Refused, Reply, Take};
 use std::env;
 use std::fs::{self, File, OpenOptions};
 use std::io::{self, BufRead, BufReader, Read, Write};
@@ -19,6 +20,8 @@ use std::sync::atomic::{AtomicBool, Ordering};
 use std::sync::{Condvar, Mutex, MutexGuard};
 use std::thread;
 use std::time::{Duration, Instant};
+
+const POOL: Pool = Pool { bytes: 64_000_000, items: 1_000_000 };
 
 const FLASH: Flash = Flash {
     page: 4096,
@@ -48,8 +51,7 @@ impl Shared {
     fn new(path: &str) -> io::Result<Shared> {
         let pages = OpenOptions::new().read(true).write(true).create_new(true).open(path)?;
         pages.set_len(FLASH.pages() * FLASH.page)?;
-        let cache = Engine::new(&[Pool { bytes: 64_000_000, items: 1_000_000 }], &FLASH)
-            .map_err(|refused| io::Error::new(io::ErrorKind::Other, refused))?;
+        let cache = Engine::new(&[POOL], &FLASH).map_err(io::Error::other)?;
         Ok(Shared {
             cache: Mutex::new(cache),
             pages,
@@ -180,6 +182,27 @@ impl Store for &Shared {
     }
 }
 
+impl Store for &HybridCache {
+    fn put(&mut self, key: &[u8]) {
+        self.set(key, &VALUE, 0).unwrap();
+    }
+
+    fn has(&mut self, key: &[u8]) -> bool {
+        self.get_into(key, &mut [0; VALUE.len()]).unwrap().is_some()
+    }
+}
+
+// The same numbers, in so many shards.
+fn options(shards: u8) -> Options {
+    let one = u64::from(shards);
+    Options {
+        shards,
+        pool: Some(POOL),
+        flash_numbers: Some(Flash { regions: FLASH.regions / one, queue: FLASH.queue / one, ..FLASH }),
+        ..Options::default()
+    }
+}
+
 /// memcached, by its text protocol over a socket of the system.
 struct Memcached(BufReader<UnixStream>);
 
@@ -255,6 +278,12 @@ fn main() -> io::Result<()> {
             load(open, threads.parse().unwrap(), seconds.parse().unwrap());
             Ok(())
         }
+        ["service", path, shards, threads, seconds] => {
+            let cache = HybridCache::open(path, &options(shards.parse().unwrap())).map_err(io::Error::other)?;
+            load(|| &cache, threads.parse().unwrap(), seconds.parse().unwrap());
+            println!("{}", cache.close());
+            fs::remove_file(path)
+        }
         [path, threads, seconds] => {
             let shared = Shared::new(path)?;
             thread::scope(|scope| {
@@ -268,7 +297,9 @@ fn main() -> io::Result<()> {
             fs::remove_file(path)
         }
         _ => {
-            eprintln!("usage: threads PATH THREADS SECONDS, or threads memcached SOCKET THREADS SECONDS");
+            eprintln!("usage: threads PATH THREADS SECONDS");
+            eprintln!("       threads service PATH SHARDS THREADS SECONDS");
+            eprintln!("       threads memcached SOCKET THREADS SECONDS");
             Ok(())
         }
     }

@@ -1,0 +1,39 @@
+//! A cache before a database: eight threads read and change rows, and none reads an older row than was there before.
+use kilambosetry::{Error, HybridCache, Options};
+use std::{env, fs, process, sync::Mutex, sync::RwLock, thread};
+
+struct Service {
+    cache: HybridCache,
+    rows: RwLock<Vec<u64>>, // the database
+    locks: [Mutex<()>; 64], // so that no row changes between its load and its `set`
+}
+
+impl Service {
+    fn read(&self, user: u32) -> Result<u64, Error> {
+        if let Some(value) = self.cache.get(&user.to_be_bytes())? {
+            return Ok(u64::from_be_bytes(value[..].try_into().unwrap()));
+        }
+        let _lock = self.locks[user as usize % 64].lock();
+        let row = self.rows.read().unwrap()[user as usize];
+        self.cache.set(&user.to_be_bytes(), &row.to_be_bytes(), 3600).map(|()| row)
+    }
+    fn change(&self, user: u32) -> Result<bool, Error> {
+        let _lock = self.locks[user as usize % 64].lock();
+        self.rows.write().unwrap()[user as usize] += 1;
+        self.cache.delete(&user.to_be_bytes())
+    }
+}
+
+fn main() -> Result<(), Box<dyn std::error::Error>> {
+    let path = env::temp_dir().join(format!("rows-{}", process::id()));
+    let cache = HybridCache::open(&path, &Options { memory: 1_000_000, flash: 100_000_000, ..Options::default() })?;
+    let service = Service { cache, rows: vec![0; 25_000].into(), locks: [const { Mutex::new(()) }; 64] };
+    let serve = |user: u32| {
+        let before = service.read(user).unwrap();
+        service.change(user).unwrap();
+        assert!(service.read(user).unwrap() > before);
+    };
+    thread::scope(|all| (0..8).for_each(|at| drop(all.spawn(move || (at * 2500..).take(7500).for_each(serve)))));
+    println!("{}", service.cache.close());
+    Ok(fs::remove_file(path)?)
+}
