@@ -8,7 +8,7 @@
 //! # let path = std::env::temp_dir().join(format!("lib-{}", std::process::id()));
 //!
 //! let options = Options { memory: 64_000_000, flash: 200_000_000, mean_value: 400, ..Options::default() };
-//! println!("{}", options.numbers()?); // what they come to
+//! println!("{options}"); // what they come to
 //! let cache = HybridCache::open(&path, &options)?;
 //! cache.set(b"user:7", b"Ada", 3600)?;
 //! assert_eq!(cache.get(b"user:7")?.as_deref(), Some(&b"Ada"[..]));

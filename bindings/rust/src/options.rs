@@ -1,5 +1,6 @@
 use crate::numbers::{Numbers, BESIDE, CHARGE, MOST_BYTES, MOST_ITEMS, MOST_POOLS};
 use crate::{Clock, Flash, OpenError, Pool};
+use std::fmt;
 
 // Pages of a shard's flash, at least.
 const LEAST_PAGES: u64 = 16;
@@ -13,14 +14,18 @@ pub(crate) const BESIDE_LARGE: u64 = 14;
 pub(crate) const INDEX: u64 = 60;
 
 /// What a [`HybridCache`](crate::HybridCache) is to be, by what its user knows: how many bytes of memory and of flash, and how
-/// long an item is. [`numbers`](Options::numbers) says what they come to, and prints it.
+/// long an item is. [`numbers`](Options::numbers) says what they come to; `Display` prints it.
+///
+/// Items go to regions of flash, where an index of all of them takes no more memory than `memory`; else those of up to half a
+/// page go to buckets, which want no index, and cost the write of a page for each item. What is longer than a region isn't
+/// written to flash: `admit_max` says how long it may be.
 ///
 /// ```
 /// use kilambosetry::Options;
 ///
 /// let options = Options { memory: 64_000_000, flash: 2_000_000_000, mean_value: 400, ..Options::default() };
 /// let numbers = options.numbers()?;
-/// println!("{numbers}");
+/// println!("{options}");
 /// assert!(numbers.items_bytes() <= 64_000_000);
 /// # Ok::<(), kilambosetry::OpenError>(())
 /// ```
@@ -69,6 +74,15 @@ impl Default for Options {
             pool: None,
             flash_numbers: None,
             clock: Clock::system(),
+        }
+    }
+}
+
+impl fmt::Display for Options {
+    fn fmt(&self, f: &mut fmt::Formatter<'_>) -> fmt::Result {
+        match self.numbers() {
+            Ok(numbers) => numbers.fmt(f),
+            Err(error) => error.fmt(f),
         }
     }
 }
@@ -131,7 +145,7 @@ impl Options {
         let (small_max, buckets) =
             if self.has_room_for_an_index()? { (0, 1) } else { (page / 2, (pages / 10 * 9).min(MOST_BUCKETS)) };
         let left = pages - buckets;
-        let region_pages = REGION_PAGES.min(left / 8).max(left.div_ceil(MOST_REGIONS)).clamp(1, 4096);
+        let region_pages = self.region_pages(left)?;
         let regions = (left / region_pages).clamp(2, MOST_REGIONS);
         Ok(Flash {
             page,
@@ -145,6 +159,14 @@ impl Options {
             admit_min: 1,
             admit_max: (region_pages * page - BESIDE_LARGE).min(1_048_831),
         })
+    }
+
+    // A region's pages: so many that there are 64 regions, but for 16 pages and 8 items, and 256 pages at most. Regions of more
+    // are only where there would be too many.
+    fn region_pages(&self, left: u64) -> Result<u64, OpenError> {
+        let items = (8 * self.item()?).div_ceil(self.page);
+        let wanted = (left / 64).max(LEAST_PAGES).max(items).min(left / 4).clamp(1, REGION_PAGES);
+        Ok(wanted.max(left.div_ceil(MOST_REGIONS)))
     }
 
     // Whether a place for each item on flash takes no more memory than the items in memory do. Else the small ones get buckets,

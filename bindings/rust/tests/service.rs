@@ -7,7 +7,7 @@ use std::io;
 use std::os::unix::fs::{FileExt, PermissionsExt};
 use std::panic;
 use std::path::{Path, PathBuf};
-use std::pin::pin;
+use std::pin::{pin, Pin};
 use std::sync::atomic::{AtomicBool, AtomicU64, AtomicUsize, Ordering::SeqCst};
 use std::sync::{mpsc, Arc, Condvar, Mutex};
 use std::task::{Context, Poll, Wake, Waker};
@@ -543,10 +543,10 @@ fn a_future_that_is_dropped_gives_its_call_up() {
     assert_eq!(*block_on(cache.get_async(&key(1))).unwrap().unwrap(), value(1, 0)[..]);
 }
 
-// A task that has the last handle to the cache, and is dropped by whoever wakes it last.
-struct Owner(Mutex<Option<HybridCache>>, mpsc::Sender<()>);
+// A task that is dropped where it is woken, with its future, which has the last handle to the cache.
+struct Cancelled(Mutex<Option<Pin<Box<dyn Future<Output = ()> + Send>>>>, mpsc::Sender<()>);
 
-impl Wake for Owner {
+impl Wake for Cancelled {
     fn wake(self: Arc<Self>) {
         drop(self.0.lock().unwrap().take());
         self.1.send(()).unwrap();
@@ -558,16 +558,15 @@ fn a_worker_may_drop_the_last_handle() {
     let (cache, ram) = over_ram(&small());
     filled(&cache, 400);
     ram.hang(true);
+    let mut future: Pin<Box<dyn Future<Output = ()> + Send>> = Box::pin(async move {
+        let _ = cache.get_async(&key(1)).await;
+        unreachable!("it is dropped");
+    });
     let (says, said) = mpsc::channel();
-    let waker = Waker::from(Arc::new(Owner(Mutex::new(Some(cache.clone())), says)));
-    let key = key(1);
-    {
-        // (the future is forgotten, since it borrows the handle that is dropped)
-        let mut future = Box::pin(cache.get_async(&key));
-        assert!(future.as_mut().poll(&mut Context::from_waker(&waker)).is_pending());
-        std::mem::forget(future);
-    }
-    drop((cache, waker));
+    let task = Arc::new(Cancelled(Mutex::new(None), says));
+    let waker = Waker::from(Arc::clone(&task));
+    assert!(future.as_mut().poll(&mut Context::from_waker(&waker)).is_pending());
+    *task.0.lock().unwrap() = Some(future);
     ram.hang(false);
     said.recv_timeout(Duration::from_secs(60)).unwrap();
     while Arc::strong_count(&ram) > 1 {
@@ -618,7 +617,8 @@ fn options_say_what_they_come_to() {
     let parts = [numbers.index_bytes(), numbers.buckets_bytes(), numbers.buffers_bytes(), numbers.queue_bytes()];
     let together = numbers.items_bytes() + numbers.digests_bytes() + parts.iter().sum::<u64>();
     assert_eq!(numbers.memory_bytes(), together);
-    let text = numbers.to_string();
+    let text = options.to_string();
+    assert_eq!(text, numbers.to_string());
     assert!(text.contains("items     64.0 MB  90651 items\n") && text.contains("small_max: 2048"), "{text}");
     // with memory enough for an index, all goes to regions
     let large = Options { memory: 4_000_000_000, ..options.clone() }.numbers().unwrap();
