@@ -6,9 +6,11 @@
 //! memory is one that flash gave back. What flash itself keeps (its index, its queue and its buffers) is in both numbers.
 //!
 //! `resident` alone runs all cases; `resident POOL VALUE SMALL` one of them, with so many bytes in the pool and in each value,
-//! and as many in an item that is still small. Linux alone tells (/proc/self/status).
-use kilambosetry::{Device, Engine, Flash, Found, Pool, Refused, Reply};
+//! and as many in an item that is still small. `resident options MEMORY FLASH VALUE` is a `HybridCache` of such options: what
+//! it has resident once memory and flash are full, beside what the options say. Linux alone tells (/proc/self/status).
+use kilambosetry::{Device, Engine, Flash, Found, HybridCache, Options, Pool, Refused, Reply};
 use std::env;
+use std::error::Error;
 use std::fs::{self, File};
 use std::io;
 use std::os::unix::fs::FileExt;
@@ -120,17 +122,60 @@ fn case(pool: u64, value: u64, small_max: u64) -> Result<(), Refused> {
     Ok(())
 }
 
-fn main() {
-    let words: Vec<u64> = env::args().skip(1).map(|word| word.parse().unwrap()).collect();
-    if let [pool, value, small_max] = words[..] {
-        return case(pool, value, small_max).unwrap();
+// A `HybridCache`, filled one and a half times, and then read.
+fn service(memory: u64, flash: u64, value: u64) -> Result<(), Box<dyn Error>> {
+    let options = Options { memory, flash, mean_key: KEY, mean_value: value, ..Options::default() };
+    let path = env::temp_dir().join(format!("resident-{}", process::id()));
+    let before = resident();
+    let cache = HybridCache::open(&path, &options)?;
+    fs::remove_file(&path)?;
+    let bytes = vec![7; value as usize];
+    let items = 3 * flash / (KEY + value) / 2;
+    for i in 0..items {
+        cache.set(&key(i), &bytes, 0)?;
+        if i % 500 == 0 {
+            cache.flush()?;
+        }
+    }
+    for i in 0..items.min(200_000) {
+        cache.get(&key(i * PRIME % items))?;
+    }
+    let (numbers, resident) = (cache.numbers(), resident() - before);
+    println!(
+        "{:>6.1} MB of memory, {:>6.1} MB of flash, values of {value:>5} bytes, {:7}: said {:>6.1} MB, resident {:>6.1} MB",
+        memory as f64 / 1e6,
+        flash as f64 / 1e6,
+        if KEY + value <= numbers.flash.map_or(0, |flash| flash.small_max) { "buckets" } else { "regions" },
+        numbers.memory_bytes() as f64 / 1e6,
+        resident as f64 / 1e6,
+    );
+    Ok(())
+}
+
+// Runs a case in a process of its own.
+fn run(words: &[String]) {
+    let status = Command::new(env::current_exe().unwrap()).args(words).status().unwrap();
+    assert!(status.success());
+}
+
+fn main() -> Result<(), Box<dyn Error>> {
+    let words: Vec<String> = env::args().skip(1).collect();
+    let is_service = words.first().is_some_and(|word| word == "options");
+    let numbers =
+        words.iter().skip(usize::from(is_service)).map(|word| word.parse()).collect::<Result<Vec<u64>, _>>()?;
+    match numbers[..] {
+        [memory, flash, value] if is_service => return service(memory, flash, value),
+        [pool, value, small_max] => return Ok(case(pool, value, small_max)?),
+        _ => {}
     }
     println!("charged, value, engine, items; resident when empty, after setting, and once all came back (beside the charge, bytes an item)");
     for pool in [10_000_000, 64_000_000] {
         for (value, small_max) in [(20, 2000), (100, 2000), (800, 2000), (5000, 2000), (20, 0), (100, 0), (800, 0)] {
-            let case = [pool, value, small_max].map(|number: u64| number.to_string());
-            let status = Command::new(env::current_exe().unwrap()).args(case).status().unwrap();
-            assert!(status.success());
+            run(&[pool, value, small_max].map(|number: u64| number.to_string()));
         }
     }
+    for (memory, flash, value) in [(20, 200, 300), (20, 200, 1000), (60, 200, 300), (60, 600, 5000)] {
+        run(&["options".to_string(), format!("{memory}000000"), format!("{flash}000000"), value.to_string()]);
+    }
+    Ok(())
 }

@@ -121,7 +121,7 @@ impl fmt::Display for Numbers {
             row("flash", self.flash_bytes(), format!("{} regions a shard", flash.regions))?;
         }
         write!(f, "{} shards of one {:?}", self.shards, self.pool)?;
-        self.flash.map_or(Ok(()), |flash| write!(f, ", each with {flash:?}"))
+        self.flash.map_or(Ok(()), |flash| write!(f, ",\neach with {flash:?}"))
     }
 }
 
