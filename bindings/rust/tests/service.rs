@@ -645,7 +645,7 @@ fn options_say_what_they_come_to() {
 #[test]
 fn the_numbers_of_options_are_taken_by_the_library() {
     for memory in [100_000, 10_000_000, 64_000_000] {
-        for flash in [10_000_000, 100_000_000, 1_000_000_000] {
+        for flash in [10_000_000, 100_000_000, 300_000_000] {
             for (mean_value, shards) in [(1, 1), (100, 3), (400, 8), (3000, 16), (1 << 20, 1)] {
                 let options = Options { memory, flash, mean_value, shards, ..Options::default() };
                 let Ok(numbers) = options.numbers() else {
