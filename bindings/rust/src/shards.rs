@@ -256,60 +256,44 @@ impl Shards {
         with_page(self.page, write)?.then_some(Came::Written)
     }
 
-    /// A filler, until the end.
+    /// A filler, until the end. It does one job of a shard, and then goes to the next: a job that leaves more to do rings again.
     pub fn fill(&self) {
         while let Some(shard) = self.fillers.next() {
-            while self.fill_once(shard) {}
-        }
-    }
-
-    // Does a job for those who wait, and answers whether there was one.
-    fn fill_once(&self, shard: usize) -> bool {
-        let mut state = self.lock(shard);
-        if state.closed {
-            return false;
-        }
-        match state.engine.filler_take() {
-            Ok(Take::Idle) => return false,
-            Ok(take) => self.complete(shard, state, take),
-            Err(_) => {
-                drop(state);
-                thread::sleep(PAUSE);
+            let mut state = self.lock(shard);
+            if state.closed {
+                return;
+            }
+            match state.engine.filler_take() {
+                Ok(take) => self.complete(shard, state, take),
+                Err(_) => self.try_later(shard, state, &self.fillers),
             }
         }
-        true
     }
 
-    /// A writer, which makes regions clean too, until the end.
+    /// A writer, which makes regions clean too, until the end. It does one job of a shard at a time, as a filler does.
     pub fn write_out(&self) {
         while let Some(shard) = self.writers.next() {
-            while self.write_once(shard) {}
+            let mut state = self.lock(shard);
+            if state.closed {
+                return;
+            }
+            match take_write(&mut state.engine) {
+                Ok(take) => {
+                    state.writing += 1;
+                    self.complete(shard, state, take);
+                    self.lock(shard).writing -= 1;
+                    self.shards[shard].quiet.notify_all();
+                }
+                Err(_) => self.try_later(shard, state, &self.writers),
+            }
         }
     }
 
-    // Does a job for what left memory, and answers whether there was one.
-    fn write_once(&self, shard: usize) -> bool {
-        let mut state = self.lock(shard);
-        if state.closed {
-            return false;
-        }
-        match take_write(&mut state.engine) {
-            Ok(Take::Idle) => {
-                self.shards[shard].quiet.notify_all();
-                self.leave(shard, state); // (a region may have been made clean)
-                return false;
-            }
-            Ok(take) => {
-                state.writing += 1;
-                self.complete(shard, state, take);
-                self.lock(shard).writing -= 1;
-            }
-            Err(_) => {
-                drop(state);
-                thread::sleep(PAUSE);
-            }
-        }
-        true
+    // Comes back to a shard for which memory lacks.
+    fn try_later(&self, shard: usize, state: Locked<'_>, bell: &Bell) {
+        drop(state);
+        thread::sleep(PAUSE);
+        bell.ring(shard);
     }
 
     /// Waits until nothing of the shard is to be written.
@@ -320,7 +304,7 @@ impl Shards {
                 return Ok(());
             }
             self.writers.ring(shard);
-            // (looked at again also where another writer did the last job)
+            // (looked at again after a while too, since memory may lack)
             let wait = self.shards[shard].quiet.wait_timeout(state, PAUSE);
             state = wait.unwrap_or_else(PoisonError::into_inner).0;
         }
