@@ -1,5 +1,5 @@
 //! What the cache of a service answers, whatever its file and its device do.
-use kilambosetry::{Clock, Error, Flash, HybridCache, OpenError, Options, PageDevice, Pool, Refused, Stats};
+use kilambosetry::{shard_of, Clock, Error, Flash, HybridCache, OpenError, Options, PageDevice, Pool, Refused, Stats};
 use std::collections::HashMap;
 use std::fs::{self, File, OpenOptions};
 use std::future::Future;
@@ -57,6 +57,7 @@ struct Ram {
     changed: Condvar,
     panics: AtomicBool,
     is_full: AtomicBool,
+    is_slow: AtomicBool,
     made: AtomicUsize,
 }
 
@@ -108,6 +109,9 @@ impl PageDevice for Handle {
 
     fn write(&self, page: u32, bytes: &[u8]) -> io::Result<()> {
         self.0.may_panic();
+        if self.0.is_slow.load(SeqCst) {
+            thread::sleep(Duration::from_millis(1));
+        }
         if self.0.is_full.load(SeqCst) {
             return Err(io::ErrorKind::StorageFull.into());
         }
@@ -210,6 +214,33 @@ fn sixty_four_threads_share_it() {
     let (cache, _) = over_ram(&Options { writers: 2, fillers: 4, ..small() });
     let (gets, hits) = play(&cache, 64, 1500);
     assert_adds_up(&cache.stats(), gets, hits);
+}
+
+#[test]
+fn no_shard_waits_behind_another() {
+    let (cache, ram) = over_ram(&Options { writers: 1, ..small() });
+    ram.is_slow.store(true, SeqCst);
+    let of = |shard: u8| (0..).filter(move |number| shard_of(&key(*number), 4) == shard);
+    let ends = AtomicBool::new(false);
+    let pages = pages() as u32 / 4;
+    thread::scope(|scope| {
+        // evictions of this shard come faster than they are written
+        scope.spawn(|| {
+            let mut keys = of(0);
+            while !ends.load(SeqCst) {
+                cache.set(&key(keys.next().unwrap()), &[7; 60], 0).unwrap();
+                thread::sleep(Duration::from_micros(100));
+            }
+        });
+        while cache.stats().device.writes < 20 {
+            thread::yield_now();
+        }
+        of(3).take(40).for_each(|number| cache.set(&key(number), &[7; 60], 0).unwrap());
+        while !ram.pages.lock().unwrap().keys().any(|page| *page >= 3 * pages) {
+            thread::sleep(Duration::from_millis(1));
+        }
+        ends.store(true, SeqCst);
+    });
 }
 
 #[test]
