@@ -224,6 +224,7 @@ fn no_shard_waits_behind_another() {
     let ends = AtomicBool::new(false);
     let pages = pages() as u32 / 4;
     thread::scope(|scope| {
+        let _ends = Ends(&ends);
         // evictions of this shard come faster than they are written
         scope.spawn(|| {
             let mut keys = of(0);
@@ -236,10 +237,11 @@ fn no_shard_waits_behind_another() {
             thread::yield_now();
         }
         of(3).take(40).for_each(|number| cache.set(&key(number), &[7; 60], 0).unwrap());
+        let begin = Instant::now();
         while !ram.pages.lock().unwrap().keys().any(|page| *page >= 3 * pages) {
+            assert!(begin.elapsed() < Duration::from_secs(60), "{}", cache.stats());
             thread::sleep(Duration::from_millis(1));
         }
-        ends.store(true, SeqCst);
     });
 }
 
@@ -261,13 +263,22 @@ fn one_key_is_read_once_for_all_that_wait() {
     assert_eq!(cache.stats().hits_from_flash, 16);
 }
 
+// Says that a test's threads are to end, also where it failed.
+struct Ends<'a>(&'a AtomicBool);
+
+impl Drop for Ends<'_> {
+    fn drop(&mut self) {
+        self.0.store(true, SeqCst);
+    }
+}
+
 // Spoils the file as long as the players play. Nothing wrong is answered.
 fn spoiled(name: &str, spoil: impl Fn(&File, &mut u64) -> io::Result<()> + Sync) -> Stats {
     let place = Place::new(name);
-    let options = small();
-    let cache = HybridCache::open(&place.0, &options).unwrap();
+    let cache = HybridCache::open(&place.0, &small()).unwrap();
     let ends = AtomicBool::new(false);
     thread::scope(|scope| {
+        let _ends = Ends(&ends);
         scope.spawn(|| {
             let file = OpenOptions::new().read(true).write(true).open(&place.0).unwrap();
             let mut seed = 7;
@@ -277,7 +288,6 @@ fn spoiled(name: &str, spoil: impl Fn(&File, &mut u64) -> io::Result<()> + Sync)
             }
         });
         let (gets, hits) = play(&cache, 8, 20_000);
-        ends.store(true, SeqCst);
         assert_adds_up(&cache.stats(), gets, hits);
     });
     cache.close()
