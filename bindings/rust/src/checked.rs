@@ -5,7 +5,7 @@ use std::panic::{self, AssertUnwindSafe};
 use std::sync::atomic::{AtomicU64, Ordering::Relaxed};
 
 /// A device of pages that threads share. An error says that nothing was read, or that nothing is known any more of the page
-/// that was to be written. No page is read or written by two threads at once.
+/// that was to be written. A page that is written is in no other operation at that time; two threads may read one at once.
 ///
 /// A [`HybridCache`](crate::HybridCache) keeps a digest of each page as it was last written: a page that comes back otherwise
 /// counts as one that wasn't read. A call that panics has failed.
