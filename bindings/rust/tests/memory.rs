@@ -1,0 +1,159 @@
+//! A cache of a service whose library is refused memory now and then: what it answers is right, no call waits for good, and
+//! all threads end. The library's allocations are told from those of Rust by the call: it calls `malloc` and `realloc`, which
+//! stand here, and Rust's allocator calls what the system's C library (glibc) has behind them.
+#![cfg(all(target_os = "linux", target_env = "gnu"))]
+use kilambosetry::{Error, Flash, HybridCache, Options, PageDevice, Pool, Refused};
+use std::alloc::{GlobalAlloc, Layout};
+use std::cell::Cell;
+use std::collections::HashMap;
+use std::ffi::c_void;
+use std::io;
+use std::ptr;
+use std::sync::atomic::{AtomicU64, Ordering::SeqCst};
+use std::sync::{Arc, Mutex};
+use std::thread;
+use std::time::Duration;
+
+extern "C" {
+    fn __libc_malloc(size: usize) -> *mut c_void;
+    fn __libc_realloc(block: *mut c_void, size: usize) -> *mut c_void;
+    fn __libc_memalign(align: usize, size: usize) -> *mut c_void;
+    fn free(block: *mut c_void);
+}
+
+// One allocation in so many is refused; none, where it is 0.
+static ONE_IN: AtomicU64 = AtomicU64::new(0);
+static REFUSED: AtomicU64 = AtomicU64::new(0);
+
+thread_local! {
+    static SEED: Cell<u64> = const { Cell::new(1) };
+}
+
+fn is_refused() -> bool {
+    let one_in = ONE_IN.load(SeqCst);
+    let is_refused = one_in != 0 && SEED.try_with(|seed| next(seed).is_multiple_of(one_in)).unwrap_or(false);
+    REFUSED.fetch_add(u64::from(is_refused), SeqCst);
+    is_refused
+}
+
+fn next(seed: &Cell<u64>) -> u64 {
+    seed.set(seed.get().wrapping_mul(6_364_136_223_846_793_005).wrapping_add(1_442_695_040_888_963_407));
+    seed.get() >> 33
+}
+
+#[no_mangle]
+unsafe extern "C" fn malloc(size: usize) -> *mut c_void {
+    if is_refused() {
+        return ptr::null_mut();
+    }
+    __libc_malloc(size)
+}
+
+#[no_mangle]
+unsafe extern "C" fn realloc(block: *mut c_void, size: usize) -> *mut c_void {
+    if is_refused() {
+        return ptr::null_mut();
+    }
+    __libc_realloc(block, size)
+}
+
+struct Rust;
+
+// SAFETY: blocks are those of the system's C library, with the alignment that is asked for.
+unsafe impl GlobalAlloc for Rust {
+    unsafe fn alloc(&self, layout: Layout) -> *mut u8 {
+        __libc_memalign(layout.align().max(16), layout.size()).cast()
+    }
+
+    unsafe fn dealloc(&self, block: *mut u8, _: Layout) {
+        free(block.cast());
+    }
+}
+
+#[global_allocator]
+static RUST: Rust = Rust;
+
+// Pages in memory, and what tells whether the device is still there.
+struct Pages(Mutex<HashMap<u32, Vec<u8>>>, #[allow(dead_code)] Arc<()>);
+
+impl PageDevice for Pages {
+    fn read(&self, page: u32, out: &mut [u8]) -> io::Result<()> {
+        out.copy_from_slice(self.0.lock().unwrap().get(&page).ok_or(io::ErrorKind::NotFound)?);
+        Ok(())
+    }
+
+    fn write(&self, page: u32, bytes: &[u8]) -> io::Result<()> {
+        self.0.lock().unwrap().insert(page, bytes.to_vec());
+        Ok(())
+    }
+}
+
+fn value(number: u64, version: u64) -> Vec<u8> {
+    let mut value = [number.to_be_bytes(), version.to_be_bytes()].concat();
+    value.resize(if number.is_multiple_of(3) { 700 } else { 60 }, version as u8);
+    value
+}
+
+// A thread with keys of its own. Each get is the value that was set last, a miss, or refused. How many were refused.
+fn player(cache: &HybridCache, number: u64, rounds: u64) -> u64 {
+    let (seed, mut latest, mut refused) = (Cell::new(number + 1), HashMap::new(), 0);
+    for version in 0..rounds {
+        let of = number * 1_000_000 + next(&seed) % 100;
+        let key = of.to_be_bytes();
+        let limit = Duration::from_millis(next(&seed) % 3);
+        let done = match next(&seed) % 20 {
+            0..=3 => cache.set(&key, &value(of, version), 0).map(|()| drop(latest.insert(of, value(of, version)))),
+            4 => cache.delete(&key).map(|_| drop(latest.remove(&of))),
+            chosen => if chosen == 5 { cache.get_timeout(&key, limit) } else { cache.get(&key) }.map(|found| {
+                let is_right = found.is_none_or(|found| latest.get(&of).is_some_and(|value| *value == found[..]));
+                assert!(is_right, "key {of}");
+            }),
+        };
+        if let Err(error) = done {
+            assert!(matches!(error, Error::TimedOut | Error::Refused(Refused::NO_MEMORY)), "{error}");
+            refused += u64::from(error != Error::TimedOut);
+        }
+    }
+    refused
+}
+
+#[test]
+fn where_memory_lacks_calls_are_refused_and_jobs_go_on() {
+    let flash = Flash {
+        page: 512,
+        buckets: 64,
+        regions: 32,
+        region_pages: 16,
+        clean: 2,
+        small_max: 200,
+        queue: 4096,
+        bits: 64,
+        admit_min: 1,
+        admit_max: 4000,
+    };
+    let pool = Pool { bytes: 16_000, items: 64 };
+    let options = Options { shards: 4, pool: Some(pool), flash_numbers: Some(flash), ..Options::default() };
+    let device = Arc::new(());
+    let cache = HybridCache::over(Pages(Mutex::default(), Arc::clone(&device)), &options).unwrap();
+    for one_in in [3000, 300, 60] {
+        let refused: u64 = thread::scope(|scope| {
+            let cache = &cache;
+            let players: Vec<_> = (0..8).map(|number| scope.spawn(move || player(cache, number, 3000))).collect();
+            ONE_IN.store(one_in, SeqCst);
+            players.into_iter().map(|player| player.join().unwrap()).sum()
+        });
+        ONE_IN.store(0, SeqCst);
+        assert!(refused > 0 && REFUSED.load(SeqCst) > 0);
+        cache.flush().unwrap();
+        assert_eq!(cache.stats().waiting, 0);
+        // the next players know nothing of what was stored
+        (0..8u64).for_each(|number| {
+            (0..100).for_each(|of| assert!(cache.delete(&(number * 1_000_000 + of).to_be_bytes()).is_ok()));
+        });
+    }
+    cache.set(b"key", b"value", 0).unwrap();
+    assert_eq!(cache.get(b"key").unwrap().as_deref(), Some(&b"value"[..]));
+    assert!(cache.stats().hits_from_flash > 0);
+    drop(cache);
+    assert_eq!(Arc::strong_count(&device), 1);
+}
