@@ -125,9 +125,13 @@ impl<N: Notes<Note<A>>, A: Allocator + Clone + Copy, G: Digest + Copy> Leased<
                 sealed,
             });
         }
-        let inserted = self.cache.insert(client, sealed)?;
-        self.note_add(inserted, digest);
-        Ok(inserted)
+        match self.cache.insert(client, sealed) {
+            Ok(inserted) => {
+                self.note_add(inserted, digest);
+                Ok(inserted)
+            }
+            Err(unlinked) => Err(unlinked),
+        }
     }
 
     /// Inserts the item of the handle, which was loaded after the ticket was handed out, as `insert_or_replace` does:
