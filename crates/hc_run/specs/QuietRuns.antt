@@ -2,12 +2,13 @@
 use Rattle.std.specs.Prelude.{◌≡◌, ℕ, ◌==◌, Bool, false, List, ◌++◌, Option, Some, None, take, drop, length}
 use Rattle.std.specs.List.{list_all}
 use Rattle.hc_types.specs.Config.{Config}
+use Rattle.hc_engines.specs.Engine.{Pages}
 use Rattle.hc_history.specs.Note.{Note}
 use Rattle.hc_machine.specs.Nvm.{Job}
 use Rattle.hc_machine.specs.Cache.{Cache}
 use Rattle.hc_machine.specs.Schedule.{Step, Scene, Told, new_scene, run, log_of}
 use Rattle.hc_machine.specs.Quiet.{is_own, jobs_in, AllQuiet, BreaksQuiet}
-use Rattle.hc_run.specs.Shows.{Stage, Sight}
+use Rattle.hc_run.specs.Shows.{Stage}
 use Rattle.hc_run.specs.Going.{IsOngoing}
 use Rattle.hc_run.specs.Runs.{ends_from}
 use Rattle.hc_run.specs.declared.runs.Stopped.{Stopped}
@@ -28,8 +29,8 @@ StopsQuietly (Some (stops.NotQuiet place)) steps scene = BreaksQuiet (drop place
 StopsQuietly stopped steps scene = Unit {0}
 
 -- a run of which each step so far was quiet
-pub record IsQuiet {Device : Type 0} (sight : Sight Device) (config : Config) (steps : List Step) (answers : List Told) (ends : List ℕ) (stage : Stage Device) : Type 0 where
-  pub ongoing : IsOngoing sight config steps answers ends stage
+pub record IsQuiet (held : Pages) (config : Config) (steps : List Step) (answers : List Told) (ends : List ℕ) (stage : Stage) : Type 0 where
+  pub ongoing : IsOngoing held config steps answers ends stage
   pub quiet : (later : List Bool) → AllQuiet steps (new_scene config (ongoing.run.broke ++ later))
 
 -- The answers, the ends of the parts and the log are those of the machine's run of the steps that were made. Each of these was

@@ -2,10 +2,11 @@
 use Rattle.std.specs.Prelude.{◌≡◌, ℕ, ◌+◌, Bool, List, [], ◌∷◌, ◌++◌, length}
 use Rattle.hc_types.specs.Config.{Config}
 use Rattle.hc_history.specs.Note.{Note}
+use Rattle.hc_engines.specs.Engine.{Pages}
 use Rattle.hc_machine.specs.World.{Says, Made}
 use Rattle.hc_machine.specs.Schedule.{Step, Scene, Told, Tells, NoSlot, Filled, run, log_of}
 use Rattle.hc_run.specs.Steps.{breaking, Goes}
-use Rattle.hc_run.specs.Shows.{Sight, IsWithin}
+use Rattle.hc_run.specs.Shows.{IsWithin}
 
 -- from old, these steps are told this, tell these parts, and lead to new
 abbrev pub Chain : Scene → List Step → List Told → List (List Note) → Scene → Type 0
@@ -32,6 +33,11 @@ pub record IsRunOf (config : Config) (steps : List Step) (answers : List Told) (
   pub told : log ≡ log_of (run config breaks steps)
 
 -- ---- the device
+
+-- what a device is known to hold of each page, and how often it has failed
+pub record Sight (Device : Type 0) : Type 0 where
+  pub held : Device → Pages
+  pub failed : Device → ℕ
 
 -- how often the device has failed by itself, after so many failures and an answer
 abbrev pub failures_by : ℕ → Told → ℕ

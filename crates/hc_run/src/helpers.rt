@@ -1,18 +1,19 @@
 // What the steps of a stage share: answers, and items that are given up.
-ghost use Rattle.std.specs.Prelude.{◌≡◌, ◌≢◌, ℕ, ◌⊎◌, true, None, Some, length, IfSome, IfOk, OnErr};
+ghost use Rattle.std.specs.Prelude.{◌≡◌, ◌≢◌, ℕ, ◌⊎◌, true, None, Some, length, IfSome, IfNone, IfOk, OnErr};
 ghost use Rattle.hc_types.specs.Limits.{first_wrong};
 ghost use Rattle.hc_history.specs.Told.{told_more};
 ghost use Rattle.hc_machine.specs.Cache.{Refused};
 ghost use Rattle.hc_machine.specs.Calls.{is_known};
 ghost use Rattle.hc_machine.specs.Quiet.{is_own};
 ghost use Rattle.hc_machine.specs.World.{Says};
-ghost use Rattle.hc_machine.specs.Schedule.{Tells, given_up};
+ghost use Rattle.hc_machine.specs.Schedule.{Io, Tells, given_up};
 ghost use Rattle.hc_core.specs.Answers.{found_answer, removed_answer};
 ghost use Rattle.hc_run.specs.Asked.{deed_of, told_of, handle_of};
 ghost use Rattle.hc_run.specs.QuietRuns.{is_of};
 ghost use Rattle.hc_run.specs.Ending.{after_give_up, part_of_give_up};
 ghost use Rattle.hc_run.specs.Shows.{AreOwn};
 ghost use Rattle.hc_run.specs.Slots.{filled_from};
+ghost use Rattle.hc_run.specs.Steps.{IsCalm};
 
 use crate::slots::{Content, Slot};
 use crate::steps::{Outcome, Request};
@@ -38,6 +39,28 @@ pub(crate) fn job_of<A: Allocator>(request: &Request<A>) -> Option<u64>
     match request {
         Request::Io { job, fails: _ } => Some(*job),
         Request::Finish { job } => Some(*job),
+        Request::Open { .. } => None,
+        Request::Put { .. } => None,
+        Request::PutNew { .. } => None,
+        Request::Discard { .. } => None,
+        Request::Find { .. } => None,
+        Request::Remove { .. } => None,
+        Request::Reply { .. } => None,
+        Request::Tick { .. } => None,
+        Request::WriterTake => None,
+        Request::FillerTake => None,
+        Request::Reclaim => None,
+    }
+}
+
+/// The job whose device operation the step makes, and whether the step fails it.
+pub(crate) fn operation_of<A: Allocator>(request: &Request<A>) -> Option<(u64, bool)>
+    ensures some { IfSome result (λ operation. deed_of request.now ≡ Io operation.0 operation.1) }
+    ensures none { IfNone result (IsCalm (deed_of request.now)) }
+{
+    match request {
+        Request::Io { job, fails } => Some((*job, *fails)),
+        Request::Finish { .. } => None,
         Request::Open { .. } => None,
         Request::Put { .. } => None,
         Request::PutNew { .. } => None,

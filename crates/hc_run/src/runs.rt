@@ -8,10 +8,13 @@ ghost use Rattle.hc_run.specs.Going.{GoesOn};
 ghost use Rattle.hc_run.specs.Laws.{FollowsBy};
 ghost use Rattle.hc_run.specs.QuietRuns.{IsQuietRunOf};
 ghost use Rattle.hc_run.specs.Runs.{IsRunOf, IsRunOver};
-ghost use Rattle.hc_run.specs.Shows.{AreOwn, Waits};
+ghost use Rattle.hc_run.specs.Devices.{Counts};
+ghost use Rattle.hc_run.specs.Shows.{AreOwn, Waits, seen};
+ghost use Rattle.hc_shards.specs.Parts.{Beside};
 
 use crate::stage::Stage;
 use crate::steps::{Answer, Step};
+use crate::window::Window;
 use hc_flash::Flash;
 use hc_history::Kept;
 use hc_types::{Config, Refusal};
@@ -37,23 +40,27 @@ pub struct Ran<D: Flash<A>, A: Allocator = Global> {
     pub device: D,
 }
 
-/// One step more: its answer, and where it ends in the log. Where memory is wanted, all is as it was.
-fn go_on<D: Flash<A>, A: Allocator + Clone + Copy>(
-    stage: &mut Stage<D, A>,
+/// One step more: its answer, and where it ends in the log. Where memory is wanted, all is as it was. No page of the
+/// device is changed but the stage's own.
+pub fn go_on<D: Flash<A>, A: Allocator + Clone + Copy>(
+    stage: &mut Stage<A>,
+    device: &mut D,
     answers: &mut Vec<Answer<A>, A>,
     ends: &mut Vec<usize, A>,
     step: &Step<A>,
 ) -> Result<(), AllocError>
     requires own { AreOwn stage.old.slots stage.old.cache }
-    ensures ok { OnOk result (GoesOn (record { held = D.held; failed = D.failed }) stage.old answers.old.items ends.old.items step.now stage.new answers.new.items ends.new.items) }
-    ensures err { OnErr result (Waits (record { held = D.held; failed = D.failed }) stage.old stage.new) }
-    ensures before { stage.new.failed_before ≡ stage.old.failed_before }
+    ensures ok { OnOk result (GoesOn (seen stage.old.window (D.held device.old)) stage.old answers.old.items ends.old.items step.now (seen stage.old.window (D.held device.new)) stage.new answers.new.items ends.new.items) }
+    ensures err { OnErr result (Waits (seen stage.old.window (D.held device.old)) stage.old (seen stage.old.window (D.held device.new)) stage.new) }
+    ensures window { stage.new.window ≡ stage.old.window }
+    ensures beside { Beside stage.old.window.first stage.old.window.pages (D.held device.old) (D.held device.new) }
+    ensures counted { Counts stage.old.window (D.failed device.old) (D.failed device.new) stage.old.failures stage.new.failures }
     ensures answers { OnErr result (answers.new.items ≡ answers.old.items) }
     ensures ends { OnErr result (ends.new.items ≡ ends.old.items) }
 {
     answers.reserve(1)?;
     ends.reserve(1)?;
-    match stage.step(step) {
+    match stage.step(device, step) {
         Ok(answer) => {
             answers.push_reserved(answer);
             ends.push_reserved(stage.log_len());
@@ -63,16 +70,16 @@ fn go_on<D: Flash<A>, A: Allocator + Clone + Copy>(
     }
 }
 
-/// Makes any list of steps on a new cache over the device, of whose pages nothing is known yet. The log is legal, honest, and
-/// follows the steps, and answers and log are those of the machine's run of the steps, up to the one for which memory
-/// lacked; the device may fail whichever of its operations. The device that comes back is the one that was handed in, after the
-/// operations of the run: it holds each page as the run left it, as far as that is known, and has failed as often more as the
-/// answers tell. Refused for the first number of the configuration that is outside
-/// its limits, and with `NoMemory` where memory lacks for the cache or its slots; then the device is dropped.
+/// Makes any list of steps on a new cache over the device, of whose pages nothing is known yet. The log is legal,
+/// honest, and follows the steps, and answers and log are those of the machine's run of the steps, up to the one for
+/// which memory lacked; the device may fail whichever of its operations. The device that comes back is the one that
+/// was handed in, after the operations of the run: it holds each page as the run left it, as far as that is known, and
+/// has failed as often more as the answers tell. Refused for the first number of the configuration that is outside its
+/// limits, and with `NoMemory` where memory lacks for the cache or its slots; then the device is dropped.
 pub fn run<D: Flash<A>, A: Allocator + Clone + Copy>(
     alloc: A,
     config: &Config<A>,
-    device: D,
+    mut device: D,
     steps: &[Step<A>],
 ) -> Result<Ran<D, A>, Refusal>
     ensures legal { IfOk result (λ ran. Legal config.now ran.log.notes.items) }
@@ -85,14 +92,14 @@ pub fn run<D: Flash<A>, A: Allocator + Clone + Copy>(
     ensures fits { OnOk result (first_wrong config.now ≡ None) }
     ensures err { IfErr result (λ refusal. (first_wrong config.now ≡ Some refusal) ⊎ ((first_wrong config.now ≡ None) × (refusal ≡ Refusal.NoMemory))) }
 {
-    let mut stage = Stage::new(alloc, config, device)?;
+    let mut stage = Stage::new(alloc, config, Window::whole())?;
     let mut answers = Vec::new(alloc);
     let mut ends = Vec::new(alloc);
     for (i, step) in steps.iter().enumerate() {
-        match go_on(&mut stage, &mut answers, &mut ends, step) {
+        match go_on(&mut stage, &mut device, &mut answers, &mut ends, step) {
             Ok(()) => {}
             Err(_) => {
-                let (log, device) = stage.end();
+                let log = stage.end();
                 return Ok(Ran {
                     log,
                     ends,
@@ -103,7 +110,7 @@ pub fn run<D: Flash<A>, A: Allocator + Clone + Copy>(
             }
         }
     }
-    let (log, device) = stage.end();
+    let log = stage.end();
     Ok(Ran {
         log,
         ends,
@@ -113,13 +120,13 @@ pub fn run<D: Flash<A>, A: Allocator + Clone + Copy>(
     })
 }
 
-/// The same, where the run also stops before the first step that isn't quiet: while a job is out, each step must be its own, an
-/// `Io` or a `Finish`. Refused for the first number of the configuration that is outside
-/// its limits, and with `NoMemory` where memory lacks for the cache or its slots; then the device is dropped.
+/// The same, where the run also stops before the first step that isn't quiet: while a job is out, each step must be
+/// its own, an `Io` or a `Finish`. Refused for the first number of the configuration that is outside its limits, and
+/// with `NoMemory` where memory lacks for the cache or its slots; then the device is dropped.
 pub fn run_quiet<D: Flash<A>, A: Allocator + Clone + Copy>(
     alloc: A,
     config: &Config<A>,
-    device: D,
+    mut device: D,
     steps: &[Step<A>],
 ) -> Result<Ran<D, A>, Refusal>
     ensures legal { IfOk result (λ ran. Legal config.now ran.log.notes.items) }
@@ -131,12 +138,12 @@ pub fn run_quiet<D: Flash<A>, A: Allocator + Clone + Copy>(
     ensures fits { OnOk result (first_wrong config.now ≡ None) }
     ensures err { IfErr result (λ refusal. (first_wrong config.now ≡ Some refusal) ⊎ ((first_wrong config.now ≡ None) × (refusal ≡ Refusal.NoMemory))) }
 {
-    let mut stage = Stage::new(alloc, config, device)?;
+    let mut stage = Stage::new(alloc, config, Window::whole())?;
     let mut answers = Vec::new(alloc);
     let mut ends = Vec::new(alloc);
     for (i, step) in steps.iter().enumerate() {
         if !stage.is_quiet(step) {
-            let (log, device) = stage.end();
+            let log = stage.end();
             return Ok(Ran {
                 log,
                 ends,
@@ -145,10 +152,10 @@ pub fn run_quiet<D: Flash<A>, A: Allocator + Clone + Copy>(
                 device,
             });
         }
-        match go_on(&mut stage, &mut answers, &mut ends, step) {
+        match go_on(&mut stage, &mut device, &mut answers, &mut ends, step) {
             Ok(()) => {}
             Err(_) => {
-                let (log, device) = stage.end();
+                let log = stage.end();
                 return Ok(Ran {
                     log,
                     ends,
@@ -159,7 +166,7 @@ pub fn run_quiet<D: Flash<A>, A: Allocator + Clone + Copy>(
             }
         }
     }
-    let (log, device) = stage.end();
+    let log = stage.end();
     Ok(Ran {
         log,
         ends,

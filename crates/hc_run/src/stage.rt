@@ -1,5 +1,6 @@
 // A cache over a device, with slots for write handles and the results that wait, and its steps.
-ghost use Rattle.std.specs.Prelude.{◌≡◌, ◌⊎◌, [], None, Some, IfOk, IfErr, OnOk, OnErr};
+ghost use Rattle.std.specs.Prelude.{◌≡◌, ◌⊎◌, ℕ, List, Option, [], None, Some, IfOk, IfErr, OnOk, OnErr};
+ghost use Rattle.hc_engines.specs.Engine.{Pages};
 ghost use Rattle.hc_types.specs.Limits.{first_wrong};
 ghost use Rattle.hc_history.specs.Told.{Log, told_more};
 ghost use Rattle.hc_machine.specs.Cache.{new_cache};
@@ -7,14 +8,19 @@ ghost use Rattle.hc_machine.specs.Schedule.{Open, Put, PutNew, Discard, Find, Re
 ghost use Rattle.hc_run.specs.Asked.{deed_of, told_of};
 ghost use Rattle.hc_run.specs.Going.{log_length};
 ghost use Rattle.hc_run.specs.QuietRuns.{is_quiet_in};
-ghost use Rattle.hc_run.specs.Shows.{AreOwn, Moves, Waits};
+ghost use Rattle.hc_run.specs.Devices.{Counts};
+ghost use Rattle.hc_run.specs.Shows.{AreOwn, Moves, Waits, seen};
+ghost use Rattle.hc_run.specs.Steps.{IsCalm};
+ghost use Rattle.hc_shards.specs.Parts.{Beside};
 
-use crate::device::{Came, operate};
+use crate::device::{Came, failures_after, operate};
 use crate::helpers::{
-    found_outcome, give_up_all, give_up_content, job_of, refused, removed_outcome, without_memory,
+    found_outcome, give_up_all, give_up_content, job_of, operation_of, refused, removed_outcome,
+    without_memory,
 };
 use crate::slots::{Content, Slot, empty_slots, fill, take, take_sealed};
 use crate::steps::{Answer, Outcome, Request, Step};
+use crate::window::Window;
 use bytes::Bytes;
 use hc_core::{Core, Inserted, Unfinished, Unlinked};
 use hc_flash::Flash;
@@ -25,39 +31,41 @@ use hc_types::{Config, Key, Refusal};
 use std::alloc::{AllocError, Allocator, Global};
 use std::marker::Model;
 
-/// A cache that keeps its log, over a device, with 256 slots for its write handles, and the results of device operations
-/// that aren't handed in yet.
+/// A cache that keeps its log, with 256 slots for its write handles, and the results of device operations that aren't
+/// handed in yet. For each step it is lent the device, of which some pages are its own; it counts what fails of its
+/// own operations.
 ///
-/// Each step that wants memory in vain leaves everything as it was.
-pub(crate) struct Stage<D: Flash<A>, A: Allocator = Global> {
+/// Each step that wants memory in vain leaves everything as it was. It isn't `Drop`, as no write handle is: `end`
+/// takes it.
+pub struct Stage<A: Allocator = Global> {
     core: Core<Kept<A>, A>,
-    device: D,
-    failed_before: u64,
+    window: Window,
+    failures: u64,
     results: Results<A>,
     slots: Vec<Slot<A>, A>,
 }
 
-impl<D: Flash<A>, A: Allocator> Model for Stage<D, A> {
+impl<A: Allocator> Model for Stage<A> {
     ghost use Rattle.std.specs.Prelude.{◌≡◌, length};
     ghost use Rattle.hc_run.specs.Shows.{Stage as Meaning};
     ghost use Rattle.hc_run.specs.Slots.{filled_from};
 
-    ghost Value = { Meaning D };
+    ghost Value = { Meaning };
 
-    ghost view = { λ s. record { cache = s.core.cache; log = s.core.log; device = s.device; failed_before = s.failed_before; results = s.results.results; slots = filled_from 0 s.slots.items } };
+    ghost view = { λ s. record { cache = s.core.cache; log = s.core.log; window = s.window; failures = s.failures; results = s.results.results; slots = filled_from 0 s.slots.items } };
 
     ghost invariant = { λ s. length s.slots.items ≡ 256 };
 }
 
-impl<D: Flash<A>, A: Allocator + Clone + Copy> Stage<D, A> {
-    /// An empty cache and empty slots. Refused as `Core::new` is; then the device is dropped.
-    pub fn new(alloc: A, config: &Config<A>, device: D) -> Result<Stage<D, A>, Refusal>
+impl<A: Allocator + Clone + Copy> Stage<A> {
+    /// An empty cache and empty slots, over these pages of whatever device it will be lent. Refused as `Core::new` is.
+    pub fn new(alloc: A, config: &Config<A>, window: Window) -> Result<Stage<A>, Refusal>
         ensures cache { IfOk result (λ stage. stage.cache ≡ new_cache config.now) }
         ensures log { IfOk result (λ stage. stage.log ≡ Log []) }
         ensures results { IfOk result (λ stage. stage.results ≡ []) }
         ensures slots { IfOk result (λ stage. stage.slots ≡ []) }
-        ensures device { IfOk result (λ stage. stage.device ≡ device) }
-        ensures before { IfOk result (λ stage. stage.failed_before ≡ D.failed device) }
+        ensures window { IfOk result (λ stage. stage.window ≡ window) }
+        ensures failures { IfOk result (λ stage. stage.failures ≡ 0) }
         ensures fits { OnOk result (first_wrong config.now ≡ None) }
         ensures err { IfErr result (λ refusal. (first_wrong config.now ≡ Some refusal) ⊎ ((first_wrong config.now ≡ None) × (refusal ≡ Refusal.NoMemory))) }
     {
@@ -67,12 +75,11 @@ impl<D: Flash<A>, A: Allocator + Clone + Copy> Stage<D, A> {
         match Core::new(alloc, config, Kept::new(alloc)) {
             Ok(core) => {
                 empty_slots(&mut slots, 256);
-                let failed_before = device.failures();
                 let results = Results::new(alloc);
                 Ok(Stage {
                     core,
-                    device,
-                    failed_before,
+                    window,
+                    failures: 0,
                     results,
                     slots,
                 })
@@ -94,9 +101,10 @@ impl<D: Flash<A>, A: Allocator + Clone + Copy> Stage<D, A> {
         value: &Bytes<A>,
         ttl: u32,
     ) -> Result<Outcome<A>, AllocError>
-        ensures ok { IfOk result (λ outcome. Moves (record { held = D.held; failed = D.failed }) self.old (record { client = client; deed = Open slot pool key.now value.now ttl }) (told_of outcome) self.new) }
-        ensures err { OnErr result (Waits (record { held = D.held; failed = D.failed }) self.old self.new) }
-        ensures before { self.new.failed_before ≡ self.old.failed_before }
+        ensures ok { IfOk result (λ outcome. (held : Pages) → Moves held self.old (record { client = client; deed = Open slot pool key.now value.now ttl }) (told_of outcome) held self.new) }
+        ensures err { OnErr result ((held : Pages) → Waits held self.old held self.new) }
+        ensures window { self.new.window ≡ self.old.window }
+        ensures failures { self.new.failures ≡ self.old.failures }
     {
         let _sized = key.len();
         if self.slots[usize::from(slot)].is_filled() {
@@ -119,9 +127,10 @@ impl<D: Flash<A>, A: Allocator + Clone + Copy> Stage<D, A> {
     /// Inserts the item of the slot's handle.
     fn put(&mut self, client: u8, slot: u8) -> Result<Outcome<A>, AllocError>
         requires own { AreOwn self.old.slots self.old.cache }
-        ensures ok { IfOk result (λ outcome. Moves (record { held = D.held; failed = D.failed }) self.old (record { client = client; deed = Put slot }) (told_of outcome) self.new) }
-        ensures err { OnErr result (Waits (record { held = D.held; failed = D.failed }) self.old self.new) }
-        ensures before { self.new.failed_before ≡ self.old.failed_before }
+        ensures ok { IfOk result (λ outcome. (held : Pages) → Moves held self.old (record { client = client; deed = Put slot }) (told_of outcome) held self.new) }
+        ensures err { OnErr result ((held : Pages) → Waits held self.old held self.new) }
+        ensures window { self.new.window ≡ self.old.window }
+        ensures failures { self.new.failures ≡ self.old.failures }
     {
         let Some(sealed) = take_sealed(&mut self.slots, slot)? else {
             return Ok(Outcome::NoSlot);
@@ -140,9 +149,10 @@ impl<D: Flash<A>, A: Allocator + Clone + Copy> Stage<D, A> {
 
     /// Inserts the item of the slot's handle, where its key has no unexpired value.
     fn put_new(&mut self, client: u8, slot: u8) -> Result<Outcome<A>, AllocError>
-        ensures ok { IfOk result (λ outcome. Moves (record { held = D.held; failed = D.failed }) self.old (record { client = client; deed = PutNew slot }) (told_of outcome) self.new) }
-        ensures err { OnErr result (Waits (record { held = D.held; failed = D.failed }) self.old self.new) }
-        ensures before { self.new.failed_before ≡ self.old.failed_before }
+        ensures ok { IfOk result (λ outcome. (held : Pages) → Moves held self.old (record { client = client; deed = PutNew slot }) (told_of outcome) held self.new) }
+        ensures err { OnErr result ((held : Pages) → Waits held self.old held self.new) }
+        ensures window { self.new.window ≡ self.old.window }
+        ensures failures { self.new.failures ≡ self.old.failures }
     {
         let Some(sealed) = take_sealed(&mut self.slots, slot)? else {
             return Ok(Outcome::NoSlot);
@@ -160,8 +170,9 @@ impl<D: Flash<A>, A: Allocator + Clone + Copy> Stage<D, A> {
     /// Gives up the item of the slot's handle.
     fn discard(&mut self, client: u8, slot: u8) -> Outcome<A>
         requires own { AreOwn self.old.slots self.old.cache }
-        ensures moves { Moves (record { held = D.held; failed = D.failed }) self.old (record { client = client; deed = Discard slot }) (told_of result) self.new }
-        ensures before { self.new.failed_before ≡ self.old.failed_before }
+        ensures moves { (held : Pages) → Moves held self.old (record { client = client; deed = Discard slot }) (told_of result) held self.new }
+        ensures window { self.new.window ≡ self.old.window }
+        ensures failures { self.new.failures ≡ self.old.failures }
     {
         if !self.slots[usize::from(slot)].is_filled() {
             return Outcome::NoSlot;
@@ -173,9 +184,10 @@ impl<D: Flash<A>, A: Allocator + Clone + Copy> Stage<D, A> {
 
     /// Finds the value under the key.
     fn find(&mut self, client: u8, key: &Key<A>) -> Result<Outcome<A>, AllocError>
-        ensures ok { IfOk result (λ outcome. Moves (record { held = D.held; failed = D.failed }) self.old (record { client = client; deed = Find key.now }) (told_of outcome) self.new) }
-        ensures err { OnErr result (Waits (record { held = D.held; failed = D.failed }) self.old self.new) }
-        ensures before { self.new.failed_before ≡ self.old.failed_before }
+        ensures ok { IfOk result (λ outcome. (held : Pages) → Moves held self.old (record { client = client; deed = Find key.now }) (told_of outcome) held self.new) }
+        ensures err { OnErr result ((held : Pages) → Waits held self.old held self.new) }
+        ensures window { self.new.window ≡ self.old.window }
+        ensures failures { self.new.failures ≡ self.old.failures }
     {
         match self.core.find(client, key) {
             Ok(found) => Ok(found_outcome(found)),
@@ -185,9 +197,10 @@ impl<D: Flash<A>, A: Allocator + Clone + Copy> Stage<D, A> {
 
     /// Takes the key's item out of the cache.
     fn remove(&mut self, client: u8, key: &Key<A>) -> Result<Outcome<A>, AllocError>
-        ensures ok { IfOk result (λ outcome. Moves (record { held = D.held; failed = D.failed }) self.old (record { client = client; deed = Remove key.now }) (told_of outcome) self.new) }
-        ensures err { OnErr result (Waits (record { held = D.held; failed = D.failed }) self.old self.new) }
-        ensures before { self.new.failed_before ≡ self.old.failed_before }
+        ensures ok { IfOk result (λ outcome. (held : Pages) → Moves held self.old (record { client = client; deed = Remove key.now }) (told_of outcome) held self.new) }
+        ensures err { OnErr result ((held : Pages) → Waits held self.old held self.new) }
+        ensures window { self.new.window ≡ self.old.window }
+        ensures failures { self.new.failures ≡ self.old.failures }
     {
         match self.core.remove(client, key) {
             Ok(removed) => Ok(removed_outcome(removed)),
@@ -197,9 +210,10 @@ impl<D: Flash<A>, A: Allocator + Clone + Copy> Stage<D, A> {
 
     /// Takes the reply of the call that waited.
     fn take_reply(&mut self, client: u8, call: u64) -> Result<Outcome<A>, AllocError>
-        ensures ok { IfOk result (λ outcome. Moves (record { held = D.held; failed = D.failed }) self.old (record { client = client; deed = TakeReply call }) (told_of outcome) self.new) }
-        ensures err { OnErr result (Waits (record { held = D.held; failed = D.failed }) self.old self.new) }
-        ensures before { self.new.failed_before ≡ self.old.failed_before }
+        ensures ok { IfOk result (λ outcome. (held : Pages) → Moves held self.old (record { client = client; deed = TakeReply call }) (told_of outcome) held self.new) }
+        ensures err { OnErr result ((held : Pages) → Waits held self.old held self.new) }
+        ensures window { self.new.window ≡ self.old.window }
+        ensures failures { self.new.failures ≡ self.old.failures }
     {
         match self.core.take_reply(call) {
             Ok(reply) => Ok(Outcome::Replied(reply)),
@@ -209,9 +223,10 @@ impl<D: Flash<A>, A: Allocator + Clone + Copy> Stage<D, A> {
 
     /// Moves the clock on.
     fn tick(&mut self, client: u8, moment: u64) -> Result<Outcome<A>, AllocError>
-        ensures ok { IfOk result (λ outcome. Moves (record { held = D.held; failed = D.failed }) self.old (record { client = client; deed = Tick moment }) (told_of outcome) self.new) }
-        ensures err { OnErr result (Waits (record { held = D.held; failed = D.failed }) self.old self.new) }
-        ensures before { self.new.failed_before ≡ self.old.failed_before }
+        ensures ok { IfOk result (λ outcome. (held : Pages) → Moves held self.old (record { client = client; deed = Tick moment }) (told_of outcome) held self.new) }
+        ensures err { OnErr result ((held : Pages) → Waits held self.old held self.new) }
+        ensures window { self.new.window ≡ self.old.window }
+        ensures failures { self.new.failures ≡ self.old.failures }
     {
         match self.core.tick(moment) {
             Ok(now) => Ok(Outcome::Moment(now)),
@@ -221,9 +236,10 @@ impl<D: Flash<A>, A: Allocator + Clone + Copy> Stage<D, A> {
 
     /// The writer takes what is next.
     fn writer_take(&mut self, client: u8) -> Result<Outcome<A>, AllocError>
-        ensures ok { IfOk result (λ outcome. Moves (record { held = D.held; failed = D.failed }) self.old (record { client = client; deed = WriterTake }) (told_of outcome) self.new) }
-        ensures err { OnErr result (Waits (record { held = D.held; failed = D.failed }) self.old self.new) }
-        ensures before { self.new.failed_before ≡ self.old.failed_before }
+        ensures ok { IfOk result (λ outcome. (held : Pages) → Moves held self.old (record { client = client; deed = WriterTake }) (told_of outcome) held self.new) }
+        ensures err { OnErr result ((held : Pages) → Waits held self.old held self.new) }
+        ensures window { self.new.window ≡ self.old.window }
+        ensures failures { self.new.failures ≡ self.old.failures }
     {
         match self.core.writer_take() {
             Ok(take) => Ok(Outcome::Took(take)),
@@ -233,9 +249,10 @@ impl<D: Flash<A>, A: Allocator + Clone + Copy> Stage<D, A> {
 
     /// The filler takes what is next.
     fn filler_take(&mut self, client: u8) -> Result<Outcome<A>, AllocError>
-        ensures ok { IfOk result (λ outcome. Moves (record { held = D.held; failed = D.failed }) self.old (record { client = client; deed = FillerTake }) (told_of outcome) self.new) }
-        ensures err { OnErr result (Waits (record { held = D.held; failed = D.failed }) self.old self.new) }
-        ensures before { self.new.failed_before ≡ self.old.failed_before }
+        ensures ok { IfOk result (λ outcome. (held : Pages) → Moves held self.old (record { client = client; deed = FillerTake }) (told_of outcome) held self.new) }
+        ensures err { OnErr result ((held : Pages) → Waits held self.old held self.new) }
+        ensures window { self.new.window ≡ self.old.window }
+        ensures failures { self.new.failures ≡ self.old.failures }
     {
         match self.core.filler_take() {
             Ok(take) => Ok(Outcome::Took(take)),
@@ -245,9 +262,10 @@ impl<D: Flash<A>, A: Allocator + Clone + Copy> Stage<D, A> {
 
     /// Gives up the region that was written first, where too few are clean.
     fn reclaim(&mut self, client: u8) -> Result<Outcome<A>, AllocError>
-        ensures ok { IfOk result (λ outcome. Moves (record { held = D.held; failed = D.failed }) self.old (record { client = client; deed = Reclaim }) (told_of outcome) self.new) }
-        ensures err { OnErr result (Waits (record { held = D.held; failed = D.failed }) self.old self.new) }
-        ensures before { self.new.failed_before ≡ self.old.failed_before }
+        ensures ok { IfOk result (λ outcome. (held : Pages) → Moves held self.old (record { client = client; deed = Reclaim }) (told_of outcome) held self.new) }
+        ensures err { OnErr result ((held : Pages) → Waits held self.old held self.new) }
+        ensures window { self.new.window ≡ self.old.window }
+        ensures failures { self.new.failures ≡ self.old.failures }
     {
         match self.core.reclaim() {
             Ok(region) => Ok(Outcome::Reclaimed(region)),
@@ -256,10 +274,18 @@ impl<D: Flash<A>, A: Allocator + Clone + Copy> Stage<D, A> {
     }
 
     /// Makes the device operation for which the job waits, unless it was made. Its result waits.
-    fn io(&mut self, client: u8, job: u64, fails: bool) -> Result<Outcome<A>, AllocError>
-        ensures ok { IfOk result (λ outcome. Moves (record { held = D.held; failed = D.failed }) self.old (record { client = client; deed = Io job fails }) (told_of outcome) self.new) }
-        ensures err { OnErr result (Waits (record { held = D.held; failed = D.failed }) self.old self.new) }
-        ensures before { self.new.failed_before ≡ self.old.failed_before }
+    fn io<D: Flash<A>>(
+        &mut self,
+        device: &mut D,
+        client: u8,
+        job: u64,
+        fails: bool,
+    ) -> Result<Outcome<A>, AllocError>
+        ensures ok { IfOk result (λ outcome. Moves (seen self.old.window (D.held device.old)) self.old (record { client = client; deed = Io job fails }) (told_of outcome) (seen self.old.window (D.held device.new)) self.new) }
+        ensures err { OnErr result (Waits (seen self.old.window (D.held device.old)) self.old (seen self.old.window (D.held device.new)) self.new) }
+        ensures window { self.new.window ≡ self.old.window }
+        ensures beside { Beside self.old.window.first self.old.window.pages (D.held device.old) (D.held device.new) }
+        ensures counted { Counts self.old.window (D.failed device.old) (D.failed device.new) self.old.failures self.new.failures }
     {
         let Some(order) = self.core.order(job) else {
             return Ok(Outcome::Refused(Refusal::UnknownJob));
@@ -268,17 +294,21 @@ impl<D: Flash<A>, A: Allocator + Clone + Copy> Stage<D, A> {
             return Ok(Outcome::Refused(Refusal::UnknownJob));
         }
         self.results.reserve()?;
-        let Came { kept, told } = operate(&mut self.device, order, fails)?;
+        if self.failures == u64::MAX {
+            return Err(AllocError);
+        }
+        let Came { kept, told } = operate(device, &self.window, order, fails)?;
+        self.failures = failures_after(self.failures, fails, &kept);
         self.results.put(job, kept);
-        let failures = self.device.failures().saturating_sub(self.failed_before);
-        Ok(Outcome::Made(told, failures))
+        Ok(Outcome::Made(told, self.failures))
     }
 
     /// Hands in the result of the job's operation.
     fn finish(&mut self, client: u8, job: u64) -> Result<Outcome<A>, AllocError>
-        ensures ok { IfOk result (λ outcome. Moves (record { held = D.held; failed = D.failed }) self.old (record { client = client; deed = Finish job }) (told_of outcome) self.new) }
-        ensures err { OnErr result (Waits (record { held = D.held; failed = D.failed }) self.old self.new) }
-        ensures before { self.new.failed_before ≡ self.old.failed_before }
+        ensures ok { IfOk result (λ outcome. (held : Pages) → Moves held self.old (record { client = client; deed = Finish job }) (told_of outcome) held self.new) }
+        ensures err { OnErr result ((held : Pages) → Waits held self.old held self.new) }
+        ensures window { self.new.window ≡ self.old.window }
+        ensures failures { self.new.failures ≡ self.old.failures }
     {
         let Some(waiting) = self.results.get(job) else {
             return Ok(Outcome::Refused(Refusal::UnknownJob));
@@ -302,12 +332,14 @@ impl<D: Flash<A>, A: Allocator + Clone + Copy> Stage<D, A> {
         }
     }
 
-    /// What comes of a request. Where memory is wanted, everything is as it was.
+    /// What comes of a request that makes no device operation. Where memory is wanted, everything is as it was.
     fn serve(&mut self, client: u8, request: &Request<A>) -> Result<Outcome<A>, AllocError>
         requires own { AreOwn self.old.slots self.old.cache }
-        ensures ok { IfOk result (λ outcome. Moves (record { held = D.held; failed = D.failed }) self.old (record { client = client; deed = deed_of request.now }) (told_of outcome) self.new) }
-        ensures err { OnErr result (Waits (record { held = D.held; failed = D.failed }) self.old self.new) }
-        ensures before { self.new.failed_before ≡ self.old.failed_before }
+        requires calm { IsCalm (deed_of request.now) }
+        ensures ok { IfOk result (λ outcome. (held : Pages) → Moves held self.old (record { client = client; deed = deed_of request.now }) (told_of outcome) held self.new) }
+        ensures err { OnErr result ((held : Pages) → Waits held self.old held self.new) }
+        ensures window { self.new.window ≡ self.old.window }
+        ensures failures { self.new.failures ≡ self.old.failures }
     {
         match request {
             Request::Open {
@@ -327,23 +359,50 @@ impl<D: Flash<A>, A: Allocator + Clone + Copy> Stage<D, A> {
             Request::WriterTake => self.writer_take(client),
             Request::FillerTake => self.filler_take(client),
             Request::Reclaim => self.reclaim(client),
-            Request::Io { job, fails } => self.io(client, *job, *fails),
+            Request::Io { .. } => unreachable!(),
             Request::Finish { job } => self.finish(client, *job),
         }
     }
 
-    /// One step. Where memory is wanted, everything is as it was.
-    pub fn step(&mut self, step: &Step<A>) -> Result<Answer<A>, AllocError>
+    /// What comes of a request, over the device that is lent. Where memory is wanted, everything is as it was.
+    fn make<D: Flash<A>>(
+        &mut self,
+        device: &mut D,
+        client: u8,
+        request: &Request<A>,
+    ) -> Result<Outcome<A>, AllocError>
         requires own { AreOwn self.old.slots self.old.cache }
-        ensures ok { IfOk result (λ answer. Moves (record { held = D.held; failed = D.failed }) self.old step.now answer self.new) }
-        ensures err { OnErr result (Waits (record { held = D.held; failed = D.failed }) self.old self.new) }
-        ensures before { self.new.failed_before ≡ self.old.failed_before }
+        ensures ok { IfOk result (λ outcome. Moves (seen self.old.window (D.held device.old)) self.old (record { client = client; deed = deed_of request.now }) (told_of outcome) (seen self.old.window (D.held device.new)) self.new) }
+        ensures err { OnErr result (Waits (seen self.old.window (D.held device.old)) self.old (seen self.old.window (D.held device.new)) self.new) }
+        ensures window { self.new.window ≡ self.old.window }
+        ensures beside { Beside self.old.window.first self.old.window.pages (D.held device.old) (D.held device.new) }
+        ensures counted { Counts self.old.window (D.failed device.old) (D.failed device.new) self.old.failures self.new.failures }
     {
-        let outcome = self.serve(step.client, &step.request)?;
+        match operation_of(request) {
+            Some((job, fails)) => self.io(device, client, job, fails),
+            None => self.serve(client, request),
+        }
+    }
+
+    /// One step, over the device that is lent. Where memory is wanted, everything is as it was.
+    pub fn step<D: Flash<A>>(
+        &mut self,
+        device: &mut D,
+        step: &Step<A>,
+    ) -> Result<Answer<A>, AllocError>
+        requires own { AreOwn self.old.slots self.old.cache }
+        ensures ok { IfOk result (λ answer. Moves (seen self.old.window (D.held device.old)) self.old step.now answer (seen self.old.window (D.held device.new)) self.new) }
+        ensures err { OnErr result (Waits (seen self.old.window (D.held device.old)) self.old (seen self.old.window (D.held device.new)) self.new) }
+        ensures window { self.new.window ≡ self.old.window }
+        ensures beside { Beside self.old.window.first self.old.window.pages (D.held device.old) (D.held device.new) }
+        ensures counted { Counts self.old.window (D.failed device.old) (D.failed device.new) self.old.failures self.new.failures }
+    {
+        let outcome = self.make(device, step.client, &step.request)?;
         Ok(Answer { outcome })
     }
 
-    /// Whether the step is quiet: each job that is out is the step's own, whose operation it makes or whose result it hands in.
+    /// Whether the step is quiet: each job that is out is the step's own, whose operation it makes or whose result it
+    /// hands in.
     #[must_use]
     pub fn is_quiet(&self, step: &Step<A>) -> bool
         ensures { result ≡ is_quiet_in step.now self.now.cache }
@@ -354,27 +413,26 @@ impl<D: Flash<A>, A: Allocator + Clone + Copy> Stage<D, A> {
         }
     }
 
-    /// The log, after what still fills a slot was given up, in the order of the slots; and the device.
+    /// The log, after what still fills a slot was given up, in the order of the slots.
     #[must_use]
-    pub fn end(self) -> (Kept<A>, D)
+    pub fn end(self) -> Kept<A>
         requires own { AreOwn self.slots self.cache }
-        ensures log { Log result.0.notes.items ≡ told_more self.log (given_up self.slots self.cache).part }
-        ensures device { result.1 ≡ self.device }
+        ensures log { Log result.notes.items ≡ told_more self.log (given_up self.slots self.cache).part }
     {
         let Stage {
             mut core,
-            device,
-            failed_before: _,
+            window: _,
+            failures: _,
             results,
             slots,
         } = self;
         drop(results);
         give_up_all(&mut core, slots);
-        (core.into_notes(), device)
+        core.into_notes()
     }
 }
 
-impl<D: Flash<A>, A: Allocator> Stage<D, A> {
+impl<A: Allocator> Stage<A> {
     /// How many notes the log has.
     #[must_use]
     pub fn log_len(&self) -> usize

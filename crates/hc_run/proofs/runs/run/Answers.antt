@@ -1,28 +1,30 @@
-use Rattle.std.proofs.Common.{Some, None, length, take, sym, ap, ◌∙◌, arith}
+use Rattle.std.proofs.Common.{Some, None, length, take, sym, ap, subst, ◌∙◌, arith}
 use Rattle.hc_follows.specs.Follows.{StopsAt}
-use Rattle.hc_run.proofs.Going.{ongoing-none, ongoing-own, ongoing-made, ongoing-stopped, run_turn, run_ends, run_over, promised}
+use Rattle.hc_run.specs.Shows.{seen, whole}
+use Rattle.hc_run.proofs.Going.{ongoing-none, ongoing-own, ongoing-made, ongoing-stopped, run_turn, run_ends, run_over, promised, went, waited, counted-on, counted-none}
 use Rattle.hc_run.proofs.runs.run.Goals as goal
 
 pub loop-i-init : goal.loop-i-init
 loop-i-init g c =
     let is = c.in_ok-stage.ensures in
     record {
-      ongoing = rw (c.new-answers.ensures.items, c.new-ends.ensures.items) (ongoing-none _ c.args.config.now c.in_ok-stage.stage is.cache is.log is.results is.slots (is.before ∙ sym (ap g.D.Flash.failed is.device)));
-      before = is.before;
+      ongoing = rw (c.new-answers.ensures.items, c.new-ends.ensures.items) (ongoing-none c.args.config.now (seen whole (g.D.Flash.held c.args.device)) c.in_ok-stage.stage is.cache is.log is.results is.slots is.failures);
+      window = is.window ∙ c.whole.ensures;
+      counted = counted-none (g.D.Flash.failed c.args.device) is.failures;
       made = ap length c.new-answers.ensures.items;
     }
 
 pub go_on-requires : goal.go_on-requires
 go_on-requires g c =
     let l = c.loop-i in
-    record { own = ongoing-own _ c.args.config.now (take l.i c.args.steps.now) l.answers.items l.ends.items l.stage c.in_ok-stage.ensures.fits l.invariant.ongoing }
+    record { own = ongoing-own c.args.config.now (take l.i c.args.steps.now) l.answers.items l.ends.items (seen whole (g.D.Flash.held l.device)) l.stage c.in_ok-stage.ensures.fits l.invariant.ongoing }
 
 pub loop-i-preserved : goal.loop-i-preserved
 loop-i-preserved g c =
     let l = c.loop-i in
-    let turn = run_turn _ c.args.config.now c.args.steps.now c.index-steps-i.result l.i l.answers.items c.go_on.new.answers.items l.ends.items c.go_on.new.ends.items l.stage c.go_on.new.stage
-    c.loop-i-test.true c.index-steps-i.is c.in_ok-stage.ensures.fits l.invariant.ongoing l.invariant.made c.in-Ok.ensures.ok in
-    record { ongoing = turn.0; before = c.go_on.ensures.before ∙ l.invariant.before; made = turn.1 }
+    let turn = run_turn c.args.config.now c.args.steps.now c.index-steps-i.result l.i l.answers.items c.go_on.new.answers.items l.ends.items c.go_on.new.ends.items (seen whole (g.D.Flash.held l.device)) (seen whole (g.D.Flash.held c.go_on.new.device)) l.stage c.go_on.new.stage
+    c.loop-i-test.true c.index-steps-i.is c.in_ok-stage.ensures.fits l.invariant.ongoing l.invariant.made (went (g.D.Flash.held l.device) (g.D.Flash.held c.go_on.new.device) l.stage c.go_on.new.stage l.invariant.window c.in-Ok.ensures.ok) in
+    record { ongoing = turn.0; window = c.go_on.ensures.window ∙ l.invariant.window; counted = counted-on (g.D.Flash.failed c.args.device) l.stage c.go_on.new.stage l.invariant.window c.go_on.ensures.counted l.invariant.counted; made = turn.1 }
 
 -- ---- where memory lacks
 
@@ -31,39 +33,39 @@ end-log-requires g c =
     let l = c.loop-i in
     let back = c.in-Err.ensures in
     record {
-      own = ongoing-own _ c.args.config.now (take (length c.go_on.new.answers.items) c.args.steps.now) c.go_on.new.answers.items c.go_on.new.ends.items c.go_on.new.stage c.in_ok-stage.ensures.fits
-          (ongoing-stopped _ c.args.config.now c.args.steps.now l.i l.answers.items c.go_on.new.answers.items l.ends.items c.go_on.new.ends.items l.stage c.go_on.new.stage l.invariant.ongoing l.invariant.made back.err back.answers back.ends);
+      own = ongoing-own c.args.config.now (take (length c.go_on.new.answers.items) c.args.steps.now) c.go_on.new.answers.items c.go_on.new.ends.items (seen whole (g.D.Flash.held c.go_on.new.device)) c.go_on.new.stage c.in_ok-stage.ensures.fits
+          (ongoing-stopped c.args.config.now c.args.steps.now l.i l.answers.items c.go_on.new.answers.items l.ends.items c.go_on.new.ends.items (seen whole (g.D.Flash.held l.device)) (seen whole (g.D.Flash.held c.go_on.new.device)) l.stage c.go_on.new.stage l.invariant.ongoing l.invariant.made (waited (g.D.Flash.held l.device) (g.D.Flash.held c.go_on.new.device) l.stage c.go_on.new.stage l.invariant.window back.err) back.answers back.ends);
     }
 
 pub returns-in-Err-clause-runs : goal.returns-in-Err-clause-runs
 returns-in-Err-clause-runs g c =
     let l = c.loop-i in
     let back = c.in-Err.ensures in
-    run_ends _ c.args.config.now (take (length c.go_on.new.answers.items) c.args.steps.now) c.go_on.new.answers.items c.go_on.new.ends.items c.go_on.new.stage c.end-log.result.0.notes.items
-    (ongoing-stopped _ c.args.config.now c.args.steps.now l.i l.answers.items c.go_on.new.answers.items l.ends.items c.go_on.new.ends.items l.stage c.go_on.new.stage l.invariant.ongoing l.invariant.made back.err back.answers back.ends) c.end-log.ensures.log
+    run_ends c.args.config.now (take (length c.go_on.new.answers.items) c.args.steps.now) c.go_on.new.answers.items c.go_on.new.ends.items (seen whole (g.D.Flash.held c.go_on.new.device)) c.go_on.new.stage c.end-log.result.notes.items
+    (ongoing-stopped c.args.config.now c.args.steps.now l.i l.answers.items c.go_on.new.answers.items l.ends.items c.go_on.new.ends.items (seen whole (g.D.Flash.held l.device)) (seen whole (g.D.Flash.held c.go_on.new.device)) l.stage c.go_on.new.stage l.invariant.ongoing l.invariant.made (waited (g.D.Flash.held l.device) (g.D.Flash.held c.go_on.new.device) l.stage c.go_on.new.stage l.invariant.window back.err) back.answers back.ends) c.end-log.ensures.log
 
 pub returns-in-Err-clause-legal : goal.returns-in-Err-clause-legal
 returns-in-Err-clause-legal g c =
     let l = c.loop-i in
     let back = c.in-Err.ensures in
-    (promised _ c.args.config.now c.args.steps.now c.go_on.new.answers.items c.go_on.new.ends.items c.go_on.new.stage c.end-log.result.0.notes.items (Some l.i) c.in_ok-stage.ensures.fits
-    (ongoing-stopped _ c.args.config.now c.args.steps.now l.i l.answers.items c.go_on.new.answers.items l.ends.items c.go_on.new.ends.items l.stage c.go_on.new.stage l.invariant.ongoing l.invariant.made back.err back.answers back.ends)
+    (promised c.args.config.now c.args.steps.now c.go_on.new.answers.items c.go_on.new.ends.items (seen whole (g.D.Flash.held c.go_on.new.device)) c.go_on.new.stage c.end-log.result.notes.items (Some l.i) c.in_ok-stage.ensures.fits
+    (ongoing-stopped c.args.config.now c.args.steps.now l.i l.answers.items c.go_on.new.answers.items l.ends.items c.go_on.new.ends.items (seen whole (g.D.Flash.held l.device)) (seen whole (g.D.Flash.held c.go_on.new.device)) l.stage c.go_on.new.stage l.invariant.ongoing l.invariant.made (waited (g.D.Flash.held l.device) (g.D.Flash.held c.go_on.new.device) l.stage c.go_on.new.stage l.invariant.window back.err) back.answers back.ends)
     (ap length back.answers ∙ l.invariant.made, c.loop-i-test.true) c.end-log.ensures.log).legal
 
 pub returns-in-Err-clause-honest : goal.returns-in-Err-clause-honest
 returns-in-Err-clause-honest g c =
     let l = c.loop-i in
     let back = c.in-Err.ensures in
-    (promised _ c.args.config.now c.args.steps.now c.go_on.new.answers.items c.go_on.new.ends.items c.go_on.new.stage c.end-log.result.0.notes.items (Some l.i) c.in_ok-stage.ensures.fits
-    (ongoing-stopped _ c.args.config.now c.args.steps.now l.i l.answers.items c.go_on.new.answers.items l.ends.items c.go_on.new.ends.items l.stage c.go_on.new.stage l.invariant.ongoing l.invariant.made back.err back.answers back.ends)
+    (promised c.args.config.now c.args.steps.now c.go_on.new.answers.items c.go_on.new.ends.items (seen whole (g.D.Flash.held c.go_on.new.device)) c.go_on.new.stage c.end-log.result.notes.items (Some l.i) c.in_ok-stage.ensures.fits
+    (ongoing-stopped c.args.config.now c.args.steps.now l.i l.answers.items c.go_on.new.answers.items l.ends.items c.go_on.new.ends.items (seen whole (g.D.Flash.held l.device)) (seen whole (g.D.Flash.held c.go_on.new.device)) l.stage c.go_on.new.stage l.invariant.ongoing l.invariant.made (waited (g.D.Flash.held l.device) (g.D.Flash.held c.go_on.new.device) l.stage c.go_on.new.stage l.invariant.window back.err) back.answers back.ends)
     (ap length back.answers ∙ l.invariant.made, c.loop-i-test.true) c.end-log.ensures.log).honest
 
 pub returns-in-Err-clause-follows : goal.returns-in-Err-clause-follows
 returns-in-Err-clause-follows g c =
     let l = c.loop-i in
     let back = c.in-Err.ensures in
-    (promised _ c.args.config.now c.args.steps.now c.go_on.new.answers.items c.go_on.new.ends.items c.go_on.new.stage c.end-log.result.0.notes.items (Some l.i) c.in_ok-stage.ensures.fits
-    (ongoing-stopped _ c.args.config.now c.args.steps.now l.i l.answers.items c.go_on.new.answers.items l.ends.items c.go_on.new.ends.items l.stage c.go_on.new.stage l.invariant.ongoing l.invariant.made back.err back.answers back.ends)
+    (promised c.args.config.now c.args.steps.now c.go_on.new.answers.items c.go_on.new.ends.items (seen whole (g.D.Flash.held c.go_on.new.device)) c.go_on.new.stage c.end-log.result.notes.items (Some l.i) c.in_ok-stage.ensures.fits
+    (ongoing-stopped c.args.config.now c.args.steps.now l.i l.answers.items c.go_on.new.answers.items l.ends.items c.go_on.new.ends.items (seen whole (g.D.Flash.held l.device)) (seen whole (g.D.Flash.held c.go_on.new.device)) l.stage c.go_on.new.stage l.invariant.ongoing l.invariant.made (waited (g.D.Flash.held l.device) (g.D.Flash.held c.go_on.new.device) l.stage c.go_on.new.stage l.invariant.window back.err) back.answers back.ends)
     (ap length back.answers ∙ l.invariant.made, c.loop-i-test.true) c.end-log.ensures.log).follows
 
 -- ---- at the end of the steps
@@ -71,34 +73,34 @@ returns-in-Err-clause-follows g c =
 pub end-log-requires-2 : goal.end-log-requires-2
 end-log-requires-2 g c =
     let l = c.loop-i in
-    record { own = ongoing-own _ c.args.config.now (take l.i c.args.steps.now) l.answers.items l.ends.items l.stage c.in_ok-stage.ensures.fits l.invariant.ongoing }
+    record { own = ongoing-own c.args.config.now (take l.i c.args.steps.now) l.answers.items l.ends.items (seen whole (g.D.Flash.held l.device)) l.stage c.in_ok-stage.ensures.fits l.invariant.ongoing }
 
 pub returns-clause-runs : goal.returns-clause-runs
 returns-clause-runs g c =
     let l = c.loop-i in
-    run_ends _ c.args.config.now (take (length l.answers.items) c.args.steps.now) l.answers.items l.ends.items l.stage c.end-log-2.result.0.notes.items
-    (ongoing-made _ c.args.config.now c.args.steps.now l.i l.answers.items l.ends.items l.stage l.invariant.ongoing l.invariant.made) c.end-log-2.ensures.log
+    run_ends c.args.config.now (take (length l.answers.items) c.args.steps.now) l.answers.items l.ends.items (seen whole (g.D.Flash.held l.device)) l.stage c.end-log-2.result.notes.items
+    (ongoing-made c.args.config.now c.args.steps.now l.i l.answers.items l.ends.items (seen whole (g.D.Flash.held l.device)) l.stage l.invariant.ongoing l.invariant.made) c.end-log-2.ensures.log
 
 pub returns-clause-legal : goal.returns-clause-legal
 returns-clause-legal g c =
     let l = c.loop-i in
     let stops : StopsAt None (length l.answers.items) (length c.args.steps.now) = omega (arith, l.invariant.made, l.auto.i-end, c.loop-i-test.false) in
-    (promised _ c.args.config.now c.args.steps.now l.answers.items l.ends.items l.stage c.end-log-2.result.0.notes.items None c.in_ok-stage.ensures.fits
-    (ongoing-made _ c.args.config.now c.args.steps.now l.i l.answers.items l.ends.items l.stage l.invariant.ongoing l.invariant.made) stops c.end-log-2.ensures.log).legal
+    (promised c.args.config.now c.args.steps.now l.answers.items l.ends.items (seen whole (g.D.Flash.held l.device)) l.stage c.end-log-2.result.notes.items None c.in_ok-stage.ensures.fits
+    (ongoing-made c.args.config.now c.args.steps.now l.i l.answers.items l.ends.items (seen whole (g.D.Flash.held l.device)) l.stage l.invariant.ongoing l.invariant.made) stops c.end-log-2.ensures.log).legal
 
 pub returns-clause-honest : goal.returns-clause-honest
 returns-clause-honest g c =
     let l = c.loop-i in
     let stops : StopsAt None (length l.answers.items) (length c.args.steps.now) = omega (arith, l.invariant.made, l.auto.i-end, c.loop-i-test.false) in
-    (promised _ c.args.config.now c.args.steps.now l.answers.items l.ends.items l.stage c.end-log-2.result.0.notes.items None c.in_ok-stage.ensures.fits
-    (ongoing-made _ c.args.config.now c.args.steps.now l.i l.answers.items l.ends.items l.stage l.invariant.ongoing l.invariant.made) stops c.end-log-2.ensures.log).honest
+    (promised c.args.config.now c.args.steps.now l.answers.items l.ends.items (seen whole (g.D.Flash.held l.device)) l.stage c.end-log-2.result.notes.items None c.in_ok-stage.ensures.fits
+    (ongoing-made c.args.config.now c.args.steps.now l.i l.answers.items l.ends.items (seen whole (g.D.Flash.held l.device)) l.stage l.invariant.ongoing l.invariant.made) stops c.end-log-2.ensures.log).honest
 
 pub returns-clause-follows : goal.returns-clause-follows
 returns-clause-follows g c =
     let l = c.loop-i in
     let stops : StopsAt None (length l.answers.items) (length c.args.steps.now) = omega (arith, l.invariant.made, l.auto.i-end, c.loop-i-test.false) in
-    (promised _ c.args.config.now c.args.steps.now l.answers.items l.ends.items l.stage c.end-log-2.result.0.notes.items None c.in_ok-stage.ensures.fits
-    (ongoing-made _ c.args.config.now c.args.steps.now l.i l.answers.items l.ends.items l.stage l.invariant.ongoing l.invariant.made) stops c.end-log-2.ensures.log).follows
+    (promised c.args.config.now c.args.steps.now l.answers.items l.ends.items (seen whole (g.D.Flash.held l.device)) l.stage c.end-log-2.result.notes.items None c.in_ok-stage.ensures.fits
+    (ongoing-made c.args.config.now c.args.steps.now l.i l.answers.items l.ends.items (seen whole (g.D.Flash.held l.device)) l.stage l.invariant.ongoing l.invariant.made) stops c.end-log-2.ensures.log).follows
 
 -- ---- the device
 
@@ -106,12 +108,12 @@ pub returns-in-Err-clause-device : goal.returns-in-Err-clause-device
 returns-in-Err-clause-device g c =
     let l = c.loop-i in
     let back = c.in-Err.ensures in
-    run_over _ c.args.config.now (take (length c.go_on.new.answers.items) c.args.steps.now) c.go_on.new.answers.items c.go_on.new.ends.items c.go_on.new.stage c.args.device c.end-log.result.1
-    (ongoing-stopped _ c.args.config.now c.args.steps.now l.i l.answers.items c.go_on.new.answers.items l.ends.items c.go_on.new.ends.items l.stage c.go_on.new.stage l.invariant.ongoing l.invariant.made back.err back.answers back.ends)
-    (c.go_on.ensures.before ∙ l.invariant.before) c.end-log.ensures.device
+    run_over c.args.config.now (record { held = g.D.Flash.held; failed = g.D.Flash.failed }) (take (length c.go_on.new.answers.items) c.args.steps.now) c.go_on.new.answers.items c.go_on.new.ends.items c.go_on.new.stage c.args.device c.go_on.new.device
+    (ongoing-stopped c.args.config.now c.args.steps.now l.i l.answers.items c.go_on.new.answers.items l.ends.items c.go_on.new.ends.items (seen whole (g.D.Flash.held l.device)) (seen whole (g.D.Flash.held c.go_on.new.device)) l.stage c.go_on.new.stage l.invariant.ongoing l.invariant.made (waited (g.D.Flash.held l.device) (g.D.Flash.held c.go_on.new.device) l.stage c.go_on.new.stage l.invariant.window back.err) back.answers back.ends)
+    (counted-on (g.D.Flash.failed c.args.device) l.stage c.go_on.new.stage l.invariant.window c.go_on.ensures.counted l.invariant.counted)
 
 pub returns-clause-device : goal.returns-clause-device
 returns-clause-device g c =
     let l = c.loop-i in
-    run_over _ c.args.config.now (take (length l.answers.items) c.args.steps.now) l.answers.items l.ends.items l.stage c.args.device c.end-log-2.result.1
-    (ongoing-made _ c.args.config.now c.args.steps.now l.i l.answers.items l.ends.items l.stage l.invariant.ongoing l.invariant.made) l.invariant.before c.end-log-2.ensures.device
+    run_over c.args.config.now (record { held = g.D.Flash.held; failed = g.D.Flash.failed }) (take (length l.answers.items) c.args.steps.now) l.answers.items l.ends.items l.stage c.args.device l.device
+    (ongoing-made c.args.config.now c.args.steps.now l.i l.answers.items l.ends.items (seen whole (g.D.Flash.held l.device)) l.stage l.invariant.ongoing l.invariant.made) l.invariant.counted

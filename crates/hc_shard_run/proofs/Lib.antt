@@ -1,0 +1,5 @@
+pub mod Stepping
+pub mod Going
+pub mod Turning
+pub mod Ending
+mod Fitting

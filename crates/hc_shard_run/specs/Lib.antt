@@ -1,0 +1,4 @@
+-- Shards that run among each other over one device.
+pub mod Steps
+pub mod Ran
+pub mod Lanes
