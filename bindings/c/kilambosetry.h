@@ -125,9 +125,10 @@ enum {
     KILAMBOSETRY_MISS = 100,          /* the key has no unexpired value; to a delete: no item */
     KILAMBOSETRY_EMPTY = 101,         /* the handle has no cache, no value or no page */
     KILAMBOSETRY_SHORT = 102,         /* the buffer is shorter than the value */
-    KILAMBOSETRY_WAITS = 103,         /* the call waits for flash; a cache without flash doesn't answer it */
-    KILAMBOSETRY_IDLE = 104,          /* there is nothing for the worker to do */
-    KILAMBOSETRY_FINISHED = 105       /* the job is over */
+    KILAMBOSETRY_WAITS = 103,         /* the call waits for flash; of a turn: another loads the key */
+    KILAMBOSETRY_IDLE = 104,          /* there is nothing to do, or to tell */
+    KILAMBOSETRY_FINISHED = 105,      /* the job is over */
+    KILAMBOSETRY_STALE = 106          /* a key was changed since the ticket was told: what was loaded isn't stored */
 };
 
 /* Makes an empty cache of these pools, in place of the one that the handle has, which is freed. Where it is refused, the
@@ -178,6 +179,28 @@ uint8_t kilambosetry_get(kilambosetry_cache *cache, const uint8_t *key, size_t k
 
 /* Takes the key's item out of the cache. The status is MISS where there was none. */
 uint8_t kilambosetry_delete(kilambosetry_cache *cache, const uint8_t *key, size_t key_len);
+
+/* Leases: what was loaded before a change of its key isn't stored after it. Who misses a key asks for a ticket, and only then
+ * loads the value, and stores it with `kilambosetry_set_leased`; who changes a row deletes its key afterwards. Then nothing is
+ * found that is older than what was committed before a delete that was answered. A loader never uses `kilambosetry_add`, which
+ * stores later where it waits for flash.
+ *
+ * Tells the ticket of now, which is good for every key of this cache. IDLE once 2^64 - 1 changes of keys were made: then what
+ * is loaded isn't to be stored. */
+uint8_t kilambosetry_ticket(kilambosetry_cache *cache, uint64_t *ticket);
+
+/* Stores what was loaded after the ticket was told, as `kilambosetry_set` does, where no key of its slot was changed since (by
+ * a set, an add or a delete; a cache has 65,536 slots, fewer where it is a shard of many) and no add of one waits. Else the
+ * status is STALE, and nothing is stored: serve what was loaded. That is asked first, before the key and the pool are. */
+uint8_t kilambosetry_set_leased(kilambosetry_cache *cache, uint64_t ticket, uint8_t pool, const uint8_t *key, size_t key_len,
+                                const uint8_t *value, size_t value_len, uint32_t ttl);
+
+/* Of many who miss a key, one is to load it: DONE, where it is the caller, and WAITS, where another began fewer than `patience`
+ * seconds ago by the cache's clock, whose moment is told then. The turn is over as the key is set, stored with a ticket or
+ * deleted, or by the second call, and another's once `patience` is up. It is advice: no promise rests on it. */
+uint8_t kilambosetry_ask_turn(kilambosetry_cache *cache, const uint8_t *key, size_t key_len, uint64_t patience,
+                              uint64_t *since);
+uint8_t kilambosetry_end_turn(kilambosetry_cache *cache, const uint8_t *key, size_t key_len);
 
 /* Finds the value under the key and holds it, without copying it: it stays as it is until it is freed, whatever becomes of
  * the cache. A value that the handle has is freed first, so that it has one after DONE alone. Where flash alone may have the
@@ -257,9 +280,9 @@ static inline const char *kilambosetry_strerror(uint8_t status) {
         "ForeignHandle", "Exists", "Unknown", "UnknownCall", "NotReady", "UnknownJob", "NoMemory", "TooManyClients",
         "BadShards", "WrongShard",
     };
-    static const char *const others[] = {"Miss", "Empty", "Short", "Waits", "Idle", "Finished"};
+    static const char *const others[] = {"Miss", "Empty", "Short", "Waits", "Idle", "Finished", "Stale"};
     if (status < sizeof refusals / sizeof *refusals) return refusals[status];
-    if (status >= KILAMBOSETRY_MISS && status <= KILAMBOSETRY_FINISHED) return others[status - KILAMBOSETRY_MISS];
+    if (status >= KILAMBOSETRY_MISS && status <= KILAMBOSETRY_STALE) return others[status - KILAMBOSETRY_MISS];
     return "Unknown";
 }
 

@@ -11,6 +11,7 @@ use Rattle.hc_machine.specs.World.{order_in}
 use Rattle.hc_core.specs.Answers.{IsNextReply, is_work}
 use Rattle.hc_core.specs.Logged.{Logged, IsCall}
 use Rattle.hc_core.specs.Plain.{MayRefuse}
+use Rattle.hc_leased.specs.Leased.{Leased, SameLeases}
 use Rattle.hc_c.specs.Calls.{Buffer, Copies}
 use Rattle.hc_c.specs.declared.jobs.Operation.{Operation}
 use Rattle.hc_c.specs.declared.status.Status.{Status}
@@ -28,10 +29,10 @@ pub record Works (moved : Moved) (job : ℕ) (old new : Logged) : Type 0 where
   pub call : IsCall moved (Took (Work job order)) old new
 
 -- what a worker takes: the number of the job that goes on is told
-abbrev pub Takes : (Cache → Moved) → ℕ → ℕ → Status → Logged → Logged → Type 0
-Takes step was is Done old new = Works (step old.cache) is old new
-Takes step was is Idle old new = IsCall (step old.cache) (Took takes.Idle) old new × (is ≡ was)
-Takes step was is Finished old new = IsCall (step old.cache) (Took takes.Finished) old new × (is ≡ was)
+abbrev pub Takes : (Cache → Moved) → ℕ → ℕ → Status → Leased → Leased → Type 0
+Takes step was is Done old new = Works (step old.logged.cache) is old.logged new.logged × SameLeases old new
+Takes step was is Idle old new = IsCall (step old.logged.cache) (Took takes.Idle) old.logged new.logged × (SameLeases old new × (is ≡ was))
+Takes step was is Finished old new = IsCall (step old.logged.cache) (Took takes.Finished) old.logged new.logged × (SameLeases old new × (is ≡ was))
 Takes step was is (Refused refusal) old new = (new ≡ old) × ((refusal ≡ NoMemory) × (is ≡ was))
 Takes step was is status old new = ⊥
 
@@ -39,9 +40,9 @@ pub record GivesUp (old new : Logged) : Type 0 where
   pub region : ℕ
   pub call : IsCall (reclaim old.cache) (Reclaimed (Some region)) old new
 
-abbrev pub Reclaims : Status → Logged → Logged → Type 0
-Reclaims Done old new = GivesUp old new
-Reclaims Idle old new = IsCall (reclaim old.cache) (Reclaimed None) old new
+abbrev pub Reclaims : Status → Leased → Leased → Type 0
+Reclaims Done old new = GivesUp old.logged new.logged × SameLeases old new
+Reclaims Idle old new = IsCall (reclaim old.logged.cache) (Reclaimed None) old.logged new.logged × SameLeases old new
 Reclaims (Refused refusal) old new = (new ≡ old) × (refusal ≡ NoMemory)
 Reclaims status old new = ⊥
 
@@ -51,24 +52,24 @@ pub record GoesOn (moved : Moved) (old new : Logged) : Type 0 where
   pub works : Works moved job old new
 
 -- what comes of a result that is handed in
-abbrev pub Finishes : ℕ → IoResult → Status → Logged → Logged → Type 0
-Finishes job came Done old new = GoesOn (finish job came old.cache) old new
-Finishes job came Idle old new = IsCall (finish job came old.cache) (Took takes.Idle) old new
-Finishes job came Finished old new = IsCall (finish job came old.cache) (Took takes.Finished) old new
-Finishes job came (Refused refusal) old new = (new ≡ old) × MayRefuse (finish job came old.cache).answer refusal
+abbrev pub Finishes : ℕ → IoResult → Status → Leased → Leased → Type 0
+Finishes job came Done old new = GoesOn (finish job came old.logged.cache) old.logged new.logged × SameLeases old new
+Finishes job came Idle old new = IsCall (finish job came old.logged.cache) (Took takes.Idle) old.logged new.logged × SameLeases old new
+Finishes job came Finished old new = IsCall (finish job came old.logged.cache) (Took takes.Finished) old.logged new.logged × SameLeases old new
+Finishes job came (Refused refusal) old new = (new ≡ old) × MayRefuse (finish job came old.logged.cache).answer refusal
 Finishes job came status old new = ⊥
 
 -- whether a worker that takes now finds something to do: nothing changes
-abbrev pub HasWork : (Cache → Moved) → Status → Logged → Logged → Type 0
-HasWork step Done old new = (new ≡ old) × (is_work (step old.cache).answer ≡ true)
-HasWork step Idle old new = (new ≡ old) × (is_work (step old.cache).answer ≡ false)
+abbrev pub HasWork : (Cache → Moved) → Status → Leased → Leased → Type 0
+HasWork step Done old new = (new ≡ old) × (is_work (step old.logged.cache).answer ≡ true)
+HasWork step Idle old new = (new ≡ old) × (is_work (step old.logged.cache).answer ≡ false)
 HasWork step (Refused refusal) old new = (new ≡ old) × (refusal ≡ NoMemory)
 HasWork step status old new = ⊥
 
 -- the number of a call whose reply can be taken is told, where there is one: nothing changes
-abbrev pub NamesReply : ℕ → ℕ → Status → Logged → Logged → Type 0
-NamesReply was is Done old new = (new ≡ old) × IsNextReply old.cache.owed (Some is)
-NamesReply was is Idle old new = (new ≡ old) × (IsNextReply old.cache.owed None × (is ≡ was))
+abbrev pub NamesReply : ℕ → ℕ → Status → Leased → Leased → Type 0
+NamesReply was is Done old new = (new ≡ old) × IsNextReply old.logged.cache.owed (Some is)
+NamesReply was is Idle old new = (new ≡ old) × (IsNextReply old.logged.cache.owed None × (is ≡ was))
 NamesReply was is status old new = ⊥
 
 -- ---- the device operation for which a job waits
@@ -83,5 +84,5 @@ IsOrdered None before told was is status = (status ≡ Refused UnknownJob) × ((
 IsOrdered (Some order) before told was is status = TellsOrder order told was is status
 
 -- and nothing changes
-abbrev pub Orders : ℕ → Operation → Operation → Buffer → Buffer → Status → Logged → Logged → Type 0
-Orders job before told was is status old new = (new ≡ old) × IsOrdered (order_in old.cache.nvm job) before told was is status
+abbrev pub Orders : ℕ → Operation → Operation → Buffer → Buffer → Status → Leased → Leased → Type 0
+Orders job before told was is status old new = (new ≡ old) × IsOrdered (order_in old.logged.cache.nvm job) before told was is status

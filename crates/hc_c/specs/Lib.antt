@@ -1,5 +1,6 @@
 pub mod Calls
 pub mod Jobs
+pub mod Leases
 pub mod Making
 pub mod Pages
 pub mod Seated

@@ -1,5 +1,5 @@
 -- What a new cache is.
-use Rattle.std.specs.Prelude.{◌≡◌, ◌⊎◌, ℕ, List, map, Option, Some, None}
+use Rattle.std.specs.Prelude.{◌≡◌, ◌⊎◌, ◌/◌, ℕ, List, [], map, replicate, Option, Some, None}
 use Rattle.hc_types.specs.Config.{Config}
 use Rattle.hc_types.specs.Limits.{first_wrong}
 use Rattle.hc_types.specs.declared.config.FlashConfig.{FlashConfig}
@@ -9,6 +9,7 @@ use Rattle.hc_types.specs.declared.refusal.Refusal.TheVariants.{NoMemory}
 use Rattle.hc_history.specs.Losses.{no_losses}
 use Rattle.hc_history.specs.Told.{Sums, no_counts}
 use Rattle.hc_machine.specs.Cache.{new_cache}
+use Rattle.hc_leased.specs.Leased.{lease_slots}
 use Rattle.hc_shards.specs.Shards.{Sharded, share_of, sharded_wrong}
 use Rattle.hc_c.specs.declared.cache.Cache.{Cache}
 use Rattle.hc_c.specs.declared.making.Flash.{Flash}
@@ -37,9 +38,18 @@ numbers_of flash = record {
 abbrev pub config_of : List Pool → Option FlashConfig → Config
 config_of pools flash = record { pools = map size_of pools; flash = flash }
 
--- an empty cache, of whose log nothing was told
-abbrev pub fresh : Config → Cache
-fresh config = record { core = record { cache = new_cache config; log = Sums no_counts no_losses } }
+-- an empty cache, of whose log nothing was told, whose keys nobody has changed and nobody loads; it is one of so many shards
+pub record IsFresh (config : Config) (shards : ℕ) (cache : Cache) : Type 0 where
+  pub logged : cache.leased.logged ≡ record { cache = new_cache config; log = Sums no_counts no_losses }
+  pub changes : cache.leased.stamps.count ≡ 0
+  pub slots : cache.leased.stamps.slots ≡ replicate (lease_slots shards) 0
+  pub adds : cache.leased.stamps.adds ≡ []
+  pub turns : cache.leased.turns ≡ replicate (lease_slots shards / 16) None
+
+-- what is there is such a cache
+abbrev pub IsMade : Config → ℕ → Option Cache → Type 0
+IsMade config shards None = ⊥
+IsMade config shards (Some cache) = IsFresh config shards cache
 
 -- why none is made: for the first number that is wrong, or for want of memory
 abbrev pub MayNotMake : Config → Refusal → Type 0
@@ -47,7 +57,7 @@ MayNotMake config refusal = (first_wrong config ≡ Some refusal) ⊎ (refusal �
 
 -- a cache was made in place of the old one, or what was there stays
 abbrev pub Makes : Config → Status → Option Cache → Option Cache → Type 0
-Makes config Done old new = (new ≡ Some (fresh config)) × (first_wrong config ≡ None)
+Makes config Done old new = IsMade config 1 new × (first_wrong config ≡ None)
 Makes config (Refused refusal) old new = (new ≡ old) × MayNotMake config refusal
 Makes config status old new = ⊥
 
@@ -63,6 +73,6 @@ MayNotMakeShard sharded refusal = (sharded_wrong sharded ≡ Some refusal) ⊎ (
 
 -- an empty shard was made in place of the old cache, or what was there stays
 abbrev pub MakesShard : Sharded → Status → Option Cache → Option Cache → Type 0
-MakesShard sharded Done old new = (new ≡ Some (fresh (share_of sharded))) × (sharded_wrong sharded ≡ None)
+MakesShard sharded Done old new = IsMade (share_of sharded) sharded.shards new × (sharded_wrong sharded ≡ None)
 MakesShard sharded (Refused refusal) old new = (new ≡ old) × MayNotMakeShard sharded refusal
 MakesShard sharded status old new = ⊥

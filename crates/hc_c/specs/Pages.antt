@@ -3,7 +3,7 @@ use Rattle.std.specs.Prelude.{◌≡◌, ℕ, true, false, List, Option, Some, N
 use Rattle.hc_types.specs.declared.refusal.Refusal.TheVariants.{NoMemory, UnknownJob}
 use Rattle.hc_engines.specs.Engine.{Page, Order, Read, Write}
 use Rattle.hc_machine.specs.World.{order_in}
-use Rattle.hc_core.specs.Logged.{Logged}
+use Rattle.hc_leased.specs.Leased.{Leased}
 use Rattle.hc_c.specs.declared.jobs.Operation.{Operation}
 use Rattle.hc_c.specs.declared.reading.Reading.{Reading}
 use Rattle.hc_c.specs.declared.status.Status.{Status}
@@ -18,7 +18,7 @@ Holds bytes is (Refused refusal) = (refusal ≡ NoMemory) × (is ≡ None)
 Holds bytes is status = ⊥
 
 -- The page of the handle is handed in, and the handle has none then. Where it is refused, the handle keeps it.
-abbrev pub HandsIn : ℕ → Option Reading → Option Reading → Status → Logged → Logged → Type 0
+abbrev pub HandsIn : ℕ → Option Reading → Option Reading → Status → Leased → Leased → Type 0
 HandsIn job None is status old new = (status ≡ Empty) × ((is ≡ None) × (new ≡ old))
 HandsIn job (Some was) is (Refused refusal) old new = (is ≡ Some was) × Finishes job (Page was.bytes) (Refused refusal) old new
 HandsIn job (Some was) is status old new = (is ≡ None) × Finishes job (Page was.bytes) status old new
@@ -35,5 +35,5 @@ HandsOut None before told is status = (status ≡ Refused UnknownJob) × ((told 
 HandsOut (Some order) before told is status = TellsPage order before told is status
 
 -- and nothing changes
-abbrev pub HandsOrder : ℕ → Operation → Operation → Option Reading → Status → Logged → Logged → Type 0
-HandsOrder job before told is status old new = (new ≡ old) × HandsOut (order_in old.cache.nvm job) before told is status
+abbrev pub HandsOrder : ℕ → Operation → Operation → Option Reading → Status → Leased → Leased → Type 0
+HandsOrder job before told is status old new = (new ≡ old) × HandsOut (order_in old.logged.cache.nvm job) before told is status

@@ -1,11 +1,11 @@
 -- The numbers that C is told.
 use Rattle.std.specs.Prelude.{◌≡◌, ℕ, List, Option, Some, None}
 use Rattle.hc_types.specs.Refusals.{number_of}
-use Rattle.hc_core.specs.Logged.{Logged}
+use Rattle.hc_leased.specs.Leased.{Leased}
 use Rattle.hc_c.specs.declared.cache.Cache.{Cache}
 use Rattle.hc_c.specs.declared.reading.Reading.{Reading}
 use Rattle.hc_c.specs.declared.status.Status.{Status}
-use Rattle.hc_c.specs.declared.status.Status.TheVariants.{Done, Refused, Miss, Empty, Short, Waits, Idle, Finished}
+use Rattle.hc_c.specs.declared.status.Status.TheVariants.{Done, Refused, Miss, Empty, Short, Waits, Idle, Finished, Stale}
 
 abbrev pub status_number : Status → ℕ
 status_number Done = 0
@@ -16,6 +16,7 @@ status_number Short = 102
 status_number Waits = 103
 status_number Idle = 104
 status_number Finished = 105
+status_number Stale = 106
 
 -- the number is that of a status of which this holds
 pub record Says (number : ℕ) (holds : Status → Type 0) : Type 0 where
@@ -25,10 +26,10 @@ pub record Says (number : ℕ) (holds : Status → Type 0) : Type 0 where
 
 -- a call on what C holds: where there is no cache, it says so and there is none; else there is still one, of which the table
 -- of the call holds
-abbrev pub OnCache : Option Cache → Option Cache → ℕ → (Status → Logged → Logged → Type 0) → Type 0
+abbrev pub OnCache : Option Cache → Option Cache → ℕ → (Status → Leased → Leased → Type 0) → Type 0
 OnCache None new number table = (number ≡ status_number Empty) × (new ≡ None)
 OnCache (Some old) None number table = ⊥
-OnCache (Some old) (Some new) number table = Says number (λ status. table status old.core new.core)
+OnCache (Some old) (Some new) number table = Says number (λ status. table status old.leased new.leased)
 
 -- the same of a value, which stays as it is
 abbrev pub OnValue : Option Reading → Option Reading → ℕ → (Status → List ℕ → Type 0) → Type 0

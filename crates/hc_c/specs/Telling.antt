@@ -7,7 +7,7 @@ use Rattle.hc_history.specs.declared.losses.Losses.{Losses}
 use Rattle.hc_history.specs.declared.stats.Stats.{Stats}
 use Rattle.hc_memory.specs.declared.usage.PoolUsage.{PoolUsage}
 use Rattle.hc_memory.specs.Memory.{pool_usage}
-use Rattle.hc_core.specs.Logged.{Logged}
+use Rattle.hc_leased.specs.Leased.{Leased}
 use Rattle.hc_c.specs.declared.telling.Counts.{Counts}
 use Rattle.hc_c.specs.declared.telling.LossCounts.{LossCounts}
 use Rattle.hc_c.specs.declared.telling.Usage.{Usage}
@@ -30,8 +30,8 @@ abbrev pub AreCounts : Heard → Stats → Type 0
 AreCounts (Sums counts losses) stats = stats ≡ counts
 AreCounts heard stats = ⊥
 
-abbrev pub Counted : Counts → Status → Logged → Logged → Type 0
-Counted counts Done old new = (new ≡ old) × AreCounts old.log (counts_of counts)
+abbrev pub Counted : Counts → Status → Leased → Leased → Type 0
+Counted counts Done old new = (new ≡ old) × AreCounts old.logged.log (counts_of counts)
 Counted counts status old new = ⊥
 
 abbrev pub losses_of : LossCounts → Losses
@@ -54,12 +54,12 @@ abbrev pub AreLosses : Heard → Losses → Type 0
 AreLosses (Sums counts losses) told = (told ≡ losses) × (total_lost losses ≡ counts.losses)
 AreLosses heard told = ⊥
 
-abbrev pub CountedLosses : LossCounts → Status → Logged → Logged → Type 0
-CountedLosses losses Done old new = (new ≡ old) × AreLosses old.log (losses_of losses)
+abbrev pub CountedLosses : LossCounts → Status → Leased → Leased → Type 0
+CountedLosses losses Done old new = (new ≡ old) × AreLosses old.logged.log (losses_of losses)
 CountedLosses losses status old new = ⊥
 
-abbrev pub Called : ℕ → Status → Logged → Logged → Type 0
-Called calls Done old new = (new ≡ old) × (calls ≡ old.cache.calls)
+abbrev pub Called : ℕ → Status → Leased → Leased → Type 0
+Called calls Done old new = (new ≡ old) × (calls ≡ old.logged.cache.calls)
 Called calls status old new = ⊥
 
 pub record IsUsage (usage : PoolUsage) (told : Usage) : Type 0 where
@@ -74,7 +74,7 @@ abbrev pub Uses : Option PoolUsage → Usage → Type 0
 Uses None told = ⊥
 Uses (Some usage) told = IsUsage usage told
 
-abbrev pub Used : ℕ → Usage → Usage → Status → Logged → Logged → Type 0
-Used pool was is Done old new = (new ≡ old) × Uses (pool_usage old.cache.memory pool) is
-Used pool was is (Refused refusal) old new = (new ≡ old) × ((refusal ≡ NoPool) × ((pool_usage old.cache.memory pool ≡ None) × (is ≡ was)))
+abbrev pub Used : ℕ → Usage → Usage → Status → Leased → Leased → Type 0
+Used pool was is Done old new = (new ≡ old) × Uses (pool_usage old.logged.cache.memory pool) is
+Used pool was is (Refused refusal) old new = (new ≡ old) × ((refusal ≡ NoPool) × ((pool_usage old.logged.cache.memory pool ≡ None) × (is ≡ was)))
 Used pool was is status old new = ⊥

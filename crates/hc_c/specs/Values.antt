@@ -7,8 +7,10 @@ use Rattle.hc_history.specs.Note as note
 use Rattle.hc_history.specs.Note.{Reply}
 use Rattle.hc_machine.specs.Cache.{Replied}
 use Rattle.hc_machine.specs.Calls.{take_reply}
-use Rattle.hc_core.specs.Logged.{Logged, IsCall}
+use Rattle.hc_core.specs.Logged.{IsCall}
 use Rattle.hc_core.specs.Plain.{MayRefuse}
+use Rattle.hc_lease.specs.Stamps.{replied}
+use Rattle.hc_leased.specs.Leased.{Leased, SameLeases, Become}
 use Rattle.hc_c.specs.declared.reading.Reading.{Reading}
 use Rattle.hc_c.specs.declared.status.Status.{Status}
 use Rattle.hc_c.specs.declared.status.Status.TheVariants.{Done, Refused, Miss, Waits}
@@ -19,8 +21,8 @@ abbrev pub holding : List ℕ → Option Reading
 holding value = Some (record { bytes = value })
 
 -- the value is handed out, and where there is none the handle has none
-abbrev pub Reads : List ℕ → Option Reading → Status → Logged → Logged → Type 0
-Reads key is Done old new = Finds key old new (λ value. is ≡ holding value)
+abbrev pub Reads : List ℕ → Option Reading → Status → Leased → Leased → Type 0
+Reads key is Done old new = Finds key old.logged new.logged (λ value. is ≡ holding value) × SameLeases old new
 Reads key is (Refused refusal) old new = (is ≡ None) × ((new ≡ old) × ((key_refusal key ≡ Some refusal) ⊎ (refusal ≡ NoMemory)))
 Reads key is status old new = FindsNone key status old new × (is ≡ None)
 
@@ -40,16 +42,19 @@ abbrev pub handed : Reply → Option Reading
 handed (note.Hit value) = holding value
 handed reply = None
 
-pub record TakesReply (call : ℕ) (is : Option Reading) (status : Status) (old new : Logged) : Type 0 where
+-- a reply is taken; of an add, its key counts as changed now
+pub record TakesReply (call : ℕ) (is : Option Reading) (status : Status) (old new : Leased) : Type 0 where
   pub reply : Reply
-  pub taken : IsCall (take_reply call old.cache) (Replied reply) old new
+  pub taken : IsCall (take_reply call old.logged.cache) (Replied reply) old.logged new.logged
+  pub stamps : Become (replied call old.stamps) new.stamps
+  pub turns : new.turns ≡ old.turns
   pub told : status ≡ told_as reply
   pub value : is ≡ handed reply
 
-abbrev pub Replies : ℕ → Option Reading → Status → Logged → Logged → Type 0
+abbrev pub Replies : ℕ → Option Reading → Status → Leased → Leased → Type 0
 Replies call is (Refused refusal) old new =
     TakesReply call is (Refused refusal) old new
-    ⊎ ((new ≡ old) × ((is ≡ None) × MayRefuse (take_reply call old.cache).answer refusal))
+    ⊎ ((new ≡ old) × ((is ≡ None) × MayRefuse (take_reply call old.logged.cache).answer refusal))
 Replies call is status old new = TakesReply call is status old new
 
 -- ---- values that were handed out

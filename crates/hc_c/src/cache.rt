@@ -1,13 +1,14 @@
 // What is in the box that C holds.
 use hc_core::{Core, Totals};
+use hc_leased::Leased;
 
-/// A cache whose log is counted, and its losses by their reasons.
+/// A cache with leases, whose log is counted, and its losses by their reasons.
 pub struct Cache {
-    pub core: Core<Totals>,
+    pub leased: Leased<Core<Totals>>,
 }
 
 impl Drop for Cache {
     fn drop(self) {
-        let Cache { core: _ } = self;
+        let Cache { leased: _ } = self;
     }
 }

@@ -4,12 +4,13 @@ ghost use Rattle.hc_c.specs.Calls.{Sets, Adds, Gets, Copies, Deletes, MovesTo};
 
 use crate::status::Status;
 use hc_core::{Copied, Core, Inserted, Removed, Totals};
+use hc_leased::Leased;
 
 /// Stores a value in place of the key's.
-pub fn set(core: &mut Core<Totals>, pool: u8, key: &[u8], value: &[u8], ttl: u32) -> Status
-    ensures { Sets pool key.now value.now ttl result core.old core.new }
+pub fn set(cache: &mut Leased<Core<Totals>>, pool: u8, key: &[u8], value: &[u8], ttl: u32) -> Status
+    ensures { Sets pool key.now value.now ttl result cache.old cache.new }
 {
-    let done = core.set(pool, key, value, ttl);
+    let done = cache.set(pool, key, value, ttl);
     match done {
         Ok(()) => Status::Done,
         Err(refusal) => Status::Refused(refusal),
@@ -17,10 +18,10 @@ pub fn set(core: &mut Core<Totals>, pool: u8, key: &[u8], value: &[u8], ttl: u32
 }
 
 /// Stores a value where the key has none.
-pub fn add(core: &mut Core<Totals>, pool: u8, key: &[u8], value: &[u8], ttl: u32) -> Status
-    ensures { Adds pool key.now value.now ttl result core.old core.new }
+pub fn add(cache: &mut Leased<Core<Totals>>, pool: u8, key: &[u8], value: &[u8], ttl: u32) -> Status
+    ensures { Adds pool key.now value.now ttl result cache.old cache.new }
 {
-    let done = core.add(pool, key, value, ttl);
+    let done = cache.add(pool, key, value, ttl);
     match done {
         Ok(Inserted::Stored) => Status::Done,
         Ok(Inserted::Waiting(_)) => Status::Waits,
@@ -55,10 +56,10 @@ fn tell(value: usize, room: usize, len: &mut usize) -> Status
 }
 
 /// Copies the value under the key to the head of a buffer, and tells its length.
-pub fn get(core: &mut Core<Totals>, key: &[u8], out: &mut [u8], len: &mut usize) -> Status
-    ensures { Gets key.now (record { bytes = out.old; len = len.old }) (record { bytes = out.new; len = len.new }) result core.old core.new }
+pub fn get(cache: &mut Leased<Core<Totals>>, key: &[u8], out: &mut [u8], len: &mut usize) -> Status
+    ensures { Gets key.now (record { bytes = out.old; len = len.old }) (record { bytes = out.new; len = len.new }) result cache.old cache.new }
 {
-    match core.get_into(key, out) {
+    match cache.get_into(key, out) {
         Ok(Copied::Hit(found)) => tell(found, out.len(), len),
         Ok(Copied::Miss) => Status::Miss,
         Ok(Copied::Waiting(_)) => Status::Waits,
@@ -67,10 +68,10 @@ pub fn get(core: &mut Core<Totals>, key: &[u8], out: &mut [u8], len: &mut usize)
 }
 
 /// Takes the key's item out of the cache, and says whether there was one.
-pub fn delete(core: &mut Core<Totals>, key: &[u8]) -> Status
-    ensures { Deletes key.now result core.old core.new }
+pub fn delete(cache: &mut Leased<Core<Totals>>, key: &[u8]) -> Status
+    ensures { Deletes key.now result cache.old cache.new }
 {
-    let done = core.delete(key);
+    let done = cache.delete(key);
     match done {
         Ok(Removed::FoundInMemory) => Status::Done,
         Ok(Removed::NotInMemory) => Status::Miss,
@@ -79,10 +80,10 @@ pub fn delete(core: &mut Core<Totals>, key: &[u8]) -> Status
 }
 
 /// Moves the clock on to the moment.
-pub fn tick(core: &mut Core<Totals>, moment: u64) -> Status
-    ensures { MovesTo moment result core.old core.new }
+pub fn tick(cache: &mut Leased<Core<Totals>>, moment: u64) -> Status
+    ensures { MovesTo moment result cache.old cache.new }
 {
-    match core.tick(moment) {
+    match cache.tick(moment) {
         Ok(_) => Status::Done,
         Err(refusal) => Status::Refused(refusal),
     }

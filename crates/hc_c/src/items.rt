@@ -23,7 +23,7 @@ pub extern "C" fn kilambosetry_set(
     let Some(mut cache) = handle.take(alloc) else {
         return Status::Empty.number();
     };
-    let status = calls::set(&mut cache.core, pool, key, value, ttl);
+    let status = calls::set(&mut cache.leased, pool, key, value, ttl);
     handle.put(cache);
     status.number()
 }
@@ -43,7 +43,7 @@ pub extern "C" fn kilambosetry_add(
     let Some(mut cache) = handle.take(alloc) else {
         return Status::Empty.number();
     };
-    let status = calls::add(&mut cache.core, pool, key, value, ttl);
+    let status = calls::add(&mut cache.leased, pool, key, value, ttl);
     handle.put(cache);
     status.number()
 }
@@ -63,7 +63,7 @@ pub extern "C" fn kilambosetry_get(
     let Some(mut cache) = handle.take(alloc) else {
         return Status::Empty.number();
     };
-    let status = calls::get(&mut cache.core, key, out, len);
+    let status = calls::get(&mut cache.leased, key, out, len);
     handle.put(cache);
     status.number()
 }
@@ -76,7 +76,7 @@ pub extern "C" fn kilambosetry_delete(alloc: Global, handle: &mut CacheHandle, k
     let Some(mut cache) = handle.take(alloc) else {
         return Status::Empty.number();
     };
-    let status = calls::delete(&mut cache.core, key);
+    let status = calls::delete(&mut cache.leased, key);
     handle.put(cache);
     status.number()
 }

@@ -10,6 +10,7 @@ ghost use Rattle.hc_c.specs.Jobs.{TellsTake, Takes, Reclaims, Finishes, HasWork,
 use crate::calls::copy;
 use crate::status::Status;
 use hc_core::{Core, IoResult, Order, Refusal, Take, Totals, Unfinished};
+use hc_leased::Leased;
 
 /// A device operation on a page of flash.
 #[repr(C)]
@@ -36,30 +37,30 @@ pub(crate) fn tell_take(take: Take, job: &mut u64) -> Status
 }
 
 /// The writer takes what is next, and is told the job's number.
-pub fn writer_take(core: &mut Core<Totals>, job: &mut u64) -> Status
-    ensures { Takes writer_step job.old job.new result core.old core.new }
+pub fn writer_take(cache: &mut Leased<Core<Totals>>, job: &mut u64) -> Status
+    ensures { Takes writer_step job.old job.new result cache.old cache.new }
 {
-    match core.writer_take() {
+    match cache.writer_take() {
         Ok(take) => tell_take(take, job),
         Err(refusal) => Status::Refused(refusal),
     }
 }
 
 /// The filler takes what is next, and is told the job's number.
-pub fn filler_take(core: &mut Core<Totals>, job: &mut u64) -> Status
-    ensures { Takes filler_step job.old job.new result core.old core.new }
+pub fn filler_take(cache: &mut Leased<Core<Totals>>, job: &mut u64) -> Status
+    ensures { Takes filler_step job.old job.new result cache.old cache.new }
 {
-    match core.filler_take() {
+    match cache.filler_take() {
         Ok(take) => tell_take(take, job),
         Err(refusal) => Status::Refused(refusal),
     }
 }
 
 /// Gives up the region that was written first, where too few are clean.
-pub fn reclaim(core: &mut Core<Totals>) -> Status
-    ensures { Reclaims result core.old core.new }
+pub fn reclaim(cache: &mut Leased<Core<Totals>>) -> Status
+    ensures { Reclaims result cache.old cache.new }
 {
-    match core.reclaim() {
+    match cache.reclaim() {
         Ok(Some(_)) => Status::Done,
         Ok(None) => Status::Idle,
         Err(refusal) => Status::Refused(refusal),
@@ -67,10 +68,10 @@ pub fn reclaim(core: &mut Core<Totals>) -> Status
 }
 
 /// Says whether the writer finds something to do.
-pub fn writer_has_work(core: &mut Core<Totals>) -> Status
-    ensures { HasWork writer_step result core.old core.new }
+pub fn writer_has_work(cache: &mut Leased<Core<Totals>>) -> Status
+    ensures { HasWork writer_step result cache.old cache.new }
 {
-    match core.writer_has_work() {
+    match cache.writer_has_work() {
         Ok(true) => Status::Done,
         Ok(false) => Status::Idle,
         Err(refusal) => Status::Refused(refusal),
@@ -78,10 +79,10 @@ pub fn writer_has_work(core: &mut Core<Totals>) -> Status
 }
 
 /// Says whether the filler finds something to do.
-pub fn filler_has_work(core: &mut Core<Totals>) -> Status
-    ensures { HasWork filler_step result core.old core.new }
+pub fn filler_has_work(cache: &mut Leased<Core<Totals>>) -> Status
+    ensures { HasWork filler_step result cache.old cache.new }
 {
-    match core.filler_has_work() {
+    match cache.filler_has_work() {
         Ok(true) => Status::Done,
         Ok(false) => Status::Idle,
         Err(refusal) => Status::Refused(refusal),
@@ -89,10 +90,10 @@ pub fn filler_has_work(core: &mut Core<Totals>) -> Status
 }
 
 /// Tells the number of a call whose reply can be taken.
-pub fn next_reply(core: &Core<Totals>, call: &mut u64) -> Status
-    ensures { NamesReply call.old call.new result core.now core.now }
+pub fn next_reply(cache: &Leased<Core<Totals>>, call: &mut u64) -> Status
+    ensures { NamesReply call.old call.new result cache.now cache.now }
 {
-    match core.next_reply() {
+    match cache.cache().next_reply() {
         Some(number) => {
             *call = number;
             Status::Done
@@ -102,10 +103,10 @@ pub fn next_reply(core: &Core<Totals>, call: &mut u64) -> Status
 }
 
 /// Hands in what came of the operation for which the job waits.
-pub fn finish(core: &mut Core<Totals>, job: u64, came: IoResult) -> Status
-    ensures { Finishes job (result_of came) result core.old core.new }
+pub fn finish(cache: &mut Leased<Core<Totals>>, job: u64, came: IoResult) -> Status
+    ensures { Finishes job (result_of came) result cache.old cache.new }
 {
-    match core.finish(job, came) {
+    match cache.finish(job, came) {
         Ok(take) => {
             let mut next = job;
             tell_take(take, &mut next)
@@ -141,15 +142,15 @@ fn tell_order(order: &Order, told: &mut Operation, out: &mut [u8], len: &mut usi
 
 /// Tells the operation for which the job waits.
 pub fn order(
-    core: &Core<Totals>,
+    cache: &Leased<Core<Totals>>,
     job: u64,
     told: &mut Operation,
     out: &mut [u8],
     len: &mut usize,
 ) -> Status
-    ensures { IsOrdered (order_in core.now.cache.nvm job) told.old told.new (record { bytes = out.old; len = len.old }) (record { bytes = out.new; len = len.new }) result }
+    ensures { IsOrdered (order_in cache.now.logged.cache.nvm job) told.old told.new (record { bytes = out.old; len = len.old }) (record { bytes = out.new; len = len.new }) result }
 {
-    match core.order(job) {
+    match cache.cache().order(job) {
         Some(order) => tell_order(order, told, out, len),
         None => Status::Refused(Refusal::UnknownJob),
     }

@@ -11,6 +11,7 @@ mod cache_seat;
 mod calls;
 mod items;
 mod jobs;
+mod leases;
 mod making;
 mod pages;
 mod parts;
@@ -26,6 +27,9 @@ pub use cache::Cache;
 pub use cache_handle::CacheHandle;
 pub use items::{kilambosetry_add, kilambosetry_delete, kilambosetry_get, kilambosetry_set};
 pub use jobs::Operation;
+pub use leases::{
+    kilambosetry_ask_turn, kilambosetry_end_turn, kilambosetry_set_leased, kilambosetry_ticket,
+};
 pub use making::{
     Flash, Pool, kilambosetry_free, kilambosetry_new, kilambosetry_new_shard,
     kilambosetry_new_shard_with_flash, kilambosetry_new_with_flash, kilambosetry_shard_of,

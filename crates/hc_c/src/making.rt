@@ -3,13 +3,14 @@ ghost use Rattle.std.specs.Prelude.{◌≡◌, ◌<◌, None, Some, IfOk, IfErr,
 ghost use Rattle.hc_types.specs.Limits.{first_wrong};
 ghost use Rattle.hc_types.specs.declared.refusal.Refusal.TheVariants.{NoMemory};
 ghost use Rattle.hc_shards.specs.Shards.{shard_of, share_of, sharded_wrong};
-ghost use Rattle.hc_c.specs.Making.{config_of, sharded_of, size_of, numbers_of, fresh, Makes, MakesShard, MayNotMake, MayNotMakeShard};
+ghost use Rattle.hc_c.specs.Making.{config_of, sharded_of, size_of, numbers_of, IsFresh, Makes, MakesShard, MayNotMake, MayNotMakeShard};
 ghost use Rattle.hc_c.specs.Statuses.{Says};
 
 use crate::cache::Cache;
 use crate::cache_handle::CacheHandle;
 use crate::status::Status;
 use hc_core::{Config, Core, FlashConfig, PoolSize, Refusal, Totals};
+use hc_leased::{Leased, slots_for};
 use hc_shards::{Sharded, shares_are_right};
 use hc_types::hash_of;
 use std::alloc::{AllocError, Global};
@@ -71,14 +72,18 @@ fn sizes_of(alloc: Global, pools: &[Pool]) -> Result<Vec<PoolSize>, AllocError>
     Ok(sizes)
 }
 
-// An empty cache of this configuration, in a box.
-fn boxed(alloc: Global, config: &Config) -> Result<Box<Cache>, Refusal>
-    ensures ok { IfOk result (λ cache. cache.value ≡ fresh config.now) }
+// An empty cache of this configuration, which is one of so many shards, in a box.
+fn boxed(alloc: Global, config: &Config, shards: u8) -> Result<Box<Cache>, Refusal>
+    ensures ok { IfOk result (λ cache. IsFresh config.now shards cache.value) }
     ensures fits { OnOk result (first_wrong config.now ≡ None) }
     ensures err { IfErr result (λ refusal. MayNotMake config.now refusal) }
 {
     let core = Core::new(alloc, config, Totals::new())?;
-    match Box::new(alloc, Cache { core }) {
+    let slots = slots_for(shards);
+    let Ok(leased) = Leased::new(alloc, core, slots, slots / 16) else {
+        return Err(Refusal::NoMemory);
+    };
+    match Box::new(alloc, Cache { leased }) {
         Ok(cache) => Ok(cache),
         Err(_) => Err(Refusal::NoMemory),
     }
@@ -90,12 +95,12 @@ fn cache_of(
     pools: &[Pool],
     flash: Option<FlashConfig>,
 ) -> Result<Box<Cache>, Refusal>
-    ensures ok { IfOk result (λ cache. cache.value ≡ fresh (config_of pools.now flash)) }
+    ensures ok { IfOk result (λ cache. IsFresh (config_of pools.now flash) 1 cache.value) }
     ensures fits { OnOk result (first_wrong (config_of pools.now flash) ≡ None) }
     ensures err { IfErr result (λ refusal. MayNotMake (config_of pools.now flash) refusal) }
 {
     let config = Config::new(sizes_of(alloc, pools)?, flash);
-    boxed(alloc, &config)
+    boxed(alloc, &config, 1)
 }
 
 fn new(
@@ -145,7 +150,7 @@ fn shard_of_pools(
     flash: Option<FlashConfig>,
     shards: u8,
 ) -> Result<Box<Cache>, Refusal>
-    ensures ok { IfOk result (λ cache. cache.value ≡ fresh (share_of (sharded_of pools.now flash shards))) }
+    ensures ok { IfOk result (λ cache. IsFresh (share_of (sharded_of pools.now flash shards)) shards cache.value) }
     ensures fits { OnOk result (sharded_wrong (sharded_of pools.now flash shards) ≡ None) }
     ensures err { IfErr result (λ refusal. MayNotMakeShard (sharded_of pools.now flash shards) refusal) }
 {
@@ -156,7 +161,7 @@ fn shard_of_pools(
     sharded.check()?;
     let share = sharded.share(alloc)?;
     shares_are_right();
-    match boxed(alloc, &share) {
+    match boxed(alloc, &share, shards) {
         Ok(cache) => Ok(cache),
         Err(_) => Err(Refusal::NoMemory),
     }

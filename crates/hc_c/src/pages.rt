@@ -12,6 +12,7 @@ use crate::status::Status;
 use crate::value_handle::ValueHandle;
 use bytes::Bytes;
 use hc_core::{Core, IoResult, Order, Refusal, Totals, Unfinished};
+use hc_leased::Leased;
 use std::alloc::Global;
 use std::mem;
 
@@ -43,14 +44,19 @@ fn copied(alloc: Global, page: &mut ValueHandle, bytes: &[u8]) -> Status
 }
 
 // The page is handed in for the job, and its handle has it no longer, unless it is refused.
-fn hand_in(core: &mut Core<Totals>, alloc: Global, job: u64, page: &mut ValueHandle) -> Status
-    ensures { HandsIn job page.old.seat.value page.new.seat.value result core.old core.new }
+fn hand_in(
+    cache: &mut Leased<Core<Totals>>,
+    alloc: Global,
+    job: u64,
+    page: &mut ValueHandle,
+) -> Status
+    ensures { HandsIn job page.old.seat.value page.new.seat.value result cache.old cache.new }
 {
     let Some(mut reading) = page.take(alloc) else {
         return Status::Empty;
     };
     let bytes = mem::replace(&mut reading.bytes, Bytes::new());
-    match core.finish(job, IoResult::Page(bytes)) {
+    match cache.finish(job, IoResult::Page(bytes)) {
         Ok(take) => {
             drop(reading);
             let mut next = job;
@@ -100,15 +106,15 @@ fn tell_page(order: &Order, alloc: Global, told: &mut Operation, page: &mut Valu
 }
 
 fn hand_out(
-    core: &Core<Totals>,
+    cache: &Leased<Core<Totals>>,
     alloc: Global,
     job: u64,
     told: &mut Operation,
     page: &mut ValueHandle,
 ) -> Status
-    ensures { HandsOut (order_in core.now.cache.nvm job) told.old told.new page.new.seat.value result }
+    ensures { HandsOut (order_in cache.now.logged.cache.nvm job) told.old told.new page.new.seat.value result }
 {
-    match core.order(job) {
+    match cache.cache().order(job) {
         Some(order) => tell_page(order, alloc, told, page),
         None => {
             drop(page.take(alloc));
@@ -142,7 +148,7 @@ pub extern "C" fn kilambosetry_order_page(
     let Some(cache) = handle.take(alloc) else {
         return Status::Empty.number();
     };
-    let status = hand_out(&cache.core, alloc, job, operation, page);
+    let status = hand_out(&cache.leased, alloc, job, operation, page);
     handle.put(cache);
     status.number()
 }
@@ -163,7 +169,7 @@ pub extern "C" fn kilambosetry_finish_page(
     let Some(mut cache) = handle.take(alloc) else {
         return Status::Empty.number();
     };
-    let status = hand_in(&mut cache.core, alloc, job, page);
+    let status = hand_in(&mut cache.leased, alloc, job, page);
     handle.put(cache);
     status.number()
 }

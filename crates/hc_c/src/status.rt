@@ -17,12 +17,14 @@ pub enum Status {
     Empty,
     /// The buffer is shorter than the value.
     Short,
-    /// The call waits for flash.
+    /// The call waits for flash; of a turn, another loads the key.
     Waits,
-    /// There is nothing to do.
+    /// There is nothing to do, or to tell.
     Idle,
     /// The job is over.
     Finished,
+    /// What was loaded isn't stored: a key of its slot was changed since the ticket was handed out.
+    Stale,
 }
 
 impl Status {
@@ -40,6 +42,7 @@ impl Status {
             Status::Waits => 103,
             Status::Idle => 104,
             Status::Finished => 105,
+            Status::Stale => 106,
         }
     }
 }

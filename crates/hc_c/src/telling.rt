@@ -8,6 +8,7 @@ use crate::cache_handle::CacheHandle;
 use crate::calls;
 use crate::status::Status;
 use hc_core::{Core, Losses, PoolUsage, Stats, Totals};
+use hc_leased::Leased;
 use hc_types::Refusal;
 use std::alloc::Global;
 
@@ -106,31 +107,31 @@ impl Usage {
     }
 }
 
-fn tell_calls(core: &Core<Totals>, calls: &mut u64) -> Status
-    ensures { Called calls.new result core.now core.now }
+fn tell_calls(cache: &Leased<Core<Totals>>, calls: &mut u64) -> Status
+    ensures { Called calls.new result cache.now cache.now }
 {
-    *calls = core.calls();
+    *calls = cache.cache().calls();
     Status::Done
 }
 
-fn tell_counts(core: &Core<Totals>, counts: &mut Counts) -> Status
-    ensures { Counted counts.new result core.now core.now }
+fn tell_counts(cache: &Leased<Core<Totals>>, counts: &mut Counts) -> Status
+    ensures { Counted counts.new result cache.now cache.now }
 {
-    *counts = Counts::of(core.notes().counts());
+    *counts = Counts::of(cache.cache().notes().counts());
     Status::Done
 }
 
-fn tell_losses(core: &Core<Totals>, losses: &mut LossCounts) -> Status
-    ensures { CountedLosses losses.new result core.now core.now }
+fn tell_losses(cache: &Leased<Core<Totals>>, losses: &mut LossCounts) -> Status
+    ensures { CountedLosses losses.new result cache.now cache.now }
 {
-    *losses = LossCounts::of(core.notes().losses());
+    *losses = LossCounts::of(cache.cache().notes().losses());
     Status::Done
 }
 
-fn tell_usage(core: &Core<Totals>, pool: u8, usage: &mut Usage) -> Status
-    ensures { Used pool usage.old usage.new result core.now core.now }
+fn tell_usage(cache: &Leased<Core<Totals>>, pool: u8, usage: &mut Usage) -> Status
+    ensures { Used pool usage.old usage.new result cache.now cache.now }
 {
-    let pools = core.pools();
+    let pools = cache.cache().pools();
     if usize::from(pool) >= pools.len() {
         return Status::Refused(Refusal::NoPool);
     }
@@ -146,7 +147,7 @@ pub extern "C" fn kilambosetry_tick(alloc: Global, handle: &mut CacheHandle, mom
     let Some(mut cache) = handle.take(alloc) else {
         return Status::Empty.number();
     };
-    let status = calls::tick(&mut cache.core, moment);
+    let status = calls::tick(&mut cache.leased, moment);
     handle.put(cache);
     status.number()
 }
@@ -159,7 +160,7 @@ pub extern "C" fn kilambosetry_calls(alloc: Global, handle: &mut CacheHandle, ca
     let Some(cache) = handle.take(alloc) else {
         return Status::Empty.number();
     };
-    let status = tell_calls(&cache.core, calls);
+    let status = tell_calls(&cache.leased, calls);
     handle.put(cache);
     status.number()
 }
@@ -176,7 +177,7 @@ pub extern "C" fn kilambosetry_counts(
     let Some(cache) = handle.take(alloc) else {
         return Status::Empty.number();
     };
-    let status = tell_counts(&cache.core, counts);
+    let status = tell_counts(&cache.leased, counts);
     handle.put(cache);
     status.number()
 }
@@ -193,7 +194,7 @@ pub extern "C" fn kilambosetry_losses(
     let Some(cache) = handle.take(alloc) else {
         return Status::Empty.number();
     };
-    let status = tell_losses(&cache.core, losses);
+    let status = tell_losses(&cache.leased, losses);
     handle.put(cache);
     status.number()
 }
@@ -211,7 +212,7 @@ pub extern "C" fn kilambosetry_usage(
     let Some(cache) = handle.take(alloc) else {
         return Status::Empty.number();
     };
-    let status = tell_usage(&cache.core, pool, used);
+    let status = tell_usage(&cache.leased, pool, used);
     handle.put(cache);
     status.number()
 }

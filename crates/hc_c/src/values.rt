@@ -10,6 +10,7 @@ use crate::status::Status;
 use crate::value_handle::ValueHandle;
 use bytes::Bytes;
 use hc_core::{Core, Found, Refusal, Reply, Totals};
+use hc_leased::Leased;
 use std::alloc::Global;
 
 // Empties the handle, and makes room for what it is handed: first, so that what a call brought isn't lost for want of memory.
@@ -33,14 +34,19 @@ fn hand_out(value: &mut ValueHandle, mut room: Box<Reading>, bytes: Bytes)
     *value = ValueHandle::of(room);
 }
 
-fn read(core: &mut Core<Totals>, alloc: Global, key: &[u8], value: &mut ValueHandle) -> Status
-    ensures { Reads key.now value.new.seat.value result core.old core.new }
+fn read(
+    cache: &mut Leased<Core<Totals>>,
+    alloc: Global,
+    key: &[u8],
+    value: &mut ValueHandle,
+) -> Status
+    ensures { Reads key.now value.new.seat.value result cache.old cache.new }
 {
     let room = match make_room(alloc, value) {
         Ok(room) => room,
         Err(refusal) => return Status::Refused(refusal),
     };
-    match core.get(key) {
+    match cache.get(key) {
         Ok(Found::Hit(handle)) => {
             hand_out(value, room, handle.into_bytes());
             Status::Done
@@ -51,22 +57,30 @@ fn read(core: &mut Core<Totals>, alloc: Global, key: &[u8], value: &mut ValueHan
     }
 }
 
-fn reply(core: &mut Core<Totals>, alloc: Global, call: u64, value: &mut ValueHandle) -> Status
-    ensures { Replies call value.new.seat.value result core.old core.new }
+fn reply(
+    cache: &mut Leased<Core<Totals>>,
+    alloc: Global,
+    call: u64,
+    value: &mut ValueHandle,
+) -> Status
+    ensures { Replies call value.new.seat.value result cache.old cache.new }
 {
     let room = match make_room(alloc, value) {
         Ok(room) => room,
         Err(refusal) => return Status::Refused(refusal),
     };
-    match core.take_reply(call) {
-        Ok(Reply::Hit(bytes)) => {
+    let (reply, _ticket) = match cache.take_reply(call) {
+        Ok(taken) => taken,
+        Err(refusal) => return Status::Refused(refusal),
+    };
+    match reply {
+        Reply::Hit(bytes) => {
             hand_out(value, room, bytes);
             Status::Done
         }
-        Ok(Reply::Stored | Reply::FoundInMemory) => Status::Done,
-        Ok(Reply::Miss | Reply::NotInMemory) => Status::Miss,
-        Ok(Reply::Exists) => Status::Refused(Refusal::Exists),
-        Err(refusal) => Status::Refused(refusal),
+        Reply::Stored | Reply::FoundInMemory => Status::Done,
+        Reply::Miss | Reply::NotInMemory => Status::Miss,
+        Reply::Exists => Status::Refused(Refusal::Exists),
     }
 }
 
@@ -116,7 +130,7 @@ pub extern "C" fn kilambosetry_read(
     let Some(mut cache) = handle.take(alloc) else {
         return Status::Empty.number();
     };
-    let status = read(&mut cache.core, alloc, key, value);
+    let status = read(&mut cache.leased, alloc, key, value);
     handle.put(cache);
     status.number()
 }
@@ -136,7 +150,7 @@ pub extern "C" fn kilambosetry_take_reply(
     let Some(mut cache) = handle.take(alloc) else {
         return Status::Empty.number();
     };
-    let status = reply(&mut cache.core, alloc, call, value);
+    let status = reply(&mut cache.leased, alloc, call, value);
     handle.put(cache);
     status.number()
 }

@@ -25,7 +25,7 @@ pub extern "C" fn kilambosetry_writer_take(
     let Some(mut cache) = handle.take(alloc) else {
         return Status::Empty.number();
     };
-    let status = jobs::writer_take(&mut cache.core, job);
+    let status = jobs::writer_take(&mut cache.leased, job);
     handle.put(cache);
     status.number()
 }
@@ -42,7 +42,7 @@ pub extern "C" fn kilambosetry_filler_take(
     let Some(mut cache) = handle.take(alloc) else {
         return Status::Empty.number();
     };
-    let status = jobs::filler_take(&mut cache.core, job);
+    let status = jobs::filler_take(&mut cache.leased, job);
     handle.put(cache);
     status.number()
 }
@@ -56,7 +56,7 @@ pub extern "C" fn kilambosetry_writer_has_work(alloc: Global, handle: &mut Cache
     let Some(mut cache) = handle.take(alloc) else {
         return Status::Empty.number();
     };
-    let status = jobs::writer_has_work(&mut cache.core);
+    let status = jobs::writer_has_work(&mut cache.leased);
     handle.put(cache);
     status.number()
 }
@@ -69,7 +69,7 @@ pub extern "C" fn kilambosetry_filler_has_work(alloc: Global, handle: &mut Cache
     let Some(mut cache) = handle.take(alloc) else {
         return Status::Empty.number();
     };
-    let status = jobs::filler_has_work(&mut cache.core);
+    let status = jobs::filler_has_work(&mut cache.leased);
     handle.put(cache);
     status.number()
 }
@@ -86,7 +86,7 @@ pub extern "C" fn kilambosetry_next_reply(
     let Some(cache) = handle.take(alloc) else {
         return Status::Empty.number();
     };
-    let status = jobs::next_reply(&cache.core, call);
+    let status = jobs::next_reply(&cache.leased, call);
     handle.put(cache);
     status.number()
 }
@@ -100,7 +100,7 @@ pub extern "C" fn kilambosetry_reclaim(alloc: Global, handle: &mut CacheHandle) 
     let Some(mut cache) = handle.take(alloc) else {
         return Status::Empty.number();
     };
-    let status = jobs::reclaim(&mut cache.core);
+    let status = jobs::reclaim(&mut cache.leased);
     handle.put(cache);
     status.number()
 }
@@ -121,7 +121,7 @@ pub extern "C" fn kilambosetry_order(
     let Some(cache) = handle.take(alloc) else {
         return Status::Empty.number();
     };
-    let status = jobs::order(&cache.core, job, operation, out, len);
+    let status = jobs::order(&cache.leased, job, operation, out, len);
     handle.put(cache);
     status.number()
 }
@@ -142,7 +142,7 @@ pub extern "C" fn kilambosetry_finish_read(
         return Status::Empty.number();
     };
     let status = match Bytes::copy_from_slice(alloc, page) {
-        Ok(bytes) => jobs::finish(&mut cache.core, job, IoResult::Page(bytes)),
+        Ok(bytes) => jobs::finish(&mut cache.leased, job, IoResult::Page(bytes)),
         Err(_) => Status::Refused(Refusal::NoMemory),
     };
     handle.put(cache);
@@ -157,7 +157,7 @@ pub extern "C" fn kilambosetry_finish_write(alloc: Global, handle: &mut CacheHan
     let Some(mut cache) = handle.take(alloc) else {
         return Status::Empty.number();
     };
-    let status = jobs::finish(&mut cache.core, job, IoResult::Written);
+    let status = jobs::finish(&mut cache.leased, job, IoResult::Written);
     handle.put(cache);
     status.number()
 }
@@ -174,7 +174,7 @@ pub extern "C" fn kilambosetry_finish_failed(
     let Some(mut cache) = handle.take(alloc) else {
         return Status::Empty.number();
     };
-    let status = jobs::finish(&mut cache.core, job, IoResult::Failed);
+    let status = jobs::finish(&mut cache.leased, job, IoResult::Failed);
     handle.put(cache);
     status.number()
 }

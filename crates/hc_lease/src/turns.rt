@@ -52,6 +52,15 @@ impl<A: Allocator> Turns<A> {
         self.places.len()
     }
 
+    /// Since which second someone loads the key, who began fewer than `patience` seconds before `now`, if anyone does.
+    #[must_use]
+    pub fn busy(&self, key: &Key<A>, now: u64, patience: u64) -> Option<u64>
+        ensures { result ≡ busy_at key.now now patience self.now }
+    {
+        let digest = key.digest();
+        busy(self.turn(self.place(digest)), digest, now, patience)
+    }
+
     /// Since which second another loads the key, who began fewer than `patience` seconds before `now`. Where nobody does,
     /// the turn is the caller's, who loads the key and then ends the turn; one who never does is passed over once
     /// `patience` is up.

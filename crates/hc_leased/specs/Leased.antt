@@ -1,5 +1,5 @@
 -- What contracts see of a cache with leases, and what its calls do.
-use Rattle.std.specs.Prelude.{◌≡◌, ◌⊎◌, ℕ, true, false, List, length, Option}
+use Rattle.std.specs.Prelude.{◌≡◌, ◌⊎◌, ℕ, nat_lt, true, false, List, length, Option, if◌then◌else◌}
 use Rattle.hc_types.specs.declared.refusal.Refusal.{Refusal}
 use Rattle.hc_types.specs.declared.refusal.Refusal.TheVariants.{NoMemory}
 use Rattle.hc_memory.specs.Item.{Handle}
@@ -25,6 +25,11 @@ pub record Leased : Type 0 where
   pub logged : Logged
   pub stamps : Stamps
   pub turns : List (Option Turn)
+
+-- how many slots for keys serve a cache that is one of so many shards
+abbrev pub lease_slots : ℕ → ℕ
+lease_slots shards =
+    if nat_lt shards 2 then 65536 else (if nat_lt shards 4 then 32768 else (if nat_lt shards 8 then 16384 else (if nat_lt shards 16 then 8192 else 4096)))
 
 -- no key was changed, and no turn began or ended
 abbrev pub SameLeases : Leased → Leased → Type 0

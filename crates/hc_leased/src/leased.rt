@@ -1,7 +1,8 @@
 // A cache, and when its keys were changed last.
-ghost use Rattle.std.specs.Prelude.{◌≡◌, ◌%◌, ◌<◌, [], None, length, replicate, IfOk, IfErr};
+ghost use Rattle.std.specs.Prelude.{◌≡◌, ◌%◌, ◌<◌, ◌≤◌, [], None, length, replicate, IfOk, IfErr};
 ghost use Rattle.hc_lease.specs.Stamps.{stamped, ticket_at};
 ghost use Rattle.hc_lease.specs.Turns.{without_turn_at};
+ghost use Rattle.hc_leased.specs.Leased.{lease_slots};
 
 use crate::cache::Cache;
 use hc_lease::{Stamps, Ticket, Turns};
@@ -14,6 +15,22 @@ pub const DEFAULT_SLOTS: usize = 65_536;
 
 /// How many places for turns serve most caches: 96 KB.
 pub const DEFAULT_PLACES: usize = 4_096;
+
+/// How many slots serve a cache that is one of so many shards: `DEFAULT_SLOTS` for one, and the fewer the more there are,
+/// so that all of them have at least as many together. A sixteenth of them are as many places for turns as serve it.
+#[must_use]
+pub fn slots_for(shards: u8) -> usize
+    ensures slots { result ≡ lease_slots shards }
+    ensures enough { 4096 ≤ result }
+{
+    match shards {
+        0..=1 => 65_536,
+        2..=3 => 32_768,
+        4..=7 => 16_384,
+        8..=15 => 8_192,
+        _ => 4_096,
+    }
+}
 
 /// A cache with leases. Who has it can't call the cache beside it, so that each change of a key is noticed: a store and
 /// a remove that are answered, and an add that waits for flash, until its reply is taken. What is evicted, expires, is
@@ -96,6 +113,22 @@ impl<C: Cache, A: Allocator> Leased<C, A> {
             turns: _,
         } = self;
         cache
+    }
+
+    /// How many calls were begun: inserts, finds and removes that weren't refused.
+    #[must_use]
+    pub fn calls(&self) -> u64
+        ensures { result ≡ self.now.logged.cache.calls }
+    {
+        self.cache.calls()
+    }
+
+    /// The moment that holds, in seconds.
+    #[must_use]
+    pub fn now(&self) -> u64
+        ensures { result ≡ self.now.logged.cache.now }
+    {
+        self.cache.now()
     }
 
     /// How many changes of keys there were.

@@ -25,7 +25,7 @@ pub use cache::{Cache, Calls};
 pub use laws::{
     calls_are_runs, leased_never_stale, leased_replies_never_stale, leased_tickets_hold,
 };
-pub use leased::{DEFAULT_PLACES, DEFAULT_SLOTS, Leased};
+pub use leased::{DEFAULT_PLACES, DEFAULT_SLOTS, Leased, slots_for};
 
 // The types of tickets, so that a caller needs no other crate.
 pub use hc_lease::Ticket;

@@ -69,6 +69,15 @@ impl<C: Calls<A>, A: Allocator + Clone + Copy> Leased<C, A> {
         self.turns.ask(key, now, patience)
     }
 
+    /// Since which second (by the cache's clock) someone loads the key, who began fewer than `patience` seconds ago, if
+    /// anyone does. Nothing changes.
+    #[must_use]
+    pub fn is_loading(&self, key: &Key<A>, patience: u64) -> Option<u64>
+        ensures { result ≡ busy_at key.now self.now.logged.cache.now patience self.now.turns }
+    {
+        self.turns.busy(key, self.cache.now(), patience)
+    }
+
     /// The key's load is given up: the next who asks has the turn.
     pub fn end_turn(&mut self, key: &Key<A>)
         ensures turns { self.new.turns ≡ without_turn key.now self.old.turns }

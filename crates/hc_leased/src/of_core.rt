@@ -29,8 +29,21 @@ use hc_lease::Ticket;
 use hc_memory::Fill;
 use hc_nvm::{Take, Unfinished};
 use hc_state::{Copied, Found, Inserted, Removed};
-use hc_types::{Key, Refusal, digest_of};
+use hc_types::{KEY_MAX, Key, Refusal, digest_of};
 use std::alloc::Allocator;
+
+// Why a call by this key is refused for which memory lacks: the key comes first.
+fn lacking(key: &[u8]) -> Refusal
+    ensures { (key_refusal key.now ≡ Some result) ⊎ ((key_refusal key.now ≡ None) × (result ≡ Refusal.NoMemory)) }
+{
+    if key.is_empty() {
+        return Refusal::KeyEmpty;
+    }
+    if key.len() > KEY_MAX {
+        return Refusal::KeyTooLong;
+    }
+    Refusal::NoMemory
+}
 
 impl<N: Notes<Note<A>>, A: Allocator + Clone + Copy> Leased<Core<N, A>, A> {
     /// As `Core::find_into`.
@@ -174,7 +187,7 @@ impl<N: Notes<Note<A>>, A: Allocator + Clone + Copy> Leased<Core<N, A>, A> {
         ensures err { IfErr result (λ refusal. ((self.new.logged ≡ self.old.logged) × (refusal ≢ Refusal.Exists)) ⊎ ((IsCall (add_step pool key.now value.now ttl self.old.logged.cache) (Refused Exists) self.old.logged self.new.logged × (refusal ≡ Refusal.Exists)) ⊎ (IsCall (give_up_step pool key.now value.now ttl self.old.logged.cache) Discarded self.old.logged self.new.logged × (refusal ≡ Refusal.NoMemory)))) }
         ensures same { OnErr result (Become self.old.stamps self.new.stamps) }
         ensures same_turns { OnErr result (self.new.turns ≡ self.old.turns) }
-        ensures why { IfErr result (λ refusal. (key_refusal key.now ≡ Some refusal) ⊎ MayRefuseNew (allocate_step pool key.now value.now ttl self.old.logged.cache).answer refusal) }
+        ensures why { IfErr result (λ refusal. (key_refusal key.now ≡ Some refusal) ⊎ ((key_refusal key.now ≡ None) × MayRefuseNew (allocate_step pool key.now value.now ttl self.old.logged.cache).answer refusal)) }
     {
         self.add_with(pool, key, Fill::Copied(value), ttl)
     }
@@ -195,10 +208,10 @@ impl<N: Notes<Note<A>>, A: Allocator + Clone + Copy> Leased<Core<N, A>, A> {
         ensures err { IfErr result (λ refusal. ((self.new.logged ≡ self.old.logged) × (refusal ≢ Refusal.Exists)) ⊎ ((IsCall (add_step pool key.now (filled fill.entry) ttl self.old.logged.cache) (Refused Exists) self.old.logged self.new.logged × (refusal ≡ Refusal.Exists)) ⊎ (IsCall (give_up_step pool key.now (filled fill.entry) ttl self.old.logged.cache) Discarded self.old.logged self.new.logged × (refusal ≡ Refusal.NoMemory)))) }
         ensures same { OnErr result (Become self.old.stamps self.new.stamps) }
         ensures same_turns { OnErr result (self.new.turns ≡ self.old.turns) }
-        ensures why { IfErr result (λ refusal. (key_refusal key.now ≡ Some refusal) ⊎ MayRefuseNew (allocate_step pool key.now (filled fill.entry) ttl self.old.logged.cache).answer refusal) }
+        ensures why { IfErr result (λ refusal. (key_refusal key.now ≡ Some refusal) ⊎ ((key_refusal key.now ≡ None) × MayRefuseNew (allocate_step pool key.now (filled fill.entry) ttl self.old.logged.cache).answer refusal)) }
     {
         if self.stamps.reserve().is_err() {
-            return Err(Refusal::NoMemory);
+            return Err(lacking(key));
         }
         let inserted = self.cache.add_with(pool, key, fill, ttl)?;
         self.note_add(inserted, digest_of(key));

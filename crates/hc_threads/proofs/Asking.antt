@@ -13,6 +13,7 @@ use Rattle.hc_machine.specs.Evicting.{allocate_by, allocate, handle_for}
 use Rattle.hc_machine.specs.Waiting.{live}
 use Rattle.hc_machine.specs.Calls.{insert, insert_or_replace, in_memory, is_known, must_wait}
 use Rattle.hc_state.specs.Answering.{IsReason}
+use Rattle.hc_core.specs.Plain.{MayRefuse}
 use Rattle.hc_threads.specs.Asked.{IsAsked, RefusesAllocation, RefusesInsert, RefusesAdd}
 
 -- ---- the item
@@ -81,3 +82,8 @@ why-add client handle cache refusal h = go _ _ _ (is_some (live cache.now (in_me
     go waits stored call false true true h = inr (inr (waited call refusal h))
     go waits stored call false true false h = inr (inr (replied Stored refusal h))
     go waits stored call false false c h = inr (inl (own ForeignHandle refusal h))
+
+-- where it may lack memory besides
+pub may-add : (client : ℕ) (handle : Handle) (cache : Cache) (refusal : Refusal) → MayRefuse (insert client handle cache).answer refusal → RefusesAdd refusal
+may-add client handle cache refusal (inl own) = why-add client handle cache refusal (inl own)
+may-add client handle cache refusal (inr lacks) = inr (inr lacks)

@@ -49,18 +49,19 @@ impl<N: Notes<Note<A>>, A: Allocator + Clone + Copy, G: Digest + Copy> Shared<N,
         ensures sealed_returned { IfErr result (λ e. Returns e sealed) }
     {
         let mut held = self.guarded.lock(rt);
-        let call = match held.core.insert(client, sealed) {
+        let call = match held.cache.insert(client, sealed) {
             Ok(Inserted::Stored) => {
                 self.wake(&mut held);
-                return Ok((held.core.calls(), Added::Stored));
+                return Ok((held.cache.calls(), Added::Stored));
             }
             Ok(Inserted::Waiting(call)) => call,
             Err(unlinked) => return Err(Unstored::Refused(unlinked)),
         };
-        self.call(&mut held);
+        // (its key's load is over, for which others may wait)
+        self.wake(&mut held);
         for _ in rt.forever() {
-            match held.core.take_reply(call) {
-                Ok(Reply::Stored) => return Ok((call, Added::Stored)),
+            match held.cache.take_reply(call) {
+                Ok((Reply::Stored, _)) => return Ok((call, Added::Stored)),
                 Ok(_) => return Ok((call, Added::Exists)),
                 Err(Refusal::NotReady) if !held.crew.is_stuck() => {
                     held = self.replies.wait(rt, held);

@@ -5,14 +5,16 @@ ghost use Rattle.hc_history.specs.Seen as spec;
 ghost use Rattle.hc_records.specs.Records.{IsRecorded, IsLeftOpen, IsTicked};
 ghost use Rattle.hc_memory.specs.Seen.{filled};
 ghost use Rattle.hc_threads.specs.Asked.{IsAsked, RefusesAllocation, RefusesInsert, RefusesAdding};
-ghost use Rattle.hc_threads.specs.Seen.{found_as, removed_as, added_as, GivesBack, LeavesAdd};
+ghost use Rattle.hc_threads.specs.Seen.{found_as, looked_as, removed_as, added_as, GivesBack, LeavesAdd, KeptAs};
 
 use crate::adding::{Added, Unadded, Unstored};
 use crate::finding::Unfound;
+use crate::leasing::Looked;
 use crate::port::Port;
 use crate::shared::Shared;
 use hc_flash::MemFlash;
 use hc_history::{Listener, Note, Notes, Op, Reply};
+use hc_leased::{KeptItem, Ticket};
 use hc_memory::{Blank, Fill, ReadHandle, Sealed, Uncharged};
 use hc_paged::{Device, Digest};
 use hc_records::{Entry, OpenCall, Record, Recorded};
@@ -184,6 +186,36 @@ impl<A: Allocator + Clone + Copy> Client<A> {
         Ok(())
     }
 
+    /// Inserts the item, which was loaded after the ticket was handed out, as `Leased::insert_leased` does: exactly where the
+    /// ticket is still fresh for its key, and records that. Else its handle comes back, to be given up, and nothing is
+    /// recorded. Refused as `insert_or_replace` is; then the ticket is as good as before.
+    pub fn insert_leased<R: Wait, N: Notes<Note<A>>, G: Digest + Copy>(
+        &mut self,
+        rt: &R,
+        shared: &Shared<N, A, G>,
+        ticket: Ticket,
+        sealed: Sealed<A>,
+    ) -> Result<KeptItem<A>, Unlinked<A>>
+        ensures recorded { IfOk result (λ kept. KeptAs kept sealed self.old self.new) }
+        ensures err { OnErr result (self.new ≡ self.old) }
+        ensures why { IfErr result (λ e. RefusesInsert e.refusal) }
+        ensures sealed_returned { IfErr result (λ e. e.sealed ≡ sealed) }
+    {
+        let op = match insert_op(&sealed) {
+            Ok(op) if self.record.entries.reserve(1).is_ok() => op,
+            _ => return Err(unlinked(sealed)),
+        };
+        match shared.insert_leased(rt, self.record.client, ticket, sealed) {
+            Ok((call, KeptItem::Stored)) => {
+                let entry = Entry::new(call, op, Reply::Stored);
+                self.record.entries.push_reserved(entry);
+                Ok(KeptItem::Stored)
+            }
+            Ok((_, KeptItem::Stale(sealed))) => Ok(KeptItem::Stale(sealed)),
+            Err(unlinked) => Err(unlinked),
+        }
+    }
+
     /// Inserts the item where the key has no unexpired value, as `Core::insert` does, waits where one may be on flash, and
     /// records what came. Where it waits and memory lacks, it stays open, and is recorded so.
     pub fn insert<R: Wait, N: Notes<Note<A>>, G: Digest + Copy>(
@@ -254,7 +286,42 @@ impl<A: Allocator + Clone + Copy> Client<A> {
         ensures err { OnErr result ((self.new ≡ self.old) ⊎ IsLeftOpen self.old (Find key.now) self.new ⊎ ((value : List ℕ) × IsRecorded self.old (Find key.now) (Hit value) self.new)) }
         ensures memory { IfErr result (λ refusal. refusal ≡ Refusal.NoMemory) }
     {
-        self.find_by(rt, shared, no_port(shared), key)
+        match self.find_by(rt, shared, no_port(shared), key, None) {
+            Ok(Looked::Hit(value)) => Ok(Some(value)),
+            Ok(Looked::Miss(_) | Looked::Loading(_)) => Ok(None),
+            Err(refusal) => Err(refusal),
+        }
+    }
+
+    /// Finds the value under the key, as `find` does; a miss is handed a ticket, which is good for what is loaded from now on.
+    pub fn find_or_lease<R: Wait, N: Notes<Note<A>>, G: Digest + Copy>(
+        &mut self,
+        rt: &R,
+        shared: &Shared<N, A, G>,
+        key: &Key<A>,
+    ) -> Result<Looked<A>, Refusal>
+        ensures recorded { IfOk result (λ looked. IsRecorded self.old (Find key.now) (looked_as looked) self.new) }
+        ensures err { OnErr result ((self.new ≡ self.old) ⊎ IsLeftOpen self.old (Find key.now) self.new ⊎ ((value : List ℕ) × IsRecorded self.old (Find key.now) (Hit value) self.new)) }
+        ensures memory { IfErr result (λ refusal. refusal ≡ Refusal.NoMemory) }
+    {
+        self.find_by(rt, shared, no_port(shared), key, None)
+    }
+
+    /// Finds the value under the key, as `find_or_lease` does, for who loads what is missed: of many who miss a key one is
+    /// handed a ticket, and is to load it. The others are told so, for as long as `patience` seconds by the cache's clock: they
+    /// wait by `Shared::await_load`, and find it again. No promise rests on whose turn it is.
+    pub fn find_or_load<R: Wait, N: Notes<Note<A>>, G: Digest + Copy>(
+        &mut self,
+        rt: &R,
+        shared: &Shared<N, A, G>,
+        key: &Key<A>,
+        patience: u64,
+    ) -> Result<Looked<A>, Refusal>
+        ensures recorded { IfOk result (λ looked. IsRecorded self.old (Find key.now) (looked_as looked) self.new) }
+        ensures err { OnErr result ((self.new ≡ self.old) ⊎ IsLeftOpen self.old (Find key.now) self.new ⊎ ((value : List ℕ) × IsRecorded self.old (Find key.now) (Hit value) self.new)) }
+        ensures memory { IfErr result (λ refusal. refusal ≡ Refusal.NoMemory) }
+    {
+        self.find_by(rt, shared, no_port(shared), key, Some(patience))
     }
 
     /// Finds the value under the key, as `find` does. But a call that waits makes the reads itself, by a handle of the
@@ -271,7 +338,27 @@ impl<A: Allocator + Clone + Copy> Client<A> {
         ensures err { OnErr result ((self.new ≡ self.old) ⊎ IsLeftOpen self.old (Find key.now) self.new ⊎ ((value : List ℕ) × IsRecorded self.old (Find key.now) (Hit value) self.new)) }
         ensures memory { IfErr result (λ refusal. refusal ≡ Refusal.NoMemory) }
     {
-        self.find_by(rt, shared, Some(port), key)
+        match self.find_by(rt, shared, Some(port), key, None) {
+            Ok(Looked::Hit(value)) => Ok(Some(value)),
+            Ok(Looked::Miss(_) | Looked::Loading(_)) => Ok(None),
+            Err(refusal) => Err(refusal),
+        }
+    }
+
+    /// Finds the value under the key, as `find_or_load` does, and makes its reads itself, as `find_filling` does.
+    pub fn find_or_load_filling<R: Wait, N: Notes<Note<A>>, D: Device<A>, G: Digest + Copy>(
+        &mut self,
+        rt: &R,
+        shared: &Shared<N, A, G>,
+        port: &Port<D, A>,
+        key: &Key<A>,
+        patience: u64,
+    ) -> Result<Looked<A>, Refusal>
+        ensures recorded { IfOk result (λ looked. IsRecorded self.old (Find key.now) (looked_as looked) self.new) }
+        ensures err { OnErr result ((self.new ≡ self.old) ⊎ IsLeftOpen self.old (Find key.now) self.new ⊎ ((value : List ℕ) × IsRecorded self.old (Find key.now) (Hit value) self.new)) }
+        ensures memory { IfErr result (λ refusal. refusal ≡ Refusal.NoMemory) }
+    {
+        self.find_by(rt, shared, Some(port), key, Some(patience))
     }
 
     /// Finds the value, makes its reads itself where a port is there, and records what came.
@@ -281,27 +368,37 @@ impl<A: Allocator + Clone + Copy> Client<A> {
         shared: &Shared<N, A, G>,
         port: Option<&Port<D, A>>,
         key: &Key<A>,
-    ) -> Result<Option<ReadHandle<A>>, Refusal>
-        ensures recorded { IfOk result (λ found. IsRecorded self.old (Find key.now) (found_as found) self.new) }
+        patience: Option<u64>,
+    ) -> Result<Looked<A>, Refusal>
+        ensures recorded { IfOk result (λ looked. IsRecorded self.old (Find key.now) (looked_as looked) self.new) }
         ensures err { OnErr result ((self.new ≡ self.old) ⊎ IsLeftOpen self.old (Find key.now) self.new ⊎ ((value : List ℕ) × IsRecorded self.old (Find key.now) (Hit value) self.new)) }
         ensures memory { IfErr result (λ refusal. refusal ≡ Refusal.NoMemory) }
     {
         let op = Op::Find(key.clone()?);
         self.record.entries.reserve(1)?;
         self.record.open_calls.reserve(1)?;
-        match shared.find(rt, self.record.client, key, port) {
-            Ok((call, None)) => {
+        match shared.find(rt, self.record.client, key, port, patience) {
+            Ok((call, Looked::Miss(ticket))) => {
                 self.record
                     .entries
                     .push_reserved(Entry::new(call, op, Reply::Miss));
-                Ok(None)
+                Ok(Looked::Miss(ticket))
             }
-            Ok((call, Some(value))) => {
+            Ok((call, Looked::Loading(since))) => {
+                self.record
+                    .entries
+                    .push_reserved(Entry::new(call, op, Reply::Miss));
+                Ok(Looked::Loading(since))
+            }
+            Ok((call, Looked::Hit(value))) => {
                 let copy: Result<_, AllocError> = value.to_bytes();
                 self.record
                     .entries
                     .push_reserved(Entry::new(call, op, Reply::Hit(value.into_bytes())));
-                Ok(Some(ReadHandle::new(copy?)))
+                match copy {
+                    Ok(copy) => Ok(Looked::Hit(ReadHandle::new(copy))),
+                    Err(_) => Err(Refusal::NoMemory),
+                }
             }
             Err(Unfound::Refused) => Err(Refusal::NoMemory),
             Err(Unfound::Open(call)) => {

@@ -1,20 +1,21 @@
 // Finds, which wait where a value may be on flash.
 
+use crate::leasing::{Looked, missed};
 use crate::port::Port;
 use crate::shared::{Guarded, Shared};
 use hc_flash::{IoResult, Order};
 use hc_history::{Note, Notes, Reply};
+use hc_leased::Lookup;
 use hc_memory::ReadHandle;
 use hc_nvm::Take;
 use hc_paged::{Device, Digest};
-use hc_state::Found;
 use hc_tracked::digest_of;
 use hc_types::{Key, Refusal};
 use std::alloc::Allocator;
 use std::sync::{MutexGuard, Wait};
 
-/// The number of a find that was answered, and the value.
-type Answer<A> = (u64, Option<ReadHandle<A>>);
+/// The number of a find that was answered, and the value, or a ticket.
+type Answer<A> = (u64, Looked<A>);
 
 /// Why a find isn't answered: memory lacked.
 #[derive(Clone, Copy, Debug, PartialEq, Eq)]
@@ -39,18 +40,20 @@ enum Asked<A: Allocator> {
 }
 
 impl<N: Notes<Note<A>>, A: Allocator + Clone + Copy, G: Digest + Copy> Shared<N, A, G> {
-    /// Answers the number of the call, and the value. A find that waits lets the lock go until its reply is there. It gives
+    /// Answers the number of the call, and the value, or a ticket. A find that waits lets the lock go until its reply is there. It gives
     /// up where the workers are stuck, and where memory lacks for the reply. Where a port is there, it does what a filler
-    /// would do, as long as there is something; it waits where all that there is to fill is under way elsewhere.
+    /// would do, as long as there is something; it waits where all that there is to fill is under way elsewhere. Where it
+    /// misses, and the caller would load the key, who else loads it is asked in the same hold, by the patience that is given.
     pub(crate) fn find<R: Wait, D: Device<A>>(
         &self,
         rt: &R,
         client: u8,
         key: &Key<A>,
         port: Option<&Port<D, A>>,
+        patience: Option<u64>,
     ) -> Result<Answer<A>, Unfound> {
         let mut held = self.guarded.lock(rt);
-        let call = match ask(&mut held, client, key)? {
+        let call = match ask(&mut held, client, key, patience)? {
             Asked::Answered(answer) => return Ok(answer),
             Asked::Waits(call) => call,
         };
@@ -58,7 +61,7 @@ impl<N: Notes<Note<A>>, A: Allocator + Clone + Copy, G: Digest + Copy> Shared<N,
             self.call(&mut held);
         }
         for _ in rt.forever() {
-            if let Some(answer) = reply_to(&mut held, call)? {
+            if let Some(answer) = reply_to(&mut held, call, key, patience)? {
                 return Ok(answer);
             }
             held = match port {
@@ -117,7 +120,7 @@ impl<N: Notes<Note<A>>, A: Allocator + Clone + Copy, G: Digest + Copy> Shared<N,
         if held.left.has(client) {
             return Ok(Take::Idle);
         }
-        held.core.filler_take()
+        held.cache.filler_take()
     }
 
     /// Does the operations of the job, one after the other, until it is over. Where memory lacks, the job is left to the
@@ -166,7 +169,7 @@ impl<N: Notes<Note<A>>, A: Allocator + Clone + Copy, G: Digest + Copy> Shared<N,
     ) -> (MutexGuard<'x, Guarded<N, A, G>>, Result<Take<A>, Refusal>) {
         let digest = digest_of(&self.digest, &came);
         let mut held = self.guarded.lock(rt);
-        let finished = match held.core.finish(job, came, digest) {
+        let finished = match held.cache.finish(job, came, digest) {
             Ok(take) => Ok(take),
             Err(unfinished) => Err(unfinished.refusal),
         };
@@ -179,11 +182,15 @@ fn ask<N: Notes<Note<A>>, A: Allocator + Clone + Copy, G: Digest + Copy>(
     held: &mut Guarded<N, A, G>,
     client: u8,
     key: &Key<A>,
+    patience: Option<u64>,
 ) -> Result<Asked<A>, Unfound> {
-    match held.core.find(client, key) {
-        Ok(Found::Hit(value)) => Ok(Asked::Answered((held.core.calls(), Some(value)))),
-        Ok(Found::Miss) => Ok(Asked::Answered((held.core.calls(), None))),
-        Ok(Found::Waiting(call)) => Ok(Asked::Waits(call)),
+    match held.cache.find_or_lease(client, key) {
+        Ok(Lookup::Hit(value)) => Ok(Asked::Answered((held.cache.calls(), Looked::Hit(value)))),
+        Ok(Lookup::Miss(ticket)) => {
+            let call = held.cache.calls();
+            Ok(Asked::Answered((call, missed(held, key, ticket, patience))))
+        }
+        Ok(Lookup::Waiting(call)) => Ok(Asked::Waits(call)),
         Err(_) => Err(Unfound::Refused),
     }
 }
@@ -192,10 +199,12 @@ fn ask<N: Notes<Note<A>>, A: Allocator + Clone + Copy, G: Digest + Copy>(
 fn reply_to<N: Notes<Note<A>>, A: Allocator + Clone + Copy, G: Digest + Copy>(
     held: &mut Guarded<N, A, G>,
     call: u64,
+    key: &Key<A>,
+    patience: Option<u64>,
 ) -> Result<Option<Answer<A>>, Unfound> {
-    match held.core.take_reply(call) {
-        Ok(Reply::Hit(value)) => Ok(Some((call, Some(ReadHandle::new(value))))),
-        Ok(_) => Ok(Some((call, None))),
+    match held.cache.take_reply(call) {
+        Ok((Reply::Hit(value), _)) => Ok(Some((call, Looked::Hit(ReadHandle::new(value))))),
+        Ok((_, ticket)) => Ok(Some((call, missed(held, key, ticket, patience)))),
         Err(Refusal::NotReady) => Ok(None),
         // The call's reply is owed until it is taken, which is done here alone: so this isn't `UnknownCall`. Memory lacks.
         Err(_) => Err(Unfound::Open(call)),

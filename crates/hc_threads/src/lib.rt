@@ -1,4 +1,5 @@
-//! A cache under one lock, for many clients, and workers in threads beside them.
+//! A cache under one lock, for many clients, and workers in threads beside them. It has leases: what was loaded before a
+//! change of its key isn't stored after it.
 #![tactic(auto)]
 
 mod adding;
@@ -7,6 +8,7 @@ mod close;
 mod crew;
 mod finding;
 mod gate;
+mod leasing;
 mod left;
 mod port;
 mod serving;
@@ -17,9 +19,11 @@ pub use adding::{Added, Unadded};
 pub use client::Client;
 pub use close::{Report, settle};
 pub use gate::{Gate, NoGate, Point, Worker};
+pub use leasing::Looked;
 pub use port::Port;
 pub use serving::serve;
 pub use shared::Shared;
 
 // The types of the calls' signatures, so that a caller needs no other crate but the core's.
+pub use hc_leased::{DEFAULT_SLOTS, KeptItem, Ticket, slots_for};
 pub use hc_records::{Entry, Mismatch, OpenCall, Record, Recorded};

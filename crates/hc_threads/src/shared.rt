@@ -3,11 +3,13 @@ ghost use Rattle.std.specs.Prelude.{◌≡◌, ◌<◌, ◌≤◌, ◌+◌, [], 
 ghost use Rattle.hc_history.specs.Told.{IfLog};
 ghost use Rattle.hc_memory.specs.Seen.{filled};
 ghost use Rattle.hc_threads.specs.Asked.{IsAsked, RefusesAllocation, RefusesInsert};
+ghost use Rattle.hc_threads.specs.Seen.{IsBack};
 
 use crate::crew::Crew;
 use crate::left::Left;
 use hc_core::Core;
 use hc_history::{Listener, Note, Notes};
+use hc_leased::{DEFAULT_SLOTS, KeptItem, Leased, Ticket};
 use hc_memory::{Blank, Fill, Sealed, Uncharged};
 use hc_paged::{Digest, Folded};
 use hc_state::{Removed, Unlinked};
@@ -26,10 +28,10 @@ pub(crate) enum Stage {
     Ending,
 }
 
-/// What lies under the lock. Whoever takes the lock finds a `Core`, and what is true of each core is all that is known.
+/// What lies under the lock. Whoever takes the lock finds a cache with leases, and what is true of each is all that is known.
 #[derive(Drop)]
 pub(crate) struct Guarded<N: Listener, A: Allocator, G: Digest + Copy> {
-    pub(crate) core: TrackedCore<N, A, G>,
+    pub(crate) cache: Leased<TrackedCore<N, A, G>, A>,
     pub(crate) stage: Stage,
     pub(crate) crew: Crew,
     pub(crate) left: Left,
@@ -74,20 +76,48 @@ impl<N: Listener, A: Allocator, G: Digest + Copy> Model for Shared<N, A, G> {
 }
 
 impl<N: Listener, A: Allocator + Clone + Copy, G: Digest + Copy> Shared<N, A, G> {
-    /// Shares a new core. Pages are told apart by this digest. Refused only where memory lacks for the copy of its
-    /// configuration, and for the digests of its pages, which take 8 bytes a page; then the core comes back.
+    /// Shares a new core, with `DEFAULT_SLOTS` slots for leases. Pages are told apart by this digest. Refused as
+    /// `with_slots` is.
     pub fn with_digest(core: Core<N, A>, digest: G) -> Result<Shared<N, A, G>, Core<N, A>>
         requires log { IfLog core.log (λ log. log ≡ []) }
         ensures config { IfOk result (λ shared. shared ≡ core.cache.config) }
         ensures core_returned { IfErr result (λ back. back ≡ core) }
     {
+        Shared::with_slots(core, digest, DEFAULT_SLOTS)
+    }
+
+    /// Shares a new core, with so many slots for leases, of 8 bytes each, and a sixteenth as many places for turns, of 24
+    /// bytes each; at least one of either. The more slots, the fewer tickets end without need. Pages are told apart by this
+    /// digest. Where memory lacks for these, for the copy of its configuration or for the digests of its pages, which take 8
+    /// bytes a page, the core comes back, and so does one of which calls were made already.
+    pub fn with_slots(
+        core: Core<N, A>,
+        digest: G,
+        slots: usize,
+    ) -> Result<Shared<N, A, G>, Core<N, A>>
+        requires log { IfLog core.log (λ log. log ≡ []) }
+        ensures config { IfOk result (λ shared. shared ≡ core.cache.config) }
+        ensures core_returned { IfErr result (λ back. back ≡ core) }
+    {
+        if core.calls() > 0 {
+            return Err(core);
+        }
         let Ok(config) = core.config().clone() else {
             return Err(core);
         };
-        let core = TrackedCore::new(core, digest, *config.pools.allocator())?;
+        let alloc = *config.pools.allocator();
+        let tracked = TrackedCore::new(core, digest, alloc)?;
+        let places = (slots / 16).max(1);
+        let cache = match Leased::new(alloc, tracked, slots.max(1), places) {
+            Ok(cache) => cache,
+            Err(tracked) => {
+                let (core, _lies) = tracked.into_parts();
+                return Err(core);
+            }
+        };
         Ok(Shared {
             guarded: Mutex::new(Guarded {
-                core,
+                cache,
                 stage: Stage::Beginning,
                 crew: Crew::new(),
                 left: Left::new(),
@@ -134,13 +164,13 @@ impl<N: Listener, A: Allocator, G: Digest + Copy> Shared<N, A, G> {
             config,
         } = self;
         let Guarded {
-            core,
+            cache,
             stage: _,
             crew: _,
             left: _,
             clients: _,
         } = guarded.into_inner();
-        (core, config)
+        (cache.into_cache(), config)
     }
 
     /// The core, which isn't judged.
@@ -155,7 +185,7 @@ impl<N: Listener, A: Allocator, G: Digest + Copy> Shared<N, A, G> {
     /// is a failed read to the cache.
     #[must_use]
     pub fn lies<R: Wait>(&self, rt: &R) -> u64 {
-        self.guarded.lock(rt).core.lies()
+        self.guarded.lock(rt).cache.cache().lies()
     }
 
     /// Has the workers try again what memory lacked for, and the calls that wait look again. For whoever gave memory back
@@ -179,12 +209,16 @@ impl<N: Listener, A: Allocator, G: Digest + Copy> Shared<N, A, G> {
 }
 
 impl<N: Notes<Note<A>>, A: Allocator + Clone + Copy, G: Digest + Copy> Shared<N, A, G> {
-    /// Moves the clock on, as `Core::tick` does, and answers the moment that holds then.
+    /// Moves the clock on, as `Core::tick` does, and answers the moment that holds then. Wakes who waits, since turns end by
+    /// the clock.
     pub(crate) fn tick<R: Wait>(&self, rt: &R, moment: u64) -> Result<u64, Refusal>
         ensures later { IfOk result (λ now. moment ≤ now) }
         ensures memory { IfErr result (λ refusal. refusal ≡ Refusal.NoMemory) }
     {
-        self.guarded.lock(rt).core.tick(moment)
+        let mut held = self.guarded.lock(rt);
+        let now = held.cache.tick(moment);
+        self.replies.notify_all();
+        now
     }
 
     pub(crate) fn allocate_with<R: Wait>(
@@ -200,7 +234,7 @@ impl<N: Notes<Note<A>>, A: Allocator + Clone + Copy, G: Digest + Copy> Shared<N,
         ensures key_returned { IfErr result (λ e. e.key ≡ key) }
     {
         let mut held = self.guarded.lock(rt);
-        let blank = held.core.allocate_with(pool, key, fill, ttl);
+        let blank = held.cache.allocate_with(pool, key, fill, ttl);
         self.call(&mut held);
         blank
     }
@@ -209,7 +243,7 @@ impl<N: Notes<Note<A>>, A: Allocator + Clone + Copy, G: Digest + Copy> Shared<N,
         ensures { IfErr result (λ back. back ≡ sealed) }
     {
         let mut held = self.guarded.lock(rt);
-        let discarded = held.core.discard(sealed);
+        let discarded = held.cache.discard(sealed);
         self.call(&mut held);
         discarded
     }
@@ -218,7 +252,7 @@ impl<N: Notes<Note<A>>, A: Allocator + Clone + Copy, G: Digest + Copy> Shared<N,
         ensures { IfErr result (λ back. back ≡ blank) }
     {
         let mut held = self.guarded.lock(rt);
-        let discarded = held.core.discard_blank(blank);
+        let discarded = held.cache.discard_blank(blank);
         self.call(&mut held);
         discarded
     }
@@ -234,10 +268,30 @@ impl<N: Notes<Note<A>>, A: Allocator + Clone + Copy, G: Digest + Copy> Shared<N,
         ensures sealed_returned { IfErr result (λ e. e.sealed ≡ sealed) }
     {
         let mut held = self.guarded.lock(rt);
-        held.core.insert_or_replace(client, sealed)?;
-        let call = held.core.calls();
+        held.cache.insert_or_replace(client, sealed)?;
+        let call = held.cache.calls();
         self.wake(&mut held);
         Ok(call)
+    }
+
+    /// Answers the number of the call, and what came of the item: inserted, or handed back where its ticket isn't fresh any
+    /// more. Then it is no call.
+    pub(crate) fn insert_leased<R: Wait>(
+        &self,
+        rt: &R,
+        client: u8,
+        ticket: Ticket,
+        sealed: Sealed<A>,
+    ) -> Result<(u64, KeptItem<A>), Unlinked<A>>
+        ensures stale { IfOk result (λ kept. IsBack kept.1 sealed) }
+        ensures why { IfErr result (λ e. RefusesInsert e.refusal) }
+        ensures sealed_returned { IfErr result (λ e. e.sealed ≡ sealed) }
+    {
+        let mut held = self.guarded.lock(rt);
+        let kept = held.cache.insert_leased(ticket, client, sealed)?;
+        let call = held.cache.calls();
+        self.wake(&mut held);
+        Ok((call, kept))
     }
 
     /// Answers the number of the call, and whether an item was in memory.
@@ -250,8 +304,8 @@ impl<N: Notes<Note<A>>, A: Allocator + Clone + Copy, G: Digest + Copy> Shared<N,
         ensures { IfErr result (λ refusal. refusal ≡ Refusal.NoMemory) }
     {
         let mut held = self.guarded.lock(rt);
-        let removed = held.core.remove(client, key)?;
-        let call = held.core.calls();
+        let removed = held.cache.remove(client, key)?;
+        let call = held.cache.calls();
         self.wake(&mut held);
         Ok((call, removed))
     }

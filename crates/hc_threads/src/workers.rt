@@ -111,7 +111,7 @@ impl<N: Notes<Note<A>>, A: Allocator + Clone + Copy, G: Digest + Copy> Shared<N,
     ) -> Result<Option<Order<A>>, IoResult<A>> {
         let digest = digest_of(&self.digest, &came);
         let mut held = self.guarded.lock(rt);
-        match held.core.finish(job, came, digest) {
+        match held.cache.finish(job, came, digest) {
             Ok(take) => {
                 self.wake(&mut held);
                 Ok(order_of(take))
@@ -148,12 +148,12 @@ fn take_as<N: Notes<Note<A>>, A: Allocator + Clone + Copy, G: Digest + Copy>(
     worker: Worker,
 ) -> Result<Take<A>, Refusal> {
     match worker {
-        Worker::Writer => held.core.writer_take(),
+        Worker::Writer => held.cache.writer_take(),
         Worker::Filler => match held.left.first() {
             Some(job) => take_left(held, job),
-            None => held.core.filler_take(),
+            None => held.cache.filler_take(),
         },
-        Worker::Reclaimer => match held.core.reclaim()? {
+        Worker::Reclaimer => match held.cache.reclaim()? {
             Some(_) => Ok(Take::Finished),
             None => Ok(Take::Idle),
         },
@@ -165,7 +165,7 @@ fn take_left<N: Notes<Note<A>>, A: Allocator + Clone + Copy, G: Digest + Copy>(
     held: &mut Guarded<N, A, G>,
     job: u64,
 ) -> Result<Take<A>, Refusal> {
-    let take = match held.core.order(job) {
+    let take = match held.cache.cache().order(job) {
         Some(order) => Take::Work(job, again(order)?),
         None => Take::Finished,
     };

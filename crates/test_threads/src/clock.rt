@@ -6,8 +6,8 @@ use std::alloc::Global;
 use std::process::Abort;
 use std::sync::Wait;
 
-// A new cache without flash.
-fn shared(rt: &impl Abort, alloc: Global) -> Shared<Kept> {
+/// A new cache without flash.
+pub fn in_memory(rt: &impl Abort, alloc: Global) -> Shared<Kept> {
     let size = PoolSize {
         bytes: 1_000,
         items: 10,
@@ -64,7 +64,7 @@ fn tick<R: Abort + Wait>(rt: &R, shared: &Shared<Kept>, client: &mut Client, mom
 #[test]
 fn an_item_expires_by_the_shared_clock(rt: HostRuntime) {
     let alloc = rt.alloc();
-    let shared = shared(&rt, alloc);
+    let shared = in_memory(&rt, alloc);
     let mut client = shared.client(&rt, alloc).expect(&rt, "it is the first");
     let brief = Key::new(alloc, b"brief").expect(&rt, "the key fits");
     let lasting = Key::new(alloc, b"lasting").expect(&rt, "the key fits");

@@ -8,6 +8,8 @@ mod clock;
 #[cfg(test)]
 mod larder;
 #[cfg(test)]
+mod leases;
+#[cfg(test)]
 mod refusals;
 #[cfg(test)]
 mod replays;
