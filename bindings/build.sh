@@ -3,6 +3,7 @@
 #
 #   bindings/build.sh            library, C checks (under valgrind where there is one), cargo test
 #   bindings/build.sh --speed    also the comparison with other caches, where Debian's crate `lru` (librust-lru-dev) is installed
+#   bindings/build.sh --trial    also a service before a slow database, with leases and without, where that crate is installed
 #   bindings/build.sh --memory   also what a cache with flash keeps in memory, beside what its pool says
 #
 # What it makes lies in bindings/out, as in a prefix: lib, lib/pkgconfig and include. PREFIX is what the file for pkg-config
@@ -75,6 +76,14 @@ if has cargo; then
             speed
             speed least 1000
             speed threads
+        else
+            echo "skipped: no crate lru (Debian's librust-lru-dev)"
+        fi
+    fi
+    if [ "${1-}" = --trial ]; then
+        if ls -d /usr/share/cargo/registry/lru-0.7* >/dev/null 2>&1; then
+            trial() { (cd "$here/trial" && CARGO_TARGET_DIR="$out/target" cargo run --offline --quiet --release -- "$@"); }
+            for cache in leases sets plain lru; do trial slow $cache 10 20; done
         else
             echo "skipped: no crate lru (Debian's librust-lru-dev)"
         fi

@@ -1,12 +1,26 @@
-//! The code of README.md, and what becomes of it: each row is loaded once, and found in memory or on flash from then on.
+//! The code of README.md, and what becomes of it: each row is loaded once, found in memory or on flash from then on, and loaded
+//! anew once it was changed.
 //! `tools/check-docs` compares the text with the page, and `bindings/build.sh` runs it.
-use kilambosetry::{Error, HybridCache, OpenError, Options};
+use kilambosetry::{HybridCache, LoadError, OpenError, Options};
+use std::error::Error;
 use std::path::Path;
-use std::{env, fs, process};
+use std::{env, fs, io, process};
 
 mod database {
-    pub fn load(user: &str) -> Vec<u8> {
-        format!("{user} has {}", "a long row ".repeat(30)).into_bytes()
+    use std::io;
+    use std::sync::Mutex;
+
+    static RENAMED: Mutex<Option<(String, String)>> = Mutex::new(None);
+
+    pub fn load(user: &str) -> io::Result<Vec<u8>> {
+        let renamed = RENAMED.lock().unwrap();
+        let name = renamed.as_ref().filter(|(of, _)| of == user).map_or(user, |(_, name)| name);
+        Ok(format!("{name} has {}", "a long row ".repeat(30)).into_bytes())
+    }
+
+    pub fn rename(user: &str, name: &str) -> io::Result<()> {
+        *RENAMED.lock().unwrap() = Some((user.to_string(), name.to_string()));
+        Ok(())
     }
 }
 
@@ -15,29 +29,31 @@ fn open(path: &Path) -> Result<HybridCache, OpenError> {
     HybridCache::open(path, &options) // a handle, to be cloned for any number of threads
 }
 
-fn profile(cache: &HybridCache, user: &str) -> Result<Vec<u8>, Error> {
-    if let Some(value) = cache.get(user.as_bytes())? {
-        return Ok(value.into_vec()); // it was in memory or on flash
-    }
-    let row = database::load(user);
-    cache.set(user.as_bytes(), &row, 3600)?; // for an hour; what is evicted for it goes to flash
-    Ok(row)
+fn profile(cache: &HybridCache, user: &str) -> Result<Vec<u8>, LoadError<io::Error>> {
+    // from memory or flash, or else from the database: one thread asks it, and who misses the same row waits for that
+    let row = cache.get_or_load(user.as_bytes(), 3600, || database::load(user))?;
+    Ok(row.into_vec())
 }
 
-fn main() -> Result<(), Box<dyn std::error::Error>> {
+fn rename(cache: &HybridCache, user: &str, name: &str) -> Result<bool, Box<dyn Error>> {
+    database::rename(user, name)?; // the commit first
+    Ok(cache.delete(user.as_bytes())?) // what was loaded before isn't stored from now on
+}
+
+fn main() -> Result<(), Box<dyn Error>> {
     let path = env::temp_dir().join(format!("readme-{}", process::id()));
     let cache = open(&path)?;
     for _ in 0..2 {
         for number in 0..50_000 {
             let user = format!("user:{number}");
-            assert_eq!(profile(&cache, &user)?, database::load(&user));
+            assert_eq!(profile(&cache, &user)?, database::load(&user)?);
             if number % 100 == 0 {
                 cache.flush()?; // (as slow as a database)
             }
         }
     }
-    cache.delete(b"user:7")?;
-    assert!(cache.get(b"user:7")?.is_none());
+    rename(&cache, "user:7", "Ada")?;
+    assert!(profile(&cache, "user:7")?.starts_with(b"Ada has"));
     let stats = cache.close();
     fs::remove_file(path)?;
     println!("{stats}");

@@ -1,25 +1,21 @@
 //! A cache before a database: eight threads read and change rows, and none reads an older row than was there before.
-use kilambosetry::{Error, HybridCache, Options};
-use std::{env, fs, process, sync::Mutex, sync::RwLock, thread};
+use kilambosetry::{Error, HybridCache, LoadError, Options};
+use std::convert::Infallible;
+use std::{env, fs, process, sync::RwLock, thread};
 
 struct Service {
     cache: HybridCache,
     rows: RwLock<Vec<u64>>, // the database
-    locks: [Mutex<()>; 64], // so that no row changes between its load and its `set`
 }
 
 impl Service {
-    fn read(&self, user: u32) -> Result<u64, Error> {
-        if let Some(value) = self.cache.get(&user.to_be_bytes())? {
-            return Ok(u64::from_be_bytes(value[..].try_into().unwrap()));
-        }
-        let _lock = self.locks[user as usize % 64].lock();
-        let row = self.rows.read().unwrap()[user as usize];
-        self.cache.set(&user.to_be_bytes(), &row.to_be_bytes(), 3600).map(|()| row)
+    fn read(&self, user: u32) -> Result<u64, LoadError<Infallible>> {
+        let load = || Ok(self.rows.read().unwrap()[user as usize].to_be_bytes());
+        let row = self.cache.get_or_load(&user.to_be_bytes(), 3600, load)?;
+        Ok(u64::from_be_bytes(row[..].try_into().unwrap()))
     }
     fn change(&self, user: u32) -> Result<bool, Error> {
-        let _lock = self.locks[user as usize % 64].lock();
-        self.rows.write().unwrap()[user as usize] += 1;
+        self.rows.write().unwrap()[user as usize] += 1; // committed first, and then
         self.cache.delete(&user.to_be_bytes())
     }
 }
@@ -27,7 +23,7 @@ impl Service {
 fn main() -> Result<(), Box<dyn std::error::Error>> {
     let path = env::temp_dir().join(format!("rows-{}", process::id()));
     let cache = HybridCache::open(&path, &Options { memory: 1_000_000, flash: 100_000_000, ..Options::default() })?;
-    let service = Service { cache, rows: vec![0; 25_000].into(), locks: [const { Mutex::new(()) }; 64] };
+    let service = Service { cache, rows: vec![0; 25_000].into() };
     let serve = |user: u32| {
         let before = service.read(user).unwrap();
         service.change(user).unwrap();

@@ -10,7 +10,7 @@ impl Clock {
     /// The system's.
     #[must_use]
     pub fn system() -> Clock {
-        Clock::new(|| SystemTime::now().duration_since(UNIX_EPOCH).map_or(0, |time| time.as_secs()))
+        Clock::new(second)
     }
 
     /// One of your own.
@@ -37,6 +37,36 @@ impl Clock {
     pub(crate) fn now(&self) -> u64 {
         (self.0)()
     }
+}
+
+/// The system's second. Linux has one that was read some milliseconds ago at most, in a tenth of the time.
+#[cfg(all(target_os = "linux", target_pointer_width = "64"))]
+fn second() -> u64 {
+    #[repr(C)]
+    struct Time {
+        seconds: i64,
+        nanoseconds: i64,
+    }
+    extern "C" {
+        fn clock_gettime(clock: i32, time: *mut Time) -> i32;
+    }
+    const REALTIME_COARSE: i32 = 5;
+    let mut time = Time { seconds: 0, nanoseconds: 0 };
+    // SAFETY: the call writes the two words of `time` alone.
+    let failed = unsafe { clock_gettime(REALTIME_COARSE, &mut time) };
+    match u64::try_from(time.seconds) {
+        Ok(seconds) if failed == 0 && seconds > 0 => seconds,
+        _ => precise_second(),
+    }
+}
+
+#[cfg(not(all(target_os = "linux", target_pointer_width = "64")))]
+fn second() -> u64 {
+    precise_second()
+}
+
+fn precise_second() -> u64 {
+    SystemTime::now().duration_since(UNIX_EPOCH).map_or(0, |time| time.as_secs())
 }
 
 impl fmt::Debug for Clock {

@@ -1,10 +1,9 @@
 use crate::held::zeros;
 use crate::library::{self, Handle};
-use crate::{done, found, Cache, Counts, Held, Losses, Pool, Refused, Usage, SHORT};
+use crate::{done, found, Cache, Counts, Held, Kept, Losses, Pool, Refused, Ticket, Turn, Usage, SHORT, WAITS};
 use std::collections::VecDeque;
 use std::io;
 
-const WAITS: u8 = 103;
 const IDLE: u8 = 104;
 const FINISHED: u8 = 105;
 
@@ -213,7 +212,7 @@ impl Engine {
     }
 
     fn of(handle: Handle, flash: &Flash) -> Engine {
-        Engine { cache: Cache(handle), page: flash.page as usize, owed: None, forgotten: VecDeque::new() }
+        Engine { cache: Cache::of(handle), page: flash.page as usize, owed: None, forgotten: VecDeque::new() }
     }
 
     /// As [`Cache::tick`].
@@ -265,7 +264,7 @@ impl Engine {
     pub fn take_reply(&mut self, call: u64) -> Result<Reply, Refused> {
         let mut value = Held::none();
         // SAFETY: the cache's handle is its own, and the value's is an empty one.
-        let status = unsafe { library::kilambosetry_take_reply(&mut self.cache.0, call, &mut value.0) };
+        let status = unsafe { library::kilambosetry_take_reply(&mut self.cache.handle, call, &mut value.0) };
         if !found(status)? {
             return Ok(Reply::Miss);
         }
@@ -277,7 +276,7 @@ impl Engine {
     pub fn next_reply(&mut self) -> Option<u64> {
         let mut call = 0;
         // SAFETY: both are valid for the call.
-        let status = unsafe { library::kilambosetry_next_reply(&mut self.cache.0, &mut call) };
+        let status = unsafe { library::kilambosetry_next_reply(&mut self.cache.handle, &mut call) };
         (status == 0).then_some(call)
     }
 
@@ -310,6 +309,34 @@ impl Engine {
         }
     }
 
+    /// As [`Cache::ticket`]. Of a get that waited, the ticket is taken once its reply was a miss.
+    #[must_use]
+    pub fn ticket(&mut self) -> Option<Ticket> {
+        self.cache.ticket()
+    }
+
+    /// As [`Cache::set_leased`]. What the key has on flash is forgotten where it stores.
+    pub fn set_leased(
+        &mut self,
+        ticket: Ticket,
+        pool: u8,
+        key: &[u8],
+        value: &[u8],
+        ttl: u32,
+    ) -> Result<Kept, Refused> {
+        self.cache.set_leased(ticket, pool, key, value, ttl)
+    }
+
+    /// As [`Cache::ask_turn`].
+    pub fn ask_turn(&mut self, key: &[u8], patience: u64) -> Result<Turn, Refused> {
+        self.cache.ask_turn(key, patience)
+    }
+
+    /// As [`Cache::end_turn`].
+    pub fn end_turn(&mut self, key: &[u8]) -> Result<(), Refused> {
+        self.cache.end_turn(key)
+    }
+
     /// What was done so far.
     pub fn counts(&mut self) -> Counts {
         self.cache.counts()
@@ -331,7 +358,7 @@ impl Engine {
     pub fn writer_take(&mut self) -> Result<Take, Refused> {
         let mut job = 0;
         // SAFETY: both are valid for the call.
-        let status = unsafe { library::kilambosetry_writer_take(&mut self.cache.0, &mut job) };
+        let status = unsafe { library::kilambosetry_writer_take(&mut self.cache.handle, &mut job) };
         self.taken(status, job)
     }
 
@@ -339,7 +366,7 @@ impl Engine {
     pub fn filler_take(&mut self) -> Result<Take, Refused> {
         let mut job = 0;
         // SAFETY: both are valid for the call.
-        let status = unsafe { library::kilambosetry_filler_take(&mut self.cache.0, &mut job) };
+        let status = unsafe { library::kilambosetry_filler_take(&mut self.cache.handle, &mut job) };
         self.taken(status, job)
     }
 
@@ -347,19 +374,19 @@ impl Engine {
     /// waking. Refused with [`Refused::NO_MEMORY`], which says neither.
     pub fn writer_has_work(&mut self) -> Result<bool, Refused> {
         // SAFETY: the handle is this cache's own.
-        has_work(unsafe { library::kilambosetry_writer_has_work(&mut self.cache.0) })
+        has_work(unsafe { library::kilambosetry_writer_has_work(&mut self.cache.handle) })
     }
 
     /// Whether [`filler_take`](Engine::filler_take) does.
     pub fn filler_has_work(&mut self) -> Result<bool, Refused> {
         // SAFETY: the handle is this cache's own.
-        has_work(unsafe { library::kilambosetry_filler_has_work(&mut self.cache.0) })
+        has_work(unsafe { library::kilambosetry_filler_has_work(&mut self.cache.handle) })
     }
 
     /// Gives up the region that was written first, where fewer are clean than are wanted, and answers whether it did.
     pub fn reclaim(&mut self) -> Result<bool, Refused> {
         // SAFETY: the handle is this cache's own.
-        has_work(unsafe { library::kilambosetry_reclaim(&mut self.cache.0) })
+        has_work(unsafe { library::kilambosetry_reclaim(&mut self.cache.handle) })
     }
 
     /// Hands in what came of the operation for which the job waits, and answers what is next of it. Refused with
@@ -367,7 +394,7 @@ impl Engine {
     /// it must be handed in again, since the job waits for it. A page isn't copied: it is the cache's afterwards, and its value
     /// is empty, unless it is refused.
     pub fn finish(&mut self, job: u64, came: &mut Came) -> Result<Take, Refused> {
-        let handle = &mut self.cache.0;
+        let handle = &mut self.cache.handle;
         // SAFETY: the handles are this cache's and this page's own.
         let status = unsafe {
             match came {
@@ -424,7 +451,8 @@ impl Engine {
         let mut operation = library::Operation { page: 0, writes: false };
         let mut page = Held::none();
         // SAFETY: all are valid for the call, and nothing that is written overlaps.
-        let status = unsafe { library::kilambosetry_order_page(&mut self.cache.0, job, &mut operation, &mut page.0) };
+        let status =
+            unsafe { library::kilambosetry_order_page(&mut self.cache.handle, job, &mut operation, &mut page.0) };
         done(status)?;
         Ok(match operation.writes {
             true => Operation::Write(operation.page, page),

@@ -39,6 +39,33 @@ impl error::Error for Error {
     }
 }
 
+/// Why [`get_or_load`](crate::HybridCache::get_or_load) has no value.
+#[derive(Clone, Copy, Debug, PartialEq, Eq)]
+pub enum LoadError<E> {
+    /// The cache refused the get, or was closed. Nothing was loaded.
+    Cache(Error),
+    /// The load failed.
+    Load(E),
+}
+
+impl<E: fmt::Display> fmt::Display for LoadError<E> {
+    fn fmt(&self, f: &mut fmt::Formatter<'_>) -> fmt::Result {
+        match self {
+            LoadError::Cache(error) => error.fmt(f),
+            LoadError::Load(error) => error.fmt(f),
+        }
+    }
+}
+
+impl<E: error::Error + 'static> error::Error for LoadError<E> {
+    fn source(&self) -> Option<&(dyn error::Error + 'static)> {
+        match self {
+            LoadError::Cache(error) => Some(error),
+            LoadError::Load(error) => Some(error),
+        }
+    }
+}
+
 /// Why a cache wasn't opened.
 #[derive(Debug)]
 #[non_exhaustive]

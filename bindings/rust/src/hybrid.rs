@@ -33,8 +33,9 @@ use std::time::{Duration, Instant};
 /// page that comes back otherwise than it was written, and one that can't be read, is a miss. Nothing outlasts the cache: it
 /// begins empty, whatever the file has.
 ///
-/// What was loaded before a change may still be stored after it: hold a lock of your own from the miss to the `set`, and from
-/// the change to the `delete`.
+/// Before a database read by [`get_or_load`](HybridCache::get_or_load): of many threads that miss a key one loads its row, and a
+/// row that was loaded before a change of its key is never stored after it. A change of a row is committed first, and then its
+/// key is deleted. What is loaded otherwise, and stored by `set`, may be older than what was deleted meanwhile.
 #[derive(Clone)]
 pub struct HybridCache {
     inner: Arc<Inner>,
@@ -75,7 +76,7 @@ impl HybridCache {
         options: &Options,
         open: impl FnOnce() -> Result<Option<Box<dyn PageDevice>>, OpenError>,
     ) -> Result<HybridCache, OpenError> {
-        let mut shards = Shards::new(&numbers, options.clock.clone())?;
+        let mut shards = Shards::new(&numbers, options.clock.clone(), options.patience)?;
         shards.device = open()?.map(|device| Checked::new(device, numbers.pages())).transpose()?;
         let has_flash = shards.device.is_some();
         let inner = Inner { shards: Arc::new(shards), numbers, workers: Mutex::default() };
@@ -110,7 +111,7 @@ impl HybridCache {
         key: &[u8],
         wait: impl FnOnce(&'a Shards, usize, Locked<'a>, u64) -> Answer,
     ) -> Result<Option<Value>, Error> {
-        let (shards, shard) = self.shard_of(key);
+        let (shards, shard) = self.locate(key);
         let mut state = shards.enter(shard)?;
         let held = match state.engine.get(key)? {
             Found::Hit(held) => {
@@ -120,14 +121,13 @@ impl HybridCache {
             Found::Miss => None,
             Found::Waits(call) => held_of(wait(shards, shard, state, call)?),
         };
-        // (a miss ends here, at once or after it waited: the place for a ticket, which a `set` takes by `change`)
         Ok(held.map(Value::of).transpose()?)
     }
 
     /// Copies the value under the key to the head of `out`, and answers its length. Where that is more than `out` has, nothing
     /// is copied. It waits as `get` does.
     pub fn get_into(&self, key: &[u8], out: &mut [u8]) -> Result<Option<usize>, Error> {
-        let (shards, shard) = self.shard_of(key);
+        let (shards, shard) = self.locate(key);
         let mut state = shards.enter(shard)?;
         match state.engine.get_into(key, out)? {
             Copied::Hit(length) => Ok(Some(length)),
@@ -145,23 +145,30 @@ impl HybridCache {
         self.change(key, |engine, pool| engine.set(pool, key, value, ttl))
     }
 
-    // A step of the key's shard, with the key's pool, that may answer calls and make work.
+    // A step that changes the key, with the key's pool: it may answer calls and make work, and ends the key's load.
     #[inline]
     fn change<T>(&self, key: &[u8], step: impl FnOnce(&mut Engine, u8) -> Result<T, Refused>) -> Result<T, Error> {
-        let (shards, shard) = self.shard_of(key);
+        let (shards, shard) = self.locate(key);
         let mut state = shards.enter(shard)?;
         let done = step(&mut state.engine, shards.pool_of(key));
+        if done.is_ok() {
+            state.loads.end(key);
+        }
         shards.leave(shard, state);
         Ok(done?)
     }
 
     /// Stores it where the key has no unexpired value, and answers whether it did. Where flash alone may have one, the thread
-    /// waits until it was looked for there. Don't store by it what was loaded before: it may be stored behind a `delete` that
-    /// came while it waited.
+    /// waits until it was looked for there. Don't store by it what was loaded: it may be stored behind a `delete` that came while
+    /// it waited.
     pub fn add(&self, key: &[u8], value: &[u8], ttl: u32) -> Result<bool, Error> {
-        let (shards, shard) = self.shard_of(key);
+        let (shards, shard) = self.locate(key);
         let mut state = shards.enter(shard)?;
-        let added = match state.engine.add(shards.pool_of(key), key, value, ttl) {
+        let added = state.engine.add(shards.pool_of(key), key, value, ttl);
+        if added.is_ok() {
+            state.loads.end(key);
+        }
+        let added = match added {
             Ok(Added::Waits(call)) => shards.fill_for(shard, state, call).map(|_| ()),
             stored => {
                 shards.leave(shard, state);
@@ -217,8 +224,14 @@ impl HybridCache {
         self.stats()
     }
 
+    /// The shard that the key is of, from 0. Calls on keys of one shard wait for each other, and for no others.
+    #[must_use]
+    pub fn shard_of(&self, key: &[u8]) -> u8 {
+        self.shards().of(key) as u8
+    }
+
     #[inline]
-    fn shard_of(&self, key: &[u8]) -> (&Shards, usize) {
+    fn locate(&self, key: &[u8]) -> (&Shards, usize) {
         let shards = &*self.inner.shards;
         (shards, shards.of(key))
     }
@@ -255,6 +268,10 @@ fn add_shard(stats: &mut Stats, state: &mut Locked<'_>, shards: &Shards) {
     stats.stored += counts.stored;
     stats.deletes += counts.removes;
     stats.losses += state.engine.losses();
+    stats.loads += state.loads.begun;
+    stats.waits_for_loads += state.loads.waited;
+    stats.stale_stores += state.loads.stale;
+    stats.refused_stores += state.loads.refused;
     stats.waiting += state.calls.len() as u64;
     stats.given_up += state.calls.given_up;
     stats.shards_behind += u64::from(shards.device.is_some() && state.engine.writer_has_work() != Ok(false));

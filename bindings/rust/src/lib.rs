@@ -12,10 +12,16 @@
 //! let cache = HybridCache::open(&path, &options)?;
 //! cache.set(b"user:7", b"Ada", 3600)?;
 //! assert_eq!(cache.get(b"user:7")?.as_deref(), Some(&b"Ada"[..]));
+//! cache.delete(b"user:7")?; // once a change of it is committed in the database
+//! let row = cache.get_or_load(b"user:7", 3600, || Ok::<_, std::io::Error>("Grace"))?; // from the database
+//! assert_eq!(&row[..], b"Grace");
 //! println!("{}", cache.close());
 //! # std::fs::remove_file(path)?;
 //! # Ok::<(), Box<dyn std::error::Error>>(())
 //! ```
+//!
+//! What was loaded before a change of its key is never stored after it, and of many threads that miss a key one loads it:
+//! [`get_or_load`](HybridCache::get_or_load).
 //!
 //! Below it there are a [`Cache`] of up to 16 pools in memory, a [`ShardedCache`] of such caches under locks of their own, and
 //! an [`Engine`] with flash behind its pools, for who makes its device operations himself:
@@ -31,6 +37,10 @@
 //! assert_eq!(cache.get(b"user:7")?, None);
 //! # Ok::<(), kilambosetry::Refused>(())
 //! ```
+//!
+//! There is no trait of calls over these layers. A get of an [`Engine`] may wait for a worker of the caller's, which that of a
+//! [`Cache`] never does; both are one caller's at a time (`&mut self`) and name a pool, and a [`HybridCache`] is shared and
+//! names none. Code that is to run with flash and without takes a [`HybridCache`]: [`HybridCache::in_memory`] makes one without.
 #![warn(missing_docs)]
 
 mod bell;
@@ -44,7 +54,10 @@ mod file;
 mod future;
 mod held;
 mod hybrid;
+mod lease;
+mod leases;
 mod library;
+mod loads;
 mod numbers;
 mod options;
 mod refused;
@@ -56,11 +69,13 @@ mod value;
 pub use checked::{DeviceCounts, PageDevice};
 pub use clock::Clock;
 pub use engine::{Added, Came, Copied, Device, Engine, Flash, Found, Operation, Reply, Take};
-pub use errors::{Error, OpenError};
+pub use errors::{Error, LoadError, OpenError};
 pub use file::PageFile;
-pub use future::GetAsync;
+pub use future::{GetAsync, LeaseAsync};
 pub use held::Held;
 pub use hybrid::HybridCache;
+pub use lease::{Lease, Lookup};
+pub use leases::{Kept, Ticket, Turn};
 pub use numbers::Numbers;
 pub use options::Options;
 pub use refused::Refused;
@@ -74,6 +89,8 @@ use std::ops::AddAssign;
 const DONE: u8 = 0;
 const MISS: u8 = 100;
 const SHORT: u8 = 102;
+const WAITS: u8 = 103;
+const STALE: u8 = 106;
 
 /// The limits of a pool: 64 to 4,294,967,296 bytes, and 1 to 1,048,576 items. An item takes 32 bytes, and those of its key
 /// and of its value.
@@ -188,7 +205,11 @@ fn found(status: u8) -> Result<bool, Refused> {
 
 /// A cache of up to 16 pools, which are numbered from 0. It is freed when it is dropped.
 #[derive(Debug)]
-pub struct Cache(Handle);
+pub struct Cache {
+    handle: Handle,
+    // tells its tickets from those of other caches
+    number: u64,
+}
 
 // SAFETY: the library proves that what a handle holds may change threads; each call takes `&mut self`, and the values that
 // it hands out share nothing with it but what is counted atomically and never written.
@@ -208,7 +229,7 @@ impl Cache {
         let mut handle = Handle::none();
         // SAFETY: `pools` is valid for its length; the handle is an empty one.
         done(unsafe { library::kilambosetry_new(&mut handle, pools.as_ptr(), pools.len()) })?;
-        Ok(Cache(handle))
+        Ok(Cache::of(handle))
     }
 
     /// An empty shard of these pools cut into so many shards, 1 to 16: of each pool it has its bytes and its items divided by
@@ -217,14 +238,18 @@ impl Cache {
         let mut handle = Handle::none();
         // SAFETY: as in `new`.
         done(unsafe { library::kilambosetry_new_shard(&mut handle, pools.as_ptr(), pools.len(), shards) })?;
-        Ok(Cache(handle))
+        Ok(Cache::of(handle))
+    }
+
+    fn of(handle: Handle) -> Cache {
+        Cache { handle, number: leases::next_number() }
     }
 
     /// Moves the clock on to `moment`, in seconds; an earlier one is ignored. The clock begins at 0: tick to the day's
     /// seconds before the first item with a time to live is stored.
     pub fn tick(&mut self, moment: u64) -> Result<(), Refused> {
         // SAFETY: the handle is this cache's own.
-        done(unsafe { library::kilambosetry_tick(&mut self.0, moment) })
+        done(unsafe { library::kilambosetry_tick(&mut self.handle, moment) })
     }
 
     /// Stores a copy of the value under the key, in place of what the key has in whichever pool, for `ttl` seconds from now
@@ -234,7 +259,7 @@ impl Cache {
     pub fn set(&mut self, pool: u8, key: &[u8], value: &[u8], ttl: u32) -> Result<(), Refused> {
         // SAFETY: both slices are valid for their lengths, and the handle overlaps neither.
         done(unsafe {
-            library::kilambosetry_set(&mut self.0, pool, key.as_ptr(), key.len(), value.as_ptr(), value.len(), ttl)
+            library::kilambosetry_set(&mut self.handle, pool, key.as_ptr(), key.len(), value.as_ptr(), value.len(), ttl)
         })
     }
 
@@ -256,7 +281,7 @@ impl Cache {
     fn add_status(&mut self, pool: u8, key: &[u8], value: &[u8], ttl: u32) -> u8 {
         // SAFETY: as in `set`.
         unsafe {
-            library::kilambosetry_add(&mut self.0, pool, key.as_ptr(), key.len(), value.as_ptr(), value.len(), ttl)
+            library::kilambosetry_add(&mut self.handle, pool, key.as_ptr(), key.len(), value.as_ptr(), value.len(), ttl)
         }
     }
 
@@ -285,7 +310,9 @@ impl Cache {
     #[inline]
     fn get_status(&mut self, key: &[u8], out: &mut [u8], len: &mut usize) -> u8 {
         // SAFETY: each slice is valid for its length, and nothing that is written overlaps anything.
-        unsafe { library::kilambosetry_get(&mut self.0, key.as_ptr(), key.len(), out.as_mut_ptr(), out.len(), len) }
+        unsafe {
+            library::kilambosetry_get(&mut self.handle, key.as_ptr(), key.len(), out.as_mut_ptr(), out.len(), len)
+        }
     }
 
     /// A copy of the value under the key.
@@ -312,21 +339,107 @@ impl Cache {
 
     fn read_status(&mut self, key: &[u8], value: &mut Held) -> u8 {
         // SAFETY: the key is valid for its length, and nothing that is written overlaps anything.
-        unsafe { library::kilambosetry_read(&mut self.0, key.as_ptr(), key.len(), &mut value.0) }
+        unsafe { library::kilambosetry_read(&mut self.handle, key.as_ptr(), key.len(), &mut value.0) }
     }
 
     /// Takes the key's item out of the cache, and answers whether there was one.
     #[inline]
     pub fn delete(&mut self, key: &[u8]) -> Result<bool, Refused> {
         // SAFETY: the key is valid for its length.
-        found(unsafe { library::kilambosetry_delete(&mut self.0, key.as_ptr(), key.len()) })
+        found(unsafe { library::kilambosetry_delete(&mut self.handle, key.as_ptr(), key.len()) })
+    }
+
+    /// The ticket of now, for who has missed a key and is about to load it. It is good for every key of this cache. None once
+    /// 2^64 - 1 changes of keys were made: then what is loaded isn't to be stored.
+    ///
+    /// ```
+    /// # use kilambosetry::{Cache, Kept, Pool, Refused};
+    /// # let mut cache = Cache::new(&[Pool { bytes: 1000, items: 10 }])?;
+    /// assert_eq!(cache.get(b"key")?, None);
+    /// let ticket = cache.ticket().unwrap(); // first the ticket, then the load
+    /// let row = b"old";
+    /// cache.delete(b"key")?; // another has changed the row
+    /// assert_eq!(cache.set_leased(ticket, 0, b"key", row, 0)?, Kept::Stale);
+    /// assert_eq!(cache.get(b"key")?, None);
+    /// # Ok::<(), Refused>(())
+    /// ```
+    #[must_use]
+    pub fn ticket(&mut self) -> Option<Ticket> {
+        let mut number = 0;
+        // SAFETY: both pointers are of places that live through the call.
+        let status = unsafe { library::kilambosetry_ticket(&mut self.handle, &mut number) };
+        (status == DONE).then_some(Ticket { cache: self.number, number })
+    }
+
+    /// Stores what was loaded after the ticket was handed out, as [`set`](Cache::set) does, where no key of its slot was changed
+    /// since (by a set, an add or a delete) and no add of one waits; else nothing is stored. A cache has 65,536 slots, by the
+    /// keys' hashes, and a shard of many has fewer. The key's turn is over with either. A ticket of another cache stores nothing.
+    pub fn set_leased(
+        &mut self,
+        ticket: Ticket,
+        pool: u8,
+        key: &[u8],
+        value: &[u8],
+        ttl: u32,
+    ) -> Result<Kept, Refused> {
+        if ticket.cache != self.number {
+            return Ok(Kept::Stale);
+        }
+        // SAFETY: as in `set`.
+        let status = unsafe {
+            library::kilambosetry_set_leased(
+                &mut self.handle,
+                ticket.number,
+                pool,
+                key.as_ptr(),
+                key.len(),
+                value.as_ptr(),
+                value.len(),
+                ttl,
+            )
+        };
+        match status {
+            STALE => Ok(Kept::Stale),
+            status => done(status).map(|()| Kept::Stored),
+        }
+    }
+
+    /// Asks whether the caller is to load the key, of many who miss it. A turn is over as the key is set, added, stored with a
+    /// ticket or deleted, or by [`end_turn`](Cache::end_turn), and another's once `patience` seconds are up by the cache's clock.
+    /// It is advice: no promise rests on it.
+    ///
+    /// ```
+    /// # use kilambosetry::{Cache, Pool, Refused, Turn};
+    /// # let mut cache = Cache::new(&[Pool { bytes: 1000, items: 10 }])?;
+    /// cache.tick(100)?;
+    /// assert_eq!(cache.ask_turn(b"key", 10)?, Turn::Yours);
+    /// assert_eq!(cache.ask_turn(b"key", 10)?, Turn::Taken { since: 100 });
+    /// cache.tick(110)?;
+    /// assert_eq!(cache.ask_turn(b"key", 10)?, Turn::Yours);
+    /// # Ok::<(), Refused>(())
+    /// ```
+    pub fn ask_turn(&mut self, key: &[u8], patience: u64) -> Result<Turn, Refused> {
+        let mut since = 0;
+        // SAFETY: the key is valid for its length, and nothing that is written overlaps anything.
+        let status =
+            unsafe { library::kilambosetry_ask_turn(&mut self.handle, key.as_ptr(), key.len(), patience, &mut since) };
+        match status {
+            WAITS => Ok(Turn::Taken { since }),
+            status => done(status).map(|()| Turn::Yours),
+        }
+    }
+
+    /// Gives the key's turn up: the next who asks has it.
+    pub fn end_turn(&mut self, key: &[u8]) -> Result<(), Refused> {
+        // SAFETY: the key is valid for its length.
+        done(unsafe { library::kilambosetry_end_turn(&mut self.handle, key.as_ptr(), key.len()) })
     }
 
     /// How many calls were begun: sets, adds, gets, reads and deletes that weren't refused.
     pub fn calls(&mut self) -> u64 {
         let mut calls = 0;
         // SAFETY: both pointers are of places that live through the call.
-        unsafe { library::kilambosetry_calls(&mut self.0, &mut calls) };
+        unsafe { library::kilambosetry_calls(&mut self.handle, &mut calls) };
         calls
     }
 
@@ -334,7 +447,7 @@ impl Cache {
     pub fn counts(&mut self) -> Counts {
         let mut counts = Counts::default();
         // SAFETY: as in `calls`.
-        unsafe { library::kilambosetry_counts(&mut self.0, &mut counts) };
+        unsafe { library::kilambosetry_counts(&mut self.handle, &mut counts) };
         counts
     }
 
@@ -351,7 +464,7 @@ impl Cache {
     pub fn losses(&mut self) -> Losses {
         let mut losses = Losses::default();
         // SAFETY: as in `calls`.
-        unsafe { library::kilambosetry_losses(&mut self.0, &mut losses) };
+        unsafe { library::kilambosetry_losses(&mut self.handle, &mut losses) };
         losses
     }
 
@@ -368,7 +481,7 @@ impl Cache {
     pub fn usage(&mut self, pool: u8) -> Result<Usage, Refused> {
         let mut usage = Usage::default();
         // SAFETY: as in `calls`.
-        done(unsafe { library::kilambosetry_usage(&mut self.0, pool, &mut usage) })?;
+        done(unsafe { library::kilambosetry_usage(&mut self.handle, pool, &mut usage) })?;
         Ok(usage)
     }
 }
@@ -376,6 +489,6 @@ impl Cache {
 impl Drop for Cache {
     fn drop(&mut self) {
         // SAFETY: the handle is this cache's own.
-        unsafe { library::kilambosetry_free(&mut self.0) }
+        unsafe { library::kilambosetry_free(&mut self.handle) }
     }
 }

@@ -85,6 +85,25 @@ extern "C" {
         len: *mut usize,
     ) -> u8;
     pub fn kilambosetry_delete(cache: *mut Handle, key: *const u8, key_len: usize) -> u8;
+    pub fn kilambosetry_ticket(cache: *mut Handle, ticket: *mut u64) -> u8;
+    pub fn kilambosetry_set_leased(
+        cache: *mut Handle,
+        ticket: u64,
+        pool: u8,
+        key: *const u8,
+        key_len: usize,
+        value: *const u8,
+        value_len: usize,
+        ttl: u32,
+    ) -> u8;
+    pub fn kilambosetry_ask_turn(
+        cache: *mut Handle,
+        key: *const u8,
+        key_len: usize,
+        patience: u64,
+        since: *mut u64,
+    ) -> u8;
+    pub fn kilambosetry_end_turn(cache: *mut Handle, key: *const u8, key_len: usize) -> u8;
     pub fn kilambosetry_read(cache: *mut Handle, key: *const u8, key_len: usize, value: *mut Handle) -> u8;
     pub fn kilambosetry_value_length(value: *mut Handle, len: *mut usize) -> u8;
     pub fn kilambosetry_value_copy(

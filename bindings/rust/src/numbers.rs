@@ -14,6 +14,10 @@ pub(crate) const MOST_POOLS: u64 = 16;
 const BUCKET: u64 = 24;
 const REGION: u64 = 132;
 const DIGEST: u64 = 8;
+// What a slot for tickets takes, and a place for turns, of which there is one to 16 slots.
+const SLOT: u64 = 8;
+const TURN: u64 = 24;
+const MOST_SLOTS: u64 = 1 << 16;
 
 /// What [`Options`](crate::Options) come to, for all shards together: the library's numbers, and the memory that they take once
 /// all is full. `Display` prints them.
@@ -99,11 +103,26 @@ impl Numbers {
         self.pages().saturating_mul(DIGEST)
     }
 
+    /// Bytes of what the library keeps for leases: slots for tickets, 65,536 or more of all shards together, and places for
+    /// turns.
+    #[must_use]
+    pub fn leases_bytes(&self) -> u64 {
+        let slots = match self.shards {
+            0 | 1 => MOST_SLOTS,
+            2..4 => MOST_SLOTS / 2,
+            4..8 => MOST_SLOTS / 4,
+            8..16 => MOST_SLOTS / 8,
+            _ => MOST_SLOTS / 16,
+        };
+        u64::from(self.shards) * (slots * SLOT + slots / 16 * TURN)
+    }
+
     /// Bytes of memory, all together.
     #[must_use]
     pub fn memory_bytes(&self) -> u64 {
         let beside = [self.index_bytes(), self.buckets_bytes(), self.buffers_bytes(), self.queue_bytes()];
-        beside.iter().fold(self.items_bytes() + self.digests_bytes(), |sum, bytes| sum.saturating_add(*bytes))
+        let first = self.items_bytes() + self.digests_bytes() + self.leases_bytes();
+        beside.iter().fold(first, |sum, bytes| sum.saturating_add(*bytes))
     }
 }
 
@@ -112,6 +131,7 @@ impl fmt::Display for Numbers {
         let mut row = |name: &str, bytes: u64, of: String| writeln!(f, "{name:8}{:>9}  {of}", Bytes(bytes).to_string());
         row("memory", self.memory_bytes(), format!("once all is full, with items of {} bytes", self.item))?;
         row("items", self.items_bytes(), format!("{} items", self.items()))?;
+        row("leases", self.leases_bytes(), "whether or not there are any".to_string())?;
         if let Some(flash) = &self.flash {
             row("index", self.index_bytes(), format!("of items of more than {} bytes", flash.small_max))?;
             row("buckets", self.buckets_bytes(), format!("{} a shard", flash.buckets))?;

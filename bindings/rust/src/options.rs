@@ -1,6 +1,7 @@
 use crate::numbers::{Numbers, BESIDE, CHARGE, MOST_BYTES, MOST_ITEMS, MOST_POOLS};
 use crate::{Clock, Flash, OpenError, Pool};
 use std::fmt;
+use std::time::Duration;
 
 // Pages of a shard's flash, at least.
 const LEAST_PAGES: u64 = 16;
@@ -50,6 +51,9 @@ pub struct Options {
     pub page: u64,
     /// Whether reads and writes go past the system's copies of pages (`O_DIRECT`). A page must be one that the disk has then.
     pub direct: bool,
+    /// How long the load of a key may take before another begins one ([`get_or_load`](crate::HybridCache::get_or_load)). A call
+    /// that misses a key waits for loads of others twice as long, at most. With 0 none waits.
+    pub patience: Duration,
     /// The most bytes and items of all shards together, in place of those that `memory` comes to.
     pub pool: Option<Pool>,
     /// The ten numbers of one shard's flash, in place of those that `flash` and `page` come to.
@@ -59,7 +63,8 @@ pub struct Options {
 }
 
 impl Default for Options {
-    /// 64 MB of memory, 1 GB of flash, values of 1,000 bytes, 8 shards, two writers and two fillers, and the system's clock.
+    /// 64 MB of memory, 1 GB of flash, values of 1,000 bytes, 8 shards, two writers and two fillers, ten seconds for a load, and
+    /// the system's clock.
     fn default() -> Options {
         Options {
             memory: 64_000_000,
@@ -71,6 +76,7 @@ impl Default for Options {
             fillers: 2,
             page: 4096,
             direct: false,
+            patience: Duration::from_secs(10),
             pool: None,
             flash_numbers: None,
             clock: Clock::system(),

@@ -1,4 +1,4 @@
-use crate::{library, Cache, Counts, Held, Losses, Pool, Refused, Usage};
+use crate::{library, Cache, Counts, Held, Kept, Losses, Pool, Refused, Ticket, Turn, Usage};
 use std::sync::{Mutex, MutexGuard, PoisonError};
 
 /// The shard, from 0, that the key is of, where there are so many: by the upper 24 bits of its FNV-1a hash.
@@ -104,6 +104,27 @@ impl ShardedCache {
     #[inline]
     pub fn delete(&self, key: &[u8]) -> Result<bool, Refused> {
         self.shard(key).delete(key)
+    }
+
+    /// As [`Cache::ticket`], of the key's shard: it is good for the keys of that shard, and stores nothing under others.
+    #[must_use]
+    pub fn ticket(&self, key: &[u8]) -> Option<Ticket> {
+        self.shard(key).ticket()
+    }
+
+    /// As [`Cache::set_leased`].
+    pub fn set_leased(&self, ticket: Ticket, pool: u8, key: &[u8], value: &[u8], ttl: u32) -> Result<Kept, Refused> {
+        self.shard(key).set_leased(ticket, pool, key, value, ttl)
+    }
+
+    /// As [`Cache::ask_turn`].
+    pub fn ask_turn(&self, key: &[u8], patience: u64) -> Result<Turn, Refused> {
+        self.shard(key).ask_turn(key, patience)
+    }
+
+    /// As [`Cache::end_turn`].
+    pub fn end_turn(&self, key: &[u8]) -> Result<(), Refused> {
+        self.shard(key).end_turn(key)
     }
 
     /// How many calls were begun, of all shards together.

@@ -1,9 +1,10 @@
 use crate::bell::Bell;
 use crate::buffer::with_page;
 use crate::calls::{wake, Answer, Call, Calls};
-use crate::checked::Checked;
+use crate::checked::{digest_of, Checked};
+use crate::loads::{after, Loads};
 use crate::numbers::Numbers;
-use crate::{shard_of, Came, Clock, Engine, Error, Held, Operation, Refused, Take};
+use crate::{Came, Clock, Engine, Error, Held, Operation, Refused, Take};
 use std::sync::atomic::{AtomicU64, Ordering::Relaxed};
 use std::sync::{Condvar, Mutex, MutexGuard, PoisonError, TryLockError};
 use std::task::Waker;
@@ -17,6 +18,7 @@ const PAUSE: Duration = Duration::from_millis(5);
 pub(crate) struct State {
     pub engine: Engine,
     pub calls: Calls,
+    pub loads: Loads,
     // the last second that the engine was told
     now: u64,
     // jobs of writers that are under way
@@ -41,6 +43,7 @@ pub(crate) struct Shards {
     pages: u32,
     pools: u8,
     clock: Clock,
+    pub patience: Duration,
     writers: Bell,
     fillers: Bell,
 }
@@ -50,7 +53,7 @@ pub(crate) type Locked<'a> = MutexGuard<'a, State>;
 
 impl Shards {
     /// Empty shards with these numbers, over a device that is still to come, where there is flash.
-    pub fn new(numbers: &Numbers, clock: Clock) -> Result<Shards, Refused> {
+    pub fn new(numbers: &Numbers, clock: Clock, patience: Duration) -> Result<Shards, Refused> {
         let pools = numbers.pools();
         let now = clock.now();
         let made = (0..numbers.shards).map(|_| {
@@ -59,7 +62,8 @@ impl Shards {
                 None => Engine::new_shard_in_memory(&pools, numbers.shards)?,
             };
             engine.tick(now)?;
-            let state = State { engine, calls: Calls::default(), now, writing: 0, closed: false };
+            let state =
+                State { engine, calls: Calls::default(), loads: Loads::default(), now, writing: 0, closed: false };
             Ok(Shard { state: Mutex::new(state), quiet: Condvar::new(), lock_waits: AtomicU64::new(0) })
         });
         let (page, pages) = numbers.flash.map_or((0, 0), |flash| (flash.page as usize, flash.pages() as u32));
@@ -70,6 +74,7 @@ impl Shards {
             pages,
             pools: pools.len() as u8,
             clock,
+            patience,
             writers: Bell::default(),
             fillers: Bell::default(),
         })
@@ -83,10 +88,14 @@ impl Shards {
         self.pools
     }
 
-    /// The key's shard.
+    /// The key's shard, by the upper half of its digest. (That of the library, FNV-1a, goes byte by byte, and takes as long as
+    /// half a hit.)
     #[inline]
     pub fn of(&self, key: &[u8]) -> usize {
-        usize::from(shard_of(key, self.shards.len() as u8))
+        match self.shards.len() {
+            1 => 0,
+            shards => (((digest_of(key) >> 32) * shards as u64) >> 32) as usize,
+        }
     }
 
     /// The key's pool: its items are spread over all of them, where one can't hold as many.
@@ -94,7 +103,7 @@ impl Shards {
     pub fn pool_of(&self, key: &[u8]) -> u8 {
         match self.pools {
             1 => 0,
-            pools => (crate::checked::digest_of(key) % u64::from(pools)) as u8,
+            pools => (digest_of(key) as u32 % u32::from(pools)) as u8,
         }
     }
 
@@ -134,11 +143,11 @@ impl Shards {
 
     /// Lets the shard go after a step that may have answered calls or made work: who waits for that is told.
     pub fn leave(&self, shard: usize, mut state: Locked<'_>) {
-        let State { engine, calls, .. } = &mut *state;
+        let State { engine, calls, loads, .. } = &mut *state;
         calls.sweep(engine);
         let has_fills = calls.is_owed() && engine.filler_has_work() != Ok(false);
         let has_writes = self.device.is_some() && engine.writer_has_work() != Ok(false);
-        let woken = calls.woken();
+        let woken = [calls.woken(), loads.woken()];
         drop(state);
         if has_writes {
             self.writers.ring(shard);
@@ -146,7 +155,7 @@ impl Shards {
         if has_fills {
             self.fillers.ring(shard);
         }
-        wake(woken);
+        woken.into_iter().for_each(wake);
     }
 
     /// Waits for the answer of a call that begins to wait, and makes the reads that are to be made meanwhile: its own, and
@@ -199,6 +208,33 @@ impl Shards {
     pub fn give_up(&self, shard: usize, call: u64) {
         let given_up: Option<Call> = self.lock(shard).calls.give_up(call);
         drop(given_up);
+    }
+
+    /// Waits until nobody loads the key any more, or the load has taken too long, or until this moment.
+    pub fn wait_for_load(&self, mut state: Locked<'_>, key: &[u8], limit: Instant) -> Result<(), Error> {
+        while !state.closed {
+            let Some((ended, until)) = state.loads.running(key) else { return Ok(()) };
+            let left = until.min(limit).saturating_duration_since(Instant::now());
+            if left.is_zero() {
+                return Ok(());
+            }
+            state = ended.wait_timeout(state, left).unwrap_or_else(PoisonError::into_inner).0;
+        }
+        Err(Error::Closed)
+    }
+
+    /// Until when a call waits for others that load its key: for one that is under way, and for one that takes over.
+    pub fn limit(&self) -> Instant {
+        after(self.patience.saturating_mul(2))
+    }
+
+    /// Gives a load up.
+    pub fn give_up_load(&self, shard: usize, key: &[u8], load: u64) {
+        let mut state = self.lock(shard);
+        state.loads.give_up(key, load);
+        let woken = state.loads.woken();
+        drop(state);
+        wake(woken);
     }
 
     /// Does what was taken to its end, with no lock held while the device works, and lets the shard go.
@@ -317,10 +353,11 @@ impl Shards {
             let mut state = self.lock(shard);
             state.closed = true;
             state.calls.close();
-            let woken = state.calls.woken();
+            state.loads.close();
+            let woken = [state.calls.woken(), state.loads.woken()];
             drop(state);
             self.shards[shard].quiet.notify_all();
-            wake(woken);
+            woken.into_iter().for_each(wake);
         }
         self.writers.end();
         self.fillers.end();

@@ -15,6 +15,14 @@ pub struct Stats {
     pub stored: u64,
     /// Deletes, whether or not there was an item.
     pub deletes: u64,
+    /// Leases that were handed out: values that were to be loaded.
+    pub loads: u64,
+    /// Calls that missed a key, and waited for another that loads it.
+    pub waits_for_loads: u64,
+    /// Loaded values that weren't stored, since their key was changed meanwhile, or another of its slot.
+    pub stale_stores: u64,
+    /// Loaded values that weren't stored, since the store was refused.
+    pub refused_stores: u64,
     /// Items that were forgotten, by the reason.
     pub losses: Losses,
     /// Items in memory.
@@ -82,6 +90,10 @@ impl Stats {
         counter(&mut text, "misses", "Gets that found none.", self.misses);
         counter(&mut text, "stored", "Values that were stored.", self.stored);
         counter(&mut text, "deletes", "Deletes.", self.deletes);
+        counter(&mut text, "loads", "Values that were to be loaded.", self.loads);
+        counter(&mut text, "waits_for_loads", "Calls that waited for another's load.", self.waits_for_loads);
+        counter(&mut text, "stale_stores", "Loads not stored: the key was changed.", self.stale_stores);
+        counter(&mut text, "refused_stores", "Loads not stored: the store was refused.", self.refused_stores);
         counters(&mut text, "losses", "Items that were forgotten.", "reason", &self.losses_by_reason());
         counters(&mut text, "device_operations", "Pages read and written.", "operation", &operations);
         counters(&mut text, "device_failures", "Operations that failed.", "operation", &failures);
@@ -129,6 +141,11 @@ impl fmt::Display for Stats {
             self.hits_from_memory, self.hits_from_flash, self.misses
         )?;
         writeln!(f, "changes  {} stored, {} deletes", self.stored, self.deletes)?;
+        writeln!(
+            f,
+            "loads    {} begun, {} stale, {} refused, {} waited for another's",
+            self.loads, self.stale_stores, self.refused_stores, self.waits_for_loads
+        )?;
         writeln!(
             f,
             "memory   {} items, {} of {} bytes",

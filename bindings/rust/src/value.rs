@@ -3,7 +3,7 @@ use std::fmt;
 use std::ops::Deref;
 
 /// A value that a [`HybridCache`](crate::HybridCache) found: a copy of its bytes, made behind the lock, since the library
-/// lends none of its own.
+/// lends none of its own. Or one that was loaded.
 #[derive(Clone, PartialEq, Eq, Hash)]
 pub struct Value(Vec<u8>);
 
@@ -31,6 +31,12 @@ impl Deref for Value {
 impl AsRef<[u8]> for Value {
     fn as_ref(&self) -> &[u8] {
         self
+    }
+}
+
+impl From<Vec<u8>> for Value {
+    fn from(bytes: Vec<u8>) -> Value {
+        Value(bytes)
     }
 }
 

@@ -2,10 +2,11 @@
 //! all threads end. The library's allocations are told from those of Rust by the call: it calls `malloc` and `realloc`, which
 //! stand here, and Rust's allocator calls what the system's C library (glibc) has behind them.
 #![cfg(all(target_os = "linux", target_env = "gnu"))]
-use kilambosetry::{Error, Flash, HybridCache, Options, PageDevice, Pool, Refused};
+use kilambosetry::{Error, Flash, HybridCache, LoadError, Options, PageDevice, Pool, Refused};
 use std::alloc::{GlobalAlloc, Layout};
 use std::cell::Cell;
 use std::collections::HashMap;
+use std::convert::Infallible;
 use std::ffi::c_void;
 use std::io;
 use std::ptr;
@@ -104,6 +105,24 @@ fn player(cache: &HybridCache, number: u64, rounds: u64) -> u64 {
         let done = match next(&seed) % 20 {
             0..=3 => cache.set(&key, &value(of, version), 0).map(|()| drop(latest.insert(of, value(of, version)))),
             4 => cache.delete(&key).map(|_| drop(latest.remove(&of))),
+            6 | 7 => {
+                let mut is_loaded = false;
+                let found = cache.get_or_load(&key, 0, || {
+                    is_loaded = true;
+                    Ok::<_, Infallible>(value(of, version))
+                });
+                if is_loaded {
+                    latest.insert(of, value(of, version));
+                }
+                match found {
+                    Ok(found) => {
+                        assert_eq!(Some(&found[..]), latest.get(&of).map(|value| &value[..]), "key {of}");
+                        Ok(())
+                    }
+                    Err(LoadError::Cache(error)) => Err(error),
+                    Err(LoadError::Load(never)) => match never {},
+                }
+            }
             chosen => if chosen == 5 { cache.get_timeout(&key, limit) } else { cache.get(&key) }.map(|found| {
                 let is_right = found.is_none_or(|found| latest.get(&of).is_some_and(|value| *value == found[..]));
                 assert!(is_right, "key {of}");

@@ -1,5 +1,7 @@
 //! What the cache of a service answers, whatever its file and its device do.
-use kilambosetry::{shard_of, Clock, Error, Flash, HybridCache, OpenError, Options, PageDevice, Pool, Refused, Stats};
+use kilambosetry::{
+    shard_of, Clock, Error, Flash, HybridCache, Lookup, OpenError, Options, PageDevice, Pool, Refused, Stats,
+};
 use std::collections::HashMap;
 use std::fs::{self, File, OpenOptions};
 use std::future::Future;
@@ -656,8 +658,12 @@ fn options_say_what_they_come_to() {
     assert!(numbers.flash_bytes() <= 20_000_000_000 && numbers.flash_bytes() > 19_900_000_000);
     assert!(numbers.items_bytes() <= 64_000_000 && numbers.items_bytes() > 63_900_000);
     let parts = [numbers.index_bytes(), numbers.buckets_bytes(), numbers.buffers_bytes(), numbers.queue_bytes()];
-    let together = numbers.items_bytes() + numbers.digests_bytes() + parts.iter().sum::<u64>();
+    let together = numbers.items_bytes() + numbers.digests_bytes() + numbers.leases_bytes() + parts.iter().sum::<u64>();
     assert_eq!(numbers.memory_bytes(), together);
+    for (shards, slots) in [(1, 65_536), (2, 32_768), (3, 32_768), (4, 16_384), (7, 16_384), (8, 8_192), (16, 4_096)] {
+        let numbers = Options { shards, ..options.clone() }.numbers_in_memory().unwrap();
+        assert_eq!(numbers.leases_bytes(), u64::from(shards) * slots / 16 * (16 * 8 + 24));
+    }
     let text = options.to_string();
     assert_eq!(text, numbers.to_string());
     assert!(text.contains("items     64.0 MB  90651 items\n") && text.contains("small_max: 2048"), "{text}");
@@ -749,11 +755,13 @@ fn the_text_for_prometheus_has_its_form() {
             value.parse::<u64>().unwrap();
         }
     }
-    assert_eq!(names.len(), 17);
+    assert_eq!(names.len(), 21);
     for line in [
         "kilambosetry_hits_total{from=\"memory\"} 0\nkilambosetry_hits_total{from=\"flash\"} 1\n",
         "kilambosetry_misses_total 1\n",
         "kilambosetry_stored_total 400\n",
+        "kilambosetry_loads_total 0\n",
+        "kilambosetry_stale_stores_total 0\n",
         "kilambosetry_shards_behind ",
         "kilambosetry_losses_total{reason=\"fault\"} 0\n",
     ] {
@@ -769,4 +777,7 @@ fn handles_are_for_threads() {
     let (cache, _) = over_ram(&small());
     shared(&cache);
     sent(&cache.get_async(b"key"));
+    sent(&cache.get_or_lease_async(b"key"));
+    let Lookup::Miss(lease) = cache.get_or_lease(b"key").unwrap() else { panic!("it is empty") };
+    sent(&lease);
 }

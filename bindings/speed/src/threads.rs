@@ -2,7 +2,7 @@
 //! each hit, of all threads together, the least of the rounds. The threads ask for keys that all share, or each for keys of
 //! shards that are its own. This cache and `lru` are asked in turn, for the same keys by the same hash.
 use crate::{copy, key, next};
-use kilambosetry::{shard_of, Pool, ShardedCache};
+use kilambosetry::{HybridCache, Options, Pool};
 use std::sync::{Barrier, Mutex};
 use std::thread;
 use std::time::Instant;
@@ -16,9 +16,9 @@ trait Shared: Sync {
     fn get(&self, key: &[u8], out: &mut [u8]) -> bool;
 }
 
-impl Shared for ShardedCache {
+impl Shared for HybridCache {
     fn set(&self, key: &[u8], value: &[u8]) {
-        ShardedCache::set(self, 0, key, value, 0).unwrap()
+        HybridCache::set(self, key, value, 0).unwrap()
     }
 
     fn get(&self, key: &[u8], out: &mut [u8]) -> bool {
@@ -29,15 +29,16 @@ impl Shared for ShardedCache {
 #[repr(align(128))]
 struct Lane(Mutex<lru::LruCache<Vec<u8>, Vec<u8>>>);
 
-struct Lanes(Vec<Lane>);
+// The other cache tells whose a key is.
+struct Lanes<'a>(Vec<Lane>, &'a HybridCache);
 
-impl Lanes {
+impl Lanes<'_> {
     fn lane(&self, key: &[u8]) -> &Lane {
-        &self.0[usize::from(shard_of(key, self.0.len() as u8))]
+        &self.0[usize::from(self.1.shard_of(key))]
     }
 }
 
-impl Shared for Lanes {
+impl Shared for Lanes<'_> {
     fn set(&self, key: &[u8], value: &[u8]) {
         self.lane(key).0.lock().unwrap().put(key.to_vec(), value.to_vec());
     }
@@ -48,11 +49,9 @@ impl Shared for Lanes {
 }
 
 // The keys that a thread asks for, as they were drawn.
-fn draws(thread: u8, threads: u8, shards: u8, own: bool) -> Vec<[u8; 20]> {
-    let sharing = threads.min(shards);
+fn draws(cache: &HybridCache, thread: u8, sharing: u8, own: bool) -> Vec<[u8; 20]> {
     let all = (0..KEYS).map(key);
-    let keys: Vec<[u8; 20]> =
-        all.filter(|key| !own || shard_of(key, shards) % sharing == thread % sharing).collect();
+    let keys: Vec<[u8; 20]> = all.filter(|key| !own || cache.shard_of(key) % sharing == thread % sharing).collect();
     let mut random = 88_172_645_463_325_252 + u64::from(thread);
     (0..DRAWS).map(|_| keys[(next(&mut random) % keys.len() as u64) as usize]).collect()
 }
@@ -83,15 +82,15 @@ fn round(store: &dyn Shared, draws: &[Vec<[u8; 20]>], times: usize) -> f64 {
 }
 
 fn measure(threads: u8, shards: u8, own: bool) -> [f64; 2] {
-    let pool = Pool { bytes: 4_000_000, items: 4 * KEYS };
-    let ours = ShardedCache::new(&[pool], shards).unwrap();
-    let theirs =
-        Lanes((0..shards).map(|_| Lane(Mutex::new(lru::LruCache::new(4 * KEYS as usize / usize::from(shards))))).collect());
+    let pool = Some(Pool { bytes: 4_000_000, items: 4 * KEYS });
+    let ours = HybridCache::in_memory(&Options { shards, pool, ..Options::default() }).unwrap();
+    let lane = |_| Lane(Mutex::new(lru::LruCache::new(4 * KEYS as usize / usize::from(shards))));
+    let theirs = Lanes((0..shards).map(lane).collect(), &ours);
     let stores: [&dyn Shared; 2] = [&ours, &theirs];
     for store in stores {
         (0..KEYS).for_each(|number| store.set(&key(number), &[7; 100]));
     }
-    let draws: Vec<_> = (0..threads).map(|thread| draws(thread, threads, shards, own)).collect();
+    let draws: Vec<_> = (0..threads).map(|thread| draws(&ours, thread, threads.min(shards), own)).collect();
     let mut least = [f64::MAX; 2];
     for _ in 0..ROUNDS {
         for (least, store) in least.iter_mut().zip(stores) {
