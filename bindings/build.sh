@@ -2,6 +2,7 @@
 # Builds the static library, and tests it from C and from Cargo.
 #
 #   bindings/build.sh            library, C checks (under valgrind where there is one), cargo test
+#   bindings/build.sh --c        library and C checks alone
 #   bindings/build.sh --speed    also the comparison with other caches, where Debian's crate `lru` (librust-lru-dev) is installed
 #   bindings/build.sh --trial    also a service before a slow database, with leases and without, where that crate is installed
 #   bindings/build.sh --memory   also what a cache with flash keeps in memory, beside what its pool says
@@ -20,25 +21,36 @@ library() {
     (cd "$crate" && rt lib >"$out/rt.log" 2>&1) || { tail -20 "$out/rt.log"; exit 1; }
 }
 
-if ! has rt || ! has ar; then
-    echo "skipped: the library needs rt and ar"
-    exit 0
+mkdir -p "$out"
+if has rt && has ar; then
+    kit=$(dirname "$(dirname "$(readlink -f "$(command -v rt)")")")
+elif ! taken=$("$here/../tools/dist" --take hc_c); then
+    echo "build.sh: the library needs rt and ar, and $taken" >&2
+    exit 1
 fi
-kit=$(dirname "$(dirname "$(readlink -f "$(command -v rt)")")")
 rm -rf "$out/objects" "$out/include" "$out/lib"
 mkdir -p "$out/objects" "$out/include" "$out/lib/pkgconfig"
 
 echo "== the library"
-library
-cp "$crate/out/libhc_c.a" "$out/first.a"
-library
-cmp "$out/first.a" "$crate/out/libhc_c.a"
-echo "built twice: the same bytes"
-rm "$out/first.a"
-# the calls of the C library's heap, which come with the toolchain, go into the same archive
-(cd "$out/objects" && ar x "$crate/out/libhc_c.a" && ar x "$kit/c/liblibc_c.a" && ar rcsD "$out/lib/libkilambosetry.a" ./*)
+if [ -n "${kit-}" ]; then
+    library
+    cp "$crate/out/libhc_c.a" "$out/first.a"
+    library
+    cmp "$out/first.a" "$crate/out/libhc_c.a"
+    echo "built twice: the same bytes"
+    rm "$out/first.a"
+    # the calls of the C library's heap, which come with the toolchain, go into the same archive
+    (cd "$out/objects" && ar x "$crate/out/libhc_c.a" && ar x "$kit/c/liblibc_c.a" && ar rcsD "$out/lib/libkilambosetry.a" ./*)
+else
+    echo "$taken"
+    cp "$(echo "$taken" | head -n 1)" "$out/lib/"
+fi
 cp "$here"/c/*.h "$out/include/"
 sed "s|@prefix@|${PREFIX:-$out}|" "$here/c/kilambosetry.pc.in" >"$out/lib/pkgconfig/kilambosetry.pc"
+
+if [ -f "$here/../dist/MANIFEST" ]; then
+    "$here/../tools/dist" --check
+fi
 
 echo "== C"
 if has cc; then
@@ -59,7 +71,60 @@ else
     echo "skipped: no cc"
 fi
 
+# Whether cc makes and links a program that begins with this line, with further words.
+makes() {
+    printf '%s\n' "$1" 'int main(void) { return 0; }' >"$out/tried.c"
+    shift
+    cc -o "$out/tried" "$out/tried.c" "$@" >"$out/tried.log" 2>&1
+}
+# Makes a program of the service's sources: its name, and further words.
+service() {
+    made=$1
+    shift
+    cc -std=c11 -Wall -Wextra -Wpedantic -Werror -O1 -g -pthread -I"$out/include" -o "$out/$made" "$here/c/kilambosetry_service.c" "$@" \
+        "$out/lib/libkilambosetry.a"
+}
+refusing=-Wl,--wrap=malloc,--wrap=calloc,--wrap=realloc,--wrap=pread,--wrap=pwrite
+
+echo "== the service in C"
+if ! has cc; then
+    echo "skipped: no cc"
+elif ! makes "#include <pthread.h>" -pthread; then
+    echo "skipped: no POSIX threads"
+else
+    service service-checks "$here/c/service_checks.c" $refusing
+    "$out/service-checks" "$out"
+    if has valgrind; then
+        valgrind -q --fair-sched=yes --leak-check=full --show-leak-kinds=all --errors-for-leak-kinds=all --error-exitcode=1 \
+            "$out/service-checks" "$out" 16
+        echo "valgrind: no error, nothing lost"
+        valgrind -q --tool=helgrind --fair-sched=yes --suppressions="$here/c/helgrind.supp" --error-exitcode=1 \
+            "$out/service-checks" "$out" 80
+        echo "helgrind: no race, no lock taken in another order"
+    else
+        echo "skipped: no valgrind"
+    fi
+    if makes "" -fsanitize=thread -pthread && "$out/tried"; then
+        service service-races -fsanitize=thread "$here/c/service_checks.c" $refusing
+        "$out/service-races" "$out" 8
+        echo "thread sanitizer: no race in the service's own code"
+    else
+        echo "skipped: no thread sanitizer"
+    fi
+    if makes "#include <sqlite3.h>" -lsqlite3; then
+        mkdir -p "$out/profiles.files"
+        service profiles "$here/examples/c/profiles.c" "$here/examples/c/database.c" -lsqlite3
+        "$out/profiles" "$out/profiles.files"
+        rm -r "$out/profiles.files"
+    else
+        echo "skipped: no SQLite for the example (Debian's libsqlite3-dev)"
+    fi
+fi
+rm -f "$out"/tried*
+[ "${1-}" != --c ] || exit 0
+
 echo "== Cargo"
+export KILAMBOSETRY_LIB="$out/lib" # (and not the one of dist/)
 if has cargo; then
     (cd "$here/rust" && CARGO_TARGET_DIR="$out/target" cargo test --offline --quiet)
     # the code of README.md: it is the example's, word for word, and does what it says

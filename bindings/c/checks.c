@@ -393,7 +393,43 @@ static void check_full_queue(void) {
     kilambosetry_free(&cache);
 }
 
+/* What was loaded before a change isn't stored after it, and one at a time loads a key. */
+static void check_leases(void) {
+    kilambosetry_cache cache = KILAMBOSETRY_NONE;
+    uint64_t ticket = 0, since = 7;
+    uint8_t out[8], long_key[256] = {0};
+    size_t len = 0;
+    CHECK(kilambosetry_ticket(&cache, &ticket) == KILAMBOSETRY_EMPTY && kilambosetry_end_turn(&cache, BYTES("a")) == KILAMBOSETRY_EMPTY);
+    CHECK(kilambosetry_set_leased(&cache, 0, 0, BYTES("a"), BYTES("v"), 0) == KILAMBOSETRY_EMPTY);
+    CHECK(kilambosetry_ask_turn(&cache, BYTES("a"), 10, &since) == KILAMBOSETRY_EMPTY && since == 7);
+    CHECK(kilambosetry_new(&cache, pools, 2) == KILAMBOSETRY_DONE && kilambosetry_tick(&cache, 100) == KILAMBOSETRY_DONE);
+    CHECK(kilambosetry_ask_turn(&cache, BYTES("a"), 10, &since) == KILAMBOSETRY_DONE && since == 7);
+    CHECK(kilambosetry_ticket(&cache, &ticket) == KILAMBOSETRY_DONE);
+    CHECK(kilambosetry_tick(&cache, 109) == KILAMBOSETRY_DONE);
+    CHECK(kilambosetry_ask_turn(&cache, BYTES("a"), 10, &since) == KILAMBOSETRY_WAITS && since == 100);
+    CHECK(kilambosetry_tick(&cache, 110) == KILAMBOSETRY_DONE);
+    CHECK(kilambosetry_ask_turn(&cache, BYTES("a"), 10, &since) == KILAMBOSETRY_DONE); /* patience is up */
+    CHECK(kilambosetry_end_turn(&cache, BYTES("a")) == KILAMBOSETRY_DONE);
+    CHECK(kilambosetry_ask_turn(&cache, BYTES("a"), 10, &since) == KILAMBOSETRY_DONE);
+    CHECK(kilambosetry_set_leased(&cache, ticket, 0, BYTES("a"), BYTES("one"), 0) == KILAMBOSETRY_DONE);
+    CHECK(kilambosetry_ask_turn(&cache, BYTES("a"), 10, &since) == KILAMBOSETRY_DONE); /* the store ended it */
+    CHECK(kilambosetry_set_leased(&cache, ticket, 0, BYTES("a"), BYTES("two"), 0) == KILAMBOSETRY_STALE);
+    CHECK(kilambosetry_get(&cache, BYTES("a"), out, sizeof out, &len) == KILAMBOSETRY_DONE && memcmp(out, "one", 3) == 0);
+    CHECK(kilambosetry_set_leased(&cache, ticket, 0, BYTES("b"), BYTES("b"), 0) == KILAMBOSETRY_DONE); /* it is good for any key */
+    CHECK(kilambosetry_ticket(&cache, &ticket) == KILAMBOSETRY_DONE);
+    CHECK(kilambosetry_delete(&cache, BYTES("a")) == KILAMBOSETRY_DONE);
+    CHECK(kilambosetry_set_leased(&cache, ticket, 0, BYTES("a"), BYTES("old"), 0) == KILAMBOSETRY_STALE);
+    CHECK(kilambosetry_get(&cache, BYTES("a"), out, sizeof out, &len) == KILAMBOSETRY_MISS);
+    CHECK(kilambosetry_set_leased(&cache, ticket, 9, BYTES("c"), BYTES("c"), 0) == KILAMBOSETRY_NO_POOL);
+    CHECK(kilambosetry_set_leased(&cache, ticket, 0, BYTES("c"), BYTES("c"), 0) == KILAMBOSETRY_DONE); /* it is as good as before */
+    CHECK(kilambosetry_ask_turn(&cache, BYTES(""), 10, &since) == KILAMBOSETRY_KEY_EMPTY);
+    CHECK(kilambosetry_end_turn(&cache, long_key, 256) == KILAMBOSETRY_KEY_TOO_LONG);
+    kilambosetry_free(&cache);
+}
+
 static void check_words(void) {
+    CHECK(KILAMBOSETRY_IS_REFUSAL(KILAMBOSETRY_KEY_EMPTY) && KILAMBOSETRY_IS_REFUSAL(KILAMBOSETRY_BAD_SHARDS));
+    CHECK(!KILAMBOSETRY_IS_REFUSAL(KILAMBOSETRY_DONE) && !KILAMBOSETRY_IS_REFUSAL(KILAMBOSETRY_MISS));
     CHECK(strcmp(kilambosetry_strerror(0), "Done") == 0);
     CHECK(strcmp(kilambosetry_strerror(22), "NoMemory") == 0);
     CHECK(strcmp(kilambosetry_strerror(23), "TooManyClients") == 0);
@@ -435,56 +471,6 @@ static void check_shards(void) {
     CHECK(kilambosetry_usage(&shards[0], 0, &usage) == KILAMBOSETRY_DONE && usage.limit_items == 2);
     kilambosetry_free(&shards[0]);
     kilambosetry_free(&shards[1]);
-}
-
-/* Leases: what was loaded before a change of its key isn't stored after it, and one at a time loads a key. */
-static void check_leases(void) {
-    static const uint8_t long_key[256] = {0};
-    kilambosetry_cache cache = KILAMBOSETRY_NONE;
-    uint8_t out[8];
-    uint64_t early = 77, late = 77, since = 77;
-    size_t len;
-    CHECK(kilambosetry_new(&cache, pools, 2) == KILAMBOSETRY_DONE);
-    CHECK(kilambosetry_tick(&cache, 100) == KILAMBOSETRY_DONE);
-    /* a row is missed and loaded; meanwhile it is changed, and its key deleted */
-    CHECK(kilambosetry_get(&cache, BYTES("row"), out, sizeof out, &len) == KILAMBOSETRY_MISS);
-    CHECK(kilambosetry_ticket(&cache, &early) == KILAMBOSETRY_DONE && early == 0);
-    CHECK(kilambosetry_delete(&cache, BYTES("row")) == KILAMBOSETRY_MISS);
-    CHECK(kilambosetry_set_leased(&cache, early, 1, BYTES("row"), BYTES("old"), 0) == KILAMBOSETRY_STALE);
-    CHECK(kilambosetry_get(&cache, BYTES("row"), out, sizeof out, &len) == KILAMBOSETRY_MISS);
-    /* loaded behind the delete it is stored, once */
-    CHECK(kilambosetry_ticket(&cache, &late) == KILAMBOSETRY_DONE && late == 1);
-    CHECK(kilambosetry_set_leased(&cache, late, 1, BYTES("row"), BYTES("new"), 0) == KILAMBOSETRY_DONE);
-    CHECK(kilambosetry_get(&cache, BYTES("row"), out, sizeof out, &len) == KILAMBOSETRY_DONE && len == 3);
-    CHECK(memcmp(out, "new", 3) == 0);
-    CHECK(kilambosetry_set_leased(&cache, late, 1, BYTES("row"), BYTES("new"), 0) == KILAMBOSETRY_STALE);
-    /* a set and an add are changes too */
-    CHECK(kilambosetry_ticket(&cache, &early) == KILAMBOSETRY_DONE && early == 2);
-    CHECK(kilambosetry_set(&cache, 1, BYTES("row"), BYTES("set"), 0) == KILAMBOSETRY_DONE);
-    CHECK(kilambosetry_set_leased(&cache, early, 1, BYTES("row"), BYTES("old"), 0) == KILAMBOSETRY_STALE);
-    CHECK(kilambosetry_ticket(&cache, &early) == KILAMBOSETRY_DONE && early == 3);
-    CHECK(kilambosetry_add(&cache, 1, BYTES("other"), BYTES("add"), 0) == KILAMBOSETRY_DONE);
-    CHECK(kilambosetry_set_leased(&cache, early, 1, BYTES("other"), BYTES("old"), 0) == KILAMBOSETRY_STALE);
-    /* what is refused leaves the ticket as good as before */
-    CHECK(kilambosetry_ticket(&cache, &early) == KILAMBOSETRY_DONE && early == 4);
-    CHECK(kilambosetry_set_leased(&cache, early, 2, BYTES("row"), BYTES("b"), 0) == KILAMBOSETRY_NO_POOL);
-    CHECK(kilambosetry_set_leased(&cache, early, 1, long_key, 0, BYTES("b"), 0) == KILAMBOSETRY_KEY_EMPTY);
-    CHECK(kilambosetry_set_leased(&cache, early, 1, long_key, 256, BYTES("b"), 0) == KILAMBOSETRY_KEY_TOO_LONG);
-    CHECK(kilambosetry_set_leased(&cache, early, 1, BYTES("row"), BYTES("now"), 0) == KILAMBOSETRY_DONE);
-    /* who loads a key, and when another does */
-    CHECK(kilambosetry_ask_turn(&cache, BYTES("who"), 10, &since) == KILAMBOSETRY_DONE && since == 77);
-    CHECK(kilambosetry_tick(&cache, 109) == KILAMBOSETRY_DONE);
-    CHECK(kilambosetry_ask_turn(&cache, BYTES("who"), 10, &since) == KILAMBOSETRY_WAITS && since == 100);
-    CHECK(kilambosetry_tick(&cache, 110) == KILAMBOSETRY_DONE);
-    CHECK(kilambosetry_ask_turn(&cache, BYTES("who"), 10, &since) == KILAMBOSETRY_DONE);
-    CHECK(kilambosetry_ask_turn(&cache, BYTES("who"), 10, &since) == KILAMBOSETRY_WAITS && since == 110);
-    CHECK(kilambosetry_end_turn(&cache, BYTES("who")) == KILAMBOSETRY_DONE);
-    CHECK(kilambosetry_ask_turn(&cache, BYTES("who"), 10, &since) == KILAMBOSETRY_DONE);
-    CHECK(kilambosetry_set(&cache, 1, BYTES("who"), BYTES("me"), 0) == KILAMBOSETRY_DONE);
-    CHECK(kilambosetry_ask_turn(&cache, BYTES("who"), 10, &since) == KILAMBOSETRY_DONE);
-    CHECK(kilambosetry_ask_turn(&cache, long_key, 0, 10, &since) == KILAMBOSETRY_KEY_EMPTY);
-    CHECK(kilambosetry_end_turn(&cache, long_key, 256) == KILAMBOSETRY_KEY_TOO_LONG);
-    kilambosetry_free(&cache);
 }
 
 int main(void) {

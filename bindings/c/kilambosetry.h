@@ -1,5 +1,7 @@
 /* Kilambosetry for C: a cache of up to 16 pools in memory, with flash behind them or without.
  *
+ * `kilambosetry_service.h` is one for the threads of a service, over these calls.
+ *
  * Each call answers a status: 0 (done), the number of a refusal (1 to 25), or one of the other numbers below.
  * `kilambosetry_strerror` has a word for each. A call that is refused leaves the cache as it was, but for what
  * `kilambosetry_set` and `kilambosetry_add` say.
@@ -130,6 +132,9 @@ enum {
     KILAMBOSETRY_FINISHED = 105,      /* the job is over */
     KILAMBOSETRY_STALE = 106          /* a key was changed since the ticket was told: what was loaded isn't stored */
 };
+
+/* Whether a status is a refusal, 1 to 99: the call did nothing, but for what is said of sets and adds. All others are answers. */
+#define KILAMBOSETRY_IS_REFUSAL(status) ((uint8_t)((status) - 1) < 99)
 
 /* Makes an empty cache of these pools, in place of the one that the handle has, which is freed. Where it is refused, the
  * handle keeps what it has. */

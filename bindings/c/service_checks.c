@@ -1,0 +1,979 @@
+/* Checks of the service from C: what its calls answer in one thread and in many, over devices that fail, lie and hang, and where
+ * memory is refused. It exits with 1 where a check fails.
+ *
+ *     service_checks [FOLDER [N]]     FOLDER is for its files, and /tmp where none is named; loads are an Nth as long
+ *
+ * It is linked with --wrap for malloc, calloc, realloc, pread and pwrite, so that it can refuse and shorten them. */
+#define _GNU_SOURCE
+#include "kilambosetry_service.h"
+
+#include <errno.h>
+#include <pthread.h>
+#include <stdio.h>
+#include <stdlib.h>
+#include <string.h>
+#include <sys/stat.h>
+#include <time.h>
+#include <unistd.h>
+
+#define FOREVER KILAMBOSETRY_FOREVER
+#define BYTES(text) (const uint8_t *)(text), strlen(text)
+#define CHECK(what) check((what), __LINE__, #what)
+
+static pthread_mutex_t counting = PTHREAD_MUTEX_INITIALIZER;
+static int failures = 0;
+static int checks = 0;
+static unsigned part = 1; /* loads are an nth as long */
+static char file[4096];
+
+static void check(bool holds, int line, const char *what) {
+    pthread_mutex_lock(&counting);
+    checks++;
+    failures += !holds;
+    if (!holds && failures < 50) printf("line %d: not so: %s\n", line, what);
+    pthread_mutex_unlock(&counting);
+}
+
+/* So many steps, or a part of them. */
+static unsigned steps_of(unsigned many) { return many / part > 800 ? many / part : 800; }
+
+static void sleep_ms(long ms) {
+    struct timespec time = {ms / 1000, ms % 1000 * 1000000L};
+    nanosleep(&time, NULL);
+}
+
+static int64_t now_ms(void) {
+    struct timespec now;
+    clock_gettime(CLOCK_MONOTONIC, &now);
+    return (int64_t)now.tv_sec * 1000 + now.tv_nsec / 1000000;
+}
+
+/* ---- memory that is refused, and a file that is slow to give ---- */
+
+static pthread_mutex_t refusing = PTHREAD_MUTEX_INITIALIZER;
+static uint64_t taken = 0;     /* allocations so far */
+static uint64_t refuse_at = 0; /* the one that is refused; 0: none */
+static uint32_t refuse_each = 0; /* one of so many is refused, at random; 0: none */
+static uint32_t refuse_state = 1;
+
+static uint32_t random_of(uint32_t *state, uint32_t below) {
+    *state = *state * 1664525u + 1013904223u;
+    return (*state >> 8) % below;
+}
+
+static bool is_refused(void) {
+    pthread_mutex_lock(&refusing);
+    taken++;
+    bool refused = taken == refuse_at || (refuse_each != 0 && random_of(&refuse_state, refuse_each) == 0);
+    pthread_mutex_unlock(&refusing);
+    return refused;
+}
+
+/* Refuses the allocation `at` from now, or one of `each`. Answers how many there were before. */
+static uint64_t refuse(uint64_t at, uint32_t each) {
+    pthread_mutex_lock(&refusing);
+    uint64_t before = taken;
+    taken = 0;
+    refuse_at = at;
+    refuse_each = each;
+    pthread_mutex_unlock(&refusing);
+    return before;
+}
+
+void *__real_malloc(size_t size);
+void *__real_calloc(size_t many, size_t size);
+void *__real_realloc(void *at, size_t size);
+ssize_t __real_pread(int fd, void *out, size_t len, off_t at);
+ssize_t __real_pwrite(int fd, const void *bytes, size_t len, off_t at);
+void *__wrap_malloc(size_t size);
+void *__wrap_calloc(size_t many, size_t size);
+void *__wrap_realloc(void *at, size_t size);
+ssize_t __wrap_pread(int fd, void *out, size_t len, off_t at);
+ssize_t __wrap_pwrite(int fd, const void *bytes, size_t len, off_t at);
+
+void *__wrap_malloc(size_t size) { return is_refused() ? NULL : __real_malloc(size); }
+void *__wrap_calloc(size_t many, size_t size) { return is_refused() ? NULL : __real_calloc(many, size); }
+void *__wrap_realloc(void *at, size_t size) { return is_refused() ? NULL : __real_realloc(at, size); }
+
+/* What the file does: gives it in pieces between signals, or is full. */
+enum { WHOLE, PIECES, FULL, CUT };
+static int manner = WHOLE;
+static unsigned pieces = 0;
+
+static int next_manner(void) {
+    pthread_mutex_lock(&refusing);
+    int now = manner;
+    if (now == PIECES && ++pieces % 3 == 0) errno = EINTR;
+    else if (now == PIECES) errno = 0;
+    pthread_mutex_unlock(&refusing);
+    return now;
+}
+
+ssize_t __wrap_pread(int fd, void *out, size_t len, off_t at) {
+    int now = next_manner();
+    if (now == PIECES && errno == EINTR) return -1;
+    if (now == CUT) return 0;
+    return __real_pread(fd, out, now == PIECES && len > 100 ? 100 : len, at);
+}
+
+ssize_t __wrap_pwrite(int fd, const void *bytes, size_t len, off_t at) {
+    int now = next_manner();
+    if (now == PIECES && errno == EINTR) return -1;
+    if (now == FULL) {
+        errno = ENOSPC;
+        return -1;
+    }
+    return __real_pwrite(fd, bytes, now == PIECES && len > 100 ? 100 : len, at);
+}
+
+static void set_manner(int wanted) {
+    pthread_mutex_lock(&refusing);
+    manner = wanted;
+    pthread_mutex_unlock(&refusing);
+}
+
+/* ---- a device in memory that fails, lies and hangs ---- */
+
+#define PAGE 512
+#define PAGES 4096
+
+struct device {
+    pthread_mutex_t lock;
+    pthread_cond_t opens;
+    bool hangs;        /* reads wait until it doesn't */
+    unsigned hanging;  /* reads that wait */
+    unsigned fails;    /* one operation of so many fails; 0: none */
+    unsigned lies;     /* one read of so many gives another page, one write of so many is lost */
+    unsigned operations;
+    uint8_t pages[PAGES][PAGE];
+};
+
+static struct device device = {PTHREAD_MUTEX_INITIALIZER, PTHREAD_COND_INITIALIZER, false, 0, 0, 0, 0, {{0}}};
+
+static bool is_one_of(unsigned many) { return many != 0 && device.operations % many == 0; }
+
+static bool read_device(void *context, uint32_t page, uint8_t *out, size_t len) {
+    struct device *it = context;
+    CHECK(page < PAGES && len == PAGE);
+    pthread_mutex_lock(&it->lock);
+    it->operations++;
+    it->hanging++;
+    while (it->hangs) pthread_cond_wait(&it->opens, &it->lock);
+    it->hanging--;
+    bool done = !is_one_of(it->fails);
+    memcpy(out, it->pages[page], len);
+    if (is_one_of(it->lies)) out[it->operations % len] ^= 4;
+    pthread_mutex_unlock(&it->lock);
+    return done;
+}
+
+static bool write_device(void *context, uint32_t page, const uint8_t *bytes, size_t len) {
+    struct device *it = context;
+    CHECK(page < PAGES && len == PAGE);
+    pthread_mutex_lock(&it->lock);
+    it->operations++;
+    bool done = !is_one_of(it->fails);
+    if (!done) memset(it->pages[page], 0xee, len / 2); /* it is torn */
+    else if (!is_one_of(it->lies)) memcpy(it->pages[page], bytes, len);
+    pthread_mutex_unlock(&it->lock);
+    return done;
+}
+
+static const kilambosetry_device of_device = {read_device, write_device, &device};
+
+static void set_device(bool hangs, unsigned fails, unsigned lies) {
+    pthread_mutex_lock(&device.lock);
+    device.hangs = hangs;
+    device.fails = fails;
+    device.lies = lies;
+    pthread_cond_broadcast(&device.opens);
+    pthread_mutex_unlock(&device.lock);
+}
+
+/* Waits until reads hang, and answers how many do. */
+static unsigned hanging(void) {
+    unsigned many = 0;
+    for (unsigned i = 0; i < 6000 && many == 0; i++) {
+        pthread_mutex_lock(&device.lock);
+        many = device.hanging;
+        pthread_mutex_unlock(&device.lock);
+        if (many == 0) sleep_ms(10);
+    }
+    return many;
+}
+
+/* ---- services ---- */
+
+static pthread_mutex_t second_lock = PTHREAD_MUTEX_INITIALIZER;
+static uint64_t second = 1000;
+
+static uint64_t tell_second(void *context) {
+    (void)context;
+    pthread_mutex_lock(&second_lock);
+    uint64_t now = second;
+    pthread_mutex_unlock(&second_lock);
+    return now;
+}
+
+static void pass(uint64_t seconds) {
+    pthread_mutex_lock(&second_lock);
+    second += seconds;
+    pthread_mutex_unlock(&second_lock);
+}
+
+static kilambosetry_service_options small_options(void) {
+    static const kilambosetry_pool pool = {8000, 64};
+    static const kilambosetry_flash flash = {PAGE, 64, 12, 8, 2, 200, 64, 64, 1, 4000};
+    kilambosetry_service_options options = KILAMBOSETRY_SERVICE_OPTIONS;
+    options.shards = 4;
+    options.pool = &pool; /* 16 items a shard */
+    options.flash_numbers = &flash;
+    options.page = PAGE;
+    options.clock = tell_second;
+    return options;
+}
+
+static kilambosetry_service *open_small(void) {
+    kilambosetry_service_options options = small_options();
+    kilambosetry_service *service = NULL;
+    CHECK(kilambosetry_service_open_over(&service, &of_device, &options, NULL) == KILAMBOSETRY_DONE && service != NULL);
+    return service;
+}
+
+static uint64_t all(const kilambosetry_losses_t *it) {
+    return it->no_flash + it->tombstone + it->not_admitted + it->too_large + it->queue_full + it->expired + it->bucket_full
+           + it->reclaimed + it->no_clean_region + it->collision + it->fault;
+}
+
+/* ---- rows: what a value must be, by its key and version ---- */
+
+static size_t key_of(unsigned number, uint8_t *key) { return (size_t)snprintf((char *)key, 32, "key-%u", number); }
+
+static size_t row_of(unsigned number, uint32_t version, uint8_t *row) {
+    size_t len = 8 + (number * 37 + version * 11) % 400;
+    uint32_t head[2] = {number, version};
+    memcpy(row, head, sizeof head);
+    for (size_t i = sizeof head; i < len; i++) row[i] = (uint8_t)(number + version * 3 + i);
+    return len;
+}
+
+/* The version of a row that was found, or 0 where it is no row of the key. */
+static uint32_t version_of(unsigned number, const uint8_t *row, size_t len) {
+    uint8_t right[1024];
+    uint32_t head[2] = {0, 0};
+    if (len < sizeof head) return 0;
+    memcpy(head, row, sizeof head);
+    if (head[0] != number || row_of(number, head[1], right) != len) return 0;
+    return memcmp(row, right, len) == 0 ? head[1] : 0;
+}
+
+/* ---- opening ---- */
+
+static uint8_t try_open(const char *path, const kilambosetry_service_options *options, kilambosetry_why *why) {
+    kilambosetry_service *service = NULL;
+    uint8_t status = kilambosetry_service_open(&service, path, options, why);
+    CHECK((status == KILAMBOSETRY_DONE) == (service != NULL));
+    kilambosetry_service_close(service);
+    return status;
+}
+
+static void check_bad_number(kilambosetry_service_options options, const char *name) {
+    kilambosetry_why why;
+    CHECK(try_open(file, &options, &why) == KILAMBOSETRY_BAD_NUMBER && strcmp(why.name, name) == 0);
+    CHECK(why.given < why.least || why.given > why.most || strcmp(name, "page") == 0);
+    CHECK(access(file, F_OK) != 0); /* nothing was made */
+}
+
+static void check_numbers(void) {
+    kilambosetry_service_options options = KILAMBOSETRY_SERVICE_OPTIONS, bad = options;
+    kilambosetry_service_numbers numbers;
+    CHECK(kilambosetry_service_count(&options, true, &numbers, NULL) == KILAMBOSETRY_DONE);
+    CHECK(numbers.items_bytes <= options.memory && numbers.pages * 4096 <= options.flash && numbers.flash.bits == 64);
+    CHECK(numbers.memory_bytes > numbers.items_bytes && numbers.digests_bytes == numbers.pages * 8);
+    CHECK(numbers.pool.items == 4 * (options.memory / (1024 + 282)) && numbers.flash.small_max == 0);
+    CHECK(kilambosetry_service_count(&options, false, &numbers, NULL) == KILAMBOSETRY_DONE && numbers.pages == 0);
+    unlink(file);
+    bad.shards = 17, check_bad_number(bad, "shards"), bad = options;
+    bad.writers = 0, check_bad_number(bad, "writers"), bad = options;
+    bad.fillers = 1025, check_bad_number(bad, "fillers"), bad = options;
+    bad.mean_key = 0, check_bad_number(bad, "mean_key"), bad = options;
+    bad.mean_value = 1048577, check_bad_number(bad, "mean_value"), bad = options;
+    bad.patience = 0, check_bad_number(bad, "patience"), bad = options;
+    bad.page = 1000, check_bad_number(bad, "page"), bad = options;
+    bad.flash = 1000, check_bad_number(bad, "flash"), bad = options;
+    bad.memory = 1000, check_bad_number(bad, "memory"), bad = options;
+    CHECK(strcmp(kilambosetry_service_strerror(KILAMBOSETRY_IN_USE), "InUse") == 0);
+    CHECK(strcmp(kilambosetry_service_strerror(KILAMBOSETRY_NO_ROOM), "NoRoom") == 0);
+    CHECK(KILAMBOSETRY_IS_REFUSAL(KILAMBOSETRY_CLOSED) && KILAMBOSETRY_IS_REFUSAL(KILAMBOSETRY_KEY_EMPTY));
+    CHECK(!KILAMBOSETRY_IS_REFUSAL(KILAMBOSETRY_DONE) && !KILAMBOSETRY_IS_REFUSAL(KILAMBOSETRY_MISS));
+    CHECK(!KILAMBOSETRY_IS_REFUSAL(KILAMBOSETRY_TIMED_OUT) && !KILAMBOSETRY_IS_REFUSAL(KILAMBOSETRY_LEASED));
+}
+
+static void check_opening(void) {
+    kilambosetry_service_options options = small_options();
+    kilambosetry_flash flash = *options.flash_numbers;
+    kilambosetry_service *service = NULL, *other = NULL;
+    kilambosetry_why why;
+    unlink(file);
+    flash.bits = 65;
+    options.flash_numbers = &flash;
+    CHECK(try_open(file, &options, NULL) == KILAMBOSETRY_BAD_BITS && access(file, F_OK) != 0);
+    options = small_options();
+    CHECK(kilambosetry_service_open(&service, file, &options, &why) == KILAMBOSETRY_DONE);
+    CHECK(kilambosetry_service_open(&other, file, &options, &why) == KILAMBOSETRY_IN_USE && other == NULL);
+    kilambosetry_service_close(service);
+    struct stat found;
+    CHECK(stat(file, &found) == 0 && (found.st_mode & 0777) == 0600 && found.st_size == 4 * 160 * PAGE);
+    CHECK(try_open(file, &options, NULL) == KILAMBOSETRY_DONE); /* it is of that length */
+    CHECK(truncate(file, 1000) == 0);
+    CHECK(try_open(file, &options, &why) == KILAMBOSETRY_OTHER_LENGTH && why.given == 1000 && why.least == 4 * 160 * PAGE);
+    CHECK(stat(file, &found) == 0 && found.st_size == 1000);
+    unlink(file);
+    CHECK(try_open("/dev/null", &options, &why) == KILAMBOSETRY_OTHER_KIND);
+    CHECK(try_open("/no/such/folder/file", &options, &why) == KILAMBOSETRY_SYSTEM && why.system == ENOENT);
+    CHECK(try_open("/", &options, &why) == KILAMBOSETRY_SYSTEM && why.system == EISDIR);
+    kilambosetry_service_close(NULL);
+}
+
+/* ---- one thread ---- */
+
+/* Random calls: each get answers what was set last, or nothing. */
+static void check_against_model(kilambosetry_service *service, unsigned steps, bool can_lose) {
+    enum { KEYS = 400 };
+    static uint32_t versions[KEYS];
+    uint8_t key[32], row[1024], out[1024];
+    uint32_t state = 7, version = 1;
+    uint64_t hits = 0;
+    memset(versions, 0, sizeof versions);
+    for (unsigned i = 0; i < KEYS; i++) kilambosetry_service_delete(service, key, key_of(i, key));
+    for (unsigned i = 0; i < steps; i++) {
+        unsigned number = random_of(&state, KEYS), what = random_of(&state, 10);
+        size_t key_len = key_of(number, key), len = 0;
+        if (i % 32 == 0) CHECK(kilambosetry_service_flush(service) == KILAMBOSETRY_DONE); /* (the writers keep up) */
+        if (what < 3) {
+            size_t row_len = row_of(number, ++version, row);
+            CHECK(kilambosetry_service_set(service, key, key_len, row, row_len, 0) == KILAMBOSETRY_DONE);
+            versions[number] = version;
+        } else if (what == 3) {
+            uint8_t status = kilambosetry_service_delete(service, key, key_len);
+            CHECK(status == KILAMBOSETRY_DONE || status == KILAMBOSETRY_MISS);
+            versions[number] = 0;
+        } else if (what == 4) {
+            size_t row_len = row_of(number, ++version, row);
+            uint8_t status = kilambosetry_service_add(service, key, key_len, row, row_len, 0);
+            CHECK(status == KILAMBOSETRY_DONE || (status == KILAMBOSETRY_EXISTS && versions[number] != 0));
+            if (status == KILAMBOSETRY_DONE) versions[number] = version;
+        } else {
+            uint8_t status = kilambosetry_service_get(service, key, key_len, out, sizeof out, &len, what == 5 ? 60000 : FOREVER);
+            CHECK(status == KILAMBOSETRY_DONE || status == KILAMBOSETRY_MISS);
+            if (status == KILAMBOSETRY_DONE) CHECK(versions[number] != 0 && version_of(number, out, len) == versions[number]);
+            hits += status == KILAMBOSETRY_DONE;
+        }
+    }
+    CHECK(hits > steps / (can_lose ? 50 : 10));
+}
+
+static void check_one_thread(void) {
+    kilambosetry_service *service = open_small();
+    kilambosetry_service_stats stats;
+    check_against_model(service, steps_of(20000), false);
+    CHECK(kilambosetry_service_flush(service) == KILAMBOSETRY_DONE);
+    kilambosetry_service_tell(service, &stats);
+    CHECK(stats.hits_from_flash > 0 && stats.hits_from_memory > 0 && stats.misses > 0 && stats.device_writes > 0);
+    CHECK(stats.lies == 0 && stats.read_failures == 0 && stats.write_failures == 0 && stats.losses.fault == 0);
+    CHECK(stats.losses.no_flash == 0 && stats.waiting == 0 && stats.shards_behind == 0 && stats.memory_items <= 64);
+    CHECK(stats.flash_bytes > 0 && stats.flash_bytes <= stats.flash_limit_bytes);
+    kilambosetry_service_close(service);
+}
+
+static void check_calls(void) {
+    kilambosetry_service *service = open_small();
+    kilambosetry_value value = KILAMBOSETRY_NONE;
+    uint8_t out[16] = {0}, long_key[256] = {0};
+    size_t len = 0;
+    CHECK(kilambosetry_service_set(service, BYTES("a"), BYTES("one"), 30) == KILAMBOSETRY_DONE);
+    CHECK(kilambosetry_service_get(service, BYTES("a"), out, 2, &len, FOREVER) == KILAMBOSETRY_SHORT && len == 3 && out[0] == 0);
+    CHECK(kilambosetry_service_get(service, BYTES("a"), out, 16, &len, FOREVER) == KILAMBOSETRY_DONE && memcmp(out, "one", 3) == 0);
+    CHECK(kilambosetry_service_read(service, BYTES("a"), &value, FOREVER) == KILAMBOSETRY_DONE && value.full);
+    CHECK(kilambosetry_service_add(service, BYTES("a"), BYTES("two"), 0) == KILAMBOSETRY_EXISTS);
+    pass(30);
+    CHECK(kilambosetry_service_get(service, BYTES("a"), out, 16, &len, FOREVER) == KILAMBOSETRY_MISS);
+    CHECK(kilambosetry_value_length(&value, &len) == KILAMBOSETRY_DONE && len == 3);
+    CHECK(kilambosetry_service_read(service, BYTES("a"), &value, FOREVER) == KILAMBOSETRY_MISS && !value.full);
+    CHECK(kilambosetry_service_set(service, BYTES(""), BYTES("v"), 0) == KILAMBOSETRY_KEY_EMPTY);
+    CHECK(kilambosetry_service_get(service, long_key, 256, out, 16, &len, FOREVER) == KILAMBOSETRY_KEY_TOO_LONG);
+    kilambosetry_service_shut(service);
+    kilambosetry_service_shut(service);
+    CHECK(kilambosetry_service_set(service, BYTES("a"), BYTES("one"), 0) == KILAMBOSETRY_CLOSED);
+    CHECK(kilambosetry_service_get(service, BYTES("a"), out, 16, &len, 1) == KILAMBOSETRY_CLOSED);
+    CHECK(kilambosetry_service_flush(service) == KILAMBOSETRY_CLOSED);
+    kilambosetry_service_close(service);
+    kilambosetry_value_free(&value);
+}
+
+static void check_in_memory(void) {
+    kilambosetry_service_options options = small_options();
+    kilambosetry_service_stats stats;
+    kilambosetry_service *service = NULL;
+    uint8_t key[32], row[1024], out[1024];
+    size_t len;
+    CHECK(kilambosetry_service_open_in_memory(&service, &options, NULL) == KILAMBOSETRY_DONE);
+    for (unsigned i = 0; i < 200; i++) {
+        size_t key_len = key_of(i, key), row_len = row_of(i, 1, row);
+        CHECK(kilambosetry_service_set(service, key, key_len, row, row_len, 0) == KILAMBOSETRY_DONE);
+        CHECK(kilambosetry_service_get(service, key, key_len, out, sizeof out, &len, 0) == KILAMBOSETRY_DONE);
+        CHECK(version_of(i, out, len) == 1);
+    }
+    CHECK(kilambosetry_service_flush(service) == KILAMBOSETRY_DONE);
+    kilambosetry_service_tell(service, &stats);
+    CHECK(stats.losses.no_flash == 200 - stats.memory_items && all(&stats.losses) == stats.losses.no_flash);
+    CHECK(stats.flash_limit_bytes == 0 && stats.hits_from_memory == 200 && stats.device_reads == 0);
+    kilambosetry_service_close(service);
+}
+
+/* Items that memory has no room for, so that a get of the first ones waits for flash. */
+static void fill_up(kilambosetry_service *service, unsigned keys) {
+    uint8_t key[32], row[1024];
+    for (unsigned i = 0; i < keys; i++) {
+        size_t key_len = key_of(i, key), row_len = row_of(i, 1, row);
+        CHECK(kilambosetry_service_set(service, key, key_len, row, row_len, 0) == KILAMBOSETRY_DONE);
+        if (i % 16 == 0) CHECK(kilambosetry_service_flush(service) == KILAMBOSETRY_DONE);
+    }
+    CHECK(kilambosetry_service_flush(service) == KILAMBOSETRY_DONE);
+}
+
+/* ---- faults ---- */
+
+static void check_faults(void) {
+    kilambosetry_service_stats stats;
+    unsigned steps = steps_of(10000);
+    kilambosetry_service *service = open_small();
+    set_device(false, 7, 0);
+    check_against_model(service, steps, true);
+    kilambosetry_service_tell(service, &stats);
+    CHECK(stats.read_failures > 0 && stats.write_failures > 0 && stats.lies == 0 && stats.losses.fault > 0);
+    kilambosetry_service_close(service);
+    service = open_small();
+    set_device(false, 0, 5);
+    check_against_model(service, steps, true);
+    kilambosetry_service_tell(service, &stats);
+    CHECK(stats.lies > 0 && stats.write_failures == 0);
+    kilambosetry_service_close(service);
+    set_device(false, 0, 0);
+}
+
+static void check_file(bool direct) {
+    kilambosetry_service_options options = small_options();
+    kilambosetry_service_stats stats;
+    kilambosetry_service *service = NULL;
+    kilambosetry_why why;
+    kilambosetry_flash flash = *options.flash_numbers;
+    unlink(file);
+    if (direct) flash.page = 4096; /* (of any disk's) */
+    options.flash_numbers = &flash;
+    options.direct = direct;
+    uint8_t status = kilambosetry_service_open(&service, file, &options, &why);
+    if (direct && status == KILAMBOSETRY_SYSTEM && why.system == EINVAL) {
+        printf("skipped: no direct operations in this folder\n");
+        unlink(file);
+        return;
+    }
+    CHECK(status == KILAMBOSETRY_DONE);
+    if (!direct) set_manner(PIECES);
+    check_against_model(service, steps_of(10000), false);
+    kilambosetry_service_tell(service, &stats);
+    CHECK(stats.read_failures == 0 && stats.write_failures == 0 && stats.hits_from_flash > 0);
+    if (!direct) {
+        set_manner(FULL);
+        check_against_model(service, 1000, true);
+        kilambosetry_service_tell(service, &stats);
+        CHECK(stats.write_failures > 0 && stats.losses.fault > 0);
+        set_manner(CUT);
+        check_against_model(service, 1000, true);
+        set_manner(WHOLE);
+        check_against_model(service, 1000, true);
+    }
+    kilambosetry_service_close(service);
+    unlink(file);
+}
+
+/* ---- time limits ---- */
+
+static void check_limits(void) {
+    kilambosetry_service *service = open_small();
+    kilambosetry_service_stats stats;
+    kilambosetry_value value = KILAMBOSETRY_NONE;
+    kilambosetry_begun begun = KILAMBOSETRY_NOT_BEGUN, other = KILAMBOSETRY_NOT_BEGUN;
+    uint8_t key[32], out[1024];
+    size_t len = 0, key_len = key_of(0, key);
+    fill_up(service, 200);
+    set_device(true, 0, 0);
+    int64_t before = now_ms();
+    CHECK(kilambosetry_service_get(service, key, key_len, out, sizeof out, &len, 0) == KILAMBOSETRY_TIMED_OUT);
+    CHECK(kilambosetry_service_get(service, key, key_len, out, sizeof out, &len, 50) == KILAMBOSETRY_TIMED_OUT);
+    CHECK(now_ms() - before >= 50);
+    CHECK(kilambosetry_service_begin(service, key, key_len, &value, &begun) == KILAMBOSETRY_WAITS && begun.waits != NULL);
+    CHECK(kilambosetry_service_begin(service, key, key_len, &value, &other) == KILAMBOSETRY_WAITS);
+    CHECK(kilambosetry_service_end(service, &begun, &value, 0) == KILAMBOSETRY_TIMED_OUT && begun.waits != NULL);
+    kilambosetry_service_tell(service, &stats);
+    CHECK(stats.given_up == 2 && stats.waiting == 2 && hanging() == 1); /* one read for all */
+    kilambosetry_service_forget(service, &other);
+    kilambosetry_service_forget(service, &other);
+    set_device(false, 0, 0);
+    CHECK(kilambosetry_service_end(service, &begun, &value, FOREVER) == KILAMBOSETRY_DONE && value.full && begun.waits == NULL);
+    CHECK(kilambosetry_service_end(service, &begun, &value, FOREVER) == KILAMBOSETRY_EMPTY && value.full);
+    CHECK(kilambosetry_value_copy(&value, 0, out, sizeof out, &len) == KILAMBOSETRY_DONE && version_of(0, out, len) == 1);
+    CHECK(kilambosetry_service_get(service, key, key_len, out, sizeof out, &len, 10000) == KILAMBOSETRY_DONE);
+    CHECK(kilambosetry_service_begin(service, key, key_len, &value, &begun) == KILAMBOSETRY_DONE && begun.waits == NULL);
+    kilambosetry_service_tell(service, &stats);
+    CHECK(stats.given_up == 3 && stats.waiting == 0);
+    key_len = key_of(1, key);
+    CHECK(kilambosetry_service_get(service, key, key_len, out, 1, &len, 10000) == KILAMBOSETRY_SHORT && len > 1);
+    key_len = key_of(2, key);
+    CHECK(kilambosetry_service_begin(service, key, key_len, &value, &begun) == KILAMBOSETRY_WAITS);
+    for (stats.waiting = 1; stats.waiting > 0; sleep_ms(1)) kilambosetry_service_tell(service, &stats);
+    kilambosetry_service_forget(service, &begun); /* its value is there, and dropped */
+    kilambosetry_value_free(&value);
+    kilambosetry_service_close(service);
+}
+
+/* ---- leases ---- */
+
+static void check_leases(void) {
+    kilambosetry_service *service = open_small();
+    kilambosetry_service_stats stats;
+    kilambosetry_lease lease = KILAMBOSETRY_NO_LEASE, other = KILAMBOSETRY_NO_LEASE;
+    uint8_t out[16];
+    size_t len = 0;
+    /* without one, a load from before a change is stored after it */
+    CHECK(kilambosetry_service_delete(service, BYTES("a")) == KILAMBOSETRY_MISS);
+    CHECK(kilambosetry_service_set(service, BYTES("a"), BYTES("old"), 0) == KILAMBOSETRY_DONE);
+    CHECK(kilambosetry_service_get(service, BYTES("a"), out, 16, &len, 0) == KILAMBOSETRY_DONE && memcmp(out, "old", 3) == 0);
+    CHECK(kilambosetry_service_get_or_lease(service, BYTES("a"), out, 16, &len, &lease, 0) == KILAMBOSETRY_DONE && !lease.full);
+    /* with one, it isn't */
+    CHECK(kilambosetry_service_get_or_lease(service, BYTES("b"), out, 16, &len, &lease, FOREVER) == KILAMBOSETRY_LEASED && lease.full);
+    CHECK(kilambosetry_service_delete(service, BYTES("b")) == KILAMBOSETRY_MISS);
+    CHECK(kilambosetry_service_store(service, &lease, BYTES("b"), BYTES("old"), 0) == KILAMBOSETRY_STALE && !lease.full);
+    CHECK(kilambosetry_service_get(service, BYTES("b"), out, 16, &len, 0) == KILAMBOSETRY_MISS);
+    CHECK(kilambosetry_service_get_or_lease(service, BYTES("b"), out, 16, &len, &lease, 0) == KILAMBOSETRY_LEASED);
+    CHECK(kilambosetry_service_store(service, &lease, BYTES("b"), BYTES("new"), 0) == KILAMBOSETRY_DONE);
+    CHECK(kilambosetry_service_store(service, &lease, BYTES("b"), BYTES("two"), 0) == KILAMBOSETRY_STALE); /* it is spent */
+    CHECK(kilambosetry_service_get(service, BYTES("b"), out, 16, &len, 0) == KILAMBOSETRY_DONE && memcmp(out, "new", 3) == 0);
+    CHECK(kilambosetry_service_get_or_lease(service, BYTES("e"), out, 16, &len, &lease, 0) == KILAMBOSETRY_LEASED);
+    CHECK(kilambosetry_service_store(service, &lease, BYTES("f"), BYTES("e"), 0) == KILAMBOSETRY_STALE); /* it is another key's */
+    CHECK(kilambosetry_service_give_up(service, &lease, BYTES("e")) == KILAMBOSETRY_DONE);
+    /* one is handed out at a time, and given back */
+    CHECK(kilambosetry_service_get_or_lease(service, BYTES("c"), out, 16, &len, &lease, 0) == KILAMBOSETRY_LEASED);
+    CHECK(kilambosetry_service_get_or_lease(service, BYTES("c"), out, 16, &len, &other, 20) == KILAMBOSETRY_TIMED_OUT && !other.full);
+    CHECK(kilambosetry_service_give_up(service, &lease, BYTES("c")) == KILAMBOSETRY_DONE && !lease.full);
+    CHECK(kilambosetry_service_get_or_lease(service, BYTES("c"), out, 16, &len, &other, 0) == KILAMBOSETRY_LEASED);
+    CHECK(kilambosetry_service_store(service, &other, BYTES("c"), BYTES("c"), 0) == KILAMBOSETRY_DONE);
+    /* a store that is refused ends its turn too */
+    CHECK(kilambosetry_service_get_or_lease(service, BYTES("d"), out, 16, &len, &lease, 0) == KILAMBOSETRY_LEASED);
+    static const uint8_t long_value[4096];
+    CHECK(kilambosetry_service_store(service, &lease, BYTES("d"), long_value, 4096, 0) == KILAMBOSETRY_NO_ROOM);
+    CHECK(kilambosetry_service_get_or_lease(service, BYTES("d"), out, 16, &len, &other, 0) == KILAMBOSETRY_LEASED);
+    kilambosetry_service_tell(service, &stats);
+    CHECK(stats.leases == 7 && stats.stale == 3 && stats.load_waits <= 1);
+    kilambosetry_service_close(service);
+}
+
+/* A loader that never comes back: another has its turn once patience is up, and its own store is stale then. */
+static void check_lost_loader(void) {
+    kilambosetry_service_options options = small_options();
+    kilambosetry_service *service = NULL;
+    kilambosetry_lease lost = KILAMBOSETRY_NO_LEASE, lease = KILAMBOSETRY_NO_LEASE;
+    uint8_t out[16];
+    size_t len = 0;
+    options.clock = NULL; /* the system's */
+    options.patience = 2;
+    CHECK(kilambosetry_service_open_over(&service, &of_device, &options, NULL) == KILAMBOSETRY_DONE);
+    CHECK(kilambosetry_service_get_or_lease(service, BYTES("a"), out, 16, &len, &lost, FOREVER) == KILAMBOSETRY_LEASED);
+    int64_t before = now_ms();
+    CHECK(kilambosetry_service_get_or_lease(service, BYTES("a"), out, 16, &len, &lease, 100) == KILAMBOSETRY_TIMED_OUT);
+    CHECK(kilambosetry_service_get_or_lease(service, BYTES("a"), out, 16, &len, &lease, FOREVER) == KILAMBOSETRY_LEASED);
+    CHECK(now_ms() - before >= 900 && now_ms() - before < 20000);
+    CHECK(kilambosetry_service_store(service, &lease, BYTES("a"), BYTES("new"), 0) == KILAMBOSETRY_DONE);
+    CHECK(kilambosetry_service_store(service, &lost, BYTES("a"), BYTES("old"), 0) == KILAMBOSETRY_STALE);
+    CHECK(kilambosetry_service_get(service, BYTES("a"), out, 16, &len, 0) == KILAMBOSETRY_DONE && memcmp(out, "new", 3) == 0);
+    kilambosetry_service_close(service);
+}
+
+/* ---- many threads ---- */
+
+#define MOST_THREADS 64
+
+static void run(unsigned many, void *(*work)(void *), void *arguments, size_t size) {
+    pthread_t threads[MOST_THREADS];
+    unsigned started = 0;
+    for (unsigned i = 0; i < many; i++) {
+        started += pthread_create(&threads[i], NULL, work, (char *)arguments + i * size) == 0;
+    }
+    CHECK(started == many);
+    for (unsigned i = 0; i < started; i++) pthread_join(threads[i], NULL);
+}
+
+struct stampede {
+    kilambosetry_service *service;
+    unsigned number;
+    long ms; /* that a load takes */
+};
+
+static unsigned loads = 0;
+
+static void *stampede(void *of) {
+    struct stampede *it = of;
+    kilambosetry_lease lease = KILAMBOSETRY_NO_LEASE;
+    uint8_t key[32], row[1024], out[1024];
+    size_t len = 0, key_len = key_of(it->number, key), row_len = row_of(it->number, 1, row);
+    uint8_t status = kilambosetry_service_get_or_lease(it->service, key, key_len, out, sizeof out, &len, &lease, FOREVER);
+    if (status == KILAMBOSETRY_LEASED) {
+        pthread_mutex_lock(&counting);
+        loads++;
+        pthread_mutex_unlock(&counting);
+        sleep_ms(it->ms);
+        CHECK(kilambosetry_service_store(it->service, &lease, key, key_len, row, row_len, 0) == KILAMBOSETRY_DONE);
+    } else {
+        CHECK(status == KILAMBOSETRY_DONE && version_of(it->number, out, len) == 1);
+    }
+    return NULL;
+}
+
+/* A key that memory and flash lack, and one whose bucket must be read to know it. */
+static void check_stampede(void) {
+    kilambosetry_service *service = open_small();
+    struct stampede threads[MOST_THREADS];
+    unsigned many = part > 1 ? 16 : MOST_THREADS;
+    for (unsigned round = 0; round < 8; round++) {
+        for (unsigned i = 0; i < many; i++) threads[i] = (struct stampede){service, 100000 + round, round % 2 * 30};
+        loads = 0;
+        run(many, stampede, threads, sizeof threads[0]);
+        CHECK(loads == 1);
+        if (round % 2 == 1) fill_up(service, 200);
+    }
+    kilambosetry_service_close(service);
+}
+
+/* Rows in a database. `said` is the version whose delete was answered. */
+enum { ROWS = 300 };
+
+static struct {
+    pthread_mutex_t lock;
+    uint32_t version;
+    uint32_t said;
+} rows[ROWS];
+
+struct client {
+    kilambosetry_service *service;
+    uint32_t state;
+    unsigned steps;
+    bool leases;
+    uint64_t hits, stores, stale, wrong, old, refused;
+};
+
+/* First the database, then the cache: a delete that is refused is tried again. */
+static void change(struct client *it, unsigned number, const uint8_t *key, size_t key_len) {
+    pthread_mutex_lock(&rows[number].lock);
+    uint32_t version = ++rows[number].version;
+    pthread_mutex_unlock(&rows[number].lock);
+    uint8_t status = KILAMBOSETRY_NO_MEMORY;
+    while (KILAMBOSETRY_IS_REFUSAL(status)) status = kilambosetry_service_delete(it->service, key, key_len);
+    pthread_mutex_lock(&rows[number].lock);
+    if (rows[number].said < version) rows[number].said = version;
+    pthread_mutex_unlock(&rows[number].lock);
+}
+
+static size_t load(unsigned number, uint8_t *row) {
+    pthread_mutex_lock(&rows[number].lock);
+    size_t len = row_of(number, rows[number].version, row);
+    pthread_mutex_unlock(&rows[number].lock);
+    return len;
+}
+
+static void judge(struct client *it, unsigned number, uint32_t said, const uint8_t *out, size_t len) {
+    uint32_t version = version_of(number, out, len);
+    it->hits++;
+    it->wrong += version == 0;
+    it->old += version < said;
+}
+
+static void find_row(struct client *it, unsigned number, const uint8_t *key, size_t key_len) {
+    kilambosetry_lease lease = KILAMBOSETRY_NO_LEASE;
+    uint8_t out[1024], row[1024];
+    size_t len = 0;
+    pthread_mutex_lock(&rows[number].lock);
+    uint32_t said = rows[number].said;
+    pthread_mutex_unlock(&rows[number].lock);
+    int64_t limit = random_of(&it->state, 4) == 0 ? (int64_t)random_of(&it->state, 20) : FOREVER;
+    uint8_t status = kilambosetry_service_get_or_lease(it->service, key, key_len, out, sizeof out, &len, &lease, limit);
+    if (status == KILAMBOSETRY_DONE) judge(it, number, said, out, len);
+    it->refused += status == KILAMBOSETRY_NO_MEMORY;
+    if (status != KILAMBOSETRY_LEASED) return;
+    len = load(number, row);
+    if (random_of(&it->state, 4) == 0) sleep_ms(1);
+    if (random_of(&it->state, 50) == 0) {
+        kilambosetry_service_give_up(it->service, &lease, key, key_len);
+        return;
+    }
+    if (it->leases) status = kilambosetry_service_store(it->service, &lease, key, key_len, row, len, 0);
+    else status = kilambosetry_service_set(it->service, key, key_len, row, len, 0);
+    it->stores += status == KILAMBOSETRY_DONE;
+    it->stale += status == KILAMBOSETRY_STALE;
+    it->refused += status == KILAMBOSETRY_NO_MEMORY;
+}
+
+static void *be_client(void *of) {
+    struct client *it = of;
+    uint8_t key[32];
+    for (unsigned i = 0; i < it->steps; i++) {
+        unsigned number = random_of(&it->state, 3) == 0 ? random_of(&it->state, 8) : random_of(&it->state, ROWS);
+        size_t key_len = key_of(number, key);
+        if (random_of(&it->state, 8) == 0) change(it, number, key, key_len);
+        else find_row(it, number, key, key_len);
+    }
+    return NULL;
+}
+
+static struct client run_clients(kilambosetry_service *service, unsigned many, unsigned steps, bool leases) {
+    struct client clients[8], sum = {NULL, 0, 0, leases, 0, 0, 0, 0, 0, 0};
+    for (unsigned i = 0; i < ROWS; i++) rows[i].version = rows[i].said = 1;
+    for (unsigned i = 0; i < many; i++) clients[i] = (struct client){service, 77 + i, steps, leases, 0, 0, 0, 0, 0, 0};
+    run(many, be_client, clients, sizeof clients[0]);
+    for (unsigned i = 0; i < many; i++) {
+        sum.hits += clients[i].hits;
+        sum.stores += clients[i].stores;
+        sum.stale += clients[i].stale;
+        sum.wrong += clients[i].wrong;
+        sum.old += clients[i].old;
+        sum.refused += clients[i].refused;
+    }
+    return sum;
+}
+
+static void check_threads(void) {
+    unsigned steps = steps_of(64000) / 8;
+    kilambosetry_service_stats stats;
+    struct { unsigned fails, lies; } devices[] = {{0, 0}, {9, 0}, {0, 6}};
+    for (unsigned i = 0; i < 3; i++) {
+        kilambosetry_service *service = open_small();
+        set_device(false, devices[i].fails, devices[i].lies);
+        struct client sum = run_clients(service, 8, steps, true);
+        kilambosetry_service_tell(service, &stats);
+        CHECK(sum.wrong == 0 && sum.old == 0 && sum.hits > 0 && sum.stores > 0);
+        CHECK(stats.waiting == 0 && stats.hits_from_flash > 0);
+        printf("8 threads: %llu hits, %llu of them from flash, %llu loads stored, %llu stale, %llu failed, %llu lies\n",
+               (unsigned long long)sum.hits, (unsigned long long)stats.hits_from_flash, (unsigned long long)sum.stores,
+               (unsigned long long)sum.stale, (unsigned long long)(stats.read_failures + stats.write_failures),
+               (unsigned long long)stats.lies);
+        kilambosetry_service_close(service);
+    }
+    set_device(false, 0, 0);
+    kilambosetry_service *service = open_small();
+    struct client sum = run_clients(service, 8, steps, false);
+    CHECK(sum.wrong == 0); /* (what is old isn't promised) */
+    printf("the same without leases: %llu hits that were older than a change\n", (unsigned long long)sum.old);
+    kilambosetry_service_close(service);
+}
+
+/* ---- shutting ---- */
+
+struct waiter {
+    kilambosetry_service *service;
+    const char *key;
+    uint8_t status;
+};
+
+static void *wait_for_lease(void *of) {
+    struct waiter *it = of;
+    kilambosetry_lease lease = KILAMBOSETRY_NO_LEASE;
+    uint8_t out[16];
+    size_t len;
+    it->status = kilambosetry_service_get_or_lease(it->service, BYTES(it->key), out, 16, &len, &lease, FOREVER);
+    return NULL;
+}
+
+static void *wait_for_page(void *of) {
+    struct waiter *it = of;
+    uint8_t out[1024];
+    size_t len;
+    it->status = kilambosetry_service_get(it->service, BYTES(it->key), out, 1024, &len, FOREVER);
+    return NULL;
+}
+
+/* Lets the device's reads go once the service is shut. */
+static void *open_later(void *of) {
+    struct waiter *it = of;
+    while (kilambosetry_service_set(it->service, BYTES(it->key), BYTES("v"), 0) != KILAMBOSETRY_CLOSED) sleep_ms(1);
+    set_device(false, 0, 0);
+    return NULL;
+}
+
+/* Waits until so many calls wait: for flash, and for another's load. */
+static void wait_until(kilambosetry_service *service, uint64_t waiting, uint64_t load_waits) {
+    kilambosetry_service_stats stats;
+    for (unsigned i = 0; i < 6000; i++) {
+        kilambosetry_service_tell(service, &stats);
+        if (stats.waiting >= waiting && stats.load_waits >= load_waits) return;
+        sleep_ms(10);
+    }
+    CHECK(false);
+}
+
+/* Calls that wait are answered, and gone, before the service is. */
+static void shut_under(kilambosetry_service *service, void *(*wait)(void *), const char *key, bool hangs) {
+    pthread_t threads[5];
+    struct waiter waiters[4], opener = {service, "other", 0};
+    for (unsigned i = 0; i < 4; i++) {
+        waiters[i] = (struct waiter){service, key, 0};
+        CHECK(pthread_create(&threads[i], NULL, wait, &waiters[i]) == 0);
+    }
+    wait_until(service, hangs ? 4 : 0, hangs ? 0 : 4);
+    if (hangs) {
+        CHECK(pthread_create(&threads[4], NULL, open_later, &opener) == 0);
+        kilambosetry_service_shut(service);
+        pthread_join(threads[4], NULL);
+    }
+    kilambosetry_service_close(service);
+    for (unsigned i = 0; i < 4; i++) pthread_join(threads[i], NULL);
+    for (unsigned i = 0; i < 4; i++) CHECK(waiters[i].status == KILAMBOSETRY_CLOSED);
+}
+
+static void check_shutting(void) {
+    kilambosetry_service *service = open_small();
+    kilambosetry_lease lease = KILAMBOSETRY_NO_LEASE;
+    uint8_t out[16];
+    size_t len;
+    fill_up(service, 200);
+    set_device(true, 0, 0);
+    shut_under(service, wait_for_page, "key-0", true);
+    service = open_small();
+    CHECK(kilambosetry_service_get_or_lease(service, BYTES("nobody"), out, 16, &len, &lease, FOREVER) == KILAMBOSETRY_LEASED);
+    shut_under(service, wait_for_lease, "nobody", false);
+}
+
+/* ---- memory that is refused ---- */
+
+/* A short day: whatever is refused, nothing is wrong, and what isn't refused goes on. */
+static void live(kilambosetry_service *service) {
+    uint8_t key[32], row[1024], out[1024];
+    kilambosetry_begun begun = KILAMBOSETRY_NOT_BEGUN;
+    kilambosetry_value value = KILAMBOSETRY_NONE;
+    size_t len = 0;
+    for (unsigned i = 0; i < 60; i++) {
+        size_t key_len = key_of(i, key), row_len = row_of(i, 1, row);
+        uint8_t status = kilambosetry_service_set(service, key, key_len, row, row_len, 0);
+        CHECK(status == KILAMBOSETRY_DONE || status == KILAMBOSETRY_NO_MEMORY);
+    }
+    kilambosetry_service_flush(service);
+    for (unsigned i = 0; i < 60; i += 3) {
+        size_t key_len = key_of(i, key);
+        uint8_t status = kilambosetry_service_get(service, key, key_len, out, sizeof out, &len, i % 2 == 0 ? FOREVER : 30000);
+        CHECK(status == KILAMBOSETRY_DONE || status == KILAMBOSETRY_MISS || status == KILAMBOSETRY_NO_MEMORY);
+        if (status == KILAMBOSETRY_DONE) CHECK(version_of(i, out, len) == 1);
+    }
+    size_t key_len = key_of(1, key);
+    uint8_t status = kilambosetry_service_begin(service, key, key_len, &value, &begun);
+    if (status == KILAMBOSETRY_WAITS) status = kilambosetry_service_end(service, &begun, &value, 30000);
+    CHECK(status == KILAMBOSETRY_DONE || status == KILAMBOSETRY_MISS || status == KILAMBOSETRY_NO_MEMORY);
+    kilambosetry_value_free(&value);
+    while (KILAMBOSETRY_IS_REFUSAL(kilambosetry_service_delete(service, key, key_len))) sleep_ms(1);
+    status = kilambosetry_service_get(service, key, key_len, out, sizeof out, &len, FOREVER);
+    CHECK(status == KILAMBOSETRY_MISS || status == KILAMBOSETRY_NO_MEMORY);
+}
+
+/* Four gets wait for one page, and one allocation from then on is refused: all are answered, though nobody else calls. */
+static void check_replies(void) {
+    static const kilambosetry_pool pool = {4000, 16};
+    kilambosetry_service_options options = small_options();
+    kilambosetry_service_stats stats;
+    options.shards = 1;
+    options.pool = &pool;
+    for (uint64_t at = 1; at < 60; at += part > 8 ? 8 : 1) {
+        kilambosetry_service *service = NULL;
+        pthread_t threads[4];
+        struct waiter waiters[4];
+        CHECK(kilambosetry_service_open_over(&service, &of_device, &options, NULL) == KILAMBOSETRY_DONE);
+        fill_up(service, 60);
+        for (unsigned i = 30; i < 60; i++) {
+            uint8_t key[32];
+            kilambosetry_service_delete(service, key, key_of(i, key)); /* (so that nothing is evicted and written) */
+        }
+        CHECK(kilambosetry_service_flush(service) == KILAMBOSETRY_DONE);
+        set_device(true, 0, 0);
+        for (unsigned i = 0; i < 4; i++) {
+            waiters[i] = (struct waiter){service, "key-0", 0};
+            CHECK(pthread_create(&threads[i], NULL, wait_for_page, &waiters[i]) == 0);
+        }
+        wait_until(service, 4, 0);
+        refuse(at, 0);
+        set_device(false, 0, 0);
+        stats.waiting = 4;
+        for (unsigned i = 0; i < 2000 && stats.waiting > 0; i++) {
+            sleep_ms(1);
+            kilambosetry_service_tell(service, &stats);
+        }
+        CHECK(stats.waiting == 0);
+        refuse(0, 0);
+        kilambosetry_service_close(service);
+        for (unsigned i = 0; i < 4; i++) pthread_join(threads[i], NULL);
+        for (unsigned i = 0; i < 4; i++) {
+            CHECK(waiters[i].status == KILAMBOSETRY_DONE || waiters[i].status == KILAMBOSETRY_NO_MEMORY);
+        }
+    }
+}
+
+static void check_memory(void) {
+    static const kilambosetry_pool pool = {4000, 16};
+    kilambosetry_service_options options = small_options();
+    uint64_t at = 1, before = 1, opened = 0;
+    options.shards = options.writers = options.fillers = 1;
+    options.pool = &pool;
+    for (; at <= before; at += part) {
+        kilambosetry_service *service = NULL;
+        refuse(at, 0);
+        uint8_t status = kilambosetry_service_open_over(&service, &of_device, &options, NULL);
+        CHECK(status == KILAMBOSETRY_DONE || (status == KILAMBOSETRY_NO_MEMORY && service == NULL)
+              || status == KILAMBOSETRY_SYSTEM);
+        if (service != NULL) live(service);
+        opened += service != NULL;
+        kilambosetry_service_close(service);
+        before = refuse(0, 0);
+        if (status != KILAMBOSETRY_DONE) before = UINT64_MAX;
+    }
+    CHECK(opened > 5);
+    printf("each of %llu allocations was refused\n", (unsigned long long)at);
+    kilambosetry_service *service = open_small();
+    refuse(0, 40);
+    struct client sum = run_clients(service, 4, steps_of(8000) / 4, true);
+    refuse(0, 0);
+    CHECK(sum.wrong == 0 && sum.old == 0 && sum.refused > 0 && sum.hits > 0);
+    fill_up(service, 200);
+    check_against_model(service, 500, true);
+    kilambosetry_service_close(service);
+}
+
+int main(int len, char **words) {
+    snprintf(file, sizeof file, "%s/kilambosetry-%ld", len > 1 ? words[1] : "/tmp", (long)getpid());
+    if (len > 2) part = (unsigned)atoi(words[2]);
+    if (part == 0) part = 1;
+    setvbuf(stdout, NULL, _IOLBF, 0);
+    for (unsigned i = 0; i < ROWS; i++) pthread_mutex_init(&rows[i].lock, NULL);
+    check_numbers();
+    check_opening();
+    check_calls();
+    check_in_memory();
+    check_one_thread();
+    check_faults();
+    check_file(false);
+    check_file(true);
+    check_limits();
+    check_leases();
+    check_lost_loader();
+    check_stampede();
+    check_threads();
+    check_shutting();
+    check_replies();
+    check_memory();
+    printf("%d checks, %d failed\n", checks, failures);
+    return failures == 0 ? 0 : 1;
+}
