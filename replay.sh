@@ -2,7 +2,8 @@
 # Replays a trace and shows its answers: ./replay.sh --help says how it is called.
 #
 # The program is hc_replay_plain. It is built where a crate at or below it has changed since this script proved it last: a file of its src/,
-# specs/ or proofs/, or its line in crates.txt. Where that takes long, the trace is answered first by a build that nothing has proved.
+# specs/ or proofs/, or its line in crates.txt. Before that dist/ is asked for a program that was built of these very sources. Where a build
+# takes long, the trace is answered first by a build that nothing has proved.
 set -euo pipefail
 shopt -s globstar nullglob dotglob lastpipe
 
@@ -13,8 +14,8 @@ where none is named. docs/FORMATS.md says what a trace is, what is answered, and
 or the configuration is refused, that line and its right form are shown on standard error. The status is 2 also where the trace can't be
 read or the command line is wrong, and 1 also where the program can't be built.
 
-The program is built first where it has to be, crate by crate, lowest first: each crate that has changed is proved. The first time that
-takes an hour or two. So a trace that is a file is answered before that, in a minute or two, by a build that isn't proved yet and checks
+Where dist/ has the program, built of the very sources that are here, that one is taken. Else it is built first where it has to be, crate by
+crate, lowest first: each crate that has changed is proved. The first time that takes an hour or two. So a trace that is a file is answered before that, in a minute or two, by a build that isn't proved yet and checks
 itself as it runs; once all is proved, it is told whether the proved program answers the same. Ctrl-C ends it at any time. What is proved
 by then stays, and the next call goes on there."
 
@@ -116,6 +117,19 @@ find_left() {
         fi
     done
     [ -x "$program" ] || [[ " ${left[*]} " == *" $name "* ]] || left+=("$name")
+}
+
+# Takes the program of dist/, where it was built of the sources that are here, and says so. It was proved then, so that nothing is left.
+take_built() {
+    local said
+    [ -f "$top/dist/MANIFEST" ] || return 0
+    if said="$("$top/tools/dist" --take "$name")"; then
+        program="${said%%$'\n'*}"
+        left=()
+        echo "replay.sh: takes $program, ${said#*$'\n'}" >&2
+    else
+        echo "replay.sh: builds $name, since $said" >&2
+    fi
 }
 
 # Prints the sum of the minutes of these crates, in hundredths.
@@ -289,6 +303,11 @@ read_crates
 read_minutes
 add_crate "$name"
 find_left
+[ ${#left[@]} -eq 0 ] || take_built
+if [ ${#left[@]} -gt 0 ] && ! command -v rt > /dev/null; then
+    echo "replay.sh: $name isn't built, and to build it takes the toolchain, whose rt isn't here" >&2
+    exit 1
+fi
 work="$(mktemp -d)"
 log="$work/log"
 trap 'rm -rf "$work"' EXIT
