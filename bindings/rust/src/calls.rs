@@ -28,6 +28,8 @@ pub(crate) struct Calls {
     owed: usize,
     // tasks to be woken, once the shard's lock is free: they may do anything
     woken: Vec<Waker>,
+    /// Memory lacks for a reply, which holds those behind it up: a filler tries again.
+    pub is_held_up: bool,
     /// Gets that waited and found a value.
     pub from_flash: u64,
     /// Calls that were given up while they waited.
@@ -94,11 +96,13 @@ impl Calls {
 
     /// Hands out the replies that are there.
     pub fn sweep(&mut self, engine: &mut Engine) {
+        self.is_held_up = false;
         while self.owed > 0 {
             let Some(call) = engine.next_reply() else { return };
             let reply = engine.take_reply(call);
             if matches!(reply, Err(Refused::NO_MEMORY)) {
                 // it is still owed, and dropped once there is memory
+                self.is_held_up = true;
                 return self.answer(call, Err(Error::Refused(Refused::NO_MEMORY)));
             }
             self.owed -= 1;

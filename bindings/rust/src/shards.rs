@@ -145,7 +145,7 @@ impl Shards {
     pub fn leave(&self, shard: usize, mut state: Locked<'_>) {
         let State { engine, calls, loads, .. } = &mut *state;
         calls.sweep(engine);
-        let has_fills = calls.is_owed() && engine.filler_has_work() != Ok(false);
+        let has_fills = calls.is_owed() && (calls.is_held_up || engine.filler_has_work() != Ok(false));
         let has_writes = self.device.is_some() && engine.writer_has_work() != Ok(false);
         let woken = [calls.woken(), loads.woken()];
         drop(state);
@@ -298,6 +298,12 @@ impl Shards {
             let mut state = self.lock(shard);
             if state.closed {
                 return;
+            }
+            if state.calls.is_held_up {
+                drop(state);
+                thread::sleep(PAUSE);
+                self.leave(shard, self.lock(shard)); // (hands out what it can)
+                continue;
             }
             match state.engine.filler_take() {
                 Ok(take) => self.complete(shard, state, take),

@@ -11,7 +11,7 @@ use std::ffi::c_void;
 use std::io;
 use std::ptr;
 use std::sync::atomic::{AtomicU64, Ordering::SeqCst};
-use std::sync::{Arc, Mutex};
+use std::sync::{Arc, Condvar, Mutex};
 use std::thread;
 use std::time::Duration;
 
@@ -25,12 +25,19 @@ extern "C" {
 // One allocation in so many is refused; none, where it is 0.
 static ONE_IN: AtomicU64 = AtomicU64::new(0);
 static REFUSED: AtomicU64 = AtomicU64::new(0);
+// How many allocations are made until one is refused; none, where it is 0.
+static UNTIL: AtomicU64 = AtomicU64::new(0);
+// The tests run one after the other, since they share these.
+static ALONE: Mutex<()> = Mutex::new(());
 
 thread_local! {
     static SEED: Cell<u64> = const { Cell::new(1) };
 }
 
 fn is_refused() -> bool {
+    if UNTIL.fetch_update(SeqCst, SeqCst, |left| left.checked_sub(1)) == Ok(1) {
+        return true;
+    }
     let one_in = ONE_IN.load(SeqCst);
     let is_refused = one_in != 0 && SEED.try_with(|seed| next(seed).is_multiple_of(one_in)).unwrap_or(false);
     REFUSED.fetch_add(u64::from(is_refused), SeqCst);
@@ -138,6 +145,7 @@ fn player(cache: &HybridCache, number: u64, rounds: u64) -> u64 {
 
 #[test]
 fn where_memory_lacks_calls_are_refused_and_jobs_go_on() {
+    let _alone = ALONE.lock();
     let flash = Flash {
         page: 512,
         buckets: 64,
@@ -175,4 +183,75 @@ fn where_memory_lacks_calls_are_refused_and_jobs_go_on() {
     assert!(cache.stats().hits_from_flash > 0);
     drop(cache);
     assert_eq!(Arc::strong_count(&device), 1);
+}
+
+// Pages whose reads wait while the gate is shut.
+struct Gated(Pages, Arc<(Mutex<bool>, Condvar)>);
+
+impl PageDevice for Gated {
+    fn read(&self, page: u32, out: &mut [u8]) -> io::Result<()> {
+        let is_shut = self.1 .0.lock().unwrap();
+        drop(self.1 .1.wait_while(is_shut, |is_shut| *is_shut).unwrap());
+        self.0.read(page, out)
+    }
+
+    fn write(&self, page: u32, bytes: &[u8]) -> io::Result<()> {
+        self.0.write(page, bytes)
+    }
+}
+
+// Whether some calls that wait for one page are all answered, where this allocation from the page's read on is refused.
+fn are_answered(refused: u64) -> bool {
+    let gate = Arc::new((Mutex::new(false), Condvar::new()));
+    let flash = Flash {
+        page: 512,
+        buckets: 64,
+        regions: 12,
+        region_pages: 8,
+        clean: 2,
+        small_max: 200,
+        queue: 64,
+        bits: 64,
+        admit_min: 1,
+        admit_max: 4000,
+    };
+    let pool = Pool { bytes: 4000, items: 16 };
+    let options = Options { shards: 1, pool: Some(pool), flash_numbers: Some(flash), ..Options::default() };
+    let pages = Gated(Pages(Mutex::default(), Arc::default()), Arc::clone(&gate));
+    let cache = HybridCache::over(pages, &options).unwrap();
+    for number in 0..30u8 {
+        cache.set(&[b'k', number], &[1; 300], 0).unwrap();
+        cache.flush().unwrap();
+    }
+    // (so that no eviction makes work for the writers, which would hand out what is held up)
+    (15..30u8).for_each(|number| assert!(cache.delete(&[b'k', number]).is_ok()));
+    cache.flush().unwrap();
+    *gate.0.lock().unwrap() = true;
+    thread::scope(|scope| {
+        let gets: Vec<_> = (0..4).map(|_| scope.spawn(|| cache.get(b"k\0").map(drop))).collect();
+        while cache.stats().waiting < 4 {
+            thread::sleep(Duration::from_millis(1));
+        }
+        // (those that make no read themselves sleep by now)
+        thread::sleep(Duration::from_millis(20));
+        UNTIL.store(refused, SeqCst);
+        *gate.0.lock().unwrap() = false;
+        gate.1.notify_all();
+        let mut turns = 0;
+        while cache.stats().waiting > 0 && turns < 2000 {
+            turns += 1;
+            thread::sleep(Duration::from_millis(1));
+        }
+        UNTIL.store(0, SeqCst);
+        cache.clone().close();
+        gets.into_iter().for_each(|get| drop(get.join()));
+        turns < 2000
+    })
+}
+
+#[test]
+fn a_reply_that_memory_lacks_for_holds_no_other_up() {
+    let _alone = ALONE.lock();
+    let stuck: Vec<u64> = (1..32).filter(|refused| !are_answered(*refused)).collect();
+    assert!(stuck.is_empty(), "calls wait for good where these allocations are refused: {stuck:?}");
 }
