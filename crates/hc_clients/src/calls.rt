@@ -1,9 +1,11 @@
 // A request of a client.
+ghost use Rattle.std.specs.Prelude.{◌≡◌, length};
 
 use crate::answers::Answer;
 use hc_core::{Blank, Fill, Kept, Key, Refusal, Removed, Sealed, Uncharged, Unlinked};
 use hc_lines::{NewItem, Step, Value};
-use hc_threads::{Added, Client, Shared, Unadded};
+use hc_shard_threads::{ShardClient, Shards};
+use hc_threads::{Added, Unadded};
 use std::alloc::{AllocError, Global};
 use std::sync::Wait;
 
@@ -43,19 +45,22 @@ impl<'a> Call<'a> {
 pub(crate) fn ask<R: Wait>(
     rt: &R,
     alloc: Global,
-    shared: &Shared<Kept>,
-    client: &mut Client,
+    shards: &Shards<Kept>,
+    client: &mut ShardClient,
     call: &Call<'_>,
-) -> Result<Answer, AllocError> {
+) -> Result<Answer, AllocError>
+    requires { length client.old ≡ shards.now.shards }
+    ensures { length client.new ≡ length client.old }
+{
     let key = match Key::new(alloc, call.key()) {
         Ok(key) => key,
         Err(refusal) => return refused(refusal),
     };
     match call {
-        Call::Set(item) => set(rt, shared, client, key, *item),
-        Call::Add(item) => add(rt, shared, client, key, *item),
-        Call::Get(_) => get(rt, shared, client, &key),
-        Call::Del(_) => delete(rt, shared, client, &key),
+        Call::Set(item) => set(rt, shards, client, key, *item),
+        Call::Add(item) => add(rt, shards, client, key, *item),
+        Call::Get(_) => get(rt, shards, client, &key),
+        Call::Del(_) => delete(rt, shards, client, &key),
     }
 }
 
@@ -76,28 +81,32 @@ fn fill_with(value: Value<'_>) -> Fill<'_> {
 /// The sealed handle of a new item.
 fn open<R: Wait>(
     rt: &R,
-    shared: &Shared<Kept>,
-    client: &Client,
+    shards: &Shards<Kept>,
+    client: &ShardClient,
     key: Key,
     item: NewItem<'_>,
-) -> Result<Sealed, Refusal> {
+) -> Result<Sealed, Refusal>
+    requires { length client.now ≡ shards.now.shards }
+{
     let fill = fill_with(item.value);
-    match client.allocate_with(rt, shared, item.pool, key, fill, item.ttl) {
-        Ok(blank) => seal(rt, shared, client, blank),
+    match client.allocate_with(rt, shards, item.pool, key, fill, item.ttl) {
+        Ok(blank) => seal(rt, shards, client, blank),
         Err(Uncharged { refusal, key: _ }) => Err(refusal),
     }
 }
 
 fn seal<R: Wait>(
     rt: &R,
-    shared: &Shared<Kept>,
-    client: &Client,
+    shards: &Shards<Kept>,
+    client: &ShardClient,
     blank: Blank,
-) -> Result<Sealed, Refusal> {
+) -> Result<Sealed, Refusal>
+    requires { length client.now ≡ shards.now.shards }
+{
     match blank.seal() {
         Ok(sealed) => Ok(sealed),
         Err(blank) => {
-            if let Err(blank) = client.discard_blank(rt, shared, blank) {
+            if let Err(blank) = client.discard_blank(rt, shards, blank) {
                 blank.abandon();
             }
             Err(Refusal::NoMemory)
@@ -105,27 +114,32 @@ fn seal<R: Wait>(
     }
 }
 
-fn discard<R: Wait>(rt: &R, shared: &Shared<Kept>, client: &Client, sealed: Sealed) {
-    if let Err(sealed) = client.discard(rt, shared, sealed) {
+fn discard<R: Wait>(rt: &R, shards: &Shards<Kept>, client: &ShardClient, sealed: Sealed)
+    requires { length client.now ≡ shards.now.shards }
+{
+    if let Err(sealed) = client.discard(rt, shards, sealed) {
         sealed.abandon();
     }
 }
 
 fn set<R: Wait>(
     rt: &R,
-    shared: &Shared<Kept>,
-    client: &mut Client,
+    shards: &Shards<Kept>,
+    client: &mut ShardClient,
     key: Key,
     item: NewItem<'_>,
-) -> Result<Answer, AllocError> {
-    let sealed = match open(rt, shared, client, key, item) {
+) -> Result<Answer, AllocError>
+    requires { length client.old ≡ shards.now.shards }
+    ensures { length client.new ≡ length client.old }
+{
+    let sealed = match open(rt, shards, client, key, item) {
         Ok(sealed) => sealed,
         Err(refusal) => return refused(refusal),
     };
-    match client.insert_or_replace(rt, shared, sealed) {
+    match client.insert_or_replace(rt, shards, sealed) {
         Ok(()) => Ok(Answer::Stored),
         Err(Unlinked { refusal, sealed }) => {
-            discard(rt, shared, client, sealed);
+            discard(rt, shards, client, sealed);
             refused(refusal)
         }
     }
@@ -133,20 +147,23 @@ fn set<R: Wait>(
 
 fn add<R: Wait>(
     rt: &R,
-    shared: &Shared<Kept>,
-    client: &mut Client,
+    shards: &Shards<Kept>,
+    client: &mut ShardClient,
     key: Key,
     item: NewItem<'_>,
-) -> Result<Answer, AllocError> {
-    let sealed = match open(rt, shared, client, key, item) {
+) -> Result<Answer, AllocError>
+    requires { length client.old ≡ shards.now.shards }
+    ensures { length client.new ≡ length client.old }
+{
+    let sealed = match open(rt, shards, client, key, item) {
         Ok(sealed) => sealed,
         Err(refusal) => return refused(refusal),
     };
-    match client.insert(rt, shared, sealed) {
+    match client.insert(rt, shards, sealed) {
         Ok(Added::Stored) => Ok(Answer::Stored),
         Ok(Added::Exists) => Ok(Answer::Exists),
         Err(Unadded::Refused(Unlinked { refusal, sealed })) => {
-            discard(rt, shared, client, sealed);
+            discard(rt, shards, client, sealed);
             refused(refusal)
         }
         Err(Unadded::Unanswered) => Err(AllocError),
@@ -155,11 +172,14 @@ fn add<R: Wait>(
 
 fn get<R: Wait>(
     rt: &R,
-    shared: &Shared<Kept>,
-    client: &mut Client,
+    shards: &Shards<Kept>,
+    client: &mut ShardClient,
     key: &Key,
-) -> Result<Answer, AllocError> {
-    match client.find(rt, shared, key) {
+) -> Result<Answer, AllocError>
+    requires { length client.old ≡ shards.now.shards }
+    ensures { length client.new ≡ length client.old }
+{
+    match client.find(rt, shards, key) {
         Ok(Some(value)) => Ok(Answer::Hit(value)),
         Ok(None) => Ok(Answer::Miss),
         Err(refusal) => refused(refusal),
@@ -168,11 +188,14 @@ fn get<R: Wait>(
 
 fn delete<R: Wait>(
     rt: &R,
-    shared: &Shared<Kept>,
-    client: &mut Client,
+    shards: &Shards<Kept>,
+    client: &mut ShardClient,
     key: &Key,
-) -> Result<Answer, AllocError> {
-    match client.remove(rt, shared, key) {
+) -> Result<Answer, AllocError>
+    requires { length client.old ≡ shards.now.shards }
+    ensures { length client.new ≡ length client.old }
+{
+    match client.remove(rt, shards, key) {
         Ok(Removed::FoundInMemory) => Ok(Answer::Found),
         Ok(Removed::NotInMemory) => Ok(Answer::Absent),
         Err(refusal) => refused(refusal),

@@ -10,5 +10,5 @@ mod reading;
 mod replaying;
 mod session;
 
-pub use closing::verdict;
+pub use closing::{mismatch, verdict};
 pub use replaying::replay_by;

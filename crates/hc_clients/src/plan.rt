@@ -2,16 +2,19 @@
 ghost use Rattle.std.specs.Prelude.{◌<◌, length};
 
 use crate::calls::Call;
-use hc_lines::{Line, Order, Step, line_in};
+use hc_lines::{Line, Order, Step, line_in, number};
+use hc_shards::Sharded;
 use hc_types::{Config, FlashConfig, PoolSize};
 use memchr::memchr;
 use std::alloc::{AllocError, Global};
 
-/// A cache of this configuration, and these requests of clients, in order.
+/// A cache of this configuration, in so many shards, and these requests of clients, in order.
 #[derive(Drop)]
 pub(crate) struct Plan<'a> {
-    pub(crate) config: Config,
+    pub(crate) sharded: Sharded,
     pub(crate) requests: Vec<Call<'a>>,
+    /// A line was taken that isn't skipped.
+    is_begun: bool,
     is_configured: bool,
 }
 
@@ -32,8 +35,12 @@ impl From<AllocError> for Unplanned {
 /// What the trace asks for. A fault where its configuration doesn't end, too, at the line behind its last.
 pub(crate) fn plan_of(alloc: Global, trace: &[u8]) -> Result<Plan<'_>, Unplanned> {
     let mut plan = Plan {
-        config: Config::new(Vec::new(alloc), None),
+        sharded: Sharded {
+            config: Config::new(Vec::new(alloc), None),
+            shards: 1,
+        },
         requests: Vec::new(alloc),
+        is_begun: false,
         is_configured: false,
     };
     let mut number = 1;
@@ -53,6 +60,12 @@ pub(crate) fn plan_of(alloc: Global, trace: &[u8]) -> Result<Plan<'_>, Unplanned
     }
 }
 
+/// How many shards the line says that there are: `shards N`, with N from 0 to 255.
+fn shards_in(line: &[u8]) -> Option<u8> {
+    let count = line.strip_prefix(b"shards ")?;
+    u8::try_from(number(count)?).ok()
+}
+
 /// The first line, and what is behind its end.
 fn first_line(bytes: &[u8]) -> (&[u8], &[u8])
     requires { 0 < length bytes.now }
@@ -69,12 +82,27 @@ impl<'a> Plan<'a> {
     fn take(&mut self, line: &'a [u8]) -> Result<bool, AllocError> {
         match line_in(line) {
             Line::Skipped => Ok(true),
-            Line::Says(order) => self.obey(order),
-            Line::Fault => Ok(false),
+            Line::Says(order) => {
+                self.is_begun = true;
+                self.obey(order)
+            }
+            Line::Fault => Ok(self.take_shards(line)),
         }
     }
 
-    /// Pools come first, and then the flash or that there is none. Behind that, clients alone have requests.
+    /// Takes the line that says how many shards there are, which stands before all others. Answers whether it is one.
+    fn take_shards(&mut self, line: &[u8]) -> bool {
+        match shards_in(line) {
+            Some(shards) if !self.is_begun => {
+                self.is_begun = true;
+                self.sharded.shards = shards;
+                true
+            }
+            _ => false,
+        }
+    }
+
+    /// Pools come first, behind the number of shards, and then the flash or that there is none. Behind that, clients alone have requests.
     fn obey(&mut self, order: Order<'a>) -> Result<bool, AllocError> {
         match order {
             Order::Pool(bytes, items) => self.add_pool(PoolSize { bytes, items }),
@@ -89,7 +117,7 @@ impl<'a> Plan<'a> {
         if self.is_configured {
             return Ok(false);
         }
-        self.config.pools.push(size)?;
+        self.sharded.config.pools.push(size)?;
         Ok(true)
     }
 
@@ -97,7 +125,7 @@ impl<'a> Plan<'a> {
         if self.is_configured {
             return false;
         }
-        self.config.flash = flash;
+        self.sharded.config.flash = flash;
         self.is_configured = true;
         true
     }

@@ -1,26 +1,28 @@
 // The replay.
-ghost use Rattle.std.specs.Prelude.{◌≡◌, ◌≤◌, ◌<◌, []};
-ghost use Rattle.hc_history.specs.Told.{IfLog};
+ghost use Rattle.std.specs.Prelude.{◌≡◌, ◌≤◌, ◌<◌, [], length, IfOk};
 
 use crate::answers::{in_order, write_answers};
-use crate::closing::{verdict, write_text};
+use crate::closing::{mismatch, verdict, write_text};
 use crate::plan::{Plan, Unplanned, plan_of};
 use crate::reading::read_all;
 use crate::session::{Session, clients_of, sessions};
-use hc_core::{Core, FlashConfig, Kept, Refusal};
+use hc_core::{Kept, Refusal};
+use hc_flash::MemFlash;
 use hc_lines::{add_fault, add_refusal};
 use hc_player::new_device;
-use hc_threads::{Client, NoGate, Port, Shared, serve};
+use hc_shard_threads::{ShardClient, Shards, Unclosed, serve};
+use hc_shards::Sharded;
+use hc_threads::{NoGate, Port};
 use std::alloc::{AllocError, Global};
 use std::io::{self, Read, Write};
 use std::sync::Wait;
 use std::thread::{self, Threads};
 
-/// Replays the trace that the reader has by so many clients, in threads of their own beside three workers over a device in
-/// memory, and writes the answers in the order of the trace, and then the verdict. A trace with a fault, and one whose
-/// configuration is refused, is answered by that alone, with status 1; a verdict of a mismatch or a lie has status 3. Status
-/// 4 says that reading, writing or memory failed. Where memory lacked for a request, the answers before it are written, and no
-/// verdict.
+/// Replays the trace that the reader has by so many clients, in threads of their own beside three workers for each shard
+/// over a device in memory, and writes the answers in the order of the trace, and then the verdict. A trace with a fault, and
+/// one whose configuration is refused, is answered by that alone, with status 1; a verdict of a mismatch or a lie has status
+/// 3. Status 4 says that reading, writing or memory failed. Where memory lacked for a request, the answers before it are
+/// written, and no verdict.
 pub fn replay_by<T: Threads + Wait + Sync, R: Read, W: Write>(
     rt: &T,
     alloc: Global,
@@ -84,10 +86,23 @@ fn perform<T: Threads + Wait + Sync, W: Write>(
 ) -> io::Result<u8>
     requires { 0 < clients }
 {
-    match Core::new(alloc, &plan.config, Kept::new(alloc)) {
-        Ok(core) => play(rt, alloc, writer, core, plan, clients),
+    match new_shards(alloc, &plan.sharded) {
+        Ok(shards) => play(rt, alloc, writer, shards, plan, clients),
         Err(refusal) => write_refused(alloc, writer, refusal),
     }
+}
+
+/// Shards of this configuration, whose logs are kept.
+fn new_shards(alloc: Global, sharded: &Sharded) -> Result<Shards<Kept>, Refusal>
+    ensures { IfOk result (λ shards. shards ≡ sharded.now) }
+{
+    Shards::new(
+        alloc,
+        sharded,
+        || -> Kept
+            ensures { result.notes.items ≡ [] }
+        { Kept::new(alloc) },
+    )
 }
 
 /// Writes the refusal of a configuration alone. The status is 1, but 4 for want of memory.
@@ -105,36 +120,34 @@ fn play<T: Threads + Wait + Sync, W: Write>(
     rt: &T,
     alloc: Global,
     writer: &mut W,
-    core: Core<Kept>,
+    shards: Shards<Kept>,
     plan: &Plan<'_>,
     clients: u8,
 ) -> io::Result<u8>
-    requires some { 0 < clients }
-    requires log { IfLog core.log (λ log. log ≡ []) }
+    requires { 0 < clients }
 {
-    let Ok(shared) = Shared::new(core) else {
-        return Err(io::Error::from(AllocError));
-    };
-    match answered(rt, alloc, writer, &shared, plan, clients) {
-        Ok((clients, failures)) => Ok(verdict(alloc, writer, &shared.close(&clients, failures))),
-        Err(error) => Err(error),
+    let (clients, failures) = answered(rt, alloc, writer, &shards, plan, clients)?;
+    match shards.close(&clients, failures) {
+        Ok(reports) => Ok(verdict(alloc, writer, &reports)),
+        Err(Unclosed::Mismatch(_) | Unclosed::OtherClients(_)) => Ok(mismatch(writer)),
+        Err(Unclosed::NoMemory(_)) => Err(io::Error::from(AllocError)),
     }
 }
 
-/// Makes the requests and writes their answers. What is left are the clients, and how often the device failed. An error says
-/// that writing failed, or memory, also for a request.
+/// Makes the requests and writes their answers. What is left are the clients, and how often the devices failed. An error
+/// says that writing failed, or memory, also for a request.
 fn answered<T: Threads + Wait + Sync, W: Write>(
     rt: &T,
     alloc: Global,
     writer: &mut W,
-    shared: &Shared<Kept>,
+    shards: &Shards<Kept>,
     plan: &Plan<'_>,
     clients: u8,
-) -> io::Result<(Vec<Client>, u64)>
+) -> io::Result<(Vec<ShardClient>, u64)>
     requires { 0 < clients }
 {
-    let mut sessions = sessions(rt, alloc, shared, clients, &plan.requests)?;
-    match act(rt, alloc, writer, shared, plan, &mut sessions, clients) {
+    let mut sessions = sessions(alloc, clients, &plan.requests)?;
+    match act(rt, alloc, writer, shards, plan, &mut sessions, clients) {
         Ok(failures) => Ok((clients_of(alloc, sessions)?, failures)),
         Err(error) => Err(error),
     }
@@ -144,14 +157,14 @@ fn act<T: Threads + Wait + Sync, W: Write>(
     rt: &T,
     alloc: Global,
     writer: &mut W,
-    shared: &Shared<Kept>,
+    shards: &Shards<Kept>,
     plan: &Plan<'_>,
     sessions: &mut [Session<'_>],
     clients: u8,
 ) -> io::Result<u64>
     requires { 0 < clients }
 {
-    let failures = run_all(rt, alloc, shared, plan.config.flash, sessions, clients)?;
+    let failures = run_all(rt, alloc, shards, sessions, clients)?;
     let answers = in_order(alloc, sessions, plan.requests.len())?;
     write_answers(alloc, writer, &answers)?;
     if sessions.iter().any(|session| session.lacked_memory) {
@@ -160,39 +173,57 @@ fn act<T: Threads + Wait + Sync, W: Write>(
     Ok(failures)
 }
 
-/// Runs the sessions, each in a thread, beside the workers. Answers how often the device failed.
+/// Runs the sessions, each in a thread, beside the workers. Answers how often the devices failed, lies among it.
 fn run_all<T: Threads + Wait + Sync>(
     rt: &T,
     alloc: Global,
-    shared: &Shared<Kept>,
-    flash: Option<FlashConfig>,
+    shards: &Shards<Kept>,
     sessions: &mut [Session<'_>],
     clients: u8,
 ) -> Result<u64, AllocError>
     requires { 0 < clients }
 {
-    let device = new_device(alloc, flash)?;
-    let port = Port::new(alloc, device);
+    let ports = ports_of(alloc, shards.sharded())?;
     let answer = serve(
         rt,
-        shared,
-        &port,
+        shards,
+        &ports,
         1,
         &NoGate,
         ||
             requires { 0 < clients }
-        { run_clients(rt, alloc, shared, sessions, clients) },
+        { run_clients(rt, alloc, shards, sessions, clients) },
     );
     match answer {
-        Ok(()) => Ok(port.failures(rt).saturating_add(shared.lies(rt))),
+        Ok(()) => Ok(failures_of(rt, shards, &ports)),
         Err(_) => Err(AllocError),
     }
+}
+
+/// A device in memory for each shard.
+fn ports_of(alloc: Global, sharded: &Sharded) -> Result<Vec<Port<MemFlash>>, AllocError>
+    ensures { IfOk result (λ ports. length ports.items ≡ sharded.now.shards) }
+{
+    let mut ports = Vec::with_capacity(alloc, usize::from(sharded.shards))?;
+    for _ in 0..sharded.shards {
+        ports.push(Port::new(alloc, new_device(alloc, sharded.config.flash)?))?;
+    }
+    Ok(ports)
+}
+
+/// How often the devices failed, lies among it.
+fn failures_of<T: Wait>(rt: &T, shards: &Shards<Kept>, ports: &[Port<MemFlash>]) -> u64 {
+    let mut failures = shards.lies(rt);
+    for port in ports {
+        failures = failures.saturating_add(port.failures(rt));
+    }
+    failures
 }
 
 fn run_clients<T: Threads + Wait + Sync>(
     rt: &T,
     alloc: Global,
-    shared: &Shared<Kept>,
+    shards: &Shards<Kept>,
     sessions: &mut [Session<'_>],
     clients: u8,
 )
@@ -202,6 +233,6 @@ fn run_clients<T: Threads + Wait + Sync>(
         rt,
         sessions,
         usize::from(clients),
-        &|_, session| session.run(rt, alloc, shared),
+        &|_, session| session.run(rt, alloc, shards),
     );
 }

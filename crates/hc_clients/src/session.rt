@@ -1,10 +1,10 @@
 // A client with what it is to do.
-ghost use Rattle.std.specs.Prelude.{◌<◌};
+ghost use Rattle.std.specs.Prelude.{◌≡◌, ◌<◌, length};
 
 use crate::answers::Answer;
 use crate::calls::{Call, ask};
 use hc_core::{Kept, Key, Refusal};
-use hc_threads::{Client, Shared};
+use hc_shard_threads::{ShardClient, Shards};
 use hc_types::hash;
 use std::alloc::{AllocError, Global};
 use std::sync::Wait;
@@ -25,7 +25,8 @@ pub(crate) struct Answered {
 
 /// A client, its requests, and what they were answered.
 pub(crate) struct Session<'a> {
-    client: Client,
+    /// The client, once it has begun.
+    client: Option<ShardClient>,
     requests: Vec<Request<'a>>,
     pub(crate) answers: Vec<Answered>,
     pub(crate) lacked_memory: bool,
@@ -44,16 +45,16 @@ impl<'a> Drop for Session<'a> {
 }
 
 impl<'a> Session<'a> {
-    fn new(alloc: Global, client: Client) -> Session<'a> {
+    fn new(alloc: Global) -> Session<'a> {
         Session {
-            client,
+            client: None,
             requests: Vec::new(alloc),
             answers: Vec::new(alloc),
             lacked_memory: false,
         }
     }
 
-    fn into_client(self) -> Client {
+    fn into_client(self) -> Option<ShardClient> {
         let Session {
             client,
             requests: _,
@@ -63,37 +64,37 @@ impl<'a> Session<'a> {
         client
     }
 
-    /// Makes all requests, one after the other, up to one for which memory lacks. Then workers and other clients, for which
-    /// it may lack too, look again: what this client held is given back.
-    pub(crate) fn run<R: Wait>(&mut self, rt: &R, alloc: Global, shared: &Shared<Kept>) {
+    /// Makes all requests by a client of its own, one after the other, up to one for which memory lacks. Then workers and
+    /// other clients, for which it may lack too, look again: what this client held is given back.
+    pub(crate) fn run<R: Wait>(&mut self, rt: &R, alloc: Global, shards: &Shards<Kept>) {
+        let Ok(mut client) = shards.client(rt, alloc) else {
+            self.lacked_memory = true;
+            return;
+        };
         for asked in &self.requests {
-            let made = make(
-                rt,
-                alloc,
-                shared,
-                &mut self.client,
-                asked,
-                &mut self.answers,
-            );
-            if made.is_err() {
+            if make(rt, alloc, shards, &mut client, asked, &mut self.answers).is_err() {
                 self.lacked_memory = true;
-                shared.stir(rt);
-                return;
+                shards.stir(rt);
+                break;
             }
         }
+        self.client = Some(client);
     }
 }
 
 fn make<R: Wait>(
     rt: &R,
     alloc: Global,
-    shared: &Shared<Kept>,
-    client: &mut Client,
+    shards: &Shards<Kept>,
+    client: &mut ShardClient,
     asked: &Request<'_>,
     answers: &mut Vec<Answered>,
-) -> Result<(), AllocError> {
+) -> Result<(), AllocError>
+    requires { length client.old ≡ shards.now.shards }
+    ensures { length client.new ≡ length client.old }
+{
     answers.reserve(1)?;
-    let answer = ask(rt, alloc, shared, client, &asked.call)?;
+    let answer = ask(rt, alloc, shards, client, &asked.call)?;
     answers.push_reserved(Answered {
         place: asked.place,
         answer,
@@ -101,38 +102,21 @@ fn make<R: Wait>(
     Ok(())
 }
 
-/// So many clients of a cache that has none yet. Each request is that one's whose number is the hash of the key modulo how
-/// many they are, in the order of the trace. One whose key can't be made is the first one's.
-pub(crate) fn sessions<'a, R: Wait>(
-    rt: &R,
+/// So many sessions. Each request is that one's whose number is the hash of the key modulo how many they are, in the order
+/// of the trace. One whose key can't be made is the first one's.
+pub(crate) fn sessions<'a>(
     alloc: Global,
-    shared: &Shared<Kept>,
     count: u8,
     calls: &[Call<'a>],
 ) -> Result<Vec<Session<'a>>, AllocError>
     requires { 0 < count }
 {
     let mut sessions = Vec::new(alloc);
-    begin(rt, alloc, shared, count, &mut sessions)?;
+    for _ in 0..count {
+        sessions.push(Session::new(alloc))?;
+    }
     deal(alloc, count, calls, &mut sessions)?;
     Ok(sessions)
-}
-
-fn begin<R: Wait>(
-    rt: &R,
-    alloc: Global,
-    shared: &Shared<Kept>,
-    count: u8,
-    sessions: &mut Vec<Session<'_>>,
-) -> Result<(), AllocError> {
-    for _ in 0..count {
-        sessions.reserve(1)?;
-        match shared.client(rt, alloc) {
-            Ok(client) => sessions.push_reserved(Session::new(alloc, client)),
-            Err(_) => return Err(AllocError),
-        }
-    }
-    Ok(())
 }
 
 fn deal<'a>(
@@ -162,14 +146,16 @@ fn client_of(alloc: Global, call: &Call<'_>, count: u8) -> Result<usize, AllocEr
     }
 }
 
-/// The clients of the sessions, in order.
+/// The clients of the sessions that have begun, in order.
 pub(crate) fn clients_of(
     alloc: Global,
     sessions: Vec<Session<'_>>,
-) -> Result<Vec<Client>, AllocError> {
+) -> Result<Vec<ShardClient>, AllocError> {
     let mut clients = Vec::new(alloc);
     for session in sessions {
-        clients.push(session.into_client())?;
+        if let Some(client) = session.into_client() {
+            clients.push(client)?;
+        }
     }
     Ok(clients)
 }

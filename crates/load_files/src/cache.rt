@@ -1,23 +1,15 @@
-// A shared cache with flash behind it.
+// A cache in shards with flash behind it.
 
-use hc_core::{Config, Core, FlashConfig, Kept, PoolSize, Refusal};
-use hc_paged::Digest;
-use hc_threads::Shared;
+ghost use Rattle.std.specs.Prelude.{◌≡◌, IfOk};
+
+use hc_core::{Config, FlashConfig, PoolSize, Refusal};
+use hc_shards::Sharded;
 use std::alloc::Global;
 
 /// The bytes of a page.
 pub(crate) const PAGE: u32 = 512;
 
-/// The pages: 64 buckets, and 16 regions of 8.
-pub(crate) const PAGES: u32 = 192;
-
-// A pool with room for 80 items.
-const SIZE: PoolSize = PoolSize {
-    bytes: 80_000,
-    items: 80,
-};
-
-// A value of up to some 100 bytes is small.
+// A shard's flash: 64 buckets, and 16 regions of 8 pages. A value of up to some 100 bytes is small.
 const FLASH: FlashConfig = FlashConfig {
     page: 512,
     buckets: 64,
@@ -31,15 +23,18 @@ const FLASH: FlashConfig = FlashConfig {
     admit_max: 2000,
 };
 
-/// A new cache, whose log is kept.
-pub(crate) fn new_cache<G: Digest + Copy>(
-    alloc: Global,
-    digest: G,
-) -> Result<Shared<Kept, Global, G>, Refusal> {
-    let pools = Vec::from_slice(alloc, [SIZE].as_slice())?;
-    let core = Core::new(alloc, &Config::new(pools, Some(FLASH)), Kept::new(alloc))?;
-    match Shared::with_digest(core, digest) {
-        Ok(shared) => Ok(shared),
-        Err(_) => Err(Refusal::NoMemory),
-    }
+/// So many shards of one pool, which have room for 80 items and 20 more for each.
+pub(crate) fn sharded(alloc: Global, shards: u8) -> Result<Sharded, Refusal>
+    ensures { IfOk result (λ s. s.shards ≡ shards) }
+{
+    let items = u64::from(shards) * 20 + 80;
+    let size = PoolSize {
+        bytes: items * 1_000,
+        items,
+    };
+    let pools = Vec::from_slice(alloc, [size].as_slice())?;
+    Ok(Sharded {
+        config: Config::new(pools, Some(FLASH)),
+        shards,
+    })
 }

@@ -1,12 +1,13 @@
 //! Caches over a file some of whose writes go wrong, and what their logs tell:
 //!
-//!     load_files CACHES EVERY bare|checked PATH
+//!     load_files CACHES EVERY bare|checked PATH [SHARDS]
 //!
-//! makes so many caches, one after the other, over a device in the file of this name, with digests (`checked`) or without. Of
-//! so many writes of the device one goes wrong, and is answered as made: in turn it isn't made, it is made to the page
-//! before, or only its first half is. 0 says that none does. 64 clients in threads make 50 calls each on 300 keys, of which
-//! memory has room for 80, beside the workers, and close the cache. What is told is how many of the logs tell no lie; on the
-//! other stream, how often the devices failed. The file is removed in the end, unless it couldn't be opened as a device: then
+//! makes so many caches, one after the other, over a device in the file of this name, with digests (`checked`) or without,
+//! each in so many shards, or in one. Of so many writes of a shard one goes wrong, and is answered as made: in turn it isn't
+//! made, it is made to the page before, be that another shard's, or only its first half is. 0 says that none does. 64 clients
+//! in threads make 50 calls each on 300 keys, of which memory has room for 80 and 20 more for each shard, beside the
+//! workers, and close the cache. What is told is of how many of them no log tells a lie; on the other stream, how often the
+//! devices failed. The file is removed in the end, unless it couldn't be opened as a device: then
 //! the other stream says why.
 //!
 //! The status is 0 where each cache was closed and its records agreed with its log, 1 where one didn't, 2 for any other
@@ -29,9 +30,22 @@ use std::thread::Threads;
 
 /// What the words of a command line ask for, of which the first is the program's name. None where they are wrong.
 fn soak_in(words: &[String]) -> Option<Soak<'_>> {
-    let [_, caches, every, kind, path] = words else {
-        return None;
-    };
+    match words {
+        [_, caches, every, kind, path] => soak_of(caches, every, kind, path, 1),
+        [_, caches, every, kind, path, shards] => {
+            soak_of(caches, every, kind, path, shards.as_str().parse().ok()?)
+        }
+        _ => None,
+    }
+}
+
+fn soak_of<'a>(
+    caches: &String,
+    every: &String,
+    kind: &String,
+    path: &'a String,
+    shards: u8,
+) -> Option<Soak<'a>> {
     let has_digests = match kind.as_str() {
         "bare" => false,
         "checked" => true,
@@ -42,6 +56,7 @@ fn soak_in(words: &[String]) -> Option<Soak<'_>> {
         every: every.as_str().parse().ok()?,
         has_digests,
         path: path.as_str(),
+        shards,
     })
 }
 
@@ -50,7 +65,7 @@ fn run<R: Threads + Wait + Sync + Print + Eprint + Env + AllocGlobal + Files<Fil
 ) -> io::Result<u8> {
     let words: Vec<String> = env::args(rt)?.collect(rt.alloc())?;
     let Some(asked) = soak_in(&words) else {
-        eprintln!(rt; "usage: load_files CACHES EVERY bare|checked PATH")?;
+        eprintln!(rt; "usage: load_files CACHES EVERY bare|checked PATH [SHARDS]")?;
         return Ok(2);
     };
     let ended = close_all(rt, rt.alloc(), asked);

@@ -1,12 +1,14 @@
-//! Finds by clients in threads, beside the workers, in a cache with room for 1,000 items and flash behind it:
+//! Finds by clients in threads, beside the workers, in a cache in shards with room for 1,000 items and flash behind it:
 //!
-//!     load_threads CLIENTS KEYS FINDS                      beside one filler, over a device in memory
-//!     load_threads CLIENTS KEYS FINDS FILLERS waits|fills  beside so many
-//!     load_threads .. FILLERS waits|fills checked PATH     over a file, by a handle for each thread
+//!     load_threads CLIENTS KEYS FINDS                      of one shard beside one filler, over a device in memory
+//!     load_threads CLIENTS KEYS FINDS SHARDS all|own       of so many shards, a device in memory for each
+//!     load_threads .. SHARDS all|own FILLERS waits|fills   beside so many fillers for each shard
+//!     load_threads .. FILLERS waits|fills checked PATH     over a file, by a handle for each thread and shard
 //!     load_threads .. FILLERS waits|fills bare PATH        the same, without digests
 //!
-//! So many clients make so many finds each of so many keys, which all share, and store what isn't found. A find that waits
-//! has a filler make its reads (`waits`), or makes them itself (`fills`). How long they take is for `time` to tell.
+//! So many clients make so many finds each of so many keys, and store what isn't found: of keys that all share (`all`), or
+//! of those whose shard's number modulo that of the clients is the client's own (`own`). A find that waits has a filler make
+//! its reads (`waits`), or makes them itself (`fills`). How long they take is for `time` to tell.
 //!
 //! The status is 0 where all were made, 2 for any other command line, and 4 where memory or something else lacked.
 #![tactic(auto)]
@@ -32,7 +34,7 @@ fn run<R: Threads + Wait + Sync + Print + Eprint + Env + AllocGlobal + Files<Fil
     let words: Vec<String> = env::args(rt)?.collect(rt.alloc())?;
     let Some(load) = load_in(&words) else {
         eprintln!(rt;
-            "usage: load_threads CLIENTS KEYS FINDS [FILLERS waits|fills [checked|bare PATH]]"
+            "usage: load_threads CLIENTS KEYS FINDS [SHARDS all|own [FILLERS waits|fills [checked|bare PATH]]]"
         )?;
         return Ok(2);
     };

@@ -112,3 +112,58 @@ fn a_fault_goes_before_a_refused_configuration(rt: HostRuntime) {
     let refused = b"noflash\nget a\n";
     assert_alone(&rt, rt.alloc(), refused, b"refused 3 BadPool\n");
 }
+
+// The same in two shards.
+const IN_SHARDS: &[u8] = b"shards 2
+pool 20000 200
+flash 512 1 3 1 1 100 8 8 0 2000
+set 0 a =1 0
+get a
+set 0 b =2 0
+get b
+del b
+set 0 c =3 0
+get d
+get c
+";
+
+const IN_SHARDS_ANSWERS: &[u8] = b"stored
+hit =1
+stored
+hit =2
+found
+stored
+miss
+hit =3
+stats stored 3 hits 3 misses 1 removes 1 losses 0 reads 0 writes 0
+verdict legal, honest
+";
+
+#[test]
+fn shards_answer_as_one(rt: HostRuntime) {
+    let (status, written) = answered(&rt, rt.alloc(), 4, IN_SHARDS);
+    assert_eq!(rt; written.as_slice(), IN_SHARDS_ANSWERS);
+    assert_eq!(rt; status, 0);
+}
+
+#[test]
+fn too_many_shards_are_refused(rt: HostRuntime) {
+    let many = b"shards 17\npool 20000 200\nnoflash\nget a\n";
+    assert_alone(&rt, rt.alloc(), many, b"refused 24 BadShards\n");
+    let none = b"shards 0\npool 20000 200\nnoflash\nget a\n";
+    assert_alone(&rt, rt.alloc(), none, b"refused 24 BadShards\n");
+    let small = b"shards 255\npool 20000 200\nnoflash\nget a\n";
+    assert_alone(&rt, rt.alloc(), small, b"refused 3 BadPool\n");
+}
+
+// The number of shards comes first, once, and is one.
+#[test]
+fn shards_in_another_place_are_a_fault(rt: HostRuntime) {
+    let behind = b"pool 20000 200\nshards 2\nnoflash\nget a\n";
+    assert_alone(&rt, rt.alloc(), behind, b"fault line 2\n");
+    let twice = b"\nshards 2\nshards 2\npool 20000 200\nnoflash\n";
+    assert_alone(&rt, rt.alloc(), twice, b"fault line 3\n");
+    let large = b"shards 256\npool 20000 200\nnoflash\n";
+    assert_alone(&rt, rt.alloc(), large, b"fault line 1\n");
+    assert_alone(&rt, rt.alloc(), b"shards 02\nnoflash\n", b"fault line 1\n");
+}

@@ -1,0 +1,3 @@
+mod Rows
+mod Closing
+mod Shutting
