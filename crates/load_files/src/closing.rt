@@ -85,7 +85,7 @@ fn with_one<R: Threads + Wait + Sync + Files<File = File>, G: Digest + Copy + Se
 ) -> Result<Sums, Ended>
     requires { sharded_wrong sharded.now ≡ None }
 {
-    let pages = u32::from(sharded.shards) * sharded.pages();
+    let pages = u32::from(sharded.shards).saturating_mul(sharded.pages());
     let file = match open(rt, alloc, asked.path, pages, PAGE) {
         Ok(file) => file,
         Err(error) => return Err(Ended::NotOpened(error)),
