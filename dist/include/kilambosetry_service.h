@@ -1,0 +1,266 @@
+/* Kilambosetry for C: the cache of a service, for any number of threads, with its flash in a file.
+ *
+ * It is C11 and POSIX threads over `kilambosetry.h`: link `kilambosetry_service.c` beside the static library. The cache is cut
+ * into shards, and a call locks its key's shard alone. No lock is held while a device reads or writes. Threads of its own write
+ * what is evicted. A page that comes back otherwise than it was written is a miss. Nothing outlasts the cache: it begins empty,
+ * whatever the file has.
+ *
+ *     kilambosetry_service_options options = KILAMBOSETRY_SERVICE_OPTIONS;
+ *     kilambosetry_service *cache;
+ *     options.memory = 64000000;
+ *     uint8_t status = kilambosetry_service_open(&cache, "/var/cache/flash", &options, NULL);
+ *     if (status != KILAMBOSETRY_DONE) ...
+ *     kilambosetry_lease lease;
+ *     switch (kilambosetry_service_get_or_lease(cache, key, key_len, out, sizeof out, &len, &lease, KILAMBOSETRY_FOREVER)) {
+ *     case KILAMBOSETRY_DONE: ...                 // it was there
+ *     case KILAMBOSETRY_LEASED: ...               // load it, and then
+ *         kilambosetry_service_store(cache, &lease, key, key_len, row, row_len, 3600);
+ *     }
+ *     ...
+ *     kilambosetry_service_close(cache);
+ *
+ * Who changes a row first changes the database and then calls `kilambosetry_service_delete`, again where it is refused. Who
+ * loads takes a lease, and stores by that alone. Then no get answers what is older than a change whose delete was answered
+ * before the get began.
+ *
+ * What the caller owes, since nothing can check it: valid pointers, not null but where it is said, also where a length is 0;
+ * nothing that a call writes overlaps anything else; no call from a signal handler, nor in a forked child, nor one that begins
+ * once `kilambosetry_service_close` is called.
+ */
+#ifndef KILAMBOSETRY_SERVICE_H
+#define KILAMBOSETRY_SERVICE_H
+
+#include "kilambosetry.h"
+
+#ifdef __cplusplus
+extern "C" {
+#endif
+
+typedef struct kilambosetry_service kilambosetry_service;
+
+/* What these calls answer beside the statuses of kilambosetry.h. */
+enum {
+    KILAMBOSETRY_BAD_NUMBER = 64,   /* one of the options is outside its limits: `kilambosetry_why` says which */
+    KILAMBOSETRY_IN_USE = 65,       /* another has the file open, in this process or in another one */
+    KILAMBOSETRY_OTHER_LENGTH = 66, /* the file isn't empty, and has another length: remove it, if it is an old flash */
+    KILAMBOSETRY_OTHER_KIND = 67,   /* it is neither a file nor a block device */
+    KILAMBOSETRY_TOO_SMALL = 68,    /* the block device has fewer bytes than the flash */
+    KILAMBOSETRY_SYSTEM = 69,       /* the system refused to open the file or to start a thread: `kilambosetry_why` has errno */
+    KILAMBOSETRY_CLOSED = 70,       /* the cache was shut */
+    KILAMBOSETRY_TIMED_OUT = 110,   /* the time limit passed first: the call is given up */
+    KILAMBOSETRY_LEASED = 111       /* a miss: the caller is to load the value */
+};
+
+/* A word for a status, of this header or of kilambosetry.h. */
+const char *kilambosetry_service_strerror(uint8_t status);
+
+/* A time limit, in milliseconds, that never passes. So is any other that is less than 0. */
+#define KILAMBOSETRY_FOREVER ((int64_t)-1)
+
+/* ---- what the cache is to be */
+
+/* The options, by what one knows. `KILAMBOSETRY_SERVICE_OPTIONS` has all of them: change what is to be otherwise. */
+typedef struct {
+    uint64_t memory;     /* bytes of memory for items, with what is kept beside each; what flash keeps comes on top */
+    uint64_t flash;      /* bytes of flash */
+    uint64_t mean_key;   /* the mean bytes of a key: 1 to 255 */
+    uint64_t mean_value; /* the mean bytes of a value: 1 to 1048576 */
+    uint64_t shards;     /* shards, each with a lock: 1 to 16 */
+    uint64_t writers;    /* threads that write what left memory, and make room for it: 1 to 1024 */
+    uint64_t fillers;    /* threads that read for calls with a time limit: 1 to 1024 */
+    uint64_t page;       /* bytes of a page of flash: 512, 1024, 2048 or 4096 */
+    uint64_t patience;   /* seconds after which a lease is another's, where its value wasn't stored: 1 to 86400 */
+    bool direct;         /* reads and writes go past the system's copies of pages (O_DIRECT); a page is then one of the disk's */
+    const kilambosetry_pool *pool;          /* the limits of all shards together, in place of those of `memory`; or null */
+    const kilambosetry_flash *flash_numbers; /* the numbers of a shard's flash, in place of those of `flash`; or null */
+    uint64_t (*clock)(void *context);       /* a clock of seconds; the system's, where it is null. It waits for nothing */
+    void *clock_context;
+} kilambosetry_service_options;
+
+/* 64 MB of memory, 1 GB of flash, keys of 24 bytes, values of 1000. */
+#define KILAMBOSETRY_SERVICE_OPTIONS \
+    {64000000, 1000000000, 24, 1000, 8, 2, 2, 4096, 10, false, NULL, NULL, NULL, NULL}
+
+/* What the options come to, for all shards together, and the memory that it takes once all is full. */
+typedef struct {
+    kilambosetry_pool pool;   /* the most bytes that items are charged, and the most items */
+    kilambosetry_flash flash; /* of one shard; zeros, where there is none */
+    uint64_t shards;
+    uint64_t pages;         /* pages of flash */
+    uint64_t items;         /* items of the mean length that memory holds */
+    uint64_t items_bytes;   /* bytes of memory that these take */
+    uint64_t index_bytes;   /* of the index of large items on flash */
+    uint64_t buckets_bytes; /* kept for buckets */
+    uint64_t buffers_bytes; /* of the regions that are being filled */
+    uint64_t queue_bytes;   /* of items of the mean length that wait for flash */
+    uint64_t digests_bytes; /* of the digests of pages */
+    uint64_t memory_bytes;  /* all together */
+} kilambosetry_service_numbers;
+
+/* Why a cache isn't opened. */
+typedef struct {
+    const char *name; /* of BAD_NUMBER, which one; else null */
+    uint64_t given;   /* of BAD_NUMBER what it is; of OTHER_LENGTH and TOO_SMALL the bytes that are there */
+    uint64_t least;   /* of BAD_NUMBER the least that it may be; of the others the bytes that there would have to be */
+    uint64_t most;    /* of BAD_NUMBER the most */
+    int system;       /* of SYSTEM, errno */
+} kilambosetry_why;
+
+/* Tells what the options come to, with flash or without. `why` may be null. The numbers that are given as `pool` and
+ * `flash_numbers` are looked at when the cache is opened. */
+uint8_t kilambosetry_service_count(const kilambosetry_service_options *options, bool has_flash,
+                                   kilambosetry_service_numbers *numbers, kilambosetry_why *why);
+
+/* A device of pages of the caller's own, which threads share. Each function answers whether it did it. A read that answers
+ * false has read nothing; of a page whose write answers false nothing is known any more. A page that is written is in no other
+ * operation at that time; two threads may read one at once. They call nothing of the service. */
+typedef struct {
+    bool (*read)(void *context, uint32_t page, uint8_t *out, size_t len);
+    bool (*write)(void *context, uint32_t page, const uint8_t *bytes, size_t len);
+    void *context;
+} kilambosetry_device;
+
+/* ---- opening and closing */
+
+/* Opens an empty cache with its flash in this file, or on this block device. A file is made where there is none, readable and
+ * writable for its owner alone. It is locked as long as the cache is open. Where it is refused, `*service` is null. `why` may be
+ * null. */
+uint8_t kilambosetry_service_open(kilambosetry_service **service, const char *path,
+                                  const kilambosetry_service_options *options, kilambosetry_why *why);
+
+/* The same with the flash on a device of one's own, which has as many pages as `kilambosetry_service_count` tells. It is used
+ * until the cache is closed. */
+uint8_t kilambosetry_service_open_over(kilambosetry_service **service, const kilambosetry_device *device,
+                                       const kilambosetry_service_options *options, kilambosetry_why *why);
+
+/* The same without flash and without threads: what is evicted is forgotten. */
+uint8_t kilambosetry_service_open_in_memory(kilambosetry_service **service, const kilambosetry_service_options *options,
+                                            kilambosetry_why *why);
+
+/* Ends the cache: calls that wait, and later ones, are answered CLOSED. It waits for the operations of the device that are
+ * under way, and for the cache's threads. What isn't written yet never is. The counts can still be asked for. */
+void kilambosetry_service_shut(kilambosetry_service *service);
+
+/* The same, and frees it. Calls that wait are answered CLOSED first; no other may be under way. Null is left as it is. */
+void kilambosetry_service_close(kilambosetry_service *service);
+
+/* ---- the calls. A limit is in milliseconds. Where a call has none, its thread makes its read of flash itself; else a filler
+ * does, since a read can't be given up once it is begun. */
+
+/* Copies the value under the key to the head of `out`, and tells its length: DONE; MISS, where there is none; SHORT, where `out`
+ * is shorter than the value: then the length alone is told. */
+uint8_t kilambosetry_service_get(kilambosetry_service *service, const uint8_t *key, size_t key_len, uint8_t *out,
+                                 size_t out_len, size_t *len, int64_t limit);
+
+/* The same by a handle to the value, with no copy. A value that the handle has is freed first. */
+uint8_t kilambosetry_service_read(kilambosetry_service *service, const uint8_t *key, size_t key_len,
+                                  kilambosetry_value *value, int64_t limit);
+
+/* Stores a copy of the value under the key, in place of what the key has, for `ttl` seconds from now (0: for good). */
+uint8_t kilambosetry_service_set(kilambosetry_service *service, const uint8_t *key, size_t key_len, const uint8_t *value,
+                                 size_t value_len, uint32_t ttl);
+
+/* The same where the key has no unexpired value, and else EXISTS. It waits where flash may have one. What was loaded before is
+ * never stored by it. */
+uint8_t kilambosetry_service_add(kilambosetry_service *service, const uint8_t *key, size_t key_len, const uint8_t *value,
+                                 size_t value_len, uint32_t ttl);
+
+/* Takes the key out of the cache, from memory and flash. MISS, where memory had no item; it is out of flash with that too. A
+ * delete that is refused with NO_MEMORY must be tried again: the old value is still there. */
+uint8_t kilambosetry_service_delete(kilambosetry_service *service, const uint8_t *key, size_t key_len);
+
+/* Waits until each shard had nothing that waits to be written to flash, at some moment since. */
+uint8_t kilambosetry_service_flush(kilambosetry_service *service);
+
+/* ---- loads: one for each key at a time, and none that is stored after a change */
+
+/* What a miss hands out to who is to load the value. It is of this key alone. */
+typedef struct {
+    uint64_t ticket;
+    uint64_t key; /* a digest of it */
+    bool full;    /* false: nothing can be stored by it */
+} kilambosetry_lease;
+
+#define KILAMBOSETRY_NO_LEASE {0, 0, false}
+
+/* As `kilambosetry_service_get`, and where there is no value, LEASED: the caller is to load it now, and to call either
+ * `kilambosetry_service_store` or `kilambosetry_service_give_up`. While one has the lease of a key, others that ask for it wait,
+ * for `patience` at most, and then one of them has it. TIMED_OUT: load the value, and don't store it. */
+uint8_t kilambosetry_service_get_or_lease(kilambosetry_service *service, const uint8_t *key, size_t key_len, uint8_t *out,
+                                          size_t out_len, size_t *len, kilambosetry_lease *lease, int64_t limit);
+
+/* The same by a handle to the value. */
+uint8_t kilambosetry_service_read_or_lease(kilambosetry_service *service, const uint8_t *key, size_t key_len,
+                                           kilambosetry_value *value, kilambosetry_lease *lease, int64_t limit);
+
+/* Stores what was loaded, as `kilambosetry_service_set` does, unless the key was changed since the lease was handed out: then
+ * STALE, and nothing is stored. (Now and then it is STALE for the change of another key.) The lease is spent, whatever comes. */
+uint8_t kilambosetry_service_store(kilambosetry_service *service, kilambosetry_lease *lease, const uint8_t *key,
+                                   size_t key_len, const uint8_t *value, size_t value_len, uint32_t ttl);
+
+/* Gives the lease back: the load failed, or there is no such row. The next who asks has it. */
+uint8_t kilambosetry_service_give_up(kilambosetry_service *service, kilambosetry_lease *lease, const uint8_t *key,
+                                     size_t key_len);
+
+/* ---- gets that are begun now and ended later, for a thread that does other things meanwhile */
+
+/* A get that waits. It is of the service that began it, is ended before that is closed, and copied by nobody. */
+typedef struct {
+    void *waits; /* null, where none waits */
+    uint8_t shard;
+} kilambosetry_begun;
+
+#define KILAMBOSETRY_NOT_BEGUN {NULL, 0}
+
+/* As `kilambosetry_service_read`, but where it would wait it answers WAITS, and `begun` has the get. A filler makes its read.
+ * Each one that waits is ended by one of the two calls below. */
+uint8_t kilambosetry_service_begin(kilambosetry_service *service, const uint8_t *key, size_t key_len,
+                                   kilambosetry_value *value, kilambosetry_begun *begun);
+
+/* Ends a get that waits: DONE or MISS, with what `kilambosetry_service_read` answers. Where the limit passes first (0: look, and
+ * don't wait) it is TIMED_OUT, and the get isn't given up. EMPTY, where none waits. */
+uint8_t kilambosetry_service_end(kilambosetry_service *service, kilambosetry_begun *begun, kilambosetry_value *value,
+                                 int64_t limit);
+
+/* Gives the get up, where one waits. */
+void kilambosetry_service_forget(kilambosetry_service *service, kilambosetry_begun *begun);
+
+/* ---- what it did */
+
+typedef struct {
+    uint64_t hits_from_memory; /* gets that found a value in memory, or in what waits for flash */
+    uint64_t hits_from_flash;  /* gets that waited for flash, and found a value */
+    uint64_t misses;           /* gets that found none */
+    uint64_t stored;           /* values that were stored */
+    uint64_t deletes;          /* deletes, whether or not there was an item */
+    uint64_t leases;           /* leases that were handed out */
+    uint64_t stale;            /* loads that weren't stored, since the key was changed */
+    uint64_t load_waits;       /* calls that waited for another's load */
+    kilambosetry_losses_t losses; /* items that were forgotten, by the reason */
+    uint64_t memory_items;
+    uint64_t memory_bytes; /* what they are charged: 32 bytes, and those of key and value */
+    uint64_t memory_limit_bytes;
+    uint64_t flash_bytes; /* bytes of the pages that have been written */
+    uint64_t flash_limit_bytes;
+    uint64_t device_reads; /* pages that were read, or tried */
+    uint64_t device_writes;
+    uint64_t read_failures; /* reads that failed, or whose page wasn't the one that was written */
+    uint64_t write_failures;
+    uint64_t lies;          /* pages that came back otherwise than they were last written */
+    uint64_t shards_behind; /* shards for whose flash something waits to be written */
+    uint64_t waiting;       /* calls that wait for flash now */
+    uint64_t given_up;      /* calls that were given up while they waited */
+    uint64_t lock_waits;    /* how often a shard's lock was waited for */
+} kilambosetry_service_stats;
+
+/* Tells what was done so far, of all shards together. Each is asked by itself, so that no two numbers need be of one moment. */
+void kilambosetry_service_tell(kilambosetry_service *service, kilambosetry_service_stats *stats);
+
+/* Tells what the options came to. */
+void kilambosetry_service_tell_numbers(const kilambosetry_service *service, kilambosetry_service_numbers *numbers);
+
+#ifdef __cplusplus
+}
+#endif
+
+#endif
