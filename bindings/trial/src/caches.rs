@@ -106,6 +106,14 @@ impl Caches {
         }
     }
 
+    /// Bytes of memory that it may take, where that can be told.
+    pub fn memory_bytes(&self) -> Option<u64> {
+        match self {
+            Caches::Leases(cache) | Caches::Sets(cache) | Caches::Plain(cache) => Some(cache.numbers().memory_bytes()),
+            Caches::Lru(_) => None,
+        }
+    }
+
     /// Ends it, and prints what it did.
     pub fn close(self) {
         match self {

@@ -1,6 +1,6 @@
 //! A service before its database, tried: eight threads read and change rows, and each read is judged.
 //!
-//!     trial DATABASE CACHE PERCENT SECONDS [THREADS]
+//!     trial DATABASE CACHE PERCENT SECONDS [THREADS [harm]]
 //!
 //! DATABASE is `slow`, a function that takes a millisecond, and now and then ten, or `postgres` (feature `postgres`), over one
 //! connection a thread to what PGHOST, PGPORT, PGUSER and PGDATABASE name. A table `trial_rows` is made there.
@@ -17,10 +17,12 @@
 //!
 //! PERCENT of the operations change a row: it is committed, and then its key is deleted. The others read one: by Zipf 0.9 out of
 //! 100,000. A read is stale where its row is older than a change that was answered, with its delete, before the read began. It is
-//! wrong where its bytes aren't those of the row.
+//! wrong where its bytes aren't those of the row. With `harm` the cache's file is cut, and its pages are spoiled or get back what
+//! they had before, all the time.
 mod caches;
 mod database;
 mod draws;
+mod harm;
 #[cfg(feature = "postgres")]
 mod postgres;
 mod times;
@@ -28,6 +30,7 @@ mod times;
 use caches::Caches;
 use database::{version_of, Database};
 use draws::Zipf;
+use harm::harm;
 use std::sync::atomic::{AtomicBool, AtomicU64, Ordering::Relaxed, Ordering::SeqCst};
 use std::time::{Duration, Instant};
 use std::{env, fs, process, thread};
@@ -115,7 +118,7 @@ fn megabytes(name: &str) -> f64 {
 }
 
 fn usage() -> ! {
-    eprintln!("trial slow|postgres leases|sets|plain|lru PERCENT SECONDS [THREADS]");
+    eprintln!("trial slow|postgres leases|sets|plain|lru PERCENT SECONDS [THREADS [harm]]");
     process::exit(2)
 }
 
@@ -136,7 +139,9 @@ fn main() {
     let caches = Caches::open(cache, &place).unwrap_or_else(|| usage());
     let trial = Trial { caches, zipf, least, percent, ends: AtomicBool::new(false) };
     let begin = Instant::now();
-    let did = thread::scope(|scope| {
+    let (did, harmed) = thread::scope(|scope| {
+        let is_harmed = words.get(5).is_some_and(|word| word == "harm");
+        let harming = is_harmed.then(|| scope.spawn(|| harm(&place, &trial.ends)));
         let serve = |(seed, mut database): (u64, Box<dyn Database>)| {
             let trial = &trial;
             scope.spawn(move || trial.serve(&mut *database, seed))
@@ -144,7 +149,8 @@ fn main() {
         let all: Vec<_> = (1..).zip(databases).map(serve).collect();
         thread::sleep(Duration::from_secs(seconds));
         trial.ends.store(true, Relaxed);
-        all.into_iter().map(|one| one.join().expect("no thread panics")).fold(Did::default(), Did::add)
+        let did = all.into_iter().map(|one| one.join().expect("no thread panics")).fold(Did::default(), Did::add);
+        (did, harming.map(|one| one.join().expect("no thread panics").expect("the file can be written")))
     });
     let took = begin.elapsed().as_secs_f64();
     let after = megabytes("VmRSS:");
@@ -155,6 +161,12 @@ fn main() {
     println!("{:.1} % of the reads asked the database", 100.0 * loads as f64 / reads.max(1) as f64);
     println!("p50 {:?}, p99 {:?}", times.quantile(0.5), times.quantile(0.99));
     println!("resident {after:.0} MB, of which {before:.0} before the cache was opened");
+    if let Some(told) = trial.caches.memory_bytes() {
+        println!("{:.1} MB are told by its options, once all is full", told as f64 / 1e6);
+    }
+    if let Some(times) = harmed {
+        println!("{times} pages of the file were spoiled under it");
+    }
     trial.caches.close();
     let _ = fs::remove_file(&place);
 }
