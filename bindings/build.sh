@@ -149,6 +149,7 @@ if has cargo; then
         if ls -d /usr/share/cargo/registry/lru-0.7* >/dev/null 2>&1; then
             trial() { (cd "$here/trial" && CARGO_TARGET_DIR="$out/target" cargo run --offline --quiet --release -- "$@"); }
             for cache in leases sets plain lru; do trial slow $cache 10 20; done
+            trial slow leases 10 20 8 harm
         else
             echo "skipped: no crate lru (Debian's librust-lru-dev)"
         fi

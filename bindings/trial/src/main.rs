@@ -19,6 +19,8 @@
 //! 100,000. A read is stale where its row is older than a change that was answered, with its delete, before the read began. It is
 //! wrong where its bytes aren't those of the row. With `harm` the cache's file is cut, and its pages are spoiled or get back what
 //! they had before, all the time.
+//!
+//! The status is 1 where a read was wrong, or one with `leases` stale.
 mod caches;
 mod database;
 mod draws;
@@ -31,6 +33,7 @@ use caches::Caches;
 use database::{version_of, Database};
 use draws::Zipf;
 use harm::harm;
+use std::process::ExitCode;
 use std::sync::atomic::{AtomicBool, AtomicU64, Ordering::Relaxed, Ordering::SeqCst};
 use std::time::{Duration, Instant};
 use std::{env, fs, process, thread};
@@ -126,7 +129,7 @@ fn number(words: &[String], at: usize) -> u64 {
     words.get(at).and_then(|word| word.parse().ok()).unwrap_or_else(|| usage())
 }
 
-fn main() {
+fn main() -> ExitCode {
     let words: Vec<String> = env::args().skip(1).collect();
     let [of, cache, ..] = &words[..] else { usage() };
     let (percent, seconds) = (number(&words, 2), number(&words, 3));
@@ -169,4 +172,6 @@ fn main() {
     }
     trial.caches.close();
     let _ = fs::remove_file(&place);
+    let may_be_stale = cache != "leases";
+    ExitCode::from(u8::from(wrong > 0 || stale > 0 && !may_be_stale))
 }
