@@ -1,0 +1,177 @@
+//! The command line, and what it comes to.
+use crate::head::HEAD;
+use crate::limits::Patience;
+use clap::Parser;
+use kilambosetry::{HybridCache, OpenError, Options};
+use std::net::IpAddr;
+use std::path::PathBuf;
+use std::time::Duration;
+
+const MEGABYTE: u64 = 1_000_000;
+
+/// A server that memcached's clients speak to, over the hybrid cache Kilambosetry.
+#[derive(Clone, Debug, Parser)]
+#[command(name = "kilambosetryd", version)]
+pub struct Config {
+    /// Megabytes of memory for items, with what the cache keeps beside each
+    #[arg(short, long, value_name = "MEGABYTES", default_value_t = 64)]
+    pub memory: u64,
+
+    /// The file of the flash, or a block device; without it the cache is in memory alone
+    #[arg(short = 'e', long, value_name = "FILE")]
+    pub flash: Option<PathBuf>,
+
+    /// Megabytes of flash
+    #[arg(long, value_name = "MEGABYTES", default_value_t = 1000)]
+    pub flash_size: u64,
+
+    /// Reads and writes the flash past the system's copies of its pages
+    #[arg(long)]
+    pub direct: bool,
+
+    /// The mean bytes of a key
+    #[arg(long, value_name = "BYTES", default_value_t = 24)]
+    pub mean_key: u64,
+
+    /// The mean bytes of a value
+    #[arg(long, value_name = "BYTES", default_value_t = 1000)]
+    pub mean_value: u64,
+
+    /// Parts of the cache with a lock each: 1 to 16
+    #[arg(long, value_name = "COUNT", default_value_t = 16)]
+    pub shards: u8,
+
+    /// Threads that read flash
+    #[arg(long, value_name = "COUNT", default_value_t = 4)]
+    pub fillers: u64,
+
+    /// Threads that write flash
+    #[arg(long, value_name = "COUNT", default_value_t = 2)]
+    pub writers: u64,
+
+    /// The address to listen on: that of all who may speak to it, since there are no passwords
+    #[arg(short, long, value_name = "ADDRESS", default_value = "127.0.0.1")]
+    pub listen: IpAddr,
+
+    /// The port to listen on; 0: none
+    #[arg(short, long, value_name = "PORT", default_value_t = 11211)]
+    pub port: u16,
+
+    /// A unix socket to listen on too, for the user of the server alone
+    #[arg(short = 's', long, value_name = "PATH")]
+    pub unix: Option<PathBuf>,
+
+    /// The port of the page for Prometheus, on the same address; 0: none
+    #[arg(long, value_name = "PORT", default_value_t = 0)]
+    pub metrics_port: u16,
+
+    /// Threads that serve connections
+    #[arg(short, long, value_name = "COUNT", default_value_t = 4, value_parser = clap::value_parser!(u16).range(1..=256))]
+    pub threads: u16,
+
+    /// Connections that may be open at once
+    #[arg(short, long, value_name = "COUNT", default_value_t = 1024)]
+    pub connections: usize,
+
+    /// Megabytes of values that are being received, and of answers that wait, of all connections together
+    #[arg(long, value_name = "MEGABYTES", default_value_t = 256)]
+    pub in_flight: u64,
+
+    /// A connection is closed that asks for nothing for so long; 0: never
+    #[arg(long, value_name = "SECONDS", default_value_t = 0)]
+    pub idle: u64,
+
+    /// A connection is closed that stands still so long in the midst of a command, or with an answer that it doesn't take
+    #[arg(long, value_name = "SECONDS", default_value_t = 60)]
+    pub stall: u64,
+
+    /// What flash hasn't answered within so long is a miss
+    #[arg(long, value_name = "MILLISECONDS", default_value_t = 1000)]
+    pub flash_wait: u64,
+
+    /// How long clients have, once the server is told to end, to send what they have begun and to take their answers
+    #[arg(long, value_name = "SECONDS", default_value_t = 5)]
+    pub drain: u64,
+}
+
+impl Config {
+    /// The options of the cache. A value has the head of its item in front of it.
+    #[must_use]
+    pub fn options(&self) -> Options {
+        Options {
+            memory: self.memory.saturating_mul(MEGABYTE),
+            flash: self.flash_size.saturating_mul(MEGABYTE),
+            mean_key: self.mean_key,
+            mean_value: self.mean_value + HEAD as u64,
+            shards: self.shards,
+            writers: self.writers,
+            fillers: self.fillers,
+            direct: self.direct,
+            ..Options::default()
+        }
+    }
+
+    /// An empty cache.
+    pub fn open(&self) -> Result<HybridCache, OpenError> {
+        match &self.flash {
+            Some(path) => HybridCache::open(path, &self.options()),
+            None => HybridCache::in_memory(&self.options()),
+        }
+    }
+
+    #[must_use]
+    pub fn patience(&self) -> Patience {
+        let idle = (self.idle > 0).then(|| Duration::from_secs(self.idle));
+        Patience { idle, stall: Duration::from_secs(self.stall.max(1)) }
+    }
+
+    #[must_use]
+    pub fn flash_wait(&self) -> Duration {
+        Duration::from_millis(self.flash_wait)
+    }
+
+    #[must_use]
+    pub fn drain(&self) -> Duration {
+        Duration::from_secs(self.drain)
+    }
+
+    #[must_use]
+    pub fn in_flight_bytes(&self) -> usize {
+        usize::try_from(self.in_flight.saturating_mul(MEGABYTE)).unwrap_or(usize::MAX)
+    }
+
+    /// The settings, each by the name that memcached has for it, or by its own.
+    #[must_use]
+    pub fn named(&self) -> Vec<(&'static str, String)> {
+        let path = |path: &Option<PathBuf>| path.as_ref().map_or("NULL".to_string(), |path| path.display().to_string());
+        vec![
+            ("maxbytes", self.memory.saturating_mul(MEGABYTE).to_string()),
+            ("maxconns", self.connections.to_string()),
+            ("tcpport", self.port.to_string()),
+            ("udpport", "0".to_string()),
+            ("inter", self.listen.to_string()),
+            ("domain_socket", path(&self.unix)),
+            ("evictions", "on".to_string()),
+            ("num_threads", self.threads.to_string()),
+            ("cas_enabled", "yes".to_string()),
+            ("item_size_max", crate::head::LONGEST_VALUE.to_string()),
+            ("maxconns_fast", "yes".to_string()),
+            ("flush_enabled", "yes".to_string()),
+            ("dump_enabled", "no".to_string()),
+            ("shutdown_command", "no".to_string()),
+            ("idle_timeout", self.idle.to_string()),
+            ("stall_timeout", self.stall.to_string()),
+            ("drain_timeout", self.drain.to_string()),
+            ("flash", path(&self.flash)),
+            ("flash_bytes", self.flash_size.saturating_mul(MEGABYTE).to_string()),
+            ("flash_wait_milliseconds", self.flash_wait.to_string()),
+            ("in_flight_bytes", self.in_flight_bytes().to_string()),
+            ("mean_key", self.mean_key.to_string()),
+            ("mean_value", self.mean_value.to_string()),
+            ("shards", self.shards.to_string()),
+            ("fillers", self.fillers.to_string()),
+            ("writers", self.writers.to_string()),
+            ("metrics_port", self.metrics_port.to_string()),
+        ]
+    }
+}

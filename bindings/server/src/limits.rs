@@ -1,0 +1,88 @@
+//! How many bytes may be in flight, and how long one may stand still.
+use std::sync::atomic::{AtomicUsize, Ordering::Relaxed};
+use std::sync::Arc;
+use std::time::Duration;
+
+/// How long a connection may stand still.
+#[derive(Clone, Copy, Debug)]
+pub struct Patience {
+    /// Between two commands. None: for good.
+    pub idle: Option<Duration>,
+    /// In the midst of a command, or with an answer that it doesn't take.
+    pub stall: Duration,
+}
+
+/// The bytes of bodies that are being received, and of answers that wait, of all connections together.
+#[derive(Debug)]
+pub struct InFlight {
+    left: AtomicUsize,
+}
+
+impl InFlight {
+    #[must_use]
+    pub fn new(most: usize) -> Arc<InFlight> {
+        Arc::new(InFlight { left: AtomicUsize::new(most) })
+    }
+
+    /// The bytes that are left.
+    #[must_use]
+    pub fn left(&self) -> usize {
+        self.left.load(Relaxed)
+    }
+}
+
+/// What one connection has of them. It is given back as this is dropped.
+#[derive(Debug)]
+pub struct Share {
+    of: Arc<InFlight>,
+    bytes: usize,
+}
+
+impl Share {
+    #[must_use]
+    pub fn none_of(of: &Arc<InFlight>) -> Share {
+        Share { of: Arc::clone(of), bytes: 0 }
+    }
+
+    /// Has so many bytes in all from now on: whether there were as many. Else it is as it was.
+    #[must_use]
+    pub fn grow_to(&mut self, bytes: usize) -> bool {
+        let more = bytes.saturating_sub(self.bytes);
+        let is_granted = self.of.left.fetch_update(Relaxed, Relaxed, |left| left.checked_sub(more)).is_ok();
+        if is_granted {
+            self.bytes += more;
+        }
+        is_granted
+    }
+
+    /// Gives all of it back.
+    pub fn clear(&mut self) {
+        if self.bytes > 0 {
+            self.of.left.fetch_add(self.bytes, Relaxed);
+            self.bytes = 0;
+        }
+    }
+}
+
+impl Drop for Share {
+    fn drop(&mut self) {
+        self.clear();
+    }
+}
+
+#[cfg(test)]
+mod tests {
+    use super::*;
+
+    #[test]
+    fn what_is_in_flight_is_no_more_than_may_be() {
+        let all = InFlight::new(100);
+        let (mut one, mut other) = (Share::none_of(&all), Share::none_of(&all));
+        assert!(one.grow_to(60) && one.grow_to(50) && !other.grow_to(41) && other.grow_to(40));
+        assert_eq!(all.left(), 0);
+        drop(one);
+        assert!(other.grow_to(100));
+        other.clear();
+        assert_eq!(all.left(), 100);
+    }
+}

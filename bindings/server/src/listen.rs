@@ -1,0 +1,243 @@
+//! Listening, the threads that serve connections, and how both end.
+use crate::config::Config;
+use crate::connection::Connection;
+use crate::metrics;
+use crate::server::{Server, Worker};
+use crate::within::within;
+use std::fs::{self, Permissions};
+use std::future::Future;
+use std::io::{self, Write};
+use std::net::SocketAddr;
+use std::os::unix::fs::{FileTypeExt, PermissionsExt};
+use std::os::unix::net as unix;
+use std::path::Path;
+use std::sync::atomic::{AtomicUsize, Ordering::Relaxed};
+use std::sync::Arc;
+use std::thread;
+use std::time::Duration;
+use tokio::net::{TcpListener, TcpStream, UnixListener, UnixStream};
+use tokio::runtime::Builder;
+use tokio::sync::{mpsc, oneshot, watch, OwnedSemaphorePermit};
+use tokio::task::JoinSet;
+
+// After an accept that failed, say for want of file handles.
+const PAUSE: Duration = Duration::from_millis(100);
+
+/// The sockets of a server, open.
+#[derive(Debug)]
+pub struct Sockets {
+    tcp: Option<std::net::TcpListener>,
+    unix: Option<unix::UnixListener>,
+    metrics: Option<std::net::TcpListener>,
+}
+
+// A client that has come.
+enum Client {
+    Tcp(std::net::TcpStream),
+    Unix(unix::UnixStream),
+}
+
+// A client, with its permit to be connected.
+type Admitted = (Client, OwnedSemaphorePermit);
+
+impl Sockets {
+    /// Opens the sockets that the command line names.
+    pub fn open(config: &Config) -> io::Result<Sockets> {
+        let tcp = |port| std::net::TcpListener::bind((config.listen, port));
+        Ok(Sockets {
+            tcp: (config.port > 0).then(|| tcp(config.port)).transpose()?,
+            unix: config.unix.as_deref().map(open_unix).transpose()?,
+            metrics: (config.metrics_port > 0).then(|| tcp(config.metrics_port)).transpose()?,
+        })
+    }
+
+    /// A socket on a port of this machine that is free.
+    pub fn on_any_port() -> io::Result<Sockets> {
+        let tcp = std::net::TcpListener::bind(("127.0.0.1", 0))?;
+        Ok(Sockets { tcp: Some(tcp), unix: None, metrics: None })
+    }
+
+    /// The address that clients connect to.
+    #[must_use]
+    pub fn address(&self) -> Option<SocketAddr> {
+        self.tcp.as_ref()?.local_addr().ok()
+    }
+}
+
+// The socket of a server that has ended is in the way.
+fn open_unix(path: &Path) -> io::Result<unix::UnixListener> {
+    let is_socket = fs::symlink_metadata(path).is_ok_and(|it| it.file_type().is_socket());
+    if is_socket && unix::UnixStream::connect(path).is_err() {
+        fs::remove_file(path)?;
+    }
+    let listener = unix::UnixListener::bind(path)?;
+    fs::set_permissions(path, Permissions::from_mode(0o700))?;
+    Ok(listener)
+}
+
+/// Serves clients until `stop` is over. Then none is let in any more, and those that are there have so long to send what they have
+/// begun and to take their answers. Whether all did.
+pub async fn serve(server: Arc<Server>, sockets: Sockets, stop: impl Future) -> io::Result<bool> {
+    let (tell_end, ends) = watch::channel(false);
+    let (alive, mut all_ended) = mpsc::channel::<()>(1);
+    let workers = server.workers().map(|worker| start(worker, ends.clone(), alive.clone()));
+    let workers = Arc::new(Workers { queues: workers.collect::<io::Result<_>>()?, next: AtomicUsize::new(0) });
+    drop(alive);
+    let mut listening = listen(&server, sockets, &workers)?;
+    drop(workers);
+    stop.await;
+    listening.shutdown().await;
+    let _ = tell_end.send(true);
+    // (it has its answer once no worker holds the other end)
+    Ok(within(server.config.drain(), all_ended.recv()).await.is_ok())
+}
+
+// Where clients go, one worker after the other.
+struct Workers {
+    queues: Vec<mpsc::UnboundedSender<Admitted>>,
+    next: AtomicUsize,
+}
+
+impl Workers {
+    fn hand(&self, client: Admitted) {
+        let next = self.next.fetch_add(1, Relaxed) % self.queues.len();
+        // (a worker that has ended closes it)
+        let _ = self.queues[next].send(client);
+    }
+}
+
+fn listen(server: &Arc<Server>, sockets: Sockets, workers: &Arc<Workers>) -> io::Result<JoinSet<()>> {
+    let mut listening = JoinSet::new();
+    if let Some(tcp) = sockets.tcp {
+        tcp.set_nonblocking(true)?;
+        let listener = TcpListener::from_std(tcp)?;
+        listening.spawn(accept_tcp(Arc::clone(server), listener, Arc::clone(workers)));
+    }
+    if let Some(unix) = sockets.unix {
+        unix.set_nonblocking(true)?;
+        let listener = UnixListener::from_std(unix)?;
+        listening.spawn(accept_unix(Arc::clone(server), listener, Arc::clone(workers)));
+    }
+    if let Some(tcp) = sockets.metrics {
+        tcp.set_nonblocking(true)?;
+        listening.spawn(metrics::serve(Arc::clone(server), TcpListener::from_std(tcp)?));
+    }
+    Ok(listening)
+}
+
+async fn accept_tcp(server: Arc<Server>, listener: TcpListener, workers: Arc<Workers>) {
+    loop {
+        let accepted = listener.accept().await.and_then(|(stream, _)| {
+            stream.set_nodelay(true)?;
+            stream.into_std()
+        });
+        match accepted {
+            Ok(stream) => admit(&server, Client::Tcp(stream), &workers),
+            Err(_) => tokio::time::sleep(PAUSE).await,
+        }
+    }
+}
+
+async fn accept_unix(server: Arc<Server>, listener: UnixListener, workers: Arc<Workers>) {
+    loop {
+        match listener.accept().await.and_then(|(stream, _)| stream.into_std()) {
+            Ok(stream) => admit(&server, Client::Unix(stream), &workers),
+            Err(_) => tokio::time::sleep(PAUSE).await,
+        }
+    }
+}
+
+// Hands the client to a worker, unless there are too many.
+fn admit(server: &Server, client: Client, workers: &Workers) {
+    match Arc::clone(&server.free_connections).try_acquire_owned() {
+        Ok(permit) => workers.hand((client, permit)),
+        Err(_) => {
+            server.count_rejected();
+            let text = b"ERROR Too many open connections\r\n";
+            // (its socket doesn't block, and takes a line at once)
+            let _ = match client {
+                Client::Tcp(mut stream) => stream.write_all(text),
+                Client::Unix(mut stream) => stream.write_all(text),
+            };
+        }
+    }
+}
+
+// Starts a thread that serves connections, and answers how it gets them.
+fn start(
+    worker: Worker,
+    ends: watch::Receiver<bool>,
+    alive: mpsc::Sender<()>,
+) -> io::Result<mpsc::UnboundedSender<Admitted>> {
+    let (queue, clients) = mpsc::unbounded_channel();
+    let runtime = Builder::new_current_thread().enable_all().build()?;
+    let work = move || {
+        runtime.block_on(work(worker, clients, ends));
+        drop(alive);
+    };
+    thread::Builder::new().name("connections".to_string()).spawn(work)?;
+    Ok(queue)
+}
+
+// Serves the clients that come, until no more do and all have ended.
+async fn work(worker: Worker, mut clients: mpsc::UnboundedReceiver<Admitted>, ends: watch::Receiver<bool>) {
+    let mut connections = JoinSet::new();
+    loop {
+        tokio::select! {
+            client = clients.recv() => match client {
+                Some((client, permit)) => {
+                    connections.spawn(serve_client(worker.clone(), client, permit, ends.clone()));
+                }
+                None => break,
+            },
+            Some(_) = connections.join_next() => {}
+        }
+    }
+    while connections.join_next().await.is_some() {}
+}
+
+async fn serve_client(worker: Worker, client: Client, permit: OwnedSemaphorePermit, ends: watch::Receiver<bool>) {
+    worker.counters.total_connections.one();
+    match client {
+        Client::Tcp(stream) => {
+            if let Ok(stream) = TcpStream::from_std(stream) {
+                Connection::new(worker, stream, ends).serve().await;
+            }
+        }
+        Client::Unix(stream) => {
+            if let Ok(stream) = UnixStream::from_std(stream) {
+                Connection::new(worker, stream, ends).serve().await;
+            }
+        }
+    }
+    drop(permit);
+}
+
+/// A server that runs in threads of its own, until it is stopped.
+#[derive(Debug)]
+pub struct Running {
+    pub server: Arc<Server>,
+    pub address: SocketAddr,
+    stop: oneshot::Sender<()>,
+    thread: thread::JoinHandle<io::Result<bool>>,
+}
+
+impl Running {
+    /// Serves clients on a port of this machine that is free.
+    pub fn start(server: Arc<Server>) -> io::Result<Running> {
+        let sockets = Sockets::on_any_port()?;
+        let address = sockets.address().ok_or(io::ErrorKind::AddrNotAvailable)?;
+        let (stop, stopped) = oneshot::channel();
+        let runtime = Builder::new_current_thread().enable_all().build()?;
+        let serves = Arc::clone(&server);
+        let thread = thread::spawn(move || runtime.block_on(serve(serves, sockets, stopped)));
+        Ok(Running { server, address, stop, thread })
+    }
+
+    /// Ends it: whether all connections had their answers in time.
+    #[must_use]
+    pub fn stop(self) -> bool {
+        let _ = self.stop.send(());
+        matches!(self.thread.join(), Ok(Ok(true)))
+    }
+}

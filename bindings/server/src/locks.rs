@@ -1,0 +1,128 @@
+//! A lock for each key that is being changed, so that what reads and then writes is done as one.
+use std::collections::hash_map::{Entry, HashMap, RandomState};
+use std::collections::VecDeque;
+use std::hash::BuildHasher;
+use std::sync::{Mutex, MutexGuard, PoisonError};
+use tokio::sync::oneshot;
+
+const STRIPES: usize = 256;
+
+// The keys that are locked, each with those who wait for it, in their order.
+type Keys = HashMap<Box<[u8]>, VecDeque<oneshot::Sender<()>>>;
+
+/// The keys that are being changed. No two keys wait for each other; the stripes are only held to look a key up.
+#[derive(Debug)]
+pub struct KeyLocks {
+    stripes: Box<[Mutex<Keys>]>,
+    hasher: RandomState,
+}
+
+/// A key that is locked, until this is dropped. Those who wait have it in the order in which they came.
+#[derive(Debug)]
+#[must_use = "the key is free again as it is dropped"]
+pub struct KeyLock<'a> {
+    locks: &'a KeyLocks,
+    key: &'a [u8],
+    // what tells that it's our turn; none, once it is
+    turn: Option<oneshot::Receiver<()>>,
+}
+
+impl Default for KeyLocks {
+    fn default() -> KeyLocks {
+        let stripes = (0..STRIPES).map(|_| Mutex::default()).collect();
+        KeyLocks { stripes, hasher: RandomState::new() }
+    }
+}
+
+impl KeyLocks {
+    /// Waits until nobody else has the key, and locks it.
+    pub async fn lock<'a>(&'a self, key: &'a [u8]) -> KeyLock<'a> {
+        let mut lock = KeyLock { locks: self, key, turn: self.ask(key) };
+        if let Some(turn) = &mut lock.turn {
+            // (who has the key drops no sender without telling it)
+            let _ = turn.await;
+            lock.turn = None;
+        }
+        lock
+    }
+
+    fn stripe(&self, key: &[u8]) -> MutexGuard<'_, Keys> {
+        let stripe = self.hasher.hash_one(key) as usize % STRIPES;
+        self.stripes[stripe].lock().unwrap_or_else(PoisonError::into_inner)
+    }
+
+    // Takes the key where it is free, or else a place in the row.
+    fn ask(&self, key: &[u8]) -> Option<oneshot::Receiver<()>> {
+        match self.stripe(key).entry(key.into()) {
+            Entry::Vacant(free) => {
+                free.insert(VecDeque::new());
+                None
+            }
+            Entry::Occupied(mut taken) => {
+                let (tell, told) = oneshot::channel();
+                taken.get_mut().push_back(tell);
+                Some(told)
+            }
+        }
+    }
+
+    // Hands the key on to the first in the row who still waits.
+    fn pass_on(&self, key: &[u8]) {
+        let mut stripe = self.stripe(key);
+        while let Some(next) = stripe.get_mut(key).and_then(VecDeque::pop_front) {
+            if next.send(()).is_ok() {
+                return;
+            }
+        }
+        stripe.remove(key);
+    }
+
+    // How many keys are locked.
+    #[cfg(test)]
+    fn count(&self) -> usize {
+        self.stripes.iter().map(|stripe| stripe.lock().unwrap_or_else(PoisonError::into_inner).len()).sum()
+    }
+}
+
+impl Drop for KeyLock<'_> {
+    fn drop(&mut self) {
+        // (who is given up while it waits may have been handed the key already)
+        let is_ours = self.turn.as_mut().is_none_or(|turn| {
+            turn.close();
+            turn.try_recv().is_ok()
+        });
+        if is_ours {
+            self.locks.pass_on(self.key);
+        }
+    }
+}
+
+#[cfg(test)]
+mod tests {
+    use super::*;
+    use std::future::Future;
+    use std::pin::pin;
+    use std::task::{Context, Poll, Waker};
+
+    fn polled<F: Future>(future: std::pin::Pin<&mut F>) -> Poll<F::Output> {
+        future.poll(&mut Context::from_waker(Waker::noop()))
+    }
+
+    #[test]
+    fn a_key_is_handed_on_in_order_and_past_those_who_gave_up() {
+        let locks = KeyLocks::default();
+        let Poll::Ready(first) = polled(pin!(locks.lock(b"key"))) else { panic!("it is free") };
+        let mut second = Box::pin(locks.lock(b"key"));
+        let mut third = Box::pin(locks.lock(b"key"));
+        let mut fourth = pin!(locks.lock(b"key"));
+        assert!(polled(second.as_mut()).is_pending() && polled(third.as_mut()).is_pending());
+        assert!(polled(fourth.as_mut()).is_pending());
+        assert!(polled(pin!(locks.lock(b"other"))).is_ready());
+        drop(third); // gives up while it waits
+        drop(first);
+        drop(second); // gives up when it has been handed the key
+        let Poll::Ready(last) = polled(fourth.as_mut()) else { panic!("it is its turn") };
+        drop(last);
+        assert_eq!(locks.count(), 0);
+    }
+}

@@ -1,0 +1,53 @@
+//! The program: its command line, its start and its end.
+#![forbid(unsafe_code)]
+
+use clap::Parser;
+use kilambosetryd::config::Config;
+use kilambosetryd::listen::{serve, Sockets};
+use kilambosetryd::server::Server;
+use std::error::Error;
+use std::process::exit;
+use tokio::runtime::Builder;
+use tokio::signal::unix::{signal, Signal, SignalKind};
+
+fn main() {
+    match run(Config::parse()) {
+        // (threads that wait for a device that hangs aren't waited for)
+        Ok(()) => exit(0),
+        Err(error) => {
+            eprintln!("kilambosetryd: {error}");
+            exit(1);
+        }
+    }
+}
+
+fn run(config: Config) -> Result<(), Box<dyn Error>> {
+    let cache = config.open()?;
+    let sockets = Sockets::open(&config)?;
+    announce(&config, &cache.numbers());
+    let runtime = Builder::new_current_thread().enable_all().build()?;
+    let server = Server::new(config, cache);
+    let has_drained = runtime.block_on(async {
+        let told = [signal(SignalKind::terminate())?, signal(SignalKind::interrupt())?];
+        serve(server.clone(), sockets, end(told)).await
+    })?;
+    println!("{}", server.items.cache().stats());
+    println!("ended{}", if has_drained { "" } else { ", and not all connections had their answers in time" });
+    Ok(())
+}
+
+// Waits until the process is told to end.
+async fn end([mut terminate, mut interrupt]: [Signal; 2]) {
+    tokio::select! {
+        _ = terminate.recv() => {}
+        _ = interrupt.recv() => {}
+    }
+}
+
+fn announce(config: &Config, numbers: &kilambosetry::Numbers) {
+    for (name, value) in config.named() {
+        println!("{name} {value}");
+    }
+    println!("{numbers}");
+    println!("ready");
+}

@@ -1,0 +1,74 @@
+//! What all connections share.
+use crate::config::Config;
+use crate::counters::{Counters, Sums};
+use crate::items::Items;
+use crate::limits::{InFlight, Patience};
+use kilambosetry::HybridCache;
+use std::sync::Arc;
+use std::time::Instant;
+use tokio::sync::Semaphore;
+
+/// The version that clients are told: that of the protocol, and the crate's.
+pub const VERSION: &str = concat!("1.6.18-kilambosetry-", env!("CARGO_PKG_VERSION"));
+
+/// What all connections share.
+#[derive(Debug)]
+pub struct Server {
+    pub items: Items,
+    pub config: Config,
+    pub in_flight: Arc<InFlight>,
+    pub patience: Patience,
+    /// A permit for each connection that may be open.
+    pub free_connections: Arc<Semaphore>,
+    pub started: Instant,
+    counters: Vec<Arc<Counters>>,
+}
+
+/// What the connections of one thread share.
+#[derive(Clone, Debug)]
+pub struct Worker {
+    pub server: Arc<Server>,
+    pub counters: Arc<Counters>,
+}
+
+impl Server {
+    #[must_use]
+    pub fn new(config: Config, cache: HybridCache) -> Arc<Server> {
+        Arc::new(Server {
+            items: Items::new(cache, config.flash_wait()),
+            in_flight: InFlight::new(config.in_flight_bytes()),
+            patience: config.patience(),
+            free_connections: Arc::new(Semaphore::new(config.connections)),
+            started: Instant::now(),
+            counters: (0..config.threads).map(|_| Arc::default()).collect(),
+            config,
+        })
+    }
+
+    /// The workers, one a thread.
+    pub fn workers(self: &Arc<Server>) -> impl Iterator<Item = Worker> + '_ {
+        self.counters.iter().map(|counters| Worker { server: Arc::clone(self), counters: Arc::clone(counters) })
+    }
+
+    /// What all workers counted.
+    #[must_use]
+    pub fn sums(&self) -> Sums {
+        Sums::of(self.counters.iter().map(|counters| &**counters))
+    }
+
+    /// Counts from 0 on anew.
+    pub fn reset_counters(&self) {
+        self.counters.iter().for_each(|counters| counters.reset());
+    }
+
+    /// Counts a client that wasn't let in.
+    pub fn count_rejected(&self) {
+        self.counters[0].rejected_connections.one();
+    }
+
+    /// Connections that are open.
+    #[must_use]
+    pub fn open_connections(&self) -> usize {
+        self.config.connections.saturating_sub(self.free_connections.available_permits())
+    }
+}
