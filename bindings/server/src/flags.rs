@@ -79,8 +79,9 @@ impl<'a> Flags<'a> {
         self.has(b'q')
     }
 
-    // Reads the flags. What is wrong with them is told once all are read, but for a flag that isn't known or comes twice.
-    fn read(given: &[&'a [u8]]) -> Result<(Flags<'a>, Option<&'static str>), &'static str> {
+    // Reads the flags, and the key that they may say is in base64. What is wrong is told once all are read, but for a flag that isn't
+    // known or comes twice.
+    fn read(key: &mut Cow<'a, [u8]>, given: &[&'a [u8]]) -> Result<Flags<'a>, &'static str> {
         let mut flags = Flags { given: Vec::with_capacity(given.len()), ..Flags::default() };
         let mut wrong = None;
         for word in given {
@@ -88,12 +89,14 @@ impl<'a> Flags<'a> {
                 return Err("CLIENT_ERROR duplicate flag");
             }
             flags.given.push(word);
-            if let Some(text) = flags.take(word[0], &word[1..])? {
-                // (of the client's flags memcached says no more than what was wrong before)
-                wrong = if text == BAD_FORMAT { wrong.or(Some(text)) } else { Some(text) };
-            }
+            let found = match word[0] {
+                b'b' => decode(key),
+                flag => flags.take(flag, &word[1..])?,
+            };
+            // (of the client's flags memcached says no more than what was wrong before)
+            wrong = if found == Some(BAD_FORMAT) { wrong.or(found) } else { found.or(wrong) };
         }
-        Ok((flags, wrong))
+        wrong.map_or(Ok(flags), Err)
     }
 
     // Takes a flag over, and answers what is wrong with its token.
@@ -118,8 +121,7 @@ impl<'a> Flags<'a> {
                 let mode = (token.len() == 1).then(|| token[0]);
                 kept(&mut self.mode, mode, "CLIENT_ERROR incorrect length for M token")
             }
-            b'b' | b'c' | b'f' | b'h' | b'k' | b'l' | b'q' | b's' | b't' | b'u' | b'v' => None,
-            b'I' | b'L' | b'O' | b'P' => None,
+            b'c' | b'f' | b'h' | b'k' | b'l' | b'q' | b's' | b't' | b'u' | b'v' | b'I' | b'L' | b'O' | b'P' => None,
             _ => return Err("CLIENT_ERROR invalid flag"),
         };
         Ok(wrong)
@@ -181,17 +183,19 @@ fn plain<'a>(
 }
 
 fn with_flags<'a>(verb: Verb, key: &'a [u8], given: &[&'a [u8]]) -> Result<Meta<'a>, &'static str> {
-    let (flags, mut wrong) = Flags::read(given)?;
     let mut key = Cow::Borrowed(key);
-    if flags.is_binary() {
-        match base64::decoded(&key) {
-            Some(decoded) => key = Cow::Owned(decoded),
-            None => wrong = wrong.or(Some("CLIENT_ERROR error decoding key")),
+    let flags = Flags::read(&mut key, given)?;
+    Ok(Meta { verb, key, flags })
+}
+
+// Takes the bytes of a key for its digits, or says what is wrong with them.
+fn decode(key: &mut Cow<'_, [u8]>) -> Option<&'static str> {
+    match base64::decoded(key) {
+        Some(decoded) => {
+            *key = Cow::Owned(decoded);
+            None
         }
-    }
-    match wrong {
-        Some(text) => Err(text),
-        None => Ok(Meta { verb, key, flags }),
+        None => Some("CLIENT_ERROR error decoding key"),
     }
 }
 
@@ -262,6 +266,8 @@ mod tests {
         assert_eq!(fault("mg key Nx Fx"), BAD_TOKEN);
         assert_eq!(fault("mg key Fx"), BAD_FORMAT);
         assert_eq!(fault("mg Zg b"), "CLIENT_ERROR error decoding key");
+        assert_eq!(fault("mg Zg Nx b"), "CLIENT_ERROR error decoding key");
+        assert_eq!(fault("mg Zg b Nx"), BAD_TOKEN);
         assert_eq!(fault(&format!("mg key O{}", "x".repeat(32))), "CLIENT_ERROR opaque token too long");
         assert_eq!(fault(&format!("mg {}", "k".repeat(251))), BAD_FORMAT);
         assert_eq!(fault("md key v v"), BAD_FLAG);

@@ -19,6 +19,9 @@ from servers import Client, kilambosetryd, memcached
 KEYS = [b"a", b"b", b"c", b"key:four", b"k" * 250, b"n1", b"n2", b"Zm9v"]
 BATCH = 25
 SHOWN = 20
+# So many seconds without an answer mean that there is none: a value of a wrong length has taken the lines behind it in.
+QUIET = 1.5
+TOO_LARGE = b"SERVER_ERROR object too large for cache"
 # (a number that no server of this run has as a cas unique: lower than all, and higher)
 LOWEST, HIGHEST = b"1", b"18446744073709551615"
 
@@ -28,14 +31,16 @@ class Side:
 
     def __init__(self, server):
         self.server = server
-        self.client = Client(server.port, 0.4)
+        self.client = Client(server.port, QUIET)
         self.uniques = []
         self.places = {}
 
     def again(self):
         """Connects anew."""
         self.client.close()
-        self.client = Client(self.server.port, 0.4)
+        self.client = Client(self.server.port, QUIET)
+        self.uniques = []
+        self.places = {}
 
     def place(self, unique):
         """Returns which one of the uniques it is."""
@@ -48,7 +53,7 @@ class Side:
 
     def written(self, line):
         """Returns a line with this server's own uniques."""
-        return re.sub(rb"<U(\d+)>", lambda it: self.uniques[int(it[1]) % len(self.uniques)], line)
+        return re.sub(rb"<U(\d+)>", lambda it: self.uniques[int(it[1]) % len(self.uniques)] if self.uniques else b"1", line)
 
     def send(self, data):
         """Sends lines, unless the connection is closed while it does."""
@@ -185,8 +190,10 @@ class Lines:
 
     def get(self):
         name = self.one(b"get", b"gets", b"get", b"gets", b"gat", b"gats")
-        words = [name] + ([self.time()] if name.startswith(b"gat") else [])
-        words += [self.key() for _ in range(self.one(0, 1, 1, 1, 2, 5, 30))]
+        is_touch = name.startswith(b"gat")
+        words = [name] + ([self.time()] if is_touch else [])
+        # (a key that is too long comes after others have been touched in memcached, see `known`)
+        words += [self.one(*KEYS) if is_touch else self.key() for _ in range(self.one(0, 1, 1, 1, 2, 5, 30))]
         return b" ".join(words)
 
     def plain(self):
@@ -227,7 +234,7 @@ class Lines:
 
     def meta_key(self, flags):
         """Returns a key, in base64 where the flags say so."""
-        key = self.key()
+        key = self.key() or b"a"
         return base64.b64encode(key) if b" b" in flags and len(key) < 180 and self.random.random() < 0.95 else key
 
     def meta(self):
@@ -247,11 +254,13 @@ class Lines:
     def damaged(self, line):
         """Returns the line with a byte of its first line changed, doubled or left out. Its end stays."""
         head, end, rest = line.partition(b"\r\n")
-        if not head or len(head) > 1500:
+        if not head or len(head) > 1500 or b"<U" in head or head.startswith(b"flush_all"):  # (a delay would come of it)
             return line
         at = self.random.randrange(len(head))
-        twice = head[at : at + 1] * (1 if head[at : at + 1].isdigit() else 2)
-        piece = self.one(b"", twice, bytes([self.random.randrange(256)]).replace(b"\n", b" "))
+        if head[at : at + 1].isdigit():  # (more digits may be more than 32 bits, see `known`)
+            piece = self.one(b"", b" ", b"-", b"\xff")
+        else:
+            piece = self.one(b"", head[at : at + 1] * 2, bytes([self.random.randrange(256)]).replace(b"\n", b" "))
         return head[:at] + piece + head[at + 1 :] + end + rest
 
     def line(self, counts):
@@ -276,6 +285,7 @@ class Run:
         self.lines = Lines(seed)
         self.done = self.differences = 0
         self.marks_differ = set()
+        self.before = []
 
     def batch(self):
         """Sends some lines and compares their answers."""
@@ -294,6 +304,7 @@ class Run:
             self.compare(lines, at, answers)
         self.compare_ends(lines, all_answers)
         self.lines.known = min(len(side.uniques) for side in self.sides)
+        self.before = (self.before + lines)[-8 * BATCH :]
         self.done += len(lines)
 
     def compare_ends(self, lines, all_answers):
@@ -303,6 +314,8 @@ class Run:
             is_same = len(all_answers[0]) <= len(all_answers[1])  # (memcached drops what it hasn't written yet)
         else:
             ends = [(len(it), normal(side, it[-1], True)) for side, it in zip(self.sides, all_answers)]
+            # (here a value that is too long is refused before it has come whole)
+            ends = [(count, [it for it in end if it[0] != TOO_LARGE]) for count, end in ends]
             is_same = there.is_closed == here.is_closed and ends[0] == ends[1]
         if not is_same:
             self.differ(lines, len(lines) - 1, [f"{len(it)} answers, {it[-1:]}" for it in all_answers])
@@ -321,8 +334,15 @@ class Run:
     def differ(self, lines, at, answers):
         self.differences += 1
         if self.differences <= SHOWN:
+            pairs = list(zip(*answers))
+            while len(pairs) > 1 and pairs[0][0] == pairs[0][1]:
+                pairs.pop(0)
+                answers = [it[1:] for it in answers]
             print(f"line {self.done + at}: {lines[at][:200]!r}\n  memcached    {str(answers[0])[:300]}\n  kilambosetryd {str(answers[1])[:300]}")
-            for before in lines[max(0, at - 3) : at]:
+            keys = [it for it in KEYS if it in lines[at].partition(b"\r\n")[0].split()]
+            keys += [base64.b64encode(key) for key in keys] + [b"flush_all"]
+            history = [it.partition(b"\r\n")[0] for it in self.before + lines[:at]]
+            for before in [it for it in history if set(it.split()) & set(keys)][-8:]:
                 print(f"    behind {before[:120]!r}")
         # (from here on both have the same again)
         for side in self.sides:
@@ -335,8 +355,10 @@ class Run:
         """Deletes all keys, so that both sides have the same marks."""
         self.marks_differ.clear()
         for side in self.sides:
+            side.client.socket.settimeout(30)
             side.client.send(b"flush_all\r\n")
             side.client.line()
+            side.client.socket.settimeout(QUIET)
 
 
 def known():
@@ -381,6 +403,12 @@ def known():
             b"CLIENT_ERROR opaque token too long|EN",
         ),
         (
+            "so it may have touched the keys before one that is too long, and drops the answers that it hasn't written yet",
+            store % b"t" + b"gat 100 t " + b"x" * 251 + b"\r\nmg t t\r\n",
+            b"|CLIENT_ERROR bad command line format|HD t100",
+            b"STORED|CLIENT_ERROR bad command line format|HD t-1",
+        ),
+        (
             "the key of a stub comes back as its bytes in memcached, and in base64 here",
             b"mg Zm9v b k N30\r\n",
             b"HD kfoo W",
@@ -400,7 +428,7 @@ def known():
         ),
         (
             "there are no slabs, and no list of items",
-            b"lru mode flat\r\ncache_memlimit 64\r\nslabs automove 0\r\nlru_crawler enable\r\nbget a\r\n",
+            b"lru mode flat\r\ncache_memlimit 64\r\nslabs automove 0\r\nlru_crawler sleep 100\r\nbget a\r\n",
             b"OK|OK|OK|OK|END",
             b"ERROR|ERROR|ERROR|ERROR|ERROR",
         ),
