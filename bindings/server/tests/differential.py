@@ -214,7 +214,7 @@ class Lines:
 
     def meta_flags(self, of, most=5):
         given = [self.flag(it) for it in self.random.sample(of, self.random.randrange(min(len(of), most) + 1))]
-        if self.random.random() < 0.01:
+        if self.random.random() < 0.01 and not any(it[:1] in b"NT" for it in given):  # (see `known`)
             given.append(self.one(b"!", b"v", b"\xff", b"S10", b"E5", b"Nx", b"Tx", b"Rx", b"Fx", b"MM", b"O" + b"o" * 32, b"Cx"))
         return b"".join(b" " + it for it in given)
 
@@ -254,7 +254,9 @@ class Lines:
     def damaged(self, line):
         """Returns the line with a byte of its first line changed, doubled or left out. Its end stays."""
         head, end, rest = line.partition(b"\r\n")
-        if not head or len(head) > 1500 or b"<U" in head or head.startswith(b"flush_all"):  # (a delay would come of it)
+        if not head or len(head) > 1500 or b"<U" in head:
+            return line
+        if head.startswith((b"flush_all", b"gat")):  # (a delay, or a key that is too long, would come of it: see `known`)
             return line
         at = self.random.randrange(len(head))
         if head[at : at + 1].isdigit():  # (more digits may be more than 32 bits, see `known`)

@@ -1,0 +1,391 @@
+//! The server over a socket: what hangs holds up nobody else, what reads and writes is one, and it ends when it is told to.
+use clap::Parser;
+use kilambosetry::{Flash, HybridCache, Options, PageDevice, Pool};
+use kilambosetryd::config::Config;
+use kilambosetryd::listen::Running;
+use kilambosetryd::server::Server;
+use std::collections::HashMap;
+use std::io::{self, BufRead, BufReader, Read, Write};
+use std::net::TcpStream;
+use std::sync::{Arc, Condvar, Mutex};
+use std::thread;
+use std::time::{Duration, Instant};
+
+/// A client.
+struct Client(BufReader<TcpStream>);
+
+impl Client {
+    fn of(running: &Running) -> Client {
+        let stream = TcpStream::connect(running.address).unwrap();
+        stream.set_nodelay(true).unwrap();
+        stream.set_read_timeout(Some(Duration::from_secs(30))).unwrap();
+        Client(BufReader::new(stream))
+    }
+
+    fn send(&mut self, text: &str) {
+        self.0.get_mut().write_all(text.as_bytes()).unwrap();
+    }
+
+    fn line(&mut self) -> String {
+        let mut line = String::new();
+        self.0.read_line(&mut line).unwrap();
+        line.trim_end().to_string()
+    }
+
+    fn ask(&mut self, text: &str) -> String {
+        self.send(text);
+        self.line()
+    }
+
+    /// The rest of what the server sends.
+    fn rest(&mut self) -> String {
+        let mut rest = String::new();
+        self.0.read_to_string(&mut rest).unwrap();
+        rest
+    }
+
+    fn value(&mut self, key: &str) -> Option<String> {
+        self.send(&format!("get {key}\r\n"));
+        let line = self.line();
+        if line == "END" {
+            return None;
+        }
+        let value = self.line();
+        assert_eq!(self.line(), "END");
+        Some(value)
+    }
+}
+
+fn config(words: &[&str]) -> Config {
+    Config::parse_from(["kilambosetryd"].iter().chain(words))
+}
+
+fn in_memory(words: &[&str]) -> Running {
+    let config = config(words);
+    let cache = config.open().unwrap();
+    Running::start(Server::new(config, cache)).unwrap()
+}
+
+/// A device in memory whose reads wait as long as it is told to hang.
+#[derive(Clone, Default)]
+struct Hanging(Arc<(Mutex<Pages>, Condvar)>);
+
+#[derive(Default)]
+struct Pages {
+    pages: HashMap<u32, Vec<u8>>,
+    hangs: bool,
+    waiting: usize,
+}
+
+impl Hanging {
+    fn hang(&self, hangs: bool) {
+        self.0 .0.lock().unwrap().hangs = hangs;
+        self.0 .1.notify_all();
+    }
+
+    fn waiting(&self) -> usize {
+        self.0 .0.lock().unwrap().waiting
+    }
+}
+
+impl PageDevice for Hanging {
+    fn read(&self, page: u32, out: &mut [u8]) -> io::Result<()> {
+        let mut pages = self.0 .0.lock().unwrap();
+        pages.waiting += 1;
+        while pages.hangs {
+            pages = self.0 .1.wait(pages).unwrap();
+        }
+        pages.waiting -= 1;
+        out.copy_from_slice(pages.pages.get(&page).ok_or(io::ErrorKind::NotFound)?);
+        Ok(())
+    }
+
+    fn write(&self, page: u32, bytes: &[u8]) -> io::Result<()> {
+        self.0 .0.lock().unwrap().pages.insert(page, bytes.to_vec());
+        Ok(())
+    }
+}
+
+// A server with room for few items in memory, and for many on a device that may hang.
+fn over(device: &Hanging, words: &[&str]) -> Running {
+    let flash = Flash {
+        page: 512,
+        buckets: 64,
+        regions: 32,
+        region_pages: 16,
+        clean: 2,
+        small_max: 200,
+        queue: 4096,
+        bits: 64,
+        admit_min: 1,
+        admit_max: 4000,
+    };
+    let pool = Pool { bytes: 16_000, items: 64 };
+    let options = Options { shards: 4, fillers: 4, pool: Some(pool), flash_numbers: Some(flash), ..Options::default() };
+    let cache = HybridCache::over(device.clone(), &options).unwrap();
+    Running::start(Server::new(config(words), cache)).unwrap()
+}
+
+// Fills the cache with so many keys, so that the first of them are on flash alone.
+fn fill(running: &Running, keys: usize) {
+    let mut client = Client::of(running);
+    for key in 0..keys {
+        assert_eq!(client.ask(&format!("set key{key} 0 0 6\r\n{key:06}\r\n")), "STORED");
+    }
+    running.server.items.cache().flush().unwrap();
+}
+
+// A client that waits for flash, which hangs from now on, and the key that it asked for.
+fn waiting(running: &Running, device: &Hanging) -> (Client, String) {
+    device.hang(true);
+    for key in 0..100 {
+        let mut client = Client::of(running);
+        client.send(&format!("get key{key}\r\n"));
+        for _ in 0..40 {
+            if device.waiting() > 0 {
+                return (client, format!("key{key}"));
+            }
+            thread::sleep(Duration::from_millis(5));
+        }
+    }
+    panic!("no key is on flash alone");
+}
+
+#[test]
+fn a_device_that_hangs_holds_up_only_those_who_ask_for_its_key() {
+    let device = Hanging::default();
+    let running = over(&device, &["--threads", "1", "--flash-wait", "60000"]);
+    fill(&running, 400);
+    let (mut waits, key) = waiting(&running, &device);
+    let mut others = Client::of(&running);
+    let begin = Instant::now();
+    for number in 0..200 {
+        assert_eq!(others.ask(&format!("set other{number} 0 0 1\r\nx\r\n")), "STORED");
+    }
+    assert_eq!(others.value("other199").as_deref(), Some("x"));
+    assert_eq!(others.ask("incr other199 1\r\n"), "CLIENT_ERROR cannot increment or decrement non-numeric value");
+    assert!(begin.elapsed() < Duration::from_secs(20), "others were held up");
+    // a set of the key itself needn't wait, and answers who does
+    assert_eq!(others.ask(&format!("set {key} 0 0 3\r\nnew\r\n")), "STORED");
+    assert_eq!(waits.line(), format!("VALUE {key} 0 3"));
+    device.hang(false);
+    assert_eq!(others.value(&key).as_deref(), Some("new"));
+    assert!(running.stop());
+}
+
+#[test]
+fn what_flash_does_not_answer_in_time_is_a_miss_and_a_delete_holds() {
+    let device = Hanging::default();
+    let running = over(&device, &["--threads", "1", "--flash-wait", "200"]);
+    fill(&running, 400);
+    let (mut client, key) = waiting(&running, &device);
+    assert_eq!(client.line(), "END");
+    assert_eq!(client.ask(&format!("append {key} 0 0 1\r\nx\r\n")), "NOT_STORED");
+    assert_eq!(client.ask(&format!("delete {key}\r\n")), "NOT_FOUND");
+    device.hang(false);
+    assert_eq!(client.value(&key), None);
+    assert!(running.stop());
+}
+
+#[test]
+fn many_who_count_one_number_lose_none() {
+    let running = in_memory(&[]);
+    assert_eq!(Client::of(&running).ask("set number 0 0 1\r\n0\r\n"), "STORED");
+    each_of(16, &running, |client, _| {
+        for _ in 0..500 {
+            client.ask("incr number 1\r\n");
+        }
+    });
+    assert_eq!(Client::of(&running).value("number").as_deref(), Some("8000"));
+    assert!(running.stop());
+}
+
+#[test]
+fn appended_pieces_are_whole() {
+    let running = in_memory(&[]);
+    assert_eq!(Client::of(&running).ask("set list 0 0 1\r\n.\r\n"), "STORED");
+    each_of(16, &running, |client, number| {
+        for step in 0..50 {
+            let piece = format!("<{number:02}:{step:02}>");
+            let how = if step % 2 == 0 { "append" } else { "prepend" };
+            assert_eq!(client.ask(&format!("{how} list 0 0 {}\r\n{piece}\r\n", piece.len())), "STORED");
+        }
+    });
+    let list = Client::of(&running).value("list").unwrap();
+    assert_eq!(list.len(), 1 + 16 * 50 * 7);
+    for (number, step) in (0..16).flat_map(|number| (0..50).map(move |step| (number, step))) {
+        assert_eq!(list.matches(&format!("<{number:02}:{step:02}>")).count(), 1);
+    }
+    assert!(running.stop());
+}
+
+#[test]
+fn one_of_many_adds_and_of_many_who_miss_wins() {
+    let running = in_memory(&[]);
+    let (adds, wins) = (Mutex::new(0), Mutex::new(0));
+    for round in 0..50 {
+        each_of(8, &running, |client, _| {
+            if client.ask(&format!("add one{round} 0 0 1\r\nx\r\n")) == "STORED" {
+                *adds.lock().unwrap() += 1;
+            }
+            match client.ask(&format!("mg two{round} N30 t\r\n")).as_str() {
+                line if line.ends_with(" W") => *wins.lock().unwrap() += 1,
+                line => assert!(line.ends_with(" Z"), "{line}"),
+            }
+        });
+    }
+    assert_eq!((*adds.lock().unwrap(), *wins.lock().unwrap()), (50, 50));
+    assert!(running.stop());
+}
+
+// So many clients at once, each with its number.
+fn each_of(clients: usize, running: &Running, does: impl Fn(&mut Client, usize) + Sync) {
+    thread::scope(|scope| {
+        for number in 0..clients {
+            let does = &does;
+            scope.spawn(move || does(&mut Client::of(running), number));
+        }
+    });
+}
+
+// The unique in an answer of a meta command.
+fn unique_of(line: &str) -> u64 {
+    line.split(' ').find_map(|word| word.strip_prefix('c')).unwrap().parse().unwrap()
+}
+
+#[test]
+fn what_was_loaded_before_a_change_is_not_stored_after_it() {
+    let running = in_memory(&[]);
+    let mut client = Client::of(&running);
+    for (change, refused) in [
+        ("delete row\r\n", "NF"),
+        ("set row 0 0 3\r\nnew\r\n", "EX"),
+        ("flush_all\r\n", "NF"),
+        ("md row I\r\n", "EX"),
+        ("ms row 3\r\nnew\r\n", "EX"),
+        ("touch row -1\r\n", "NF"),
+    ] {
+        client.ask("delete row\r\n");
+        let lease = unique_of(&client.ask("mg row N30 c t\r\n"));
+        client.ask(change);
+        assert_eq!(client.ask(&format!("ms row 3 C{lease}\r\nold\r\n")), refused, "{change}");
+    }
+    client.ask("delete row\r\n");
+    let lease = unique_of(&client.ask("mg row N30 c t\r\n"));
+    assert_eq!(client.ask(&format!("ms row 3 C{lease}\r\nrow\r\n")), "HD");
+    assert_eq!(client.value("row").as_deref(), Some("row"));
+    assert!(running.stop());
+}
+
+#[test]
+fn a_lease_of_a_server_that_was_started_anew_is_none() {
+    let first = in_memory(&[]);
+    let lease = unique_of(&Client::of(&first).ask("mg row N30 c t\r\n"));
+    assert!(first.stop());
+    let second = in_memory(&[]);
+    let mut client = Client::of(&second);
+    assert!(unique_of(&client.ask("mg row N30 c t\r\n")) > lease);
+    assert_eq!(client.ask(&format!("ms row 3 C{lease}\r\nold\r\n")), "EX");
+    assert!(second.stop());
+}
+
+#[test]
+fn items_end_at_their_time_and_as_a_flush_says() {
+    let running = in_memory(&[]);
+    let mut client = Client::of(&running);
+    assert_eq!(client.ask("set brief 0 1 1\r\nx\r\n"), "STORED");
+    assert_eq!(client.ask("set lasts 0 100 1\r\nx\r\n"), "STORED");
+    assert_eq!(client.ask("flush_all 3\r\n"), "OK");
+    thread::sleep(Duration::from_millis(1100));
+    assert_eq!(client.value("brief"), None);
+    assert_eq!(client.value("lasts").as_deref(), Some("x"));
+    thread::sleep(Duration::from_millis(2200));
+    assert_eq!(client.value("lasts"), None);
+    assert_eq!(client.ask("set after 0 0 1\r\nx\r\n"), "STORED");
+    assert_eq!(client.value("after").as_deref(), Some("x"));
+    assert!(running.stop());
+}
+
+#[test]
+fn a_line_and_a_value_may_come_in_pieces() {
+    let running = in_memory(&[]);
+    let mut client = Client::of(&running);
+    for byte in "set key 5 0 5\r\nva\r\ne\r\nget key\r\n".bytes() {
+        client.0.get_mut().write_all(&[byte]).unwrap();
+        thread::sleep(Duration::from_millis(1));
+    }
+    let lines: Vec<_> = (0..5).map(|_| client.line()).collect();
+    assert_eq!(lines, ["STORED", "VALUE key 5 5", "va", "e", "END"]);
+    assert!(running.stop());
+}
+
+#[test]
+fn what_is_too_much_is_refused_and_harms_nothing_else() {
+    let running = in_memory(&["--in-flight", "1", "--connections", "3", "--stall", "1", "--idle", "2"]);
+    let mut client = Client::of(&running);
+    assert_eq!(client.ask("set key 0 0 3\r\nold\r\n"), "STORED");
+    let body = "x".repeat(1_048_576);
+    assert_eq!(
+        client.ask(&format!("set key 0 0 {}\r\n{body}\r\n", body.len())),
+        "SERVER_ERROR object too large for cache"
+    );
+    assert_eq!(client.value("key"), None); // what is there would be older than the client believes
+                                           // two bodies at once are more than may be in flight
+    let mut slow = Client::of(&running);
+    slow.send("set slow 0 0 900000\r\nx");
+    thread::sleep(Duration::from_millis(200));
+    let answer = client.ask(&format!("set key 0 0 500000\r\n{}\r\n", &body[..500_000]));
+    assert_eq!(answer, "SERVER_ERROR out of memory storing object");
+    let (_third, mut fourth) = (Client::of(&running), Client::of(&running));
+    assert_eq!(fourth.line(), "ERROR Too many open connections");
+    assert_eq!(slow.rest(), ""); // it stood still too long
+    assert_eq!(client.rest(), ""); // it was idle too long
+    let mut client = Client::of(&running);
+    assert_eq!(client.ask("version\r\n").split(' ').next(), Some("VERSION"));
+    let long = "y".repeat(5000);
+    client.send(&long);
+    assert_eq!(client.rest(), "");
+    assert!(running.stop());
+}
+
+#[test]
+fn a_client_that_does_not_read_is_not_read_from_and_let_go() {
+    let running = in_memory(&["--stall", "1"]);
+    let mut client = Client::of(&running);
+    let body = "x".repeat(1_000_000);
+    assert_eq!(client.ask(&format!("set key 0 0 {}\r\n{body}\r\n", body.len())), "STORED");
+    let mut greedy = Client::of(&running);
+    greedy.send(&"get key\r\n".repeat(1000));
+    thread::sleep(Duration::from_millis(300));
+    let free = running.server.in_flight.left();
+    assert!(free > 250_000_000, "a gigabyte of answers waits, or half of it: {free} bytes are free");
+    thread::sleep(Duration::from_secs(2));
+    assert_eq!(running.server.sums().stall_kicks, 1);
+    assert_eq!(client.ask("mn\r\n"), "MN");
+    assert!(running.stop());
+}
+
+#[test]
+fn who_is_being_answered_has_all_answers_when_the_server_ends() {
+    let running = in_memory(&[]);
+    let mut client = Client::of(&running);
+    assert_eq!(client.ask("set key 0 0 5\r\nvalue\r\n"), "STORED");
+    let idle = Client::of(&running);
+    client.send(&"get key\r\n".repeat(2000));
+    client.send("set last 0 0 4\r\nla");
+    while running.server.sums().cmd_get < 100 {
+        thread::sleep(Duration::from_millis(1));
+    }
+    let mut writer = client.0.get_ref().try_clone().unwrap();
+    let late = thread::spawn(move || {
+        thread::sleep(Duration::from_millis(300));
+        writer.write_all(b"st\r\n").unwrap();
+    });
+    let reads = thread::spawn(move || client.rest());
+    assert!(running.stop());
+    late.join().unwrap();
+    let rest = reads.join().unwrap();
+    assert_eq!(rest.matches("VALUE key 0 5\r\nvalue\r\nEND\r\n").count(), 2000);
+    assert!(rest.ends_with("STORED\r\n"));
+    drop(idle);
+}
