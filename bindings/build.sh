@@ -1,11 +1,12 @@
 #!/bin/sh
 # Builds the static library, and tests it from C and from Cargo.
 #
-#   bindings/build.sh            library, C checks (under valgrind where there is one), cargo test
+#   bindings/build.sh            library, C checks (under valgrind where there is one), cargo test, the server
 #   bindings/build.sh --c        library and C checks alone
 #   bindings/build.sh --speed    also the comparison with other caches, where Debian's crate `lru` (librust-lru-dev) is installed
 #   bindings/build.sh --trial    also a service before a slow database, with leases and without, where that crate is installed
 #   bindings/build.sh --memory   also what a cache with flash keeps in memory, beside what its pool says
+#   bindings/build.sh --server   also the server's long runs: many lines beside memcached and damaged ones, and what it costs
 #
 # What it makes lies in bindings/out, as in a prefix: lib, lib/pkgconfig and include. PREFIX is what the file for pkg-config
 # names, where the three are to be copied elsewhere. What a machine lacks is skipped, and said so.
@@ -159,4 +160,13 @@ if has cargo; then
     fi
 else
     echo "skipped: no cargo"
+fi
+
+echo "== the server"
+if ! has cargo; then
+    echo "skipped: no cargo"
+elif missing=$("$here/server/tests/has-crates"); then
+    CARGO_TARGET_DIR="$out/target" "$here/server/tests/run" "$@"
+else
+    echo "skipped: no crate $missing"
 fi

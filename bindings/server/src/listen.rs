@@ -179,20 +179,25 @@ fn start(
     Ok(queue)
 }
 
-// Serves the clients that come, until no more do and all have ended.
-async fn work(worker: Worker, mut clients: mpsc::UnboundedReceiver<Admitted>, ends: watch::Receiver<bool>) {
+// Serves the clients that come, until no more do and all have ended. They wait for the end by a channel of this thread's own: whoever
+// waits takes its lock.
+async fn work(worker: Worker, mut clients: mpsc::UnboundedReceiver<Admitted>, mut ends: watch::Receiver<bool>) {
+    let (tell_end, told) = watch::channel(false);
     let mut connections = JoinSet::new();
     loop {
         tokio::select! {
             client = clients.recv() => match client {
                 Some((client, permit)) => {
-                    connections.spawn(serve_client(worker.clone(), client, permit, ends.clone()));
+                    connections.spawn(serve_client(worker.clone(), client, permit, told.clone()));
                 }
                 None => break,
             },
             Some(_) = connections.join_next() => {}
         }
     }
+    // (whoever hands clients over has ended, or is about to tell)
+    let _ = ends.changed().await;
+    let _ = tell_end.send(true);
     while connections.join_next().await.is_some() {}
 }
 

@@ -9,6 +9,7 @@ what memcached answers, and what kilambosetryd does. The status is 1 where anyth
 does.
 """
 import base64
+import os
 import random
 import re
 import sys
@@ -21,6 +22,7 @@ BATCH = 25
 SHOWN = 20
 # So many seconds without an answer mean that there is none: a value of a wrong length has taken the lines behind it in.
 QUIET = 1.5
+LONG_OPAQUE = b"O" + b"o" * 32
 TOO_LARGE = b"SERVER_ERROR object too large for cache"
 # (a number that no server of this run has as a cas unique: lower than all, and higher)
 LOWEST, HIGHEST = b"1", b"18446744073709551615"
@@ -123,6 +125,11 @@ def normal(side, data, marks_differ):
             words[start:] = [normal_flag(side, it, marks_differ) for it in words[start:]]
         elif words[0] == b"ME":
             words = words[:1]
+        if value is not None and value.rstrip(b" ").isdigit():
+            # (memcached pads a number that has lost digits unless somebody holds the item just then, its own threads among them)
+            value = value.rstrip(b" ")
+            words[3 if words[0] == b"VALUE" else 1] = b"n"
+            words = [it for it in words if it[:1] != b"s"]
         out.append((b" ".join(it for it in words if it), value))
     return out
 
@@ -168,7 +175,7 @@ class Lines:
         if kind < 0.503:
             return bytes(self.one(1_000_000, 1_048_576, 1_100_000))
         size = self.random.randrange(200)
-        return bytes(self.random.randrange(256) for _ in range(size)).replace(b"MN", b"mn").replace(b"-", b"_")
+        return bytes(self.random.randrange(256) for _ in range(size)).replace(b"MN", b"mn").replace(b"-", b"_").replace(b"<U", b"<u")
 
     def body(self, line, data):
         """Returns a line with its value, whose length may be wrong."""
@@ -209,13 +216,13 @@ class Lines:
         quiet = self.maybe(0.1, b" noreply")
         if self.random.random() < 0.5:
             return b"%s %s %s%s" % (self.one(b"incr", b"decr"), self.key(), self.number(), quiet)
-        flags = self.meta_flags("bCNJDMqtcvkO")  # (no T: see `known`)
+        flags = self.meta_flags("bCNJDMqtcvkO").replace(LONG_OPAQUE, b"O")  # (no T, and no long opaque: see `known`)
         return b"ma %s%s" % (self.meta_key(flags), flags)
 
     def meta_flags(self, of, most=5):
         given = [self.flag(it) for it in self.random.sample(of, self.random.randrange(min(len(of), most) + 1))]
         if self.random.random() < 0.01 and not any(it[:1] in b"NT" for it in given):  # (see `known`)
-            given.append(self.one(b"!", b"v", b"\xff", b"S10", b"E5", b"Nx", b"Tx", b"Rx", b"Fx", b"MM", b"O" + b"o" * 32, b"Cx"))
+            given.append(self.one(b"!", b"v", b"\xff", b"S10", b"E5", b"Nx", b"Tx", b"Rx", b"Fx", b"MM", LONG_OPAQUE, b"Cx"))
         return b"".join(b" " + it for it in given)
 
     def flag(self, name):
@@ -340,6 +347,9 @@ class Run:
             while len(pairs) > 1 and pairs[0][0] == pairs[0][1]:
                 pairs.pop(0)
                 answers = [it[1:] for it in answers]
+            if named := os.environ.get("DIFFERENCES"):
+                with open(named, "ab") as it:
+                    it.write(repr(lines[max(0, at - 2) : at + 1]).encode() + b"\n")
             print(f"line {self.done + at}: {lines[at][:200]!r}\n  memcached    {str(answers[0])[:300]}\n  kilambosetryd {str(answers[1])[:300]}")
             keys = [it for it in KEYS if it in lines[at].partition(b"\r\n")[0].split()]
             keys += [base64.b64encode(key) for key in keys] + [b"flush_all"]
@@ -366,7 +376,6 @@ class Run:
 def known():
     """Returns the differences that stay: why, lines, and what memcached and kilambosetryd answer to them."""
     store = b"set %s 0 0 1\r\n9\r\n"
-    long_opaque = b"O" + b"o" * 32
     return [
         (
             "a number of more than 32 bits is cut by memcached, and refused here",
@@ -400,7 +409,7 @@ def known():
         ),
         (
             "a refused command may have made a stub in memcached",
-            b"mg o N30 " + long_opaque + b"\r\nmg o\r\n",
+            b"mg o N30 " + LONG_OPAQUE + b"\r\nmg o\r\n",
             b"CLIENT_ERROR opaque token too long|HD",
             b"CLIENT_ERROR opaque token too long|EN",
         ),
