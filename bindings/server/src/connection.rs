@@ -111,34 +111,25 @@ impl<S: Stream> Connection<S> {
             Received::TooLong => return Ok(Next::Ends),
         };
         let request = match Request::of(line) {
+            None | Some(Ok(Request { command: Command::Quit, .. })) => return Ok(Next::Ends),
             Some(Ok(request)) => request,
             Some(Err(fault)) => {
                 answers.line_unless(fault.is_quiet, fault.text.as_bytes());
                 *passed_over = fault.value.map_or(0, |value| value + 2);
                 return Ok(Next::Took(length));
             }
-            None => return Ok(Next::Ends),
         };
-        if matches!(request.command, Command::Quit) {
-            return Ok(Next::Ends);
-        }
         let Some(value) = value_of(&request) else {
             classic::run(worker, request, b"", answers).await?;
             return Ok(Next::Took(length));
         };
         let whole = length + value + 2;
-        let is_whole = received.len() >= whole;
-        let refused = match () {
-            _ if value > LONGEST_VALUE => Some(NotKept::TooLarge),
-            _ if !is_whole && whole > KEPT && !share.grow_to(whole) => Some(NotKept::NoMemory),
-            _ => None,
-        };
-        if let Some(why) = refused {
+        if let Some(why) = refusal_of(value, whole, received.len(), share) {
             refuse(worker, &request, why, answers).await;
             *passed_over = value + 2;
             return Ok(Next::Took(length));
         }
-        if !is_whole {
+        if received.len() < whole {
             return Ok(Next::Wants(whole));
         }
         match received[length..whole].strip_suffix(b"\r\n") {
@@ -230,6 +221,15 @@ fn value_of(request: &Request<'_>) -> Option<usize> {
         },
         _ => None,
     }
+}
+
+// Why a value isn't taken, if it isn't: it is too long, or too many bytes are in flight for it to be received whole.
+fn refusal_of(value: usize, whole: usize, received: usize, share: &mut Share) -> Option<NotKept> {
+    if value > LONGEST_VALUE {
+        return Some(NotKept::TooLarge);
+    }
+    let has_room = received >= whole || whole <= KEPT || share.grow_to(whole);
+    (!has_room).then_some(NotKept::NoMemory)
 }
 
 // Answers that a value isn't stored, which is then passed over. What its key had is gone where it was to be replaced: else it would
