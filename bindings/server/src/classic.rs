@@ -8,6 +8,10 @@ use crate::request::{Command, Direction, Keys, Request, Store};
 use crate::server::{Worker, VERSION};
 use crate::{meta, stats};
 use std::io;
+use tokio::task;
+
+// Behind so many keys of a get the other connections of the thread have their turn.
+const KEYS_AT_ONCE: usize = 256;
 
 pub const NO_MEMORY: &str = "SERVER_ERROR out of memory storing object";
 pub const NOT_A_NUMBER: &str = "CLIENT_ERROR cannot increment or decrement non-numeric value";
@@ -59,7 +63,10 @@ async fn get<S: Stream>(
     with_unique: bool,
     answers: &mut Answers<S>,
 ) -> io::Result<()> {
-    for key in keys.iter() {
+    for (number, key) in keys.iter().enumerate() {
+        if number % KEYS_AT_ONCE == KEYS_AT_ONCE - 1 {
+            task::yield_now().await;
+        }
         let found = worker.server.items.find(key).await;
         let counters = &worker.counters;
         counters.cmd_get.one();

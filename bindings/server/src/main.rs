@@ -6,6 +6,7 @@ use kilambosetryd::config::Config;
 use kilambosetryd::listen::{serve, Sockets};
 use kilambosetryd::server::Server;
 use std::error::Error;
+use std::io::{self, Write};
 use std::process::exit;
 use tokio::runtime::Builder;
 use tokio::signal::unix::{signal, Signal, SignalKind};
@@ -24,15 +25,19 @@ fn main() {
 fn run(config: Config) -> Result<(), Box<dyn Error>> {
     let cache = config.open()?;
     let sockets = Sockets::open(&config)?;
-    announce(&config, &cache.numbers());
+    for (name, value) in config.named() {
+        say(&format!("{name} {value}"));
+    }
+    say(&cache.numbers().to_string());
     let runtime = Builder::new_current_thread().enable_all().build()?;
     let server = Server::new(config, cache);
     let has_drained = runtime.block_on(async {
         let told = [signal(SignalKind::terminate())?, signal(SignalKind::interrupt())?];
+        say("ready");
         serve(server.clone(), sockets, end(told)).await
     })?;
-    println!("{}", server.items.cache().stats());
-    println!("ended{}", if has_drained { "" } else { ", and not all connections had their answers in time" });
+    say(&server.items.cache().stats().to_string());
+    say(if has_drained { "ended" } else { "ended, and not all connections had their answers in time" });
     Ok(())
 }
 
@@ -44,10 +49,7 @@ async fn end([mut terminate, mut interrupt]: [Signal; 2]) {
     }
 }
 
-fn announce(config: &Config, numbers: &kilambosetry::Numbers) {
-    for (name, value) in config.named() {
-        println!("{name} {value}");
-    }
-    println!("{numbers}");
-    println!("ready");
+// Prints a line. Where nobody reads it, the server goes on.
+fn say(line: &str) {
+    let _ = writeln!(io::stdout(), "{line}");
 }

@@ -22,6 +22,7 @@ BATCH = 25
 SHOWN = 20
 # So many seconds without an answer mean that there is none: a value of a wrong length has taken the lines behind it in.
 QUIET = 1.5
+NOISE = random.Random(0).randbytes(1 << 16)
 LONG_OPAQUE = b"O" + b"o" * 32
 TOO_LARGE = b"SERVER_ERROR object too large for cache"
 # (a number that no server of this run has as a cas unique: lower than all, and higher)
@@ -174,8 +175,8 @@ class Lines:
             return self.one(b"12 ", b" 7", b"5 five", b"", b"007", b"+3")
         if kind < 0.503:
             return bytes(self.one(1_000_000, 1_048_576, 1_100_000))
-        size = self.random.randrange(200)
-        return bytes(self.random.randrange(256) for _ in range(size)).replace(b"MN", b"mn").replace(b"-", b"_").replace(b"<U", b"<u")
+        size, at = self.random.randrange(200), self.random.randrange(len(NOISE) - 200)
+        return NOISE[at : at + size].replace(b"MN", b"mn").replace(b"-", b"_").replace(b"<U", b"<u")
 
     def body(self, line, data):
         """Returns a line with its value, whose length may be wrong."""

@@ -39,7 +39,7 @@ class Damaged(Lines):
             lambda: byte * 2,
             lambda: bytes([self.random.randrange(256)]),
             lambda: self.one(b"\r\n", b" ", b"\0", b"\n", b"-", b"99999"),
-            lambda: bytes(self.random.randrange(256) for _ in range(self.random.randrange(30))),
+            lambda: self.random.randbytes(self.random.randrange(30)),
         )()
 
 
