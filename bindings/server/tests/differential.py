@@ -190,8 +190,9 @@ class Lines:
             length = -1
         return line.replace(b"<LEN>", b"%d" % length) + b"\r\n" + data + end
 
-    def store(self):
-        name = self.one(b"set", b"set", b"add", b"replace", b"append", b"prepend", b"cas")
+    def store(self, joins=True):
+        names = [b"set", b"set", b"add", b"replace", b"cas"] + [b"append", b"prepend"] * joins
+        name = self.one(*names)
         unique = b" " + self.unique() if name == b"cas" else b""
         words = b"%s %s %s %s <LEN>%s%s" % (name, self.key(), self.flags(), self.time(), unique, self.maybe(0.1, b" noreply"))
         return self.body(words, self.data())
@@ -274,8 +275,9 @@ class Lines:
         return head[:at] + piece + head[at + 1 :] + end + rest
 
     def line(self, counts):
-        """Returns a line. Those that count come where none gets an item: memcached doesn't pad a number that is being answered."""
-        of = (self.store, self.count, self.count) if counts else (self.store, self.get, self.plain, self.meta, self.meta)
+        """Returns a line. Those that count come where none gets an item, or joins a value to it: memcached doesn't pad a number that
+        somebody holds."""
+        of = (lambda: self.store(False), self.count, self.count) if counts else (self.store, self.get, self.plain, self.meta, self.meta)
         line = self.one(*of)()
         if self.random.random() < 0.02:
             line = self.damaged(line)
@@ -296,11 +298,12 @@ class Run:
         self.done = self.differences = 0
         self.marks_differ = set()
         self.before = []
+        self.counts = False
 
     def batch(self):
         """Sends some lines and compares their answers."""
-        counts = self.lines.random.random() < 0.25
-        lines = [self.lines.line(counts) for _ in range(BATCH)]
+        self.counts = self.lines.random.random() < 0.25
+        lines = [self.lines.line(self.counts) for _ in range(BATCH)]
         all_answers = []
         for side in self.sides:
             side.send(b"".join(side.written(line) + b"mn\r\n" for line in lines))
@@ -364,8 +367,8 @@ class Run:
             for _ in [*KEYS, b"foo"]:
                 side.client.line()
 
-    def clear_marks(self):
-        """Deletes all keys, so that both sides have the same marks."""
+    def clear(self):
+        """Deletes all keys, so that both sides have the same marks, and the same spaces behind numbers."""
         self.marks_differ.clear()
         for side in self.sides:
             side.client.socket.settimeout(30)
@@ -480,8 +483,8 @@ def main():
         run = Run([Side(there), Side(here)], seed)
         while run.done < count and run.differences < SHOWN:
             run.batch()
-            if run.done % (BATCH * 8) == 0:
-                run.clear_marks()
+            if run.counts or run.done % (BATCH * 8) == 0:
+                run.clear()
         wrong = check_known([there, here])
     print(f"{run.done} lines, seed {seed}: {run.differences} differences, {wrong} of {len(known())} known ones not as they were")
     sys.exit(1 if run.differences or wrong else 0)
