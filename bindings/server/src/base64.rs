@@ -19,7 +19,7 @@ fn value_of(digit: u8) -> Option<u32> {
 #[must_use]
 pub fn decoded(text: &[u8]) -> Option<Vec<u8>> {
     let digits: Vec<u8> = text.iter().copied().filter(|digit| value_of(*digit).is_some()).collect();
-    if digits.is_empty() || digits.len() % 4 != 0 {
+    if digits.is_empty() || !digits.len().is_multiple_of(4) {
         return None;
     }
     let mut bytes = Vec::with_capacity(digits.len() / 4 * 3);

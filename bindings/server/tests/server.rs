@@ -299,6 +299,39 @@ fn a_lease_of_a_server_that_was_started_anew_is_none() {
 }
 
 #[test]
+fn numbers_wrap_upwards_and_stop_at_none_downwards() {
+    let running = in_memory(&[]);
+    let mut client = Client::of(&running);
+    for (value, command, answer, left) in [
+        ("18446744073709551615", "incr n 2", "1", "1                   "),
+        ("10", "decr n 1", "9", "9 "),
+        ("10", "decr n 11", "0", "0 "),
+        ("9", "incr n 18446744073709551615", "8", "8"),
+        ("99", "ma n v", "VA 3", "100"),
+        ("5 five", "incr n 1", "6", "6     "),
+    ] {
+        assert_eq!(client.ask(&format!("set n 7 0 {}\r\n{value}\r\n", value.len())), "STORED");
+        assert_eq!(client.ask(&format!("{command}\r\n")), answer, "{value}, {command}");
+        if answer.starts_with("VA") {
+            assert_eq!(client.line(), left);
+        }
+        client.send("get n\r\n");
+        assert_eq!(client.line(), format!("VALUE n 7 {}", left.len()));
+        assert_eq!(client.line(), left.trim_end());
+        assert_eq!(client.line(), "END");
+    }
+    for value in ["", "five", "-1", "18446744073709551616", "1.5"] {
+        assert_eq!(client.ask(&format!("set n 0 0 {}\r\n{value}\r\n", value.len())), "STORED");
+        let refused = "CLIENT_ERROR cannot increment or decrement non-numeric value";
+        assert_eq!(client.ask("incr n 1\r\n"), refused, "{value}");
+    }
+    assert_eq!(client.ask("incr none 1\r\n"), "NOT_FOUND");
+    assert_eq!(client.ask("ma none N0 J13 D7 v\r\n"), "VA 2");
+    assert_eq!(client.line(), "13");
+    assert!(running.stop());
+}
+
+#[test]
 fn items_end_at_their_time_and_as_a_flush_says() {
     let running = in_memory(&[]);
     let mut client = Client::of(&running);
