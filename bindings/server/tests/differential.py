@@ -481,6 +481,8 @@ def main():
     count = int(sys.argv[1]) if len(sys.argv) > 1 else 100_000
     seed = int(sys.argv[2]) if len(sys.argv) > 2 else 1
     with memcached("-m", 256) as there, kilambosetryd("--memory", 256) as here:
+        for server in (there, here):  # (memcached's first cas unique is 1)
+            Client(server.port).ask(b"set first 0 0 1\r\nx")
         run = Run([Side(there), Side(here)], seed)
         while run.done < count and run.differences < SHOWN:
             run.batch()
