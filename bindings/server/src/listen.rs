@@ -44,10 +44,11 @@ impl Sockets {
     /// Opens the sockets that the command line names.
     pub fn open(config: &Config) -> io::Result<Sockets> {
         let tcp = |port| std::net::TcpListener::bind((config.listen, port));
+        // (whoever is let in by the port finds the others open)
         Ok(Sockets {
-            tcp: (config.port > 0).then(|| tcp(config.port)).transpose()?,
             unix: config.unix.as_deref().map(open_unix).transpose()?,
             metrics: (config.metrics_port > 0).then(|| tcp(config.metrics_port)).transpose()?,
+            tcp: (config.port > 0).then(|| tcp(config.port)).transpose()?,
         })
     }
 
