@@ -55,6 +55,11 @@ impl Calls {
         self.owed > 0
     }
 
+    /// Whether the call still waits.
+    pub fn is_open(&self, call: u64) -> bool {
+        self.waiting.get(&call).is_some_and(|call| call.answer.is_none())
+    }
+
     /// The call's answer, once it is there.
     pub fn take(&mut self, call: u64) -> Option<Answer> {
         self.waiting.get(&call)?.answer.as_ref()?;

@@ -14,6 +14,12 @@ pub trait PageDevice: Send + Sync {
     fn read(&self, page: u32, out: &mut [u8]) -> io::Result<()>;
     /// Writes the page.
     fn write(&self, page: u32, bytes: &[u8]) -> io::Result<()>;
+    /// Reads the page into `out` where nobody has to wait for it, as where the system has a copy of it in memory. `None`: it must
+    /// be waited for, and is to be read by `read`. A get that may not hold its thread up asks this first.
+    fn read_now(&self, page: u32, out: &mut [u8]) -> Option<io::Result<()>> {
+        let _ = (page, out);
+        None
+    }
 }
 
 /// Operations of a device.
@@ -62,24 +68,27 @@ impl Checked {
 
     /// Reads the page, and answers whether it is as it was written.
     pub fn read(&self, page: u32, out: &mut [u8]) -> bool {
-        self.counters.reads.fetch_add(1, Relaxed);
-        let is_read = self.has_read(page, out);
-        if !is_read {
-            self.counters.read_failures.fetch_add(1, Relaxed);
-        }
-        is_read
+        self.read_by(page, out, |out| Some(self.device.read(page, out))).unwrap_or(false)
     }
 
-    fn has_read(&self, page: u32, out: &mut [u8]) -> bool {
+    /// The same where nobody has to wait for it; else there is no answer.
+    pub fn read_now(&self, page: u32, out: &mut [u8]) -> Option<bool> {
+        self.read_by(page, out, |out| self.device.read_now(page, out))
+    }
+
+    fn read_by(
+        &self,
+        page: u32,
+        out: &mut [u8],
+        read: impl FnOnce(&mut [u8]) -> Option<io::Result<()>>,
+    ) -> Option<bool> {
         let known = self.digests.get(page as usize).map_or(0, |digest| digest.load(Relaxed));
-        if known == 0 || !succeeds(|| self.device.read(page, out)) {
-            return false;
-        }
-        let is_same = digest_of(out) == known;
-        if !is_same {
-            self.counters.lies.fetch_add(1, Relaxed);
-        }
-        is_same
+        let is_read = known != 0 && attempted(|| read(out))?;
+        let is_same = is_read && digest_of(out) == known;
+        self.counters.reads.fetch_add(1, Relaxed);
+        self.counters.read_failures.fetch_add(u64::from(!is_same), Relaxed);
+        self.counters.lies.fetch_add(u64::from(is_read && !is_same), Relaxed);
+        Some(is_same)
     }
 
     /// Writes the page, and answers whether that is done.
@@ -97,7 +106,7 @@ impl Checked {
         if digest.swap(0, Relaxed) != 0 {
             self.counters.pages.fetch_sub(1, Relaxed);
         }
-        if !succeeds(|| self.device.write(page, bytes)) {
+        if attempted(|| Some(self.device.write(page, bytes))) != Some(true) {
             return false;
         }
         digest.store(digest_of(bytes), Relaxed);
@@ -124,9 +133,12 @@ impl fmt::Debug for Checked {
     }
 }
 
-// Whether the device did it. It may panic.
-fn succeeds(operate: impl FnOnce() -> io::Result<()>) -> bool {
-    matches!(panic::catch_unwind(AssertUnwindSafe(operate)), Ok(Ok(())))
+// Whether the device did it; none, where it would have to be waited for. It may panic.
+fn attempted(operate: impl FnOnce() -> Option<io::Result<()>>) -> Option<bool> {
+    match panic::catch_unwind(AssertUnwindSafe(operate)) {
+        Ok(done) => done.map(|done| done.is_ok()),
+        Err(_) => Some(false),
+    }
 }
 
 fn folded(a: u64, b: u64) -> u64 {

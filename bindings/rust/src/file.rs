@@ -1,6 +1,7 @@
 use crate::{OpenError, PageDevice};
 use std::fs::{File, OpenOptions, TryLockError};
 use std::io::{self, Seek, SeekFrom};
+use std::os::fd::AsRawFd;
 use std::os::unix::fs::{FileExt, FileTypeExt, OpenOptionsExt};
 use std::path::Path;
 
@@ -9,6 +10,8 @@ use std::path::Path;
 pub struct PageFile {
     file: File,
     page: u64,
+    // whether the system keeps copies of pages
+    is_cached: bool,
 }
 
 impl PageFile {
@@ -27,7 +30,7 @@ impl PageFile {
             TryLockError::Error(error) => OpenError::Io(error),
         })?;
         make_long(&mut file, pages * page)?;
-        Ok(PageFile { file, page })
+        Ok(PageFile { file, page, is_cached: !direct })
     }
 }
 
@@ -56,6 +59,34 @@ impl PageDevice for PageFile {
     fn write(&self, page: u32, bytes: &[u8]) -> io::Result<()> {
         self.file.write_all_at(bytes, u64::from(page) * self.page)
     }
+
+    fn read_now(&self, page: u32, out: &mut [u8]) -> Option<io::Result<()>> {
+        let is_read = self.is_cached && read_copy(&self.file, out, u64::from(page) * self.page);
+        is_read.then_some(Ok(()))
+    }
+}
+
+// Whether all of `out` was read from the system's copy of the file, without waiting for the disk.
+#[cfg(all(target_os = "linux", target_env = "gnu", target_pointer_width = "64"))]
+fn read_copy(file: &File, out: &mut [u8], at: u64) -> bool {
+    #[repr(C)]
+    struct Part {
+        to: *mut u8,
+        bytes: usize,
+    }
+    extern "C" {
+        fn preadv2(file: i32, parts: *const Part, count: i32, at: i64, flags: i32) -> isize;
+    }
+    const NO_WAIT: i32 = 8;
+    let part = Part { to: out.as_mut_ptr(), bytes: out.len() };
+    // SAFETY: the one part is `out`, of which the call writes no more than there is.
+    let read = unsafe { preadv2(file.as_raw_fd(), &part, 1, at as i64, NO_WAIT) };
+    usize::try_from(read) == Ok(out.len())
+}
+
+#[cfg(not(all(target_os = "linux", target_env = "gnu", target_pointer_width = "64")))]
+fn read_copy(_: &File, _: &mut [u8], _: u64) -> bool {
+    false
 }
 
 // Linux has another number for it on some processors.

@@ -1,3 +1,4 @@
+use crate::calls::Answer;
 use crate::hybrid::held_of;
 use crate::lease::{hit, Begun};
 use crate::shards::Locked;
@@ -36,9 +37,11 @@ impl<'a> GetAsync<'a> {
             }
             Found::Miss => Poll::Ready(Ok(None)),
             Found::Waits(call) => {
-                shards.begin(shard, state, call, waker)?;
-                self.call = Some((shard, call));
-                Poll::Pending
+                let begun = shards.begin(shard, state, call, waker);
+                if begun.is_pending() {
+                    self.call = Some((shard, call));
+                }
+                begun.map(value_of)
             }
         }
     }
@@ -51,7 +54,7 @@ impl<'a> GetAsync<'a> {
             Some(answer) => {
                 drop(state);
                 self.call = None;
-                Poll::Ready(Ok(held_of(answer?).map(Value::of).transpose()?))
+                Poll::Ready(value_of(answer))
             }
             None => {
                 let before = state.calls.task(call, waker);
@@ -61,6 +64,11 @@ impl<'a> GetAsync<'a> {
             }
         }
     }
+}
+
+// What a call that waited found.
+fn value_of(answer: Answer) -> Result<Option<Value>, Error> {
+    Ok(held_of(answer?).map(Value::of).transpose()?)
 }
 
 impl Future for GetAsync<'_> {
@@ -124,9 +132,13 @@ impl<'a> LeaseAsync<'a> {
             }
             Found::Waits(call) => {
                 let was_ours = self.begun.begin(&mut state);
-                shards.begin(shard, state, call, waker)?;
-                self.waits = Waits::Flash { call, was_ours };
-                Poll::Pending
+                match shards.begin(shard, state, call, waker) {
+                    Poll::Ready(answer) => self.answered(context, answer, was_ours),
+                    Poll::Pending => {
+                        self.waits = Waits::Flash { call, was_ours };
+                        Poll::Pending
+                    }
+                }
             }
         }
     }
@@ -143,6 +155,12 @@ impl<'a> LeaseAsync<'a> {
             return Poll::Pending;
         };
         drop(state);
+        self.answered(context, answer, was_ours)
+    }
+
+    // The call that waited is answered.
+    fn answered(&mut self, context: &Context<'_>, answer: Answer, was_ours: bool) -> Poll<Result<Lookup, Error>> {
+        let Begun { shards, shard, .. } = self.begun;
         self.waits = Waits::Nothing;
         if let Some(held) = held_of(answer?) {
             return Poll::Ready(hit(held));

@@ -94,14 +94,16 @@ impl HybridCache {
         self.find(key, |shards, shard, state, call| shards.fill_for(shard, state, call))
     }
 
-    /// The same for so long at most, and then [`Error::TimedOut`]: the call is given up. A filler makes its read.
+    /// The same for so long at most, and then [`Error::TimedOut`]: the call is given up. A filler makes its read, unless nobody has
+    /// to wait for that.
     pub fn get_timeout(&self, key: &[u8], limit: Duration) -> Result<Option<Value>, Error> {
         let until = Instant::now().checked_add(limit);
         self.find(key, |shards, shard, state, call| shards.wait_for(shard, state, call, until))
     }
 
-    /// The same as a future, for any executor: a filler makes its read, and wakes the task. Where the future is dropped, the
-    /// call is given up. The call begins when the future is polled first.
+    /// The same as a future, for any executor: a filler makes its read, and wakes the task, unless nobody has to wait for that
+    /// ([`PageDevice::read_now`]). Where the future is dropped, the call is given up. The call begins when the future is polled
+    /// first.
     pub fn get_async<'a>(&'a self, key: &'a [u8]) -> GetAsync<'a> {
         GetAsync::new(self, key)
     }

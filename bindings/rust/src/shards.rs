@@ -5,9 +5,10 @@ use crate::checked::{digest_of, Checked};
 use crate::loads::{after, Loads};
 use crate::numbers::Numbers;
 use crate::{Came, Clock, Engine, Error, Held, Operation, Refused, Take};
+use std::collections::VecDeque;
 use std::sync::atomic::{AtomicU64, Ordering::Relaxed};
 use std::sync::{Condvar, Mutex, MutexGuard, PoisonError, TryLockError};
-use std::task::Waker;
+use std::task::{Poll, Waker};
 use std::thread;
 use std::time::{Duration, Instant};
 
@@ -23,7 +24,15 @@ pub(crate) struct State {
     now: u64,
     // jobs of writers that are under way
     writing: usize,
+    // what tasks began, and fillers are to go on with
+    left: VecDeque<Left>,
     closed: bool,
+}
+
+// A job that somebody would have had to wait for: for the device, or for memory.
+enum Left {
+    Operation(u64, Operation),
+    Result(u64, Came),
 }
 
 /// A shard, on lines of the processor's memory of its own.
@@ -62,8 +71,8 @@ impl Shards {
                 None => Engine::new_shard_in_memory(&pools, numbers.shards)?,
             };
             engine.tick(now)?;
-            let state =
-                State { engine, calls: Calls::default(), loads: Loads::default(), now, writing: 0, closed: false };
+            let (calls, loads, left) = (Calls::default(), Loads::default(), VecDeque::new());
+            let state = State { engine, calls, loads, now, writing: 0, left, closed: false };
             Ok(Shard { state: Mutex::new(state), quiet: Condvar::new(), lock_waits: AtomicU64::new(0) })
         });
         let (page, pages) = numbers.flash.map_or((0, 0), |flash| (flash.page as usize, flash.pages() as u32));
@@ -143,9 +152,10 @@ impl Shards {
 
     /// Lets the shard go after a step that may have answered calls or made work: who waits for that is told.
     pub fn leave(&self, shard: usize, mut state: Locked<'_>) {
-        let State { engine, calls, loads, .. } = &mut *state;
+        let State { engine, calls, loads, left, .. } = &mut *state;
         calls.sweep(engine);
-        let has_fills = calls.is_owed() && (calls.is_held_up || engine.filler_has_work() != Ok(false));
+        let has_reads = calls.is_owed() && (calls.is_held_up || engine.filler_has_work() != Ok(false));
+        let has_fills = has_reads || !left.is_empty();
         let has_writes = self.device.is_some() && engine.writer_has_work() != Ok(false);
         let woken = [calls.woken(), loads.woken()];
         drop(state);
@@ -175,9 +185,11 @@ impl Shards {
         }
     }
 
-    /// Waits for the answer of a call that begins to wait, until this moment at most. The fillers make its read.
+    /// Waits for the answer of a call that begins to wait, until this moment at most. The fillers make the reads for which this
+    /// thread would have to wait.
     pub fn wait_for<'a>(&'a self, shard: usize, mut state: Locked<'a>, call: u64, until: Option<Instant>) -> Answer {
         state.calls.begin(call)?;
+        state = self.fill_now(shard, state, call);
         self.fillers.ring(shard);
         loop {
             if let Some(answer) = state.calls.take(call) {
@@ -194,14 +206,40 @@ impl Shards {
         }
     }
 
-    /// Lists a call that begins to wait and wakes this task, and has the fillers make its read.
-    pub fn begin(&self, shard: usize, mut state: Locked<'_>, call: u64, waker: Waker) -> Result<(), Refused> {
-        let begun = state.calls.begin(call);
+    /// Begins a call that waits: its answer, where nobody has to wait for its reads. Else the fillers make them, and the task is
+    /// woken.
+    pub fn begin<'a>(&'a self, shard: usize, mut state: Locked<'a>, call: u64, waker: Waker) -> Poll<Answer> {
+        if let Err(refused) = state.calls.begin(call) {
+            drop(state);
+            self.fillers.ring(shard);
+            return Poll::Ready(Err(Error::Refused(refused)));
+        }
+        state = self.fill_now(shard, state, call);
+        if let Some(answer) = state.calls.take(call) {
+            return Poll::Ready(answer);
+        }
         let before = state.calls.task(call, waker);
         drop(state);
         drop(before);
         self.fillers.ring(shard);
-        begun
+        Poll::Pending
+    }
+
+    // Makes reads as long as nobody has to wait for one, and the call isn't answered.
+    fn fill_now<'a>(&'a self, shard: usize, mut state: Locked<'a>, call: u64) -> Locked<'a> {
+        while state.calls.is_open(call) {
+            match state.engine.filler_take() {
+                Ok(Take::Idle) | Err(_) => break,
+                Ok(take) => {
+                    let is_done = self.complete_now(shard, state, take);
+                    state = self.lock(shard);
+                    if !is_done {
+                        break;
+                    }
+                }
+            }
+        }
+        state
     }
 
     /// Gives a call up.
@@ -252,6 +290,49 @@ impl Shards {
         }
     }
 
+    // The same as far as nobody has to wait: whether that was to its end. What is left goes to the fillers.
+    fn complete_now<'a>(&'a self, shard: usize, state: Locked<'a>, take: Take) -> bool {
+        let (mut state, mut take) = (state, take);
+        loop {
+            let (job, operation) = match take {
+                Take::Idle | Take::Finished => {
+                    self.leave(shard, state);
+                    return true;
+                }
+                Take::Untold(job) => (job, None),
+                Take::Work(job, operation) => (job, Some(operation)),
+            };
+            self.leave(shard, state);
+            let came = operation.map_or(Ok(Came::Failed), |operation| self.operate_now(shard, operation));
+            state = self.lock(shard);
+            let left = match came {
+                Err(operation) => Left::Operation(job, operation),
+                Ok(mut came) => match state.engine.finish(job, &mut came) {
+                    Err(Refused::NO_MEMORY) => Left::Result(job, came),
+                    next => {
+                        take = next.unwrap_or(Take::Finished);
+                        continue;
+                    }
+                },
+            };
+            state.left.push_back(left);
+            self.leave(shard, state);
+            return false;
+        }
+    }
+
+    // Goes on with what a task left.
+    fn resume<'a>(&'a self, shard: usize, state: Locked<'a>, left: Left) {
+        match left {
+            Left::Operation(job, operation) => self.complete(shard, state, Take::Work(job, operation)),
+            Left::Result(job, mut came) => {
+                drop(state);
+                let (take, state) = self.hand_in(shard, job, &mut came);
+                self.complete(shard, state, take);
+            }
+        }
+    }
+
     // Hands a result in, as often as memory lacks for it, and answers what is next of the job.
     fn hand_in(&self, shard: usize, job: u64, came: &mut Came) -> (Take, Locked<'_>) {
         loop {
@@ -273,6 +354,17 @@ impl Shards {
             Operation::Write(page, bytes) => self.write(self.place_of(shard, page), bytes),
         };
         came.unwrap_or(Came::Failed)
+    }
+
+    // What came of a read for which nobody has to wait. Any other operation is handed back.
+    fn operate_now(&self, shard: usize, operation: Operation) -> Result<Came, Operation> {
+        let (Operation::Read(page), Some(device)) = (&operation, &self.device) else { return Err(operation) };
+        let page = self.place_of(shard, *page);
+        let read = |out: &mut [u8]| {
+            let is_read = device.read_now(page, out)?;
+            Some(if is_read { Held::copy_of(out).map_or(Came::Failed, Came::Page) } else { Came::Failed })
+        };
+        with_page(self.page, read).flatten().ok_or(operation)
     }
 
     // The shard's page among those of all shards.
@@ -303,6 +395,10 @@ impl Shards {
                 drop(state);
                 thread::sleep(PAUSE);
                 self.leave(shard, self.lock(shard)); // (hands out what it can)
+                continue;
+            }
+            if let Some(left) = state.left.pop_front() {
+                self.resume(shard, state, left);
                 continue;
             }
             match state.engine.filler_take() {

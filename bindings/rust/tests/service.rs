@@ -61,6 +61,9 @@ struct Ram {
     is_full: AtomicBool,
     is_slow: AtomicBool,
     made: AtomicUsize,
+    // of so many reads one needs no waiting; 0: none does
+    one_of: AtomicUsize,
+    asked: AtomicUsize,
 }
 
 #[derive(Default)]
@@ -119,6 +122,16 @@ impl PageDevice for Handle {
         }
         self.0.pages.lock().unwrap().insert(page, bytes.to_vec());
         Ok(())
+    }
+
+    fn read_now(&self, page: u32, out: &mut [u8]) -> Option<io::Result<()>> {
+        let one_of = self.0.one_of.load(SeqCst);
+        if one_of == 0 || !self.0.asked.fetch_add(1, SeqCst).is_multiple_of(one_of) {
+            return None;
+        }
+        self.0.may_panic();
+        let pages = self.0.pages.lock().unwrap();
+        Some(pages.get(&page).map(|bytes| out.copy_from_slice(bytes)).ok_or(io::ErrorKind::NotFound.into()))
     }
 }
 
@@ -565,6 +578,74 @@ fn futures_are_answered() {
         ram.hang(false);
         assert_eq!(*waits.join().unwrap().unwrap().unwrap(), value(1, 0)[..]);
     });
+}
+
+#[test]
+fn what_need_not_be_waited_for_is_read_at_once() {
+    let (cache, ram) = over_ram(&small());
+    filled(&cache, 400);
+    ram.one_of.store(1, SeqCst);
+    let before = ram.made.load(SeqCst);
+    let mut waited = 0;
+    for number in 0..400 {
+        // (it waits where what was evicted for the one before is being written to the same bucket)
+        let key = key(number);
+        let mut future = pin!(cache.get_async(&key));
+        let found = match future.as_mut().poll(&mut Context::from_waker(Waker::noop())) {
+            Poll::Ready(found) => found,
+            Poll::Pending => {
+                waited += 1;
+                block_on(future)
+            }
+        };
+        assert_eq!(*found.unwrap().unwrap(), value(number, 0)[..]);
+    }
+    for number in 0..400 {
+        let found = cache.get_timeout(&key(number), Duration::from_secs(60)).unwrap();
+        assert_eq!(*found.unwrap(), value(number, 0)[..]);
+        let Lookup::Hit(found) = block_on(cache.get_or_lease_async(&key(number))).unwrap() else {
+            panic!("it is there")
+        };
+        assert_eq!(*found, value(number, 0)[..]);
+    }
+    let (made, all) = (ram.made.load(SeqCst) - before, cache.stats().device.reads as usize);
+    assert!(waited < 100 && made < all / 4, "{waited} waited, {made} of {all} reads");
+    assert!(matches!(block_on(cache.get_or_lease_async(b"none")), Ok(Lookup::Miss(_))));
+    ram.panics.store(true, SeqCst);
+    assert!((0..400).any(|number| cache.get_timeout(&key(number), Duration::from_secs(60)) == Ok(None)));
+    ram.panics.store(false, SeqCst);
+}
+
+#[test]
+fn a_read_that_would_have_to_wait_is_left_to_a_filler() {
+    let (cache, ram) = over_ram(&small());
+    filled(&cache, 400);
+    for one_of in [2, 3, 5] {
+        ram.one_of.store(one_of, SeqCst);
+        let before = (ram.made.load(SeqCst), cache.stats().device.reads);
+        thread::scope(|scope| {
+            for first in 0..8 {
+                let cache = &cache;
+                scope.spawn(move || {
+                    for number in (0..800).map(|number| (number * 7 + first) % 400) {
+                        let key = key(number);
+                        if number % 5 == first % 5 {
+                            let _ = pin!(cache.get_async(&key)).poll(&mut Context::from_waker(Waker::noop()));
+                        }
+                        assert_eq!(*block_on(cache.get_async(&key)).unwrap().unwrap(), value(number, 0)[..]);
+                    }
+                });
+            }
+        });
+        let by_fillers = ram.made.load(SeqCst) - before.0;
+        let all = (cache.stats().device.reads - before.1) as usize;
+        assert!(0 < by_fillers && by_fillers < all, "{by_fillers} of {all}");
+    }
+    ram.one_of.store(0, SeqCst);
+    assert_eq!(cache.stats().waiting, 0);
+    cache.flush().unwrap();
+    filled(&cache, 400); // (no job of a region is left behind)
+    assert_eq!(cache.get(&key(1)).unwrap().as_deref(), Some(&value(1, 0)[..]));
 }
 
 #[test]
