@@ -2,13 +2,18 @@
 #![tactic(auto)]
 
 mod badges;
+mod metered;
 mod profiles;
+mod renewing;
 mod worker;
 
 use crate::badges::badge;
+use crate::metered::{Metered, comes_back};
 use crate::profiles::{open, print_state, profile};
+use crate::renewing::forget;
 use crate::worker::Worker;
 use hc_core::{Core, Counting};
+use hc_flash::MemFlash;
 use std::{fs, io};
 
 // The file of the cache's pages.
@@ -59,7 +64,7 @@ fn day(
     }
     print_badge(rt, cache, "badge:ada", "Ada")?;
     print_badge(rt, cache, "badge:bob", "Bob of the hill beyond the river")?;
-    if let Err(refusal) = cache.delete(b"bob") {
+    if let Err(refusal) = forget(cache, b"bob") {
         println!(rt; "{refusal}")?;
     }
     print_state(rt, cache)
@@ -71,10 +76,24 @@ fn with_cache(rt: &(impl Print + Eprint + AllocGlobal), mut worker: Worker) -> i
         return eprintln!(rt; "no cache");
     };
     day(rt, &mut cache, &mut worker)?;
+    let (reads, writes) = worker.meter();
+    println!(rt; "the device read {reads} pages and wrote {writes}")?;
     println!(rt; "failures of the device: {}", worker.failures())
 }
 
+// A page of a device in memory, under the service's meter, comes back as it was written.
+fn try_memory(rt: &(impl Print + Eprint + AllocGlobal)) -> io::Result<()> {
+    let Ok(memory) = MemFlash::new(rt.alloc(), 1, 4) else {
+        return eprintln!(rt; "no memory");
+    };
+    match comes_back(&mut Metered::new(memory), 0, b"page") {
+        Ok(same) => println!(rt; "a page comes back as it was written: {same}"),
+        Err(error) => println!(rt; "{error}"),
+    }
+}
+
 fn main(rt: HostRuntime) -> io::Result<()> {
+    try_memory(&rt)?;
     match Worker::new(&rt, rt.alloc(), FILE) {
         Ok(worker) => with_cache(&rt, worker)?,
         Err(error) => return eprintln!(rt; "no device: {error}"),

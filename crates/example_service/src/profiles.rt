@@ -1,4 +1,6 @@
 // Profiles of users, from a cache before a database.
+ghost use Rattle.std.specs.Prelude.{◌≡◌, IfOk};
+
 use crate::worker::Worker;
 use hc_core::{Config, Core, Counting, FlashConfig, Found, PoolSize, Refusal, Reply, Said};
 use std::alloc::{AllocError, Global};
@@ -7,7 +9,8 @@ use std::io;
 /// The one pool has room for three profiles.
 pub const POOL: u8 = 0;
 
-const SIZE: PoolSize = PoolSize {
+/// Its limits.
+pub const SIZE: PoolSize = PoolSize {
     bytes: 200,
     items: 10,
 };
@@ -30,7 +33,9 @@ const FLASH: FlashConfig = FlashConfig {
 pub const HOUR: u32 = 3600;
 
 /// An empty cache, whose clock stands at the second `now`.
-pub fn open(alloc: Global, now: u64) -> Result<Core<Counting>, Refusal> {
+pub fn open(alloc: Global, now: u64) -> Result<Core<Counting>, Refusal>
+    ensures clock { IfOk result (λ cache. cache.cache.now ≡ now) }
+{
     let pools = Vec::from_slice(alloc, [SIZE].as_slice())?;
     let config = Config::new(pools, Some(FLASH));
     let mut cache = Core::new(alloc, &config, Counting::new(alloc))?;

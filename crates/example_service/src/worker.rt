@@ -1,4 +1,5 @@
 // The worker of a cache: it takes jobs, does their operations on the device, and hands in what came of them.
+use crate::metered::Metered;
 use hc_core::{Core, Counting, IoResult, Order, Refusal, Take, Unfinished};
 use hc_paged::{Checked, Device, FileDevice, Folded, OpenError, open, operate};
 use std::alloc::Global;
@@ -11,8 +12,8 @@ const PAGES: u32 = 16;
 
 const PAGE: u32 = 512;
 
-// A file, and the digest of each of its pages: what the disk lost or tore isn't served.
-type Disk = Checked<FileDevice<File>, Folded>;
+// A file, and the digest of each of its pages: what the disk lost or tore isn't served. Over it a meter of the service's own.
+type Disk = Metered<Checked<FileDevice<File>, Folded>>;
 
 // The device does one operation. One that it can't do for want of memory has failed: the cache does without it.
 fn make(device: &mut Disk, order: &Order) -> IoResult {
@@ -38,7 +39,10 @@ impl Worker {
     ) -> Result<Worker, OpenError> {
         let file = open(rt, alloc, path, PAGES, PAGE)?;
         match Checked::new(alloc, file, Folded, PAGES) {
-            Ok(device) => Ok(Worker { device, owed: None }),
+            Ok(device) => Ok(Worker {
+                device: Metered::new(device),
+                owed: None,
+            }),
             Err(_) => Err(OpenError::System(io::Error::from(ErrorKind::OutOfMemory))),
         }
     }
@@ -46,6 +50,11 @@ impl Worker {
     /// How often the device failed so far: not at all, unless the disk is full or broken.
     pub fn failures(&self) -> u64 {
         self.device.failures()
+    }
+
+    /// How many pages were read so far, and how many written.
+    pub fn meter(&self) -> (u64, u64) {
+        (self.device.reads(), self.device.writes())
     }
 
     // Hands in what came of a job's operation: what is next of the job.
