@@ -65,13 +65,13 @@ fn what_was_loaded_before_a_delete_is_not_stored_in_its_shard(rt: HostRuntime) {
     let mut loader = client(&rt, &shards);
     let mut other = client(&rt, &shards);
     let row = key(&rt, rt.alloc(), NAME);
-    assert!(&rt; other.count() == usize::from(shards.count()));
 
     let early = ask(&rt, &shards, &mut loader);
     let early = early
         .expect(&rt, "there is memory")
         .expect(&rt, "the turn is its own");
     assert!(&rt; matches!(ask(&rt, &shards, &mut other), Ok(None)));
+    assert!(&rt; other.count() == usize::from(shards.count()));
     assert!(&rt; other.remove(&rt, &shards, &row).is_ok());
     shards.await_load(&rt, &row, PATIENCE);
     assert!(&rt; !store(&rt, &shards, &mut loader, early));

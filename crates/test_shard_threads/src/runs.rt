@@ -19,7 +19,7 @@ struct Rounds {
 impl Script for Rounds {
     fn play<R: Abort + Wait>(&self, rt: &R, shards: &Shards<Kept>, player: &mut Player) {
         for round in 0..16_u8 {
-            let name = [b'k', player.number as u8, round];
+            let name = [b'k', player.number, round];
             set(
                 rt,
                 shards,

@@ -37,7 +37,7 @@ pub trait Script: Copy {
 /// A client with its number.
 #[derive(Drop)]
 pub struct Player {
-    pub number: usize,
+    pub number: u8,
     pub client: ShardClient,
 }
 
@@ -45,7 +45,7 @@ pub struct Player {
 pub fn shards(rt: &impl Abort, alloc: Global, count: u8, items: u64) -> Shards<Kept> {
     let size = PoolSize {
         bytes: 100_000 * u64::from(count),
-        items: items * u64::from(count),
+        items: items.saturating_mul(u64::from(count)),
     };
     let pools = Vec::from_slice(alloc, [size].as_slice()).expect(rt, "there is memory");
     let sharded = Sharded {
@@ -63,7 +63,7 @@ pub fn players<R: Abort + Wait>(
     rt: &R,
     alloc: Global,
     shards: &Shards<Kept>,
-    count: usize,
+    count: u8,
 ) -> Vec<Player> {
     let mut players = Vec::new(alloc);
     for number in 0..count {
