@@ -199,25 +199,27 @@ fn a_load_that_never_ends_is_another_s_after_the_limit(rt: HostRuntime) {
     let shared = in_memory(&rt, alloc);
     let name = row(&rt, alloc);
     let waiting = AtomicU64::new(0);
+    let mut dead = client(&rt, alloc, &shared);
     let mut clients = Vec::new(alloc);
-    for _ in 0..3 {
+    for _ in 0..2 {
         clients
             .push(client(&rt, alloc, &shared))
             .expect(&rt, "there is memory");
     }
-    match clients[0].find_or_load(&rt, &shared, &name, PATIENCE) {
+    match dead.find_or_load(&rt, &shared, &name, PATIENCE) {
         Ok(Looked::Miss(Some(_))) => {}
         _ => panic!(&rt; "the turn is its own"),
     }
     thread::for_each_mut(
         &rt,
         clients.as_mut_slice(),
-        3,
+        2,
         &|_, client| {
             wait_for_the_dead(&rt, &shared, client, &name, &waiting);
         },
     );
-    assert!(&rt; is_found(&rt, &shared, &mut clients[0], &name));
+    assert!(&rt; is_found(&rt, &shared, &mut dead, &name));
+    clients.push(dead).expect(&rt, "there is memory");
     assert!(&rt; shared.close(&clients, 0).is_ok());
 }
 
