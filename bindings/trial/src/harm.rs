@@ -10,7 +10,7 @@ use std::thread;
 use std::time::Duration;
 
 const PAGE: usize = 4096;
-// As many pages are kept: one of three rounds adds one, so that half a second passes.
+// As many pages are kept: one of three rounds adds one, so that half a second passes at least.
 const OLD: usize = 166;
 
 const PAUSE: Duration = Duration::from_millis(1);
@@ -21,9 +21,9 @@ struct Old {
     bytes: [u8; PAGE],
 }
 
-/// Until this ends, a thousand times a second one of the file's pages has a byte flipped, is zeroed, or gets what it had half a
-/// second before, as if no write since then had been made; and once a second the file is cut, and then is as long as before.
-/// Answers how often.
+/// Until this ends, at most a thousand times a second one of the file's pages has a byte flipped, is zeroed, or gets what it had
+/// half a second or more before, as if no write since then had been made; and of a thousand times one cuts the file, which then
+/// is as long as before. Answers how often.
 pub fn harm(place: &Path, ends: &AtomicBool) -> io::Result<u64> {
     let file = OpenOptions::new().read(true).write(true).open(place)?;
     let bytes = file.metadata()?.len();

@@ -134,6 +134,11 @@ fn main() -> ExitCode {
     let [of, cache, ..] = &words[..] else { usage() };
     let (percent, seconds) = (number(&words, 2), number(&words, 3));
     let threads = if words.len() > 4 { number(&words, 4) } else { 8 };
+    let is_harmed = match words.get(5).map(String::as_str) {
+        None => false,
+        Some("harm") => true,
+        Some(_) => usage(),
+    };
     let databases = database::open(of, threads, ROWS).unwrap_or_else(|| usage());
     let zipf = Zipf::new(ROWS, 0.9);
     let least = (0..ROWS).map(|_| AtomicU64::new(0)).collect();
@@ -143,7 +148,6 @@ fn main() -> ExitCode {
     let trial = Trial { caches, zipf, least, percent, ends: AtomicBool::new(false) };
     let begin = Instant::now();
     let (did, harmed) = thread::scope(|scope| {
-        let is_harmed = words.get(5).is_some_and(|word| word == "harm");
         let harming = is_harmed.then(|| scope.spawn(|| harm(&place, &trial.ends)));
         let serve = |(seed, mut database): (u64, Box<dyn Database>)| {
             let trial = &trial;
@@ -172,6 +176,6 @@ fn main() -> ExitCode {
     }
     trial.caches.close();
     let _ = fs::remove_file(&place);
-    let may_be_stale = cache != "leases";
-    ExitCode::from(u8::from(wrong > 0 || stale > 0 && !may_be_stale))
+    let is_stale = cache == "leases" && stale > 0;
+    ExitCode::from(u8::from(wrong > 0 || is_stale))
 }
