@@ -8,9 +8,10 @@ use std::fs::{self, Permissions};
 use std::future::Future;
 use std::io::{self, Write};
 use std::net::SocketAddr;
-use std::os::unix::fs::{FileTypeExt, PermissionsExt};
+use std::os::unix::fs::{DirBuilderExt, FileTypeExt, PermissionsExt};
 use std::os::unix::net as unix;
 use std::path::Path;
+use std::process;
 use std::sync::atomic::{AtomicUsize, Ordering::Relaxed};
 use std::sync::Arc;
 use std::thread;
@@ -65,15 +66,32 @@ impl Sockets {
     }
 }
 
-// The socket of a server that has ended is in the way.
+// A socket of this name for the server's user alone. That of a server that has ended is in the way. It is made in a folder that
+// nobody else may enter, and has its rights before it has its name: no other user can connect in between.
 fn open_unix(path: &Path) -> io::Result<unix::UnixListener> {
     let is_socket = fs::symlink_metadata(path).is_ok_and(|it| it.file_type().is_socket());
     if is_socket && unix::UnixStream::connect(path).is_err() {
         fs::remove_file(path)?;
     }
-    let listener = unix::UnixListener::bind(path)?;
-    fs::set_permissions(path, Permissions::from_mode(0o700))?;
-    Ok(listener)
+    let folder = path.with_file_name(format!(".{}", process::id()));
+    fs::DirBuilder::new().mode(0o700).create(&folder)?;
+    let made = bind_within(&folder.join("s"), path);
+    fs::remove_dir(&folder)?;
+    made
+}
+
+// (a link is refused where the name is taken, by a server that lives or by another file)
+fn bind_within(inner: &Path, path: &Path) -> io::Result<unix::UnixListener> {
+    let listener = unix::UnixListener::bind(inner)?;
+    let named = fs::set_permissions(inner, Permissions::from_mode(0o700)).and_then(|()| fs::hard_link(inner, path));
+    fs::remove_file(inner)?;
+    match named {
+        Ok(()) => Ok(listener),
+        Err(error) if error.kind() == io::ErrorKind::AlreadyExists => {
+            Err(io::Error::new(io::ErrorKind::AddrInUse, format!("{} is there already", path.display())))
+        }
+        Err(error) => Err(error),
+    }
 }
 
 /// Serves clients until `stop` is over. Then none is let in any more, and those that are there have so long to send what they have

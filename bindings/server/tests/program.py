@@ -76,7 +76,40 @@ def has_a_unix_socket():
             client.connect(path)
             client.sendall(b"mn\r\n")
             assert client.recv(100) == b"MN\r\n"
+            # a server that lives isn't put out by another
+            second = subprocess.run([binary(), "--port", "0", "--unix", path], capture_output=True)
+            assert second.returncode != 0 and f"{path} is there already".encode() in second.stderr, second
+            client.sendall(b"mn\r\n")
+            assert client.recv(100) == b"MN\r\n"
+        assert os.listdir(folder) == ["socket"], os.listdir(folder)
     shutil.rmtree(folder)
+
+
+def has_a_socket_of_its_own_from_the_first():
+    """The unix socket never has other rights than its user's, whatever umask says."""
+    folder = tempfile.mkdtemp()
+    before = os.umask(0)
+    try:
+        for number in range(10):
+            path, modes, ends = os.path.join(folder, f"socket{number}"), set(), threading.Event()
+            watch = threading.Thread(target=watch_modes, args=(path, modes, ends))
+            watch.start()
+            with kilambosetryd("--unix", path):
+                ends.set()
+                watch.join()
+            assert modes == {0o700}, modes
+    finally:
+        os.umask(before)
+    shutil.rmtree(folder)
+
+
+def watch_modes(path, modes, ends):
+    """Adds the rights that a file has, as long as it is watched."""
+    while not ends.is_set():
+        try:
+            modes.add(os.stat(path).st_mode & 0o777)
+        except FileNotFoundError:
+            pass
 
 
 def has_a_page():
@@ -156,7 +189,8 @@ def main():
     """Tries all of it."""
     drains(signal.SIGTERM)
     drains(signal.SIGINT)
-    for check in (ends_in_the_midst_of_a_load, has_a_unix_socket, has_a_page, has_flash, refuses, runs_as_a_plain_user, is_capable):
+    sockets = (has_a_unix_socket, has_a_socket_of_its_own_from_the_first, has_a_page)
+    for check in (ends_in_the_midst_of_a_load, *sockets, has_flash, refuses, runs_as_a_plain_user, is_capable):
         check()
     print("the program: does what it says")
 
