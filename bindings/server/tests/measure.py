@@ -4,7 +4,7 @@
     measure.py [SECONDS [ROUNDS]]
 
 In memory: memcaslap (nine gets to a set, 1,024 bytes), and the load of examples/load.rs, all of whose keys fit, one command at a
-time and 32 at once. On flash: the same load over four times as many bytes as the memory has, beside memcached's extstore where
+time and 32 at once. On flash: the same loads over four times as many bytes as the memory has, beside memcached's extstore where
 memcached has it; of both files the system has copies in memory. Servers take turns, each anew for each load, with four threads; the best of the rounds
 stands.
 """
@@ -89,6 +89,7 @@ def main():
     folder = tempfile.mkdtemp()  # (the system keeps copies of what the files have, so that it is the servers that are measured)
     os.chmod(folder, 0o777)
     compare("Zipf, four times the memory", on_flash(folder), by_load(large, 1000, 32, 1, SECONDS))
+    compare("the same, 32 commands at once", on_flash(folder), by_load(large, 1000, 8, 32, SECONDS))
     shutil.rmtree(folder)
 
 
