@@ -3,7 +3,7 @@ ghost use Rattle.std.specs.Prelude.{◌≡◌, ◌⊎◌, Some, IfOk, OnErr, IfE
 ghost use Rattle.hc_types.specs.Limits.{key_refusal};
 ghost use Rattle.hc_memory.specs.Memory.{linked_at};
 ghost use Rattle.hc_machine.specs.Calls.{remove as remove_step, remove_reply};
-ghost use Rattle.hc_state.specs.Removing.{removed_reply};
+ghost use Rattle.hc_state.specs.remove.Answer.{removed_reply};
 ghost use Rattle.hc_core.specs.Answers.{removed_answer};
 ghost use Rattle.hc_core.specs.Logged.{IsCall};
 

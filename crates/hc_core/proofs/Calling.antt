@@ -8,8 +8,8 @@ use Rattle.hc_memory.specs.Memory.{handle_for}
 use Rattle.hc_machine.specs.items.Allocating.{refusal_of, expiry_of}
 use Rattle.hc_machine.specs.Cache.{Cache, Moved, Answer, Opened, Discarded}
 use Rattle.hc_machine.specs.Evicting.{make_charge, allocate_by, allocate}
-use Rattle.hc_state.specs.Allocating.{Opens}
-use Rattle.hc_state.specs.Answering.{refusal_in, IsReason}
+use Rattle.hc_state.specs.allocate.Charge.{Opens}
+use Rattle.hc_state.specs.Answers.{refusal_in, IsReason}
 use Rattle.hc_state.specs.Whole.{Whole, Stays, IsStep, IsUnchanged}
 use Rattle.hc_core.specs.Logged.{IsCall, logged_of}
 

@@ -18,8 +18,8 @@ use Rattle.hc_machine.specs.Evicting.{allocate_by, allocate}
 use Rattle.hc_machine.specs.Waiting.{live}
 use Rattle.hc_machine.specs.Calls.{begin, store, wait_for, in_memory, must_wait, is_known, discard, insert_or_replace, insert}
 use Rattle.hc_machine.specs.World.{then_inserted, inserted, given_up, put_new}
-use Rattle.hc_state.specs.Answering.{refusal_in, IsReason}
-use Rattle.hc_state.specs.Inserting.{inserted_answer}
+use Rattle.hc_state.specs.Answers.{refusal_in, IsReason}
+use Rattle.hc_state.specs.store.Insert.{inserted_answer}
 use Rattle.hc_state.specs.declared.answers.Inserted.{Inserted}
 use Rattle.hc_state.specs.declared.answers.Inserted.TheVariants.{Stored, Waiting}
 use Rattle.hc_core.specs.Logged.{Logged, IsCall}

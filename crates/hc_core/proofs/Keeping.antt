@@ -17,11 +17,11 @@ use Rattle.hc_theorem.specs.runs.Lock.{Guarded}
 use Rattle.hc_theorem.specs.runs.Events.{Event, Allocates, Inserts, Adds, Discards, Finds, Removes, Replies, Ticks, Writes, Fills, Reclaims, Finishes, act}
 use Rattle.hc_proof.proofs.structure.Calls as clients
 use Rattle.hc_proof.proofs.structure.Workers as workers
-use Rattle.hc_state.specs.Owing.{OwesBegun}
-use Rattle.hc_state.specs.Setting.{set_step, give_up_step, is_awaited, is_brief}
+use Rattle.hc_state.specs.wait.Begin.{OwesBegun}
+use Rattle.hc_state.specs.set.Short.{set_step, give_up_step, is_awaited, is_brief}
 use Rattle.hc_state.specs.Whole.{Whole, Stays, IsStep, IsUnchanged}
 use Rattle.hc_state.proofs.Begun as calls
-use Rattle.hc_state.proofs.Finds.{stays-unchanged}
+use Rattle.hc_state.proofs.Unchanged.{stays-unchanged}
 use Rattle.hc_core.specs.Events.{EventFits}
 use Rattle.hc_core.specs.Holds.{AreShort, Holds}
 use Rattle.hc_core.proofs.Short.{stays-short}

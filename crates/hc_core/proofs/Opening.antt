@@ -8,7 +8,7 @@ use Rattle.hc_machine.specs.Waiting.{free}
 use Rattle.hc_machine.specs.Evicting.{make_charge}
 use Rattle.hc_machine.specs.Calls.{is_kept_in, is_known}
 use Rattle.hc_invariant.specs.Structure.{Structured}
-use Rattle.hc_state.specs.Allocating.{Opens}
+use Rattle.hc_state.specs.allocate.Charge.{Opens}
 use Rattle.hc_state.specs.Whole.{Whole}
 use Rattle.hc_state.proofs.Unkept.{unkept}
 

@@ -5,7 +5,7 @@ use Rattle.hc_memory.specs.Item.{Open}
 use Rattle.hc_history.specs.Told.{IfLog}
 use Rattle.hc_invariant.specs.Structure.{Structured}
 use Rattle.hc_theorem.specs.runs.Lock.{Guarded}
-use Rattle.hc_state.specs.Owing.{OwesBegun}
+use Rattle.hc_state.specs.wait.Begin.{OwesBegun}
 use Rattle.hc_state.specs.Whole.{Whole, IsReady}
 
 -- the charge is for an item that is longer than an item may be

@@ -5,8 +5,8 @@ use Rattle.hc_types.specs.declared.refusal.Refusal.TheVariants.{Exists, NoMemory
 use Rattle.hc_machine.specs.Cache.{Cache, Moved, Answer}
 use Rattle.hc_machine.specs.World.{inserted, put_new}
 use Rattle.hc_machine.specs.Evicting.{allocate}
-use Rattle.hc_state.specs.Answering.{refusal_in}
-pub use Rattle.hc_state.specs.Setting.{set_step, give_up_step, MayRefuse}
+use Rattle.hc_state.specs.Answers.{refusal_in}
+pub use Rattle.hc_state.specs.set.Short.{set_step, give_up_step, MayRefuse}
 
 -- an item is allocated that begins as the value, and inserted, where no unexpired value is replaced: where the key has one in
 -- memory, the item is given up

@@ -8,9 +8,9 @@ ghost use Rattle.hc_memory.specs.Seen.{filled};
 ghost use Rattle.hc_machine.specs.Cache.{new_cache, Opened, Discarded, Replied, Moment, Refused};
 ghost use Rattle.hc_machine.specs.Evicting.{allocate as allocate_step};
 ghost use Rattle.hc_machine.specs.Calls.{is_known, discard as discard_step, find as find_step, take_reply as reply_step, tick as tick_step};
-ghost use Rattle.hc_state.specs.Answering.{IsNextReply, IsReason};
-ghost use Rattle.hc_state.specs.Copying.{copied_by, left_by};
-ghost use Rattle.hc_state.specs.Finding.{found_answer};
+ghost use Rattle.hc_state.specs.Answers.{IsNextReply, IsReason};
+ghost use Rattle.hc_state.specs.find.Copy.{copied_by, left_by};
+ghost use Rattle.hc_state.specs.find.Answer.{found_answer};
 ghost use Rattle.hc_core.specs.Holds.{Holds};
 ghost use Rattle.hc_core.specs.Logged.{IsCall, logged_of};
 

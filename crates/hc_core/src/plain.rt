@@ -8,7 +8,7 @@ ghost use Rattle.hc_machine.specs.Cache.{Discarded, Opened, Replied, Refused};
 ghost use Rattle.hc_machine.specs.Evicting.{allocate as allocate_step};
 ghost use Rattle.hc_machine.specs.Calls.{is_known, discard as discard_step, insert_or_replace as insert_or_replace_step, find as find_step, remove as remove_step};
 ghost use Rattle.hc_machine.specs.World.{put_new};
-ghost use Rattle.hc_state.specs.Setting.{is_brief as is_brief_seen};
+ghost use Rattle.hc_state.specs.set.Short.{is_brief as is_brief_seen};
 ghost use Rattle.hc_core.specs.Answers.{IsReason, found_answer, copied_by, left_by, inserted_answer, removed_answer};
 ghost use Rattle.hc_core.specs.Logged.{IsCall};
 ghost use Rattle.hc_core.specs.Plain.{set_step, add_step, give_up_step, MayRefuse, MayRefuseNew};

@@ -3,9 +3,9 @@ ghost use Rattle.std.specs.Prelude.{◌≡◌, IfOk, OnOk, OnErr, IfErr};
 ghost use Rattle.hc_history.specs.Note.{Stored};
 ghost use Rattle.hc_machine.specs.Cache.{Replied};
 ghost use Rattle.hc_machine.specs.Calls.{insert_or_replace as insert_or_replace_step, insert as insert_step, remove as remove_step};
-ghost use Rattle.hc_state.specs.Answering.{IsReason};
-ghost use Rattle.hc_state.specs.Inserting.{inserted_answer};
-ghost use Rattle.hc_state.specs.Removing.{removed_answer};
+ghost use Rattle.hc_state.specs.Answers.{IsReason};
+ghost use Rattle.hc_state.specs.store.Insert.{inserted_answer};
+ghost use Rattle.hc_state.specs.remove.Answer.{removed_answer};
 ghost use Rattle.hc_state.specs.Whole.{MayLack};
 ghost use Rattle.hc_core.specs.Logged.{IsCall};
 

@@ -4,7 +4,7 @@ ghost use Rattle.hc_machine.specs.Cache.{Took, Reclaimed};
 ghost use Rattle.hc_flash.specs.Seen.{result_of};
 ghost use Rattle.hc_machine.specs.Workers.{writer_take as writer_step, filler_take as filler_step, finish as finish_step, reclaim as reclaim_step};
 ghost use Rattle.hc_nvm.specs.Seen.{take_of};
-ghost use Rattle.hc_state.specs.Answering.{IsReason, is_work};
+ghost use Rattle.hc_state.specs.Answers.{IsReason, is_work};
 ghost use Rattle.hc_core.specs.Logged.{IsCall};
 
 use crate::cache::Core;

@@ -20,8 +20,8 @@ use Rattle.hc_machine.specs.Waiting.{freed_note, clear, uproot, plant, free, liv
 use Rattle.hc_machine.specs.Calls.{begin, replies_then, wait_in, wait_for, is_known, discard, store, insert_or_replace, in_memory, must_wait, add, insert, used, find_now, find, remove, take_of, take_reply, tick}
 use Rattle.hc_machine.specs.Workers.{can_link, link_clean, bring, fill, after_take, take_on, writer_take, filler_take, reclaim_on, reclaim, after_finish, finish_on, finish}
 use Rattle.hc_waiting.specs.Replies.{AreBefore}
-use Rattle.hc_state.specs.Owing.{OwesBegun}
-use Rattle.hc_state.proofs.Owed.{before-more, before-with, before-less, before-anew}
+use Rattle.hc_state.specs.wait.Begin.{OwesBegun}
+use Rattle.hc_state.proofs.wait.Owed.{before-more, before-with, before-less, before-anew}
 
 -- a part of a step brings no new call, and owes nobody more
 record Keeps (cache : Cache) (told : Told) : Type 0 where

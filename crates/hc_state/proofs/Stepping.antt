@@ -20,10 +20,10 @@ use Rattle.hc_invariant.specs.Structure.{Structured}
 use Rattle.hc_waiting.specs.Fills as fills
 use Rattle.hc_nvm.specs.Taking.{IsTaken}
 use Rattle.hc_nvm.specs.Starting.{IsReclaimed}
-use Rattle.hc_state.specs.Owing.{keeps_in}
+use Rattle.hc_state.specs.wait.Begin.{keeps_in}
 use Rattle.hc_state.specs.Whole.{Whole, IsReady, IsStep}
-use Rattle.hc_state.proofs.Frees.{length-closed}
-use Rattle.hc_state.proofs.Known.{keeps-known}
+use Rattle.hc_state.proofs.allocate.Frees.{length-closed}
+use Rattle.hc_state.proofs.allocate.Known.{keeps-known}
 use Rattle.hc_state.proofs.Works.{unmarked-charges, unfilled-cache, unfilled-part}
 
 -- ---- the clock

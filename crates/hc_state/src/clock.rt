@@ -5,7 +5,7 @@ ghost use Rattle.hc_machine.specs.Cache.{Moment};
 ghost use Rattle.hc_machine.specs.Calls.{tick as tick_step};
 ghost use Rattle.hc_state.specs.Whole.{IsReady, IsStep, Stays};
 
-use crate::beginning::room_for_notes;
+use crate::begin::room_for_notes;
 use crate::state::State;
 use hc_history::{Note, Notes, Said};
 use hc_types::Refusal;

@@ -1,41 +1,22 @@
 //! A cache of pools with flash behind them, and the parts of which its steps are made: each is the machine's.
 #![tactic(auto)]
 
-mod allocating;
+mod allocate;
 mod answers;
-mod beginning;
-mod bringing;
-mod clearing;
+mod begin;
 mod clock;
-mod copying;
-mod discarding;
-mod ending;
-mod ends;
-mod entries;
-mod evicting;
-mod filling;
-mod finding;
-mod finishing;
-mod flash;
-mod inserting;
-mod linking;
-mod marking;
-mod planning;
-mod preparing;
+mod fill;
+mod find;
 mod reading;
-mod removing;
-mod replying;
-mod reserving;
-mod serving;
-mod setting;
+mod remove;
+mod set;
 mod state;
-mod storing;
-mod superseding;
+mod store;
 mod tells;
-mod waiting;
-mod working;
+mod wait;
+mod workers;
 
 pub use answers::{Copied, Found, Inserted, Removed, Unlinked};
-pub use planning::There;
-pub use serving::Course;
 pub use state::State;
+pub use wait::commit::Course;
+pub use wait::plan::There;

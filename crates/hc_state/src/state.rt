@@ -39,6 +39,11 @@ impl<N: Listener, A: Allocator> Model for State<N, A> {
     ghost view = { λ s. record { cache = record { config = s.config; memory = s.pools; now = s.clock; calls = s.calls; owed = s.replies; nvm = nvm_of s.nvm }; log = N.told s.notes; notes = N.room s.notes; spare = spare_of s.nvm } };
 }
 
+/// What allocates the lists of the configuration, and so all of the cache.
+pub(crate) fn alloc_of<A: Allocator + Copy>(config: &Config<A>) -> A {
+    *config.pools.allocator()
+}
+
 /// What waits for flash, where there is flash: nothing yet.
 fn empty_nvm<A: Allocator + Clone + Copy>(
     alloc: A,

@@ -3,7 +3,7 @@ ghost use Rattle.std.specs.Prelude.{◌≡◌, ◌+◌, ◌<◌, ◌≤◌, [], 
 ghost use Rattle.hc_history.specs.Note.{Did, End, Charged, Linked};
 ghost use Rattle.hc_history.specs.Seen.{reply_of};
 ghost use Rattle.hc_history.specs.Told.{told_more};
-ghost use Rattle.hc_state.specs.Telling.{freed_notes};
+ghost use Rattle.hc_state.specs.Tells.{freed_notes};
 
 use hc_history::{Note, Notes, Reply, Said};
 use hc_types::Key;

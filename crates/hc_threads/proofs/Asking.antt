@@ -12,7 +12,7 @@ use Rattle.hc_machine.specs.Cache.{Cache, Told, Refused, Opened, Replied, Waits,
 use Rattle.hc_machine.specs.Evicting.{allocate_by, allocate, handle_for}
 use Rattle.hc_machine.specs.Waiting.{live}
 use Rattle.hc_machine.specs.Calls.{insert, insert_or_replace, in_memory, is_known, must_wait}
-use Rattle.hc_state.specs.Answering.{IsReason}
+use Rattle.hc_state.specs.Answers.{IsReason}
 use Rattle.hc_core.specs.Plain.{MayRefuse}
 use Rattle.hc_threads.specs.Asked.{IsAsked, RefusesAllocation, RefusesInsert, RefusesAdd}
 

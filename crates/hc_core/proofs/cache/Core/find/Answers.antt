@@ -1,4 +1,4 @@
-use Rattle.hc_state.specs.Finding.{found_answer}
+use Rattle.hc_state.specs.find.Answer.{found_answer}
 use Rattle.hc_theorem.specs.runs.Events.{Finds}
 use Rattle.hc_core.proofs.Keeping.{call-holds}
 use Rattle.hc_core.proofs.Calling.{called, unchanged}

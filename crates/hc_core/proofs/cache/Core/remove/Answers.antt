@@ -1,4 +1,4 @@
-use Rattle.hc_state.specs.Removing.{removed_answer}
+use Rattle.hc_state.specs.remove.Answer.{removed_answer}
 use Rattle.hc_theorem.specs.runs.Events.{Removes}
 use Rattle.hc_core.proofs.Keeping.{calm-holds}
 use Rattle.hc_core.proofs.Calling.{called, calm}

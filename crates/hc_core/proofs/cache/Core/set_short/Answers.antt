@@ -3,7 +3,7 @@ use Rattle.std.proofs.Common.{subst, sym}
 use Rattle.hc_memory.specs.Seen.{filled}
 use Rattle.hc_history.specs.Note.{Stored}
 use Rattle.hc_machine.specs.Cache.{Replied}
-use Rattle.hc_state.specs.Setting.{is_brief, set_step, give_up_step}
+use Rattle.hc_state.specs.set.Short.{is_brief, set_step, give_up_step}
 use Rattle.hc_core.specs.Logged.{Logged}
 use Rattle.hc_core.proofs.Keeping.{set-holds}
 use Rattle.hc_core.proofs.Calling.{called-so, calm-or-given}

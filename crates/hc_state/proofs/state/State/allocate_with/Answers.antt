@@ -11,8 +11,8 @@ use Rattle.hc_machine.specs.items.Allocating.{refusal_of, expiry_of}
 use Rattle.hc_machine.specs.Cache.{Cache}
 use Rattle.hc_invariant.specs.Structure.{Structured}
 use Rattle.hc_state.specs.Whole.{Whole, spare_of, nvm_of}
-use Rattle.hc_state.proofs.Refusing.{pool-there, may-be}
-use Rattle.hc_state.proofs.Charging.{filled_up, opened, still-absent, still-for, still-room}
+use Rattle.hc_state.proofs.allocate.Refusals.{pool-there, may-be}
+use Rattle.hc_state.proofs.allocate.Charges.{filled_up, opened, still-absent, still-for, still-room}
 use Rattle.hc_state.proofs.state.State.allocate_with.Goals as goal
 
 pub charge-requires-clause-pool : goal.charge-requires-clause-pool

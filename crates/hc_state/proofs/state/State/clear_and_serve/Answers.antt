@@ -1,9 +1,9 @@
 use Rattle.std.proofs.Common.{arith}
 use Rattle.hc_history.specs.Seen.{reply_of}
-use Rattle.hc_state.specs.Serving.{clear_by}
+use Rattle.hc_state.specs.wait.Commit.{clear_by}
 use Rattle.hc_state.specs.Whole.{costs}
-use Rattle.hc_state.proofs.Ended.{can-then, many-then}
-use Rattle.hc_state.proofs.Planted.{cleared-waiters, cleared-charges, unstored-as}
+use Rattle.hc_state.proofs.wait.Ends.{can-then, many-then}
+use Rattle.hc_state.proofs.store.Planted.{cleared-waiters, cleared-charges, unstored-as}
 use Rattle.hc_state.proofs.state.State.clear_and_serve.Goals as goal
 
 pub reply_and_serve-requires : goal.reply_and_serve-requires

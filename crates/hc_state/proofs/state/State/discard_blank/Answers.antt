@@ -3,7 +3,7 @@ use Rattle.hc_history.specs.Note.{Freed}
 use Rattle.hc_history.specs.Told.{told_more}
 use Rattle.hc_machine.specs.Cache.{Cache}
 use Rattle.hc_invariant.specs.Structure.{Structured}
-use Rattle.hc_state.specs.Owing.{keeps_in}
+use Rattle.hc_state.specs.wait.Begin.{keeps_in}
 use Rattle.hc_state.specs.Whole.{Whole, IsReady, nvm_of}
 use Rattle.hc_state.proofs.Stepping.{kept-unknown, unknown-refused, discard-step}
 use Rattle.hc_state.proofs.state.State.discard_blank.Goals as goal

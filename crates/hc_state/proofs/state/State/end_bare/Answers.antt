@@ -1,6 +1,6 @@
 use Rattle.std.proofs.Common.{refl, sym, subst}
 use Rattle.std.specs.Prelude.{IsSome}
-use Rattle.hc_state.proofs.BareEnds.{bare-ends, bare-told, bare-fit, bare-free, bare-room, bare-end}
+use Rattle.hc_state.proofs.fill.BareEnds.{bare-ends, bare-told, bare-fit, bare-free, bare-room, bare-end}
 use Rattle.hc_state.proofs.state.State.end_bare.Goals as goal
 
 pub end_fill-take-requires : goal.end_fill-take-requires

@@ -1,5 +1,5 @@
 use Rattle.std.proofs.Common.{arith}
-use Rattle.hc_state.proofs.Brought.{arrived-fit, arrived-may-free, arrived-served}
+use Rattle.hc_state.proofs.fill.Brings.{arrived-fit, arrived-may-free, arrived-served}
 use Rattle.hc_state.proofs.state.State.end_brought.Goals as goal
 
 pub tell_arrived-requires : goal.tell_arrived-requires

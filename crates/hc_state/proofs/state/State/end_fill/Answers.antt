@@ -1,4 +1,4 @@
-use Rattle.hc_state.proofs.Ways.{some-of, ended-there, over-by}
+use Rattle.hc_state.proofs.fill.Ways.{some-of, ended-there, over-by}
 use Rattle.hc_state.proofs.state.State.end_fill.Goals as goal
 
 pub waiters_of-requires : goal.waiters_of-requires

@@ -1,6 +1,6 @@
 use Rattle.std.proofs.Common.{refl, sym, subst}
 use Rattle.std.specs.Prelude.{IsSome}
-use Rattle.hc_state.proofs.ItemEnds.{item-ends, item-told, item-copy, item-leaves, item-absent, item-fit, item-free, item-room, item-end}
+use Rattle.hc_state.proofs.fill.ItemEnds.{item-ends, item-told, item-copy, item-leaves, item-absent, item-fit, item-free, item-room, item-end}
 use Rattle.hc_state.proofs.state.State.end_item.Goals as goal
 
 pub end_fill-take-requires : goal.end_fill-take-requires

@@ -1,5 +1,5 @@
 use Rattle.std.proofs.Common.{subst}
-use Rattle.hc_state.specs.Ends.{IsPrepared}
+use Rattle.hc_state.specs.fill.Plan.{IsPrepared}
 use Rattle.hc_state.proofs.state.State.end_prepared.Goals as goal
 
 pub returns-in-Item : goal.returns-in-Item

@@ -1,4 +1,4 @@
-use Rattle.hc_state.proofs.Ended.{some-wait, none-waits, taken-fit, taken-may-free, taken-stones, taken-notes, taken-served, none-served}
+use Rattle.hc_state.proofs.wait.Ends.{some-wait, none-waits, taken-fit, taken-may-free, taken-stones, taken-notes, taken-served, none-served}
 use Rattle.hc_state.proofs.state.State.end_waiting.Goals as goal
 
 pub serve_all-requires : goal.serve_all-requires

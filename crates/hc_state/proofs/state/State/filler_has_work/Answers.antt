@@ -1,5 +1,5 @@
 use Rattle.std.proofs.Common.{refl, arith}
-use Rattle.hc_state.proofs.Prepares.{stays-by}
+use Rattle.hc_state.proofs.fill.Plans.{stays-by}
 use Rattle.hc_state.proofs.state.State.filler_has_work.Goals as goal
 
 pub returns-clause-stays : goal.returns-clause-stays

@@ -1,4 +1,4 @@
-use Rattle.hc_state.proofs.Finds.{found-begun}
+use Rattle.hc_state.proofs.find.Steps.{found-begun}
 use Rattle.hc_state.proofs.state.State.find.Goals as goal
 
 pub returns-then-keeps_notes-clause-begun : goal.returns-then-keeps_notes-clause-begun

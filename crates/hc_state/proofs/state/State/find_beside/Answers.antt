@@ -1,7 +1,7 @@
 use Rattle.std.proofs.Common.{◌≡◌, false, sym, ◌∙◌}
 use Rattle.std.specs.Prelude.{is_some}
-use Rattle.hc_state.specs.Finding.{found_answer}
-use Rattle.hc_state.proofs.Hits.{bare-step}
+use Rattle.hc_state.specs.find.Answer.{found_answer}
+use Rattle.hc_state.proofs.find.Hits.{bare-step}
 use Rattle.hc_state.proofs.state.State.find_beside.Goals as goal
 
 pub returns-else-has_flash-clause-ok : goal.returns-else-has_flash-clause-ok

@@ -1,6 +1,6 @@
 use Rattle.std.proofs.lemmas.Result.{IfOk-weaker, on_err_weaker}
-use Rattle.hc_state.specs.Finding.{found_answer}
-use Rattle.hc_state.proofs.Hits.{hit-step, miss-same, miss-still, step-on, unchanged-on}
+use Rattle.hc_state.specs.find.Answer.{found_answer}
+use Rattle.hc_state.proofs.find.Hits.{hit-step, miss-same, miss-still, step-on, unchanged-on}
 use Rattle.hc_state.proofs.state.State.find_counted.Goals as goal
 
 pub returns-in-Some-clause-ok : goal.returns-in-Some-clause-ok

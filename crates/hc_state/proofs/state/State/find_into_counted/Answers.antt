@@ -1,10 +1,10 @@
 use Rattle.std.proofs.Common.{◌+◌, refl, sym, ap, ◌∙◌}
 use Rattle.hc_memory.specs.Memory.{value_at}
-use Rattle.hc_state.specs.Finding.{found_answer}
+use Rattle.hc_state.specs.find.Answer.{found_answer}
 use Rattle.hc_state.specs.Whole.{Whole}
-use Rattle.hc_state.proofs.Copies.{missed, missed-same, copies-hit, copies-beside, copies-begun}
-use Rattle.hc_state.proofs.Finds.{on_err}
-use Rattle.hc_state.proofs.Hits.{miss-still, unchanged-on}
+use Rattle.hc_state.proofs.find.Copies.{missed, missed-same, copies-hit, copies-beside, copies-begun}
+use Rattle.hc_state.proofs.find.Steps.{on_err}
+use Rattle.hc_state.proofs.find.Hits.{miss-still, unchanged-on}
 use Rattle.hc_state.proofs.state.State.find_into_counted.Goals as goal
 
 pub find_beside-requires-clause-absent : goal.find_beside-requires-clause-absent

@@ -3,10 +3,10 @@ use Rattle.std.specs.Prelude.{ℕ}
 use Rattle.hc_machine.specs.Cache.{Cache}
 use Rattle.hc_machine.specs.Calls.{must_wait}
 use Rattle.hc_waiting.specs.Replies.{AreBefore}
-use Rattle.hc_state.specs.Owing.{OwesBegun}
+use Rattle.hc_state.specs.wait.Begin.{OwesBegun}
 use Rattle.hc_state.specs.Whole.{Whole, nvm_of}
-use Rattle.hc_state.proofs.Looks.{waits-log}
-use Rattle.hc_state.proofs.Finds.{later-step, on_err}
+use Rattle.hc_state.proofs.find.Looks.{waits-log}
+use Rattle.hc_state.proofs.find.Steps.{later-step, on_err}
 use Rattle.hc_state.proofs.state.State.find_later.Goals as goal
 
 pub returns-in_err-begin-clause-err : goal.returns-in_err-begin-clause-err

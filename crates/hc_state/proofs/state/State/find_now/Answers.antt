@@ -4,10 +4,10 @@ use Rattle.hc_history.specs.Note.{End}
 use Rattle.hc_history.specs.Told.{kind_of, told_more}
 use Rattle.hc_machine.specs.Cache.{Cache}
 use Rattle.hc_machine.specs.Calls.{must_wait}
-use Rattle.hc_state.specs.Finding.{reply_by, told_did}
+use Rattle.hc_state.specs.find.Answer.{reply_by, told_did}
 use Rattle.hc_state.specs.Whole.{Whole, nvm_of}
-use Rattle.hc_state.proofs.Looks.{found-log}
-use Rattle.hc_state.proofs.Finds.{reply_now, now-step}
+use Rattle.hc_state.proofs.find.Looks.{found-log}
+use Rattle.hc_state.proofs.find.Steps.{reply_now, now-step}
 use Rattle.hc_state.proofs.state.State.find_now.Goals as goal
 
 pub returns-clause-ok : goal.returns-clause-ok

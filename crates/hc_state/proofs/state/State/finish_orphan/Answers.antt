@@ -1,5 +1,5 @@
 use Rattle.hc_flash.specs.Seen.{result_of}
-use Rattle.hc_state.proofs.FillDone.{orphan-step}
+use Rattle.hc_state.proofs.fill.Done.{orphan-step}
 use Rattle.hc_state.proofs.state.State.finish_orphan.Goals as goal
 
 pub returns : goal.returns

@@ -3,9 +3,9 @@ use Rattle.std.specs.Prelude.{option_map}
 use Rattle.hc_flash.specs.Seen.{result_of}
 use Rattle.hc_nvm.specs.Filled.{filled_of}
 use Rattle.hc_nvm.specs.Seen.{take_of}
-use Rattle.hc_state.specs.Ends.{IsEndingIn}
+use Rattle.hc_state.specs.fill.Plan.{IsEndingIn}
 use Rattle.hc_state.specs.Whole.{Whole, nvm_of}
-use Rattle.hc_state.proofs.Finishes.{finish-step}
+use Rattle.hc_state.proofs.fill.Finishes.{finish-step}
 use Rattle.hc_state.proofs.state.State.finish_other.Goals as goal
 
 pub returns-clause-ok : goal.returns-clause-ok

@@ -3,9 +3,9 @@ use Rattle.std.specs.Prelude.{IfOk, is_some}
 use Rattle.hc_machine.specs.Cache.{Moved}
 use Rattle.hc_machine.specs.Calls.{is_known, in_memory}
 use Rattle.hc_machine.specs.Waiting.{live}
-use Rattle.hc_state.specs.Inserting.{inserted_answer}
+use Rattle.hc_state.specs.store.Insert.{inserted_answer}
 use Rattle.hc_state.specs.Whole.{IsStep}
-use Rattle.hc_state.proofs.Inserts.{Lives, insert-adds, inserted-begun}
+use Rattle.hc_state.proofs.store.Inserts.{Lives, insert-adds, inserted-begun}
 use Rattle.hc_state.proofs.state.State.insert.Goals as goal
 
 pub returns-then-is_known-clause-ok : goal.returns-then-is_known-clause-ok

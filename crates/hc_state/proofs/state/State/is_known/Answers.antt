@@ -2,7 +2,7 @@ use Rattle.std.proofs.Common.{not, sym, ap, ◌∙◌, subst}
 use Rattle.std.specs.Prelude.{is_some}
 use Rattle.hc_machine.specs.Cache.{Cache}
 use Rattle.hc_invariant.specs.Structure.{Structured}
-use Rattle.hc_state.specs.Owing.{keeps_in}
+use Rattle.hc_state.specs.wait.Begin.{keeps_in}
 use Rattle.hc_state.specs.Whole.{Whole, nvm_of}
 use Rattle.hc_state.proofs.Stepping.{placed-known, unplaced-unknown}
 use Rattle.hc_state.proofs.state.State.is_known.Goals as goal

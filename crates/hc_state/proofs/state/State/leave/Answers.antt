@@ -3,7 +3,7 @@ use Rattle.hc_memory.specs.Item.{Item}
 use Rattle.hc_history.specs.Note.{Freed}
 use Rattle.hc_history.specs.Told.{told_more}
 use Rattle.hc_state.specs.Whole.{Whole, spare_of, nvm_of}
-use Rattle.hc_state.proofs.Leaving.{unclean-left}
+use Rattle.hc_state.proofs.allocate.Evicts.{unclean-left}
 use Rattle.hc_state.proofs.state.State.leave.Goals as goal
 
 pub returns-else-item : goal.returns-else-item

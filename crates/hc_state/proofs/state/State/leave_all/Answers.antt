@@ -4,8 +4,8 @@ use Rattle.std.proofs.lemmas.List.{nil_from_length}
 use Rattle.std.specs.Vec.Iter.{into_iter_items, into_iter_len}
 use Rattle.hc_machine.specs.Cache.{Cache}
 use Rattle.hc_memory.specs.Item.{Item}
-use Rattle.hc_state.specs.Leaving.{AreFor, keys_of, one_leaves}
-use Rattle.hc_state.proofs.Leaving.{Left, all-left, one-left, room-left, first-leave, rest-leave, rest-counted, leaves-flash}
+use Rattle.hc_state.specs.allocate.Evict.{AreFor, keys_of, one_leaves}
+use Rattle.hc_state.proofs.allocate.Evicts.{Left, all-left, one-left, room-left, first-leave, rest-leave, rest-counted, leaves-flash}
 use Rattle.hc_state.proofs.state.State.leave_all.Goals as goal
 
 pub leave-requires : goal.leave-requires

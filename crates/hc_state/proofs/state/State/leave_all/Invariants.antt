@@ -1,7 +1,7 @@
 use Rattle.std.proofs.Common.{◌≡◌, length}
 use Rattle.std.specs.Vec.Iter.{into_iter_items, into_iter_len}
-use Rattle.hc_state.specs.Leaving.{AreFor, keys_of}
-use Rattle.hc_state.proofs.Leaving.{Left}
+use Rattle.hc_state.specs.allocate.Evict.{AreFor, keys_of}
+use Rattle.hc_state.proofs.allocate.Evicts.{Left}
 use Rattle.hc_state.proofs.state.State.leave_all.Given as goal
 
 -- what these items leave is what all do, and what is prepared is for them

@@ -1,7 +1,7 @@
 use Rattle.std.proofs.Common.{[], refl, ◌∙◌}
 use Rattle.std.proofs.lemmas.Result.{on_ok_weaker}
 use Rattle.hc_state.specs.Whole.{nvm_of, spare_of}
-use Rattle.hc_state.proofs.Links.{link-alone}
+use Rattle.hc_state.proofs.store.Links.{link-alone}
 use Rattle.hc_state.proofs.state.State.link_alone.Goals as goal
 
 pub returns-clause-ok : goal.returns-clause-ok

@@ -2,10 +2,10 @@ use Rattle.std.proofs.Common.{◌<◌, length, sym, subst}
 use Rattle.std.specs.Prelude.{IfOk}
 use Rattle.hc_types.specs.FlashEntry.{entry_of}
 use Rattle.hc_machine.specs.Cache.{Cache}
-use Rattle.hc_state.specs.Bringing.{Arrives}
-use Rattle.hc_state.specs.Ends.{losses_by}
-use Rattle.hc_state.proofs.FillPlan.{can-room}
-use Rattle.hc_state.proofs.Prepares.{comes-so, linked-result}
+use Rattle.hc_state.specs.fill.Bring.{Arrives}
+use Rattle.hc_state.specs.fill.Plan.{losses_by}
+use Rattle.hc_state.proofs.fill.Links.{can-room}
+use Rattle.hc_state.proofs.fill.Plans.{comes-so, linked-result}
 use Rattle.hc_state.proofs.state.State.link_entry.Goals as goal
 
 pub coming_of-requires : goal.coming_of-requires

@@ -1,8 +1,8 @@
 use Rattle.std.proofs.Common.{sym, subst}
 use Rattle.hc_machine.specs.Cache.{Cache}
 use Rattle.hc_invariant.specs.Jobs.{AllWish}
-use Rattle.hc_state.specs.Serving.{waiters_at}
-use Rattle.hc_state.proofs.Planted.{wishes-of}
+use Rattle.hc_state.specs.wait.Commit.{waiters_at}
+use Rattle.hc_state.proofs.store.Planted.{wishes-of}
 use Rattle.hc_state.proofs.state.State.link_last.Goals as goal
 
 pub unlink_stored-requires-clause-wishes : goal.unlink_stored-requires-clause-wishes

@@ -1,10 +1,10 @@
 use Rattle.std.proofs.Common.{None, sym, ap, ◌∙◌}
 use Rattle.std.proofs.lemmas.Result.{on_ok_weaker}
-use Rattle.hc_state.specs.Chosen.{all_stored_as, last_of, before_last}
-use Rattle.hc_state.specs.Linked.{number_at}
-use Rattle.hc_state.specs.Serving.{waiters_at}
+use Rattle.hc_state.specs.store.Chosen.{all_stored_as, last_of, before_last}
+use Rattle.hc_state.specs.store.Link.{number_at}
+use Rattle.hc_state.specs.wait.Commit.{waiters_at}
 use Rattle.hc_state.specs.Whole.{nvm_of, spare_of}
-use Rattle.hc_state.proofs.Links.{last-waits, link-alone, link-last}
+use Rattle.hc_state.proofs.store.Links.{last-waits, link-alone, link-last}
 use Rattle.hc_state.proofs.state.State.link_stored.Goals as goal
 use Rattle.hc_state.proofs.state.State.link_stored.Goals.{in-Ok, in-Err-link_after}
 

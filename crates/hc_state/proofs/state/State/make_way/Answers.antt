@@ -1,5 +1,5 @@
 use Rattle.std.proofs.Common.{arith}
-use Rattle.hc_state.proofs.Sets.{none-gone, next-ready, one-gone, all-gone}
+use Rattle.hc_state.proofs.set.Sets.{none-gone, next-ready, one-gone, all-gone}
 use Rattle.hc_state.proofs.state.State.make_way.Goals as goal
 
 pub loop-init : goal.loop-init

@@ -1,4 +1,4 @@
-use Rattle.hc_state.proofs.Sets.{Going}
+use Rattle.hc_state.proofs.set.Sets.{Going}
 use Rattle.hc_state.proofs.state.State.make_way.Given as goal
 
 -- so many went

@@ -7,9 +7,9 @@ use Rattle.hc_history.specs.Told.{where_kept}
 use Rattle.hc_machine.specs.items.Allocating.{refusal_of}
 use Rattle.hc_machine.specs.Cache.{Cache}
 use Rattle.hc_state.specs.Whole.{Whole, HasRoom, costs}
-use Rattle.hc_state.specs.Leaving.{leave_of}
-use Rattle.hc_state.proofs.Refusing.{pool-there}
-use Rattle.hc_state.proofs.Charging.{oldest-go}
+use Rattle.hc_state.specs.allocate.Evict.{leave_of}
+use Rattle.hc_state.proofs.allocate.Refusals.{pool-there}
+use Rattle.hc_state.proofs.allocate.Charges.{oldest-go}
 use Rattle.hc_state.proofs.state.State.plan_to_charge.Goals as goal
 
 pub returns-clause-fits : goal.returns-clause-fits

@@ -2,8 +2,8 @@ use Rattle.std.proofs.Common.{Some, None, sym, ◌∙◌, subst}
 use Rattle.std.specs.Prelude.{IfOk}
 use Rattle.std.proofs.lemmas.Result.{IfOk-weaker}
 use Rattle.hc_machine.specs.Waiting.{entry_of_handle}
-use Rattle.hc_state.specs.Preparing.{Clears}
-use Rattle.hc_state.proofs.Bare.{clears-any}
+use Rattle.hc_state.specs.store.Plan.{Clears}
+use Rattle.hc_state.proofs.wait.NoFlash.{clears-any}
 use Rattle.hc_state.proofs.state.State.plan_to_clear_for.Goals as goal
 
 pub returns-then-not-has_flash : goal.returns-then-not-has_flash

@@ -1,6 +1,6 @@
 use Rattle.std.proofs.Common.{map, ap, ◌∙◌}
 use Rattle.std.proofs.lemmas.Result.{IfOk-weaker}
-use Rattle.hc_state.specs.Leaving.{leave_of}
+use Rattle.hc_state.specs.allocate.Evict.{leave_of}
 use Rattle.hc_state.proofs.state.State.plan_to_leave.Goals as goal
 
 pub returns : goal.returns

@@ -5,7 +5,7 @@ use Rattle.hc_memory.specs.Seen.{filled}
 use Rattle.hc_machine.specs.items.Allocating.{refusal_of}
 use Rattle.hc_machine.specs.Cache.{Cache}
 use Rattle.hc_state.specs.Whole.{Whole, HasRoom, costs}
-use Rattle.hc_state.proofs.Refusing.{may-be}
+use Rattle.hc_state.proofs.allocate.Refusals.{may-be}
 use Rattle.hc_state.proofs.state.State.plan_to_set.Goals as goal
 
 pub returns-clause-fits : goal.returns-clause-fits

@@ -1,7 +1,7 @@
 use Rattle.std.proofs.Common.{[], ◌∷◌}
 use Rattle.hc_history.specs.Note.{Linked}
 use Rattle.hc_machine.specs.Cache.{tells}
-use Rattle.hc_state.specs.Serving.{clear_by}
+use Rattle.hc_state.specs.wait.Commit.{clear_by}
 use Rattle.hc_state.specs.Whole.{costs, for_notes}
 use Rattle.hc_state.proofs.Joining.{does-both}
 use Rattle.hc_state.proofs.state.State.plant.Goals as goal

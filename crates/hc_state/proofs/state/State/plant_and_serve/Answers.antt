@@ -1,10 +1,10 @@
 use Rattle.std.proofs.Common.{arith, [], ◌∷◌}
 use Rattle.hc_history.specs.Note.{Linked}
 use Rattle.hc_machine.specs.Cache.{tells, and_then}
-use Rattle.hc_state.specs.Serving.{clear_by}
+use Rattle.hc_state.specs.wait.Commit.{clear_by}
 use Rattle.hc_state.specs.Whole.{costs}
-use Rattle.hc_state.proofs.Ended.{can-then, many-then}
-use Rattle.hc_state.proofs.Planted.{cleared-waiters, cleared-charges, stored-as}
+use Rattle.hc_state.proofs.wait.Ends.{can-then, many-then}
+use Rattle.hc_state.proofs.store.Planted.{cleared-waiters, cleared-charges, stored-as}
 use Rattle.hc_state.proofs.state.State.plant_and_serve.Goals as goal
 
 pub reply_and_serve-requires : goal.reply_and_serve-requires

@@ -1,10 +1,10 @@
 use Rattle.std.proofs.Common.{length, ap, ◌∙◌, subst}
 use Rattle.hc_history.specs.Told.{is_log}
-use Rattle.hc_state.specs.Ends.{HasRoomToEnd, found_by}
-use Rattle.hc_state.specs.Linked.{linked_without}
-use Rattle.hc_state.specs.Planned.{IsThere}
-use Rattle.hc_state.specs.Serving.{waiters_at}
-use Rattle.hc_state.proofs.Links.{courses-long}
+use Rattle.hc_state.specs.fill.Plan.{HasRoomToEnd, found_by}
+use Rattle.hc_state.specs.store.Link.{linked_without}
+use Rattle.hc_state.specs.wait.Plan.{IsThere}
+use Rattle.hc_state.specs.wait.Commit.{waiters_at}
+use Rattle.hc_state.proofs.store.Links.{courses-long}
 use Rattle.hc_state.proofs.state.State.prepare_bare.Goals as goal
 
 pub link_last-requires : goal.link_last-requires

@@ -2,9 +2,9 @@ use Rattle.std.proofs.Common.{ℕ, List, Some, ap, ◌∙◌, subst, arith}
 use Rattle.hc_types.specs.FlashEntry.{entry_of}
 use Rattle.hc_memory.specs.Memory.{linked_at}
 use Rattle.hc_history.specs.Told.{is_log}
-use Rattle.hc_state.specs.Ends.{IsLinked}
-use Rattle.hc_state.specs.Serving.{waiters_at}
-use Rattle.hc_state.proofs.Links.{courses-long}
+use Rattle.hc_state.specs.fill.Plan.{IsLinked}
+use Rattle.hc_state.specs.wait.Commit.{waiters_at}
+use Rattle.hc_state.proofs.store.Links.{courses-long}
 use Rattle.hc_state.proofs.state.State.prepare_item.Goals as goal
 
 pub link_entry-requires-clause-absent : goal.link_entry-requires-clause-absent

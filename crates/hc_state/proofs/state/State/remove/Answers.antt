@@ -2,12 +2,12 @@ use Rattle.std.proofs.Common.{◌≡◌, ◌+◌, ◌*◌, None, length, sym, ap
 use Rattle.hc_history.specs.Note.{Begin, Remove}
 use Rattle.hc_history.specs.Told.{where_kept}
 use Rattle.hc_machine.specs.Calls.{begin, remove}
-use Rattle.hc_state.specs.Linked.{linked_without}
-use Rattle.hc_state.specs.Removing.{removed_answer, removed_of, removed_reply}
-use Rattle.hc_state.specs.Storing.{how_many, unstore_as}
+use Rattle.hc_state.specs.store.Link.{linked_without}
+use Rattle.hc_state.specs.remove.Answer.{removed_answer, removed_of, removed_reply}
+use Rattle.hc_state.specs.store.Commit.{how_many, unstore_as}
 use Rattle.hc_state.specs.Whole.{Whole, Does, IsStep, costs, for_notes}
-use Rattle.hc_state.proofs.Stores.{plan-long}
-use Rattle.hc_state.proofs.Removes.{remove-wishes, remove-serves, remove-stones, remove-notes, remove-serves-all, remove-step}
+use Rattle.hc_state.proofs.store.Commits.{plan-long}
+use Rattle.hc_state.proofs.remove.Commits.{remove-wishes, remove-serves, remove-stones, remove-notes, remove-serves-all, remove-step}
 use Rattle.hc_state.proofs.state.State.remove.Goals as goal
 
 pub unlink_by-requires-clause-wishes : goal.unlink_by-requires-clause-wishes

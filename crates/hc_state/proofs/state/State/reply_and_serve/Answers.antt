@@ -3,7 +3,7 @@ use Rattle.hc_history.specs.Note.{Did}
 use Rattle.hc_history.specs.Seen.{reply_of}
 use Rattle.hc_machine.specs.Cache.{tells}
 use Rattle.hc_state.specs.Whole.{Whole, for_notes}
-use Rattle.hc_state.proofs.Ended.{can-then, many-then, replied}
+use Rattle.hc_state.proofs.wait.Ends.{can-then, many-then, replied}
 use Rattle.hc_state.proofs.state.State.reply_and_serve.Goals as goal
 
 pub end_waiting-requires : goal.end_waiting-requires

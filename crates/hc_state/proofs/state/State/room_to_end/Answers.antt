@@ -1,7 +1,7 @@
 use Rattle.std.proofs.Common.{refl, arith}
 use Rattle.hc_machine.specs.Cache.{Cache}
 use Rattle.hc_state.specs.Whole.{nvm_of}
-use Rattle.hc_state.proofs.Prepares.{stays-by, has-room}
+use Rattle.hc_state.proofs.fill.Plans.{stays-by, has-room}
 use Rattle.hc_state.proofs.state.State.room_to_end.Goals as goal
 
 pub returns-in_err-reserve_flash-clause-stays : goal.returns-in_err-reserve_flash-clause-stays

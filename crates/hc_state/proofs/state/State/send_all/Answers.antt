@@ -1,7 +1,7 @@
 use Rattle.std.proofs.Common.{List, ℕ, length, ap, ◌∙◌, arith, subst}
 use Rattle.std.proofs.lemmas.List.{nil_from_length}
 use Rattle.std.specs.Vec.Iter.{into_iter_items}
-use Rattle.hc_state.proofs.Supersedes.{Sending, next-sent, one-sent, all-sent}
+use Rattle.hc_state.proofs.set.Supersedes.{Sending, next-sent, one-sent, all-sent}
 use Rattle.hc_state.proofs.state.State.send_all.Goals as goal
 
 pub send_oldest-requires : goal.send_oldest-requires

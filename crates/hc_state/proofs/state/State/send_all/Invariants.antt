@@ -1,6 +1,6 @@
 use Rattle.std.proofs.Common.{◌≡◌, length}
 use Rattle.std.specs.Vec.Iter.{into_iter_items, into_iter_len}
-use Rattle.hc_state.proofs.Supersedes.{Sending}
+use Rattle.hc_state.proofs.set.Supersedes.{Sending}
 use Rattle.hc_state.proofs.state.State.send_all.Given as goal
 
 -- the items of the keys that are left go next

@@ -4,8 +4,8 @@ use Rattle.hc_machine.specs.Nvm.{put_at}
 use Rattle.hc_machine.specs.Cache.{with_memory}
 use Rattle.hc_invariant.specs.Structure.{queue_of}
 use Rattle.hc_state.specs.Whole.{Whole, spare_of, nvm_of}
-use Rattle.hc_state.proofs.Sets.{oldest-left}
-use Rattle.hc_state.proofs.Supersedes.{key-first, quiet-leave}
+use Rattle.hc_state.proofs.set.Sets.{oldest-left}
+use Rattle.hc_state.proofs.set.Supersedes.{key-first, quiet-leave}
 use Rattle.hc_state.proofs.state.State.send_oldest.Goals as goal
 
 pub leave-requires-clause-absent : goal.leave-requires-clause-absent

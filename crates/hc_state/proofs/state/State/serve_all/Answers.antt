@@ -2,10 +2,10 @@ use Rattle.std.proofs.Common.{List, ◌∷◌, ◌*◌, length, sym, ap, ◌∙�
 use Rattle.std.specs.Vec.Iter.{into_iter_items}
 use Rattle.hc_history.specs.Told.{is_log}
 use Rattle.hc_machine.specs.Nvm.{Waiter}
-use Rattle.hc_state.specs.Courses.{AllFit, all_served_as}
+use Rattle.hc_state.specs.wait.Courses.{AllFit, all_served_as}
 use Rattle.hc_state.specs.Whole.{costs}
-use Rattle.hc_state.proofs.Courses.{does-there}
-use Rattle.hc_state.proofs.Serves.{Left, left-start, left-as, left-next, left-none, has-course}
+use Rattle.hc_state.proofs.wait.Courses.{does-there}
+use Rattle.hc_state.proofs.wait.Serves.{Left, left-start, left-as, left-next, left-none, has-course}
 use Rattle.hc_state.proofs.state.State.serve_all.Goals as goal
 
 pub serve-standing-requires : goal.serve-standing-requires

@@ -1,7 +1,7 @@
 use Rattle.std.proofs.Common.{◌≡◌, length}
 use Rattle.std.specs.Vec.Iter.{into_iter_items, into_iter_len}
-use Rattle.hc_state.specs.Courses.{all_served_as}
-use Rattle.hc_state.proofs.Serves.{Left}
+use Rattle.hc_state.specs.wait.Courses.{all_served_as}
+use Rattle.hc_state.proofs.wait.Serves.{Left}
 use Rattle.hc_state.proofs.state.State.serve_all.Given as goal
 
 -- the calls that are left, and what was done, come to all

@@ -3,7 +3,7 @@ use Rattle.hc_history.specs.Note as note
 use Rattle.hc_history.specs.Note.{Linked}
 use Rattle.hc_machine.specs.Cache.{tells, and_then}
 use Rattle.hc_machine.specs.Waiting.{answer as answer_step}
-use Rattle.hc_state.specs.Serving.{clear_by, planted_by}
+use Rattle.hc_state.specs.wait.Commit.{clear_by, planted_by}
 use Rattle.hc_state.specs.Whole.{Does, costs, for_notes}
 use Rattle.hc_state.proofs.Joining.{does-both}
 use Rattle.hc_state.proofs.state.State.serve_stored.Goals as goal

@@ -6,8 +6,8 @@ use Rattle.hc_memory.specs.Seen.{filled}
 use Rattle.hc_machine.specs.items.Allocating.{expiry_of}
 use Rattle.hc_machine.specs.Cache.{Cache}
 use Rattle.hc_state.specs.Whole.{Whole}
-use Rattle.hc_state.proofs.Sets.{SetSteps, left-roomy, next-number, note-fits, set-over}
-use Rattle.hc_state.proofs.Supersedes.{brief-plain, short-over}
+use Rattle.hc_state.proofs.set.Sets.{SetSteps, left-roomy, next-number, note-fits, set-over}
+use Rattle.hc_state.proofs.set.Supersedes.{brief-plain, short-over}
 use Rattle.hc_state.proofs.state.State.set_short.Goals as goal
 
 pub put_planned-requires : goal.put_planned-requires

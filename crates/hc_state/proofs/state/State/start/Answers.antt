@@ -2,7 +2,7 @@ use Rattle.std.proofs.Common.{[], ◌∷◌, ◌∙◌, arith}
 use Rattle.hc_history.specs.Note.{Begin}
 use Rattle.hc_history.specs.Told.{told_more}
 use Rattle.hc_state.specs.Whole.{nvm_of}
-use Rattle.hc_state.proofs.Planted.{begun-log}
+use Rattle.hc_state.proofs.store.Planted.{begun-log}
 use Rattle.hc_state.proofs.state.State.start.Goals as goal
 
 pub returns : goal.returns

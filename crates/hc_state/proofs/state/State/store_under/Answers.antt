@@ -3,12 +3,12 @@ use Rattle.hc_history.specs.Note.{Begin}
 use Rattle.hc_history.specs.Told.{is_log, where_kept}
 use Rattle.hc_machine.specs.Calls.{begin}
 use Rattle.hc_machine.specs.Waiting.{entry_of_handle}
-use Rattle.hc_state.specs.Inserting.{store_op}
-use Rattle.hc_state.specs.Linked.{linked_with}
-use Rattle.hc_state.specs.Outdating.{ServesIn}
-use Rattle.hc_state.specs.Storing.{how_many, store_as, CanServe}
+use Rattle.hc_state.specs.store.Insert.{store_op}
+use Rattle.hc_state.specs.store.Link.{linked_with}
+use Rattle.hc_state.specs.store.Clear.{ServesIn}
+use Rattle.hc_state.specs.store.Commit.{how_many, store_as, CanServe}
 use Rattle.hc_state.specs.Whole.{Whole, Does, costs, for_notes}
-use Rattle.hc_state.proofs.Stores.{store-wishes, plan-long, store-serves, store-stones, store-notes, store-can, store-step}
+use Rattle.hc_state.proofs.store.Commits.{store-wishes, plan-long, store-serves, store-stones, store-notes, store-can, store-step}
 use Rattle.hc_state.proofs.state.State.store_under.Goals as goal
 
 pub link_by-requires-clause-wishes : goal.link_by-requires-clause-wishes

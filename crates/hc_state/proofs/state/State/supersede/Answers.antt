@@ -1,4 +1,4 @@
-use Rattle.hc_state.proofs.Supersedes.{Plans, plan-keys, plan-absent, plan-room, can-put, superseded}
+use Rattle.hc_state.proofs.set.Supersedes.{Plans, plan-keys, plan-absent, plan-room, can-put, superseded}
 use Rattle.hc_state.proofs.state.State.supersede.Goals as goal
 
 pub send_all-requires-clause-keys : goal.send_all-requires-clause-keys

@@ -2,9 +2,9 @@ use Rattle.std.proofs.Common.{None, Some, refl, sym, ap, ◌∙◌, subst, arith
 use Rattle.std.specs.Prelude.{option_map}
 use Rattle.hc_nvm.specs.Filled.{filled_of}
 use Rattle.hc_nvm.specs.Seen.{take_of}
-use Rattle.hc_state.specs.Ends.{IsEndingAtOnceIn, IsNextIn}
+use Rattle.hc_state.specs.fill.Plan.{IsEndingAtOnceIn, IsNextIn}
 use Rattle.hc_state.specs.Whole.{Whole, nvm_of}
-use Rattle.hc_state.proofs.Finishes.{filler-step}
+use Rattle.hc_state.proofs.fill.Finishes.{filler-step}
 use Rattle.hc_state.proofs.state.State.take_page.Goals as goal
 
 pub filler_take-requires : goal.filler_take-requires

@@ -1,5 +1,5 @@
 use Rattle.std.proofs.Common.{arith}
-use Rattle.hc_state.proofs.Brought.{arrived}
+use Rattle.hc_state.proofs.fill.Brings.{arrived}
 use Rattle.hc_state.proofs.state.State.tell_arrived.Goals as goal
 
 pub tell_linked-requires : goal.tell_linked-requires

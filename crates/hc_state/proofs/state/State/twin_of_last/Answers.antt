@@ -1,9 +1,9 @@
 use Rattle.std.proofs.Common.{◌≡◌, List, None, sym, ap, ◌∙◌}
 use Rattle.hc_machine.specs.Nvm.{Waiter}
-use Rattle.hc_state.specs.Chosen.{all_stored_as, before_last}
-use Rattle.hc_state.specs.Serving.{waiters_at}
+use Rattle.hc_state.specs.store.Chosen.{all_stored_as, before_last}
+use Rattle.hc_state.specs.wait.Commit.{waiters_at}
 use Rattle.hc_state.specs.Whole.{Whole, nvm_of}
-use Rattle.hc_state.proofs.Links.{calls-at}
+use Rattle.hc_state.proofs.store.Links.{calls-at}
 use Rattle.hc_state.proofs.state.State.twin_of_last.Goals as goal
 
 pub returns-in_ok-twin-in-Some-last_stored-clause-earlier : goal.returns-in_ok-twin-in-Some-last_stored-clause-earlier

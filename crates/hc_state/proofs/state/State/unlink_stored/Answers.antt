@@ -1,9 +1,9 @@
 use Rattle.std.proofs.Common.{None, sym, ap, ◌∙◌}
-use Rattle.hc_state.specs.Chosen.{all_stored_as, before_last}
-use Rattle.hc_state.specs.Linked.{number_at}
-use Rattle.hc_state.specs.Serving.{waiters_at}
+use Rattle.hc_state.specs.store.Chosen.{all_stored_as, before_last}
+use Rattle.hc_state.specs.store.Link.{number_at}
+use Rattle.hc_state.specs.wait.Commit.{waiters_at}
 use Rattle.hc_state.specs.Whole.{nvm_of, spare_of}
-use Rattle.hc_state.proofs.Links.{last-waits, unlink-alone, unlink-last}
+use Rattle.hc_state.proofs.store.Links.{last-waits, unlink-alone, unlink-last}
 use Rattle.hc_state.proofs.state.State.unlink_stored.Goals as goal
 use Rattle.hc_state.proofs.state.State.unlink_stored.Goals.{in-Ok, in-Err}
 

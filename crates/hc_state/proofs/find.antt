@@ -1,0 +1,5 @@
+-- Lemmas: finds.
+pub mod Copies
+pub mod Hits
+pub mod Looks
+pub mod Steps

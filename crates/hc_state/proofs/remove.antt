@@ -1,0 +1,3 @@
+-- Lemmas: removes.
+pub mod Commits
+pub mod Short

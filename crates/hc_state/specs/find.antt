@@ -1,0 +1,3 @@
+-- What finds answer.
+pub mod Answer
+pub mod Copy

@@ -1,0 +1,2 @@
+-- What removes answer.
+pub mod Answer

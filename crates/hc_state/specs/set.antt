@@ -1,0 +1,2 @@
+-- Values that are stored in one step.
+pub mod Short
