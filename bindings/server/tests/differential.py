@@ -55,8 +55,8 @@ class Side:
         return b"U%d" % self.places[unique]
 
     def written(self, line):
-        """Returns a line with this server's own uniques."""
-        return re.sub(rb"<U(\d+)>", lambda it: self.uniques[int(it[1]) % len(self.uniques)] if self.uniques else b"1", line)
+        """Returns a line with this server's own uniques, each of as many digits: a value of a wrong length may take lines in."""
+        return re.sub(rb"<U(\d+)>", lambda it: (self.uniques[int(it[1]) % len(self.uniques)] if self.uniques else b"1").zfill(20), line)
 
     def send(self, data):
         """Sends lines, unless the connection is closed while it does."""
