@@ -5,7 +5,7 @@ ghost use Rattle.hc_machine.specs.Cache.{Replied, Moment, Took, Reclaimed};
 ghost use Rattle.hc_machine.specs.Calls.{find as find_step, remove as remove_step, take_reply as reply_step, tick as tick_step};
 ghost use Rattle.hc_machine.specs.Workers.{writer_take as writer_step, filler_take as filler_step, reclaim as reclaim_step};
 ghost use Rattle.hc_nvm.specs.Seen.{take_of};
-ghost use Rattle.hc_core.specs.Answers.{IsReason, found_answer, removed_answer};
+ghost use Rattle.hc_core.specs.Answers.{IsReason, is_work, found_answer, removed_answer};
 ghost use Rattle.hc_core.specs.Logged.{Logged, IsCall};
 
 use hc_history::Reply;
@@ -58,6 +58,18 @@ pub trait Calls<A: Allocator>: Cache {
         ensures ok { IfOk result (λ reply. IsCall (reply_step call (Self.seen self.old).cache) (Replied (reply_of reply)) (Self.seen self.old) (Self.seen self.new)) }
         ensures err { OnErr result (Self.seen self.new ≡ Self.seen self.old) }
         ensures why { IfErr result (λ refusal. IsReason (reply_step call (Self.seen self.old).cache).answer refusal) };
+
+    /// `Core::writer_has_work`.
+    fn writer_has_work(&mut self) -> Result<bool, Refusal>
+        ensures ok { IfOk result (λ has. has ≡ is_work (writer_step (Self.seen self.old).cache).answer) }
+        ensures same { Self.seen self.new ≡ Self.seen self.old }
+        ensures memory { IfErr result (λ refusal. refusal ≡ Refusal.NoMemory) };
+
+    /// `Core::filler_has_work`.
+    fn filler_has_work(&mut self) -> Result<bool, Refusal>
+        ensures ok { IfOk result (λ has. has ≡ is_work (filler_step (Self.seen self.old).cache).answer) }
+        ensures same { Self.seen self.new ≡ Self.seen self.old }
+        ensures memory { IfErr result (λ refusal. refusal ≡ Refusal.NoMemory) };
 
     /// `Core::writer_take`.
     fn writer_take(&mut self) -> Result<Take<A>, Refusal>

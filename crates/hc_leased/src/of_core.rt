@@ -9,9 +9,9 @@ ghost use Rattle.hc_memory.specs.Seen.{filled};
 ghost use Rattle.hc_machine.specs.Cache.{Discarded, Replied, Refused, Took};
 ghost use Rattle.hc_machine.specs.Evicting.{allocate as allocate_step};
 ghost use Rattle.hc_machine.specs.Calls.{find as find_step, remove as remove_step};
-ghost use Rattle.hc_machine.specs.Workers.{writer_take as writer_step, filler_take as filler_step, finish as finish_step};
+ghost use Rattle.hc_machine.specs.Workers.{finish as finish_step};
 ghost use Rattle.hc_nvm.specs.Seen.{take_of};
-ghost use Rattle.hc_core.specs.Answers.{IsReason, is_work, found_answer, copied_by, left_by, inserted_answer, removed_answer};
+ghost use Rattle.hc_core.specs.Answers.{IsReason, found_answer, copied_by, left_by, inserted_answer, removed_answer};
 ghost use Rattle.hc_core.specs.Logged.{IsCall};
 ghost use Rattle.hc_core.specs.Plain.{set_step, add_step, give_up_step, MayRefuse, MayRefuseNew};
 ghost use Rattle.hc_lease.specs.Stamps.{changed, is_fresh};
@@ -231,24 +231,6 @@ impl<N: Notes<Note<A>>, A: Allocator + Clone + Copy> Leased<Core<N, A>, A> {
         let removed = self.cache.delete(key)?;
         self.note_change(digest_of(key));
         Ok(removed)
-    }
-
-    /// As `Core::writer_has_work`.
-    pub fn writer_has_work(&mut self) -> Result<bool, Refusal>
-        ensures ok { IfOk result (λ has. has ≡ is_work (writer_step self.old.logged.cache).answer) }
-        ensures same { self.new ≡ self.old }
-        ensures memory { IfErr result (λ refusal. refusal ≡ Refusal.NoMemory) }
-    {
-        self.cache.writer_has_work()
-    }
-
-    /// As `Core::filler_has_work`.
-    pub fn filler_has_work(&mut self) -> Result<bool, Refusal>
-        ensures ok { IfOk result (λ has. has ≡ is_work (filler_step self.old.logged.cache).answer) }
-        ensures same { self.new ≡ self.old }
-        ensures memory { IfErr result (λ refusal. refusal ≡ Refusal.NoMemory) }
-    {
-        self.cache.filler_has_work()
     }
 
     /// As `Core::finish`. Adds that waited may store here: they were noted as they began to wait.

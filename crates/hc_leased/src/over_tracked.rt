@@ -5,7 +5,7 @@ ghost use Rattle.hc_machine.specs.Cache.{Replied, Moment, Took, Reclaimed};
 ghost use Rattle.hc_machine.specs.Calls.{find as find_step, remove as remove_step, take_reply as reply_step, tick as tick_step};
 ghost use Rattle.hc_machine.specs.Workers.{writer_take as writer_step, filler_take as filler_step, reclaim as reclaim_step};
 ghost use Rattle.hc_nvm.specs.Seen.{take_of};
-ghost use Rattle.hc_core.specs.Answers.{IsReason, found_answer, removed_answer};
+ghost use Rattle.hc_core.specs.Answers.{IsReason, is_work, found_answer, removed_answer};
 ghost use Rattle.hc_core.specs.Logged.{IsCall};
 
 use crate::cache::{Cache, Calls};
@@ -61,6 +61,22 @@ impl<N: Notes<Note<A>>, A: Allocator + Clone + Copy, G: Digest + Copy> Calls<A>
         ensures why { IfErr result (λ refusal. IsReason (reply_step call self.old.core.cache).answer refusal) }
     {
         TrackedCore::take_reply(self, call)
+    }
+
+    fn writer_has_work(&mut self) -> Result<bool, Refusal>
+        ensures ok { IfOk result (λ has. has ≡ is_work (writer_step self.old.core.cache).answer) }
+        ensures same { self.new.core ≡ self.old.core }
+        ensures memory { IfErr result (λ refusal. refusal ≡ Refusal.NoMemory) }
+    {
+        TrackedCore::writer_has_work(self)
+    }
+
+    fn filler_has_work(&mut self) -> Result<bool, Refusal>
+        ensures ok { IfOk result (λ has. has ≡ is_work (filler_step self.old.core.cache).answer) }
+        ensures same { self.new.core ≡ self.old.core }
+        ensures memory { IfErr result (λ refusal. refusal ≡ Refusal.NoMemory) }
+    {
+        TrackedCore::filler_has_work(self)
     }
 
     fn writer_take(&mut self) -> Result<Take<A>, Refusal>

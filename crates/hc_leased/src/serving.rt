@@ -3,6 +3,7 @@ ghost use Rattle.std.specs.Prelude.{◌≡◌, IfOk, OnErr, IfErr};
 ghost use Rattle.hc_machine.specs.Cache.{Took, Reclaimed};
 ghost use Rattle.hc_machine.specs.Workers.{writer_take as writer_step, filler_take as filler_step, reclaim as reclaim_step};
 ghost use Rattle.hc_nvm.specs.Seen.{take_of};
+ghost use Rattle.hc_core.specs.Answers.{is_work};
 ghost use Rattle.hc_core.specs.Logged.{IsCall};
 ghost use Rattle.hc_leased.specs.Leased.{SameLeases};
 ghost use Rattle.hc_theorem.specs.runs.Events.{Writes, Fills, Reclaims};
@@ -15,6 +16,24 @@ use hc_types::Refusal;
 use std::alloc::Allocator;
 
 impl<C: Calls<A>, A: Allocator + Clone + Copy> Leased<C, A> {
+    /// As `Core::writer_has_work`.
+    pub fn writer_has_work(&mut self) -> Result<bool, Refusal>
+        ensures ok { IfOk result (λ has. has ≡ is_work (writer_step self.old.logged.cache).answer) }
+        ensures same { self.new ≡ self.old }
+        ensures memory { IfErr result (λ refusal. refusal ≡ Refusal.NoMemory) }
+    {
+        self.cache.writer_has_work()
+    }
+
+    /// As `Core::filler_has_work`.
+    pub fn filler_has_work(&mut self) -> Result<bool, Refusal>
+        ensures ok { IfOk result (λ has. has ≡ is_work (filler_step self.old.logged.cache).answer) }
+        ensures same { self.new ≡ self.old }
+        ensures memory { IfErr result (λ refusal. refusal ≡ Refusal.NoMemory) }
+    {
+        self.cache.filler_has_work()
+    }
+
     /// As `Core::writer_take`.
     pub fn writer_take(&mut self) -> Result<Take<A>, Refusal>
         ensures ok { IfOk result (λ take. IsCall (writer_step self.old.logged.cache) (Took (take_of take)) self.old.logged self.new.logged) }

@@ -51,14 +51,14 @@ impl<N: Notes<Note<A>>, A: Allocator + Clone + Copy, G: Digest + Copy> Shared<N,
         let mut held = self.guarded.lock(rt);
         let call = match held.cache.insert(client, sealed) {
             Ok(Inserted::Stored) => {
-                self.wake(&mut held);
+                self.answered(&mut held);
                 return Ok((held.cache.calls(), Added::Stored));
             }
             Ok(Inserted::Waiting(call)) => call,
             Err(unlinked) => return Err(Unstored::Refused(unlinked)),
         };
         // (its key's load is over, for which others may wait)
-        self.wake(&mut held);
+        self.answered(&mut held);
         for _ in rt.forever() {
             match held.cache.take_reply(call) {
                 Ok((Reply::Stored, _)) => return Ok((call, Added::Stored)),

@@ -1,8 +1,12 @@
 // Whether the workers can still get on.
 
+use crate::gate::Worker;
+
 /// What a worker is at.
 #[derive(Clone, Copy, Debug, PartialEq, Eq)]
 enum Duty {
+    /// It is to look for work.
+    Looking,
     /// It is at work.
     Working,
     /// It found nothing to do, and waits to be called.
@@ -11,13 +15,114 @@ enum Duty {
     Starved,
 }
 
-/// What a worker knows of itself: what it is at, and of which calls it has heard. It is the worker's own, and changes with
-/// the crew alone.
+/// What a worker knows of itself: of which kind it is, what it is at, and of which calls it has heard. It is the worker's own,
+/// and changes with the crew alone.
 #[derive(Clone, Copy, Debug)]
 pub(crate) struct Turn {
+    pub(crate) worker: Worker,
     duty: Duty,
     calls: u64,
     rouses: u64,
+}
+
+impl Turn {
+    /// That of a worker that begins.
+    pub(crate) fn new(worker: Worker) -> Turn {
+        Turn {
+            worker,
+            duty: Duty::Looking,
+            calls: 0,
+            rouses: 0,
+        }
+    }
+
+    /// The worker did something, and is to look for more.
+    pub(crate) fn look_again(&mut self) {
+        self.duty = Duty::Looking;
+    }
+}
+
+/// The workers of one kind.
+#[derive(Clone, Copy, Debug)]
+struct Kind {
+    /// How many of them found nothing to do, and haven't been called since.
+    idle: u32,
+    /// For how many of them memory lacked, which haven't been called since.
+    starved: u32,
+    /// How often they were called.
+    calls: u64,
+}
+
+impl Kind {
+    fn new() -> Kind {
+        Kind {
+            idle: 0,
+            starved: 0,
+            calls: 0,
+        }
+    }
+
+    /// The same, called once more.
+    fn called(self) -> Kind {
+        Kind {
+            idle: 0,
+            starved: 0,
+            calls: self.calls.wrapping_add(1),
+        }
+    }
+
+    /// The same behind one more that was at this.
+    fn with(self, duty: Duty) -> Kind {
+        let Kind {
+            idle,
+            starved,
+            calls,
+        } = self;
+        match duty {
+            Duty::Looking | Duty::Working => self,
+            Duty::Idle => Kind {
+                idle: idle.saturating_add(1),
+                starved,
+                calls,
+            },
+            Duty::Starved => Kind {
+                idle,
+                starved: starved.saturating_add(1),
+                calls,
+            },
+        }
+    }
+
+    /// The same without one that was at this.
+    fn without(self, duty: Duty) -> Kind {
+        let Kind {
+            idle,
+            starved,
+            calls,
+        } = self;
+        match duty {
+            Duty::Looking | Duty::Working => self,
+            Duty::Idle => Kind {
+                idle: idle.saturating_sub(1),
+                starved,
+                calls,
+            },
+            Duty::Starved => Kind {
+                idle,
+                starved: starved.saturating_sub(1),
+                calls,
+            },
+        }
+    }
+
+    /// The same, where those that found nothing to do look once more.
+    fn roused(self) -> Kind {
+        Kind {
+            idle: 0,
+            starved: self.starved,
+            calls: self.calls,
+        }
+    }
 }
 
 /// What is known of the workers. It lies under the lock, beside the core.
@@ -28,19 +133,17 @@ pub(crate) struct Turn {
 /// called, and no client does a filler's job. (Where a job was lost, that each is idle or gone is enough: nobody will answer what waits for it.)
 ///
 /// No wake is lost: what is known of the workers is changed in the same hold of the lock as the core, those that wait look
-/// at it before they sleep, and each change by which they may come to be stuck wakes the calls that wait.
+/// at it before they sleep, and each change by which they may come to be stuck wakes the calls that wait. Those of a kind that
+/// finds nothing to do behind a change aren't called for it: the next change by which they would is followed by a call.
 #[derive(Clone, Copy, Debug)]
 pub(crate) struct Crew {
     /// How many workers are there.
     there: u32,
-    /// How many of them found nothing to do, and haven't been called since.
-    idle: u32,
-    /// For how many of them memory lacked, which haven't been called since.
-    starved: u32,
+    writer: Kind,
+    fillers: Kind,
+    reclaimer: Kind,
     /// How many clients do a filler's job.
     helpers: u32,
-    /// How often all were called.
-    calls: u64,
     /// How often those were called that had found nothing to do.
     rouses: u64,
     /// A worker ended with a job that wasn't over, since memory lacked for it. What waits for it is never answered.
@@ -52,21 +155,35 @@ impl Crew {
     pub(crate) fn new() -> Crew {
         Crew {
             there: 0,
-            idle: 0,
-            starved: 0,
+            writer: Kind::new(),
+            fillers: Kind::new(),
+            reclaimer: Kind::new(),
             helpers: 0,
-            calls: 0,
             rouses: 0,
             has_lost: false,
         }
     }
 
-    /// So many workers are there, and are to look for work. Each begins with this turn.
-    pub(crate) fn begin(&mut self, workers: u32) -> Turn {
-        let before = self.turn(Duty::Working);
+    fn kind(&self, worker: Worker) -> Kind {
+        match worker {
+            Worker::Writer => self.writer,
+            Worker::Filler => self.fillers,
+            Worker::Reclaimer => self.reclaimer,
+        }
+    }
+
+    fn set_kind(&mut self, worker: Worker, kind: Kind) {
+        match worker {
+            Worker::Writer => self.writer = kind,
+            Worker::Filler => self.fillers = kind,
+            Worker::Reclaimer => self.reclaimer = kind,
+        }
+    }
+
+    /// So many workers are there, and are to look for work.
+    pub(crate) fn begin(&mut self, workers: u32) {
         self.there = workers;
-        self.call();
-        before
+        self.call_all();
     }
 
     /// A client begins to do a filler's job.
@@ -82,46 +199,52 @@ impl Crew {
     /// The worker is gone.
     pub(crate) fn leave(&mut self, turn: Turn) {
         if !self.is_called(turn) {
-            match turn.duty {
-                Duty::Working => {}
-                Duty::Idle => self.idle = self.idle.saturating_sub(1),
-                Duty::Starved => self.starved = self.starved.saturating_sub(1),
-            }
+            self.set_kind(turn.worker, self.kind(turn.worker).without(turn.duty));
         }
         self.there = self.there.saturating_sub(1);
     }
 
-    /// Calls those that are there: they look for work, or try what they are at, once more.
-    pub(crate) fn call(&mut self) {
-        self.calls = self.calls.wrapping_add(1);
-        self.idle = 0;
-        self.starved = 0;
+    /// Calls those of this kind: they look for work, or try what they are at, once more.
+    pub(crate) fn call(&mut self, worker: Worker) {
+        self.set_kind(worker, self.kind(worker).called());
+    }
+
+    /// Calls all that are there.
+    pub(crate) fn call_all(&mut self) {
+        self.writer = self.writer.called();
+        self.fillers = self.fillers.called();
+        self.reclaimer = self.reclaimer.called();
     }
 
     /// Whether the worker was called.
     pub(crate) fn is_called(&self, turn: Turn) -> bool {
-        let is_roused = turn.duty == Duty::Idle && turn.rouses != self.rouses;
-        turn.calls != self.calls || is_roused
+        match turn.duty {
+            Duty::Looking => true,
+            Duty::Idle if turn.rouses != self.rouses => true,
+            _ => turn.calls != self.kind(turn.worker).calls,
+        }
     }
 
     /// The worker, which was called, is at work.
     pub(crate) fn work(&self, turn: &mut Turn) {
-        *turn = self.turn(Duty::Working);
+        *turn = self.turn(turn.worker, Duty::Working);
     }
 
     /// The worker, which is at work, found nothing to do.
     pub(crate) fn rest(&mut self, turn: &mut Turn) {
-        self.idle = self.idle.saturating_add(1);
-        *turn = self.turn(Duty::Idle);
+        self.set_kind(turn.worker, self.kind(turn.worker).with(Duty::Idle));
+        *turn = self.turn(turn.worker, Duty::Idle);
     }
 
     /// Memory lacked for what the worker is at. Those that found nothing to do look once more, since it may have changed
     /// something before.
     pub(crate) fn starve(&mut self, turn: &mut Turn) {
         self.rouses = self.rouses.wrapping_add(1);
-        self.idle = 0;
-        self.starved = self.starved.saturating_add(1);
-        *turn = self.turn(Duty::Starved);
+        self.writer = self.writer.roused();
+        self.fillers = self.fillers.roused();
+        self.reclaimer = self.reclaimer.roused();
+        self.set_kind(turn.worker, self.kind(turn.worker).with(Duty::Starved));
+        *turn = self.turn(turn.worker, Duty::Starved);
     }
 
     /// A worker ends with a job that isn't over.
@@ -129,18 +252,36 @@ impl Crew {
         self.has_lost = true;
     }
 
+    /// For how many workers memory lacked, which weren't called since.
+    fn starved(&self) -> u32 {
+        let both = self.writer.starved.saturating_add(self.fillers.starved);
+        both.saturating_add(self.reclaimer.starved)
+    }
+
+    /// How many workers found nothing to do, and weren't called since.
+    fn idle(&self) -> u32 {
+        let both = self.writer.idle.saturating_add(self.fillers.idle);
+        both.saturating_add(self.reclaimer.idle)
+    }
+
+    /// Whether memory lacked for a worker that wasn't called since.
+    pub(crate) fn is_starved(&self) -> bool {
+        self.starved() > 0
+    }
+
     /// Whether no worker gets on before something changes, and memory is why.
     pub(crate) fn is_stuck(&self) -> bool {
-        let waiting = self.idle.saturating_add(self.starved);
-        let is_starved = self.has_lost || self.starved > 0;
+        let waiting = self.idle().saturating_add(self.starved());
+        let is_starved = self.has_lost || self.is_starved();
         is_starved && waiting == self.there && self.helpers == 0
     }
 
     /// The turn of one that has heard of each call.
-    fn turn(&self, duty: Duty) -> Turn {
+    fn turn(&self, worker: Worker, duty: Duty) -> Turn {
         Turn {
+            worker,
             duty,
-            calls: self.calls,
+            calls: self.kind(worker).calls,
             rouses: self.rouses,
         }
     }

@@ -1,5 +1,6 @@
 // Finds, which wait where a value may be on flash.
 
+use crate::gate::Worker;
 use crate::leasing::{Looked, missed};
 use crate::port::Port;
 use crate::shared::{Guarded, Shared};
@@ -58,7 +59,7 @@ impl<N: Notes<Note<A>>, A: Allocator + Clone + Copy, G: Digest + Copy> Shared<N,
             Asked::Waits(call) => call,
         };
         if port.is_none() {
-            self.call(&mut held);
+            self.stepped(&mut held);
         }
         for _ in rt.forever() {
             if let Some(answer) = reply_to(&mut held, call, key, patience)? {
@@ -102,14 +103,14 @@ impl<N: Notes<Note<A>>, A: Allocator + Clone + Copy, G: Digest + Copy> Shared<N,
                 Ok(self.fill(rt, port, client, job, order))
             }
             Ok(Take::Finished) => {
-                self.wake(&mut held);
+                self.answered(&mut held);
                 Ok(held)
             }
             Ok(Take::Idle) => self.await_change(rt, call, held),
             // Memory lacks: the fillers try it, unless it lacked for them already.
             Err(_) if held.crew.is_stuck() => Err(Unfound::Open(call)),
             Err(_) => {
-                self.call(&mut held);
+                self.call(&mut held, Worker::Filler);
                 Ok(self.replies.wait(rt, held))
             }
         }
@@ -141,14 +142,17 @@ impl<N: Notes<Note<A>>, A: Allocator + Clone + Copy, G: Digest + Copy> Shared<N,
             };
             match finished {
                 Ok(Take::Work(_, next)) => {
-                    self.wake(&mut held);
+                    self.answered(&mut held);
                     drop(held);
                     order = next;
                 }
-                ended => {
-                    if ended.is_err() {
-                        held.left.leave(client, job);
-                    }
+                Ok(_) => {
+                    held.crew.end_help();
+                    self.answered(&mut held);
+                    return held;
+                }
+                Err(_) => {
+                    held.left.leave(client, job);
                     held.crew.end_help();
                     self.wake(&mut held);
                     return held;

@@ -40,22 +40,16 @@ pub fn serve<
     ensures err { IfErr result (λ refusal. refusal ≡ Refusal.NoMemory) }
 {
     let fillers = fillers.max(1);
-    let turn = shared.begin(rt, fillers.saturating_add(2));
-    let post = Post {
-        shared,
-        port,
-        gate,
-        turn,
-    };
+    shared.begin(rt, fillers.saturating_add(2));
+    let post = Post { shared, port, gate };
     run(rt, post, fillers, body)
 }
 
-/// Where workers stand: what they share, and how each begins.
+/// Where workers stand: what they share.
 struct Post<'x, N: Listener, A: Allocator, D: Device<A>, G, H: Digest + Copy> {
     shared: &'x Shared<N, A, H>,
     port: &'x Port<D, A>,
     gate: &'x G,
-    turn: Turn,
 }
 
 impl<'x, N: Listener, A: Allocator, D: Device<A>, G, H: Digest + Copy> Clone
@@ -128,16 +122,17 @@ impl<
 > Workers<R> for Post<'x, N, A, D, G, H> {
     /// A take each round. The core's lock isn't held at a gate or during a device operation.
     fn work(self, rt: &R, worker: Worker) {
-        let mut turn = self.turn;
+        let mut turn = Turn::new(worker);
         for _ in rt.forever() {
             if !self.shared.goes_on(rt, &mut turn) {
                 return;
             }
             self.gate.pass(Point::BeforeTake(worker));
-            let taken = self.shared.take(rt, worker, &mut turn);
+            let taken = self.shared.take(rt, &mut turn);
             self.gate.pass(Point::AfterTake(worker));
             if let Some((job, order)) = taken {
                 self.do_job(rt, worker, &mut turn, job, order);
+                turn.look_again();
             }
         }
     }

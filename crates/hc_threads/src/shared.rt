@@ -6,6 +6,7 @@ ghost use Rattle.hc_threads.specs.Asked.{IsAsked, RefusesAllocation, RefusesInse
 ghost use Rattle.hc_threads.specs.Seen.{IsBack};
 
 use crate::crew::Crew;
+use crate::gate::Worker;
 use crate::left::Left;
 use hc_core::Core;
 use hc_history::{Listener, Note, Notes};
@@ -59,8 +60,10 @@ fn numbered(clients: &mut u8) -> Result<u8, Refusal>
 #[derive(Drop)]
 pub struct Shared<N: Listener, A: Allocator = Global, G: Digest + Copy = Folded> {
     pub(crate) guarded: Mutex<Guarded<N, A, G>>,
-    /// Wakes workers, for work and to end.
-    pub(crate) work: Condvar,
+    /// Wake workers, for work and to end.
+    writer: Condvar,
+    fillers: Condvar,
+    reclaimer: Condvar,
     /// Wakes clients that wait for a reply.
     pub(crate) replies: Condvar,
     pub(crate) digest: G,
@@ -123,7 +126,9 @@ impl<N: Listener, A: Allocator + Clone + Copy, G: Digest + Copy> Shared<N, A, G>
                 left: Left::new(),
                 clients: 0,
             }),
-            work: Condvar::new(),
+            writer: Condvar::new(),
+            fillers: Condvar::new(),
+            reclaimer: Condvar::new(),
             replies: Condvar::new(),
             digest,
             config,
@@ -158,7 +163,9 @@ impl<N: Listener, A: Allocator, G: Digest + Copy> Shared<N, A, G> {
     {
         let Shared {
             guarded,
-            work: _,
+            writer: _,
+            fillers: _,
+            reclaimer: _,
             replies: _,
             digest: _,
             config,
@@ -195,15 +202,60 @@ impl<N: Listener, A: Allocator, G: Digest + Copy> Shared<N, A, G> {
         self.wake(&mut held);
     }
 
-    /// Calls the workers, since something has changed.
-    pub(crate) fn call(&self, held: &mut Guarded<N, A, G>) {
-        held.crew.call();
-        self.work.notify_all();
+    /// What wakes the workers of this kind.
+    pub(crate) fn bell(&self, worker: Worker) -> &Condvar {
+        match worker {
+            Worker::Writer => &self.writer,
+            Worker::Filler => &self.fillers,
+            Worker::Reclaimer => &self.reclaimer,
+        }
+    }
+
+    /// Wakes all workers: they look whether they were called.
+    pub(crate) fn ring(&self) {
+        self.writer.notify_all();
+        self.fillers.notify_all();
+        self.reclaimer.notify_all();
+    }
+
+    /// Calls the workers of this kind.
+    pub(crate) fn call(&self, held: &mut Guarded<N, A, G>, worker: Worker) {
+        held.crew.call(worker);
+        self.bell(worker).notify_all();
+    }
+
+    /// Calls all workers.
+    pub(crate) fn call_all(&self, held: &mut Guarded<N, A, G>) {
+        held.crew.call_all();
+        self.ring();
     }
 
     /// The same, and wakes the calls that wait.
     pub(crate) fn wake(&self, held: &mut Guarded<N, A, G>) {
-        self.call(held);
+        self.call_all(held);
+        self.replies.notify_all();
+    }
+}
+
+impl<N: Notes<Note<A>>, A: Allocator + Clone + Copy, G: Digest + Copy> Shared<N, A, G> {
+    /// Calls the workers that find something to do behind a step, or all where memory lacked for one of them. (A region is to be
+    /// given up behind the writer's steps alone.)
+    pub(crate) fn stepped(&self, held: &mut Guarded<N, A, G>) {
+        if held.crew.is_starved() {
+            return self.call_all(held);
+        }
+        // (where memory lacks for the question, they look themselves)
+        if held.cache.writer_has_work().unwrap_or(true) {
+            self.call(held, Worker::Writer);
+        }
+        if held.cache.filler_has_work().unwrap_or(true) {
+            self.call(held, Worker::Filler);
+        }
+    }
+
+    /// The same, and wakes the calls that wait.
+    pub(crate) fn answered(&self, held: &mut Guarded<N, A, G>) {
+        self.stepped(held);
         self.replies.notify_all();
     }
 }
@@ -235,7 +287,7 @@ impl<N: Notes<Note<A>>, A: Allocator + Clone + Copy, G: Digest + Copy> Shared<N,
     {
         let mut held = self.guarded.lock(rt);
         let blank = held.cache.allocate_with(pool, key, fill, ttl);
-        self.call(&mut held);
+        self.stepped(&mut held);
         blank
     }
 
@@ -244,7 +296,7 @@ impl<N: Notes<Note<A>>, A: Allocator + Clone + Copy, G: Digest + Copy> Shared<N,
     {
         let mut held = self.guarded.lock(rt);
         let discarded = held.cache.discard(sealed);
-        self.call(&mut held);
+        self.stepped(&mut held);
         discarded
     }
 
@@ -253,7 +305,7 @@ impl<N: Notes<Note<A>>, A: Allocator + Clone + Copy, G: Digest + Copy> Shared<N,
     {
         let mut held = self.guarded.lock(rt);
         let discarded = held.cache.discard_blank(blank);
-        self.call(&mut held);
+        self.stepped(&mut held);
         discarded
     }
 
@@ -270,7 +322,7 @@ impl<N: Notes<Note<A>>, A: Allocator + Clone + Copy, G: Digest + Copy> Shared<N,
         let mut held = self.guarded.lock(rt);
         held.cache.insert_or_replace(client, sealed)?;
         let call = held.cache.calls();
-        self.wake(&mut held);
+        self.answered(&mut held);
         Ok(call)
     }
 
@@ -290,7 +342,7 @@ impl<N: Notes<Note<A>>, A: Allocator + Clone + Copy, G: Digest + Copy> Shared<N,
         let mut held = self.guarded.lock(rt);
         let kept = held.cache.insert_leased(ticket, client, sealed)?;
         let call = held.cache.calls();
-        self.wake(&mut held);
+        self.answered(&mut held);
         Ok((call, kept))
     }
 
@@ -306,7 +358,7 @@ impl<N: Notes<Note<A>>, A: Allocator + Clone + Copy, G: Digest + Copy> Shared<N,
         let mut held = self.guarded.lock(rt);
         let removed = held.cache.remove(client, key)?;
         let call = held.cache.calls();
-        self.wake(&mut held);
+        self.answered(&mut held);
         Ok((call, removed))
     }
 }

@@ -13,17 +13,17 @@ use std::alloc::{AllocError, Allocator};
 use std::sync::Wait;
 
 impl<N: Listener, A: Allocator, G: Digest + Copy> Shared<N, A, G> {
-    /// Has so many workers begin, which take no work yet, each with this turn.
-    pub(crate) fn begin<R: Wait>(&self, rt: &R, workers: u32) -> Turn {
+    /// Has so many workers begin, which take no work yet.
+    pub(crate) fn begin<R: Wait>(&self, rt: &R, workers: u32) {
         let mut held = self.guarded.lock(rt);
         held.stage = Stage::Beginning;
-        held.crew.begin(workers)
+        held.crew.begin(workers);
     }
 
     /// Tells the workers to work or to end.
     pub(crate) fn go_to<R: Wait>(&self, rt: &R, stage: Stage) {
         self.guarded.lock(rt).stage = stage;
-        self.work.notify_all();
+        self.ring();
     }
 
     /// Waits until the worker is to work, and was called. Answers whether it goes on then: not where the workers are to end.
@@ -39,7 +39,7 @@ impl<N: Listener, A: Allocator, G: Digest + Copy> Shared<N, A, G> {
                 held.crew.work(turn);
                 return true;
             }
-            held = self.work.wait(rt, held);
+            held = self.bell(turn.worker).wait(rt, held);
         }
         unreachable!()
     }
@@ -67,7 +67,7 @@ impl<N: Listener, A: Allocator, G: Digest + Copy> Shared<N, A, G> {
     /// Memory lacked for what the worker is at.
     fn starve(&self, held: &mut Guarded<N, A, G>, turn: &mut Turn) {
         held.crew.starve(turn);
-        self.work.notify_all();
+        self.ring();
         self.tell_stuck(held);
     }
 
@@ -80,17 +80,23 @@ impl<N: Listener, A: Allocator, G: Digest + Copy> Shared<N, A, G> {
 }
 
 impl<N: Notes<Note<A>>, A: Allocator + Clone + Copy, G: Digest + Copy> Shared<N, A, G> {
+    /// Behind a worker's job: calls those that find something to do, and wakes the calls that wait.
+    fn worked(&self, held: &mut Guarded<N, A, G>, worker: Worker) {
+        if worker == Worker::Writer {
+            self.call(held, Worker::Reclaimer);
+        }
+        self.answered(held);
+    }
+
     /// What the worker takes: a job, with its operation, if there is one for it and memory doesn't lack. It doesn't wait.
-    pub(crate) fn take<R: Wait>(
-        &self,
-        rt: &R,
-        worker: Worker,
-        turn: &mut Turn,
-    ) -> Option<(u64, Order<A>)> {
+    pub(crate) fn take<R: Wait>(&self, rt: &R, turn: &mut Turn) -> Option<(u64, Order<A>)> {
         let mut held = self.guarded.lock(rt);
-        match take_as(&mut held, worker) {
+        match take_as(&mut held, turn.worker) {
             Ok(Take::Work(job, order)) => return Some((job, order)),
-            Ok(Take::Finished) => self.wake(&mut held),
+            Ok(Take::Finished) => {
+                turn.look_again();
+                self.worked(&mut held, turn.worker);
+            }
             Ok(Take::Idle) => {
                 held.crew.rest(turn);
                 self.tell_stuck(&held);
@@ -112,9 +118,13 @@ impl<N: Notes<Note<A>>, A: Allocator + Clone + Copy, G: Digest + Copy> Shared<N,
         let digest = digest_of(&self.digest, &came);
         let mut held = self.guarded.lock(rt);
         match held.cache.finish(job, came, digest) {
-            Ok(take) => {
-                self.wake(&mut held);
-                Ok(order_of(take))
+            Ok(Take::Work(_, next)) => {
+                self.answered(&mut held);
+                Ok(Some(next))
+            }
+            Ok(_) => {
+                self.worked(&mut held, turn.worker);
+                Ok(None)
             }
             Err(
                 Unfinished {
@@ -127,18 +137,10 @@ impl<N: Notes<Note<A>>, A: Allocator + Clone + Copy, G: Digest + Copy> Shared<N,
             }
             // (the job isn't known, which doesn't happen: the worker looks for another)
             Err(_) => {
-                self.wake(&mut held);
+                self.worked(&mut held, turn.worker);
                 Ok(None)
             }
         }
-    }
-}
-
-/// The operation that a job waits for next.
-fn order_of<A: Allocator>(take: Take<A>) -> Option<Order<A>> {
-    match take {
-        Take::Work(_, order) => Some(order),
-        Take::Idle | Take::Finished => None,
     }
 }
 

@@ -15,7 +15,7 @@ ghost use Rattle.hc_machine.specs.World.{order_in};
 ghost use Rattle.hc_machine.specs.Calls.{insert_or_replace as replace_step, insert as insert_step, discard as discard_step, find as find_step, remove as remove_step, take_reply as reply_step, tick as tick_step};
 ghost use Rattle.hc_machine.specs.Workers.{writer_take as writer_step, filler_take as filler_step, reclaim as reclaim_step};
 ghost use Rattle.hc_nvm.specs.Seen.{take_of};
-ghost use Rattle.hc_core.specs.Answers.{IsReason, found_answer, inserted_answer, removed_answer};
+ghost use Rattle.hc_core.specs.Answers.{IsReason, is_work, found_answer, inserted_answer, removed_answer};
 ghost use Rattle.hc_core.specs.Logged.{IsCall};
 ghost use Rattle.hc_marked.specs.Marked.{Marked, NoneCollides};
 ghost use Rattle.hc_paged.specs.Devices.{mark_at};
@@ -272,6 +272,24 @@ impl<N: Notes<Note<A>>, A: Allocator + Clone + Copy, G: Digest + Copy> TrackedCo
         ensures why { IfErr result (λ refusal. IsReason (reply_step call self.old.core.cache).answer refusal) }
     {
         self.core.take_reply(call)
+    }
+
+    /// As `Core::writer_has_work`.
+    pub fn writer_has_work(&mut self) -> Result<bool, Refusal>
+        ensures ok { IfOk result (λ has. has ≡ is_work (writer_step self.old.core.cache).answer) }
+        ensures same { self.new.core ≡ self.old.core }
+        ensures memory { IfErr result (λ refusal. refusal ≡ Refusal.NoMemory) }
+    {
+        self.core.writer_has_work()
+    }
+
+    /// As `Core::filler_has_work`.
+    pub fn filler_has_work(&mut self) -> Result<bool, Refusal>
+        ensures ok { IfOk result (λ has. has ≡ is_work (filler_step self.old.core.cache).answer) }
+        ensures same { self.new.core ≡ self.old.core }
+        ensures memory { IfErr result (λ refusal. refusal ≡ Refusal.NoMemory) }
+    {
+        self.core.filler_has_work()
     }
 
     /// As `Core::writer_take`.
