@@ -7,6 +7,7 @@ pub mod Raised
 pub mod Starts
 pub mod Fills
 pub mod Firsts
+pub mod walk
 pub mod Framing
 pub mod Homes
 pub mod Kept

@@ -1,5 +1,6 @@
 -- What each step of the machine does, law by law.
 pub mod First
+pub mod Walking
 pub mod Evicting
 pub mod Filling
 pub mod Finding
