@@ -83,7 +83,7 @@ serves : Serves version config deeds begins
 serves = record {
   right = refl;
   sized = (key_sized, (item_sized 0, (tt, (key_sized, (item_sized 1, tt)))));
-  honest = silent_honest [] (acts (calls_of deeds) (new_cache config)).log tt;
+  honest = silent_honest [] (acts (calls_of deeds) (new_cache config)).log refl;
   slots = omega arith;
   may = (tt, (inl refl, (tt, (first_may, (tt, (inl refl, (tt, (tt, (tt, (inl refl, (tt, (last_may, tt))))))))))));
 }

@@ -4,7 +4,6 @@ pub mod Accounts
 pub mod AccountsOfResults
 pub mod FullPages
 pub mod StillParts
-pub mod StillSteps
 pub mod TakesStill
 pub mod StonesRun
 pub mod StonesKept

@@ -5,7 +5,6 @@ pub mod WritesAlone
 pub mod Known
 pub mod Betweens
 pub mod ResultsSuit
-pub mod SilentParts
 pub mod SilentSteps
 pub mod Running
 pub mod Honesty

@@ -32,8 +32,8 @@ use Rattle.hc_tracked.specs.Reading.{IsToldRead, IsToldWrite, WritesAs}
 
 silent-marked : (digest : List ℕ → ℕ) (older part : List Note) → NoIo part → MarkedAfter digest older part
 silent-marked digest older [] h = tt
-silent-marked digest older (notes.Read page result ∷ part) h = absurd h
-silent-marked digest older (notes.Wrote page bytes is_written ∷ part) h = absurd h
+silent-marked digest older (notes.Read page result ∷ part) h = absurd cc
+silent-marked digest older (notes.Wrote page bytes is_written ∷ part) h = absurd cc
 silent-marked digest older (note ∷ part) h = (tt, silent-marked digest (note ∷ older) part h)
 
 tracks-silent : (digest : List ℕ → ℕ) (marks : Marks) (log part : List Note) → Tracks digest marks log → NoIo part → Tracks digest marks (log ++ part)

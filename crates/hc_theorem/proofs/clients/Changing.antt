@@ -21,7 +21,8 @@ use Rattle.hc_proof.proofs.frames.ByNumber.{same_number, count-fewer}
 use Rattle.hc_proof.proofs.frames.Lists.{found-counts}
 use Rattle.hc_proof.proofs.calls.Serving.{unkept_by}
 use Rattle.hc_machine.specs.Quiet.{jobs_in}
-use Rattle.hc_theorem.proofs.runs.SilentParts.{both_told, plant_no_io, end_fill_no_io, replies_no_io}
+use Rattle.hc_laws.proofs.walk.Calls.{store_leaves}
+use Rattle.hc_theorem.proofs.idle.StillParts.{calm, still_jobs}
 use Rattle.hc_follows.specs.Desk.{Desk, Kept, without_kept}
 use Rattle.hc_follows.specs.Telling.{did_in, Answers}
 use Rattle.hc_proof.specs.shapes.Asides.{Aside, Answering}
@@ -107,8 +108,7 @@ module _ (config : Config) (log : List Note) (scene : Scene) (desk : Desk) (m : 
   pub stored_jobs : (client : ℕ) (op : Op) (handle : Handle) → jobs_in (store handle (begin client op cache).cache).cache.nvm ≡ jobs_in cache.nvm
   stored_jobs client op handle =
       let c = (begin client op cache).cache in
-      let q = both_told c (plant handle c) (replies_then note.Stored (end_fill handle.key (Some (entry_of_handle handle)))) (plant_no_io handle c) (replies_no_io note.Stored (end_fill handle.key (Some (entry_of_handle handle))) (end_fill_no_io handle.key (Some (entry_of_handle handle)))) in
-      q.jobs
+      still_jobs cache.nvm (store handle c).cache.nvm (store_leaves calm handle c).flash
 
   pub ended_adds : (calls : ℕ) (key : List ℕ) (after : Cache) → after.calls ≡ cache.calls + 1 → fills_of after.nvm ≡ without_fill key (fills_of cache.nvm) → AddsMatch desk.adds after.calls (fills_of after.nvm)
   ended_adds calls key after c f = record {

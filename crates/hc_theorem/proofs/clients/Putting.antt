@@ -18,7 +18,8 @@ use Rattle.hc_machine.specs.Calls as calls
 use Rattle.hc_machine.specs.Schedule.{Slot, Scene, Put, Discard, Remove, NoSlot, Tells, slot_at, is_slot, without_slot, in_world, puts, discards}
 use Rattle.hc_machine.specs.World.{Says}
 use Rattle.hc_invariant.specs.Good.{Agrees, fills_of}
-use Rattle.hc_theorem.proofs.runs.SilentParts.{both_told, uproot_no_io, end_fill_no_io, replies_no_io}
+use Rattle.hc_laws.proofs.walk.Calls.{remove_leaves}
+use Rattle.hc_theorem.proofs.idle.StillParts.{calm, still_jobs}
 use Rattle.hc_follows.specs.Desk.{Desk, Kept, kept_at, without_kept}
 use Rattle.hc_follows.specs.Clients.{PutPart, DiscardPart}
 use Rattle.hc_theorem.specs.clients.Matches.{kept_of, SlotsMatch, Matches}
@@ -126,10 +127,10 @@ module _ (config : Config) (log : List Note) (scene : Scene) (desk : Desk) (m : 
       let moved = calls.remove_by reply client key cache in
       let opens = opens_at config desk.older cache desk.slots scene.slots g m.slots in
       let e = call_ends scene.slots key None client (note.Remove key) reply c (uproot key c) u.aside u.calls u.fills (subst (Opens scene.slots (adds_in (fills_of cache.nvm))) (sym u.charges) opens) (one_fill config.flash desk.older cache.memory cache.nvm key g.flash) in
-      let q = both_told c (uproot key c) (replies_then reply (end_fill key None)) (uproot_no_io key c) (replies_no_io reply (end_fill key None) (end_fill_no_io key None)) in
+      let jobs = still_jobs cache.nvm moved.cache.nvm (remove_leaves calm reply client key cache).flash in
       record {
         part = e.answers desk.older (ap (λ n. n + 1) (sym g.calls.number));
-        matches = called_matches log desk scene scene.slots moved desk.slots desk.adds m q.jobs
+        matches = called_matches log desk scene scene.slots moved desk.slots desk.adds m jobs
             (slots_by desk.slots scene.slots moved.cache.memory.charges (fills_of moved.cache.nvm) m.slots.same m.slots.one_slot (subst (λ (all : List Fill). Opens scene.slots (adds_in all) moved.cache.memory.charges) (sym e.fills) e.opens))
             (ended_adds config log scene desk m g cache.calls key moved.cache e.calls e.fills);
       }

@@ -14,6 +14,7 @@ use Rattle.hc_machine.specs.Takes as takes
 use Rattle.hc_machine.specs.Takes.{Taken, resumed}
 use Rattle.hc_machine.specs.Cache.{Cache, Moved, Answer, Refused, Opened, Discarded, Replied, Waits, Moment, Took, Reclaimed, takes_in}
 use Rattle.hc_machine.specs.Evicting.{allocate}
+use Rattle.hc_memory.specs.Memory.{linked_at}
 use Rattle.hc_machine.specs.Calls as calls
 use Rattle.hc_machine.specs.Workers.{fill, after_take, take_on, reclaim_on, after_finish, finish_on}
 use Rattle.hc_machine.specs.World.{order_in, result_at, io_of, done_of}
@@ -24,8 +25,9 @@ use Rattle.hc_theorem.proofs.runs.WritesAlone.{runs_of}
 use Rattle.hc_theorem.specs.idle.Still.{AllCalm, StillOption, StillStep}
 use Rattle.hc_theorem.specs.idle.Accounted.{Accounted}
 use Rattle.hc_theorem.specs.idle.AccountsKept.{AccountsOf, StepKeepsAccounts}
-use Rattle.hc_theorem.proofs.idle.StillParts.{fill_still}
-use Rattle.hc_theorem.proofs.idle.StillSteps.{calm-plain, allocate_still, discard_still, insert_still, new_still, find_still, remove_still, reply_still, tick_still}
+use Rattle.hc_theorem.proofs.idle.StillParts.{calm}
+use Rattle.hc_laws.proofs.walk.Parts.{as_served, fill_leaves}
+use Rattle.hc_laws.proofs.walk.Calls.{allocate_leaves, discard_leaves, insert_leaves, new_leaves, find_leaves, remove_leaves, reply_leaves, tick_leaves}
 use Rattle.hc_theorem.proofs.idle.AccountsPass.{still_accounts}
 use Rattle.hc_theorem.proofs.idle.AccountsRun.{writer_accounts, filler_accounts, reclaimed_accounts, result_accounts}
 
@@ -41,16 +43,16 @@ module _ (config : Config) (older : List Note) where
   still_of (Some flash) history part (Some old) (Some new) c s a = still_accounts flash history part old new c s a
 
   called : (cache : Cache) (moved : Moved) → StillStep cache moved → AccountsOf config.flash older cache.nvm → KeptBy moved.part moved.cache
-  called cache moved s a = still_of config.flash older moved.part cache.nvm moved.cache.nvm s.calm s.still a
+  called cache moved s a = still_of config.flash older moved.part cache.nvm moved.cache.nvm s.none s.flash a
 
   -- what was taken, and the fill that ended with it
   taken_keeps : (taken : Taken) (cache : Cache) → AccountsOf config.flash (past older taken.part) (Some taken.nvm) → KeptBy (after_take taken cache).part (after_take taken cache).cache
   taken_keeps taken cache a =
       let base = (takes_in taken.part taken.nvm cache).cache in
       let f = fill taken.filled base in
-      let s = fill_still taken.filled base in
+      let s = fill_leaves (as_served calm) taken.filled base in
       subst (λ (history : List Note). AccountsOf config.flash history f.cache.nvm) (sym (past-append older taken.part f.part))
-      (still_of config.flash (past older taken.part) f.part (Some taken.nvm) f.cache.nvm (calm-plain f.part s.plain) s.still a)
+      (still_of config.flash (past older taken.part) f.part (Some taken.nvm) f.cache.nvm s.none s.flash a)
 
   -- ---- slots
 
@@ -73,19 +75,19 @@ module _ (config : Config) (older : List Note) where
     open_keeps (Some slot) number pool key value ttl = a
     open_keeps None number pool key value ttl =
         let moved = allocate pool key value ttl scene.world.cache in
-        filled number moved.answer moved (called scene.world.cache moved (allocate_still pool key value ttl scene.world.cache) a)
+        filled number moved.answer moved (called scene.world.cache moved (allocate_leaves calm pool key value ttl scene.world.cache) a)
 
     put_keeps : (o : Option Slot) → KeptIn (puts o client scene)
     put_keeps None = a
-    put_keeps (Some slot) = called scene.world.cache (calls.insert_or_replace client slot.handle scene.world.cache) (insert_still client slot.handle scene.world.cache) a
+    put_keeps (Some slot) = called scene.world.cache (calls.insert_or_replace client slot.handle scene.world.cache) (insert_leaves calm client slot.handle scene.world.cache) a
 
     new_keeps : (o : Option Slot) → KeptIn (puts_new o client scene)
     new_keeps None = a
-    new_keeps (Some slot) = called scene.world.cache (calls.insert client slot.handle scene.world.cache) (new_still client slot.handle scene.world.cache) a
+    new_keeps (Some slot) = called scene.world.cache (calls.insert client slot.handle scene.world.cache) (new_leaves calm client slot.handle scene.world.cache) a
 
     discard_keeps : (o : Option Slot) → KeptIn (discards o scene)
     discard_keeps None = a
-    discard_keeps (Some slot) = called scene.world.cache (calls.discard slot.handle scene.world.cache) (discard_still slot.handle scene.world.cache) a
+    discard_keeps (Some slot) = called scene.world.cache (calls.discard slot.handle scene.world.cache) (discard_leaves calm slot.handle scene.world.cache) a
 
   -- ---- workers
 
@@ -150,10 +152,10 @@ step_keeps_accounts client (Open slot pool key value ttl) config older scene g a
 step_keeps_accounts client (Put slot) config older scene g a = put_keeps config older client scene a (slot_at slot scene.slots)
 step_keeps_accounts client (PutNew slot) config older scene g a = new_keeps config older client scene a (slot_at slot scene.slots)
 step_keeps_accounts client (Discard slot) config older scene g a = discard_keeps config older client scene a (slot_at slot scene.slots)
-step_keeps_accounts client (Find key) config older scene g a = called config older scene.world.cache (calls.find client key scene.world.cache) (find_still client key scene.world.cache) a
-step_keeps_accounts client (Remove key) config older scene g a = called config older scene.world.cache (calls.remove client key scene.world.cache) (remove_still client key scene.world.cache) a
-step_keeps_accounts client (Reply call) config older scene g a = called config older scene.world.cache (calls.take_reply call scene.world.cache) (reply_still call scene.world.cache) a
-step_keeps_accounts client (Tick moment) config older scene g a = called config older scene.world.cache (calls.tick moment scene.world.cache) (tick_still moment scene.world.cache) a
+step_keeps_accounts client (Find key) config older scene g a = called config older scene.world.cache (calls.find client key scene.world.cache) (find_leaves calm client key scene.world.cache) a
+step_keeps_accounts client (Remove key) config older scene g a = called config older scene.world.cache (calls.remove client key scene.world.cache) (remove_leaves calm (calls.remove_reply (linked_at key scene.world.cache.memory.pools)) client key scene.world.cache) a
+step_keeps_accounts client (Reply call) config older scene g a = called config older scene.world.cache (calls.take_reply call scene.world.cache) (reply_leaves calm call scene.world.cache) a
+step_keeps_accounts client (Tick moment) config older scene g a = called config older scene.world.cache (calls.tick moment scene.world.cache) (tick_leaves calm moment scene.world.cache) a
 step_keeps_accounts client WriterTake config older scene g a = writer_keeps config older scene.world.cache g a scene.world.cache.nvm refl
 step_keeps_accounts client FillerTake config older scene g a = filler_keeps config older scene.world.cache g a scene.world.cache.nvm refl
 step_keeps_accounts client Reclaim config older scene g a = reclaim_keeps config older scene.world.cache g a scene.world.cache.nvm refl

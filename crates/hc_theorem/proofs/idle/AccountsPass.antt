@@ -20,7 +20,6 @@ use Rattle.hc_theorem.specs.idle.Still.{AllCalm, StillNvm, StillBehind}
 use Rattle.hc_theorem.specs.idle.Accounted.{Accounted, opened_on}
 use Rattle.hc_engines.proofs.large.Listed.{same_regions}
 use Rattle.hc_theorem.proofs.idle.Accounts.{counted, accounted, untouched_counts}
-use Rattle.hc_theorem.proofs.idle.StillSteps.{calm-plain}
 
 -- ---- notes
 
@@ -31,16 +30,16 @@ pub record SamePages (flash : FlashConfig) (old new : List Note) : Type 0 where
 
 calm_failed : (flash : FlashConfig) (r : ℕ) (older part : List Note) → AllCalm part → has_failed flash r (past older part) ≡ has_failed flash r older
 calm_failed flash r older [] h = refl
-calm_failed flash r older (Read page result ∷ part) h = absurd h
-calm_failed flash r older (Wrote page bytes is_written ∷ part) h = absurd h
-calm_failed flash r older (Opened region ∷ part) h = absurd h
+calm_failed flash r older (Read page result ∷ part) h = absurd cc
+calm_failed flash r older (Wrote page bytes is_written ∷ part) h = absurd cc
+calm_failed flash r older (Opened region ∷ part) h = absurd cc
 calm_failed flash r older (note ∷ part) h = calm_failed flash r (note ∷ older) part h
 
 calm_written : (flash : FlashConfig) (r : ℕ) (older part : List Note) → AllCalm part → pages_written flash r (past older part) ≡ pages_written flash r older
 calm_written flash r older [] h = refl
-calm_written flash r older (Read page result ∷ part) h = absurd h
-calm_written flash r older (Wrote page bytes is_written ∷ part) h = absurd h
-calm_written flash r older (Opened region ∷ part) h = absurd h
+calm_written flash r older (Read page result ∷ part) h = absurd cc
+calm_written flash r older (Wrote page bytes is_written ∷ part) h = absurd cc
+calm_written flash r older (Opened region ∷ part) h = absurd cc
 calm_written flash r older (note ∷ part) h = calm_written flash r (note ∷ older) part h
 
 calm_pages : (flash : FlashConfig) (older part : List Note) → AllCalm part → SamePages flash older (past older part)
@@ -94,7 +93,7 @@ still_accounts flash older part old new calm s a = calm_accounts flash older par
 pub accounts_behind : (flash : FlashConfig) (older : List Note) (outcome : Outcome) (nvm : Nvm) (change : Changed) → StillBehind outcome nvm change → Accounted flash (opened_on outcome.opened older) nvm.pair.large → Accounted flash (past older change.part) change.nvm.pair.large
 accounts_behind flash older outcome nvm change b a =
     subst (λ (history : List Note). Accounted flash history change.nvm.pair.large) (sym (ap (past older) b.told ∙ first outcome.opened))
-    (still_accounts flash (opened_on outcome.opened older) b.rest nvm change.nvm (calm-plain b.rest b.plain) b.still a)
+    (still_accounts flash (opened_on outcome.opened older) b.rest nvm change.nvm b.none b.flash a)
   where
     first : (o : Option ℕ) → past older (region_note Opened o ++ b.rest) ≡ past (opened_on o older) b.rest
     first None = refl

@@ -27,7 +27,8 @@ use Rattle.hc_proof.proofs.shapes.EngineShapes.{opened_by, get_begins, reclaim_q
 use Rattle.hc_theorem.proofs.runs.WritesAlone.{Runs, OfSmall, OfLarge}
 use Rattle.hc_theorem.proofs.buckets.FirstNote.{own-job}
 use Rattle.hc_theorem.specs.idle.Accounted.{Accounted, opened_on}
-use Rattle.hc_theorem.proofs.idle.StillParts.{holds_still, settled_still}
+use Rattle.hc_laws.proofs.walk.Parts.{holds_leaves, settled_leaves}
+use Rattle.hc_theorem.proofs.idle.StillParts.{still}
 use Rattle.hc_theorem.proofs.idle.Accounts.{put_accounts, flush_accounts, reclaim_accounts, get_accounts}
 use Rattle.hc_theorem.proofs.idle.AccountsOfResults.{written_accounts, failed_accounts, read_accounts}
 use Rattle.hc_theorem.proofs.idle.AccountsPass.{read_pages, small_pages, same_accounts, calm_accounts, accounts_behind}
@@ -36,7 +37,7 @@ use Rattle.hc_theorem.proofs.idle.AccountsPass.{read_pages, small_pages, same_ac
 
 ends_accounts : (flash : FlashConfig) (older : List Note) (number : ℕ) (task : Task) (outcome : Outcome) (nvm : Nvm) → Accounted flash (opened_on outcome.opened older) nvm.pair.large
     → Accounted flash (past older (ends number task outcome nvm).part) (ends number task outcome nvm).nvm.pair.large
-ends_accounts flash older number task outcome nvm a = go task (settled task outcome nvm) (accounts_behind flash older outcome nvm (settled task outcome nvm) (settled_still task outcome nvm) a)
+ends_accounts flash older number task outcome nvm a = go task (settled task outcome nvm) (accounts_behind flash older outcome nvm (settled task outcome nvm) (settled_leaves still task outcome nvm) a)
   where
     out : (o : Option Fill) (change : Changed) → Accounted flash (past older change.part) change.nvm.pair.large → Accounted flash (past older (fill_out o outcome.answer change).part) (fill_out o outcome.answer change).nvm.pair.large
     out None change h = h
@@ -52,14 +53,14 @@ launched_accounts : (flash : FlashConfig) (older : List Note) (task : Task) (nex
 launched_accounts flash older task Busy nvm a = a
 launched_accounts flash older task (Io order outcome) nvm a =
     let more : Nvm = record nvm { jobs = nvm.jobs ++ record { number = nvm.made + 1; task = task; order = order } ∷ []; made = nvm.made + 1 } in
-    accounts_behind flash older outcome more (holds outcome more) (holds_still outcome more) a
+    accounts_behind flash older outcome more (holds outcome more) (holds_leaves still outcome more) a
 launched_accounts flash older task (Done outcome) nvm a = ends_accounts flash older (nvm.made + 1) task outcome nvm a
 
 goes_on_accounts : (flash : FlashConfig) (older : List Note) (job : Job) (next : Next) (nvm : Nvm) → Accounted flash (opened_on (opened_by next) older) nvm.pair.large → Accounted flash (past older (goes_on job next nvm).part) (goes_on job next nvm).nvm.pair.large
 goes_on_accounts flash older job Busy nvm a = a
 goes_on_accounts flash older job (Io order outcome) nvm a =
     let more : Nvm = record nvm { jobs = ordered job.number order nvm.jobs } in
-    accounts_behind flash older outcome more (holds outcome more) (holds_still outcome more) a
+    accounts_behind flash older outcome more (holds outcome more) (holds_leaves still outcome more) a
 goes_on_accounts flash older job (Done outcome) nvm a = ends_accounts flash older job.number job.task outcome (record nvm { jobs = without_job job.number nvm.jobs }) a
 
 -- nothing was opened
@@ -191,12 +192,12 @@ module _ (flash : FlashConfig) where
         let told : List Note = BeginsWriting put.key ∷ Unqueued put.key ∷ older in
         let m = pairs.start (nvm.made + 1) (Put put) nvm.pair in
         launched_accounts flash told (Putting put.key) m.next (record nvm { queue = without_put put.key nvm.queue; pair = m.pair })
-        (put_kept told (nvm.made + 1) nvm.pair same sound (calm_accounts flash older (Unqueued put.key ∷ BeginsWriting put.key ∷ []) nvm.pair.large tt a) put)
+        (put_kept told (nvm.made + 1) nvm.pair same sound (calm_accounts flash older (Unqueued put.key ∷ BeginsWriting put.key ∷ []) nvm.pair.large refl a) put)
     sized_accounts false put =
         let told : List Note = Unqueued put.key ∷ older in
         let m = pairs.start (nvm.made + 1) (Put put) nvm.pair in
         launched_accounts flash told Flushing m.next (record nvm { queue = without_put put.key nvm.queue; pair = m.pair })
-        (put_kept told (nvm.made + 1) nvm.pair same sound (calm_accounts flash older (Unqueued put.key ∷ []) nvm.pair.large tt a) put)
+        (put_kept told (nvm.made + 1) nvm.pair same sound (calm_accounts flash older (Unqueued put.key ∷ []) nvm.pair.large refl a) put)
 
     put_taken : (o : Option FlashEntry) → KeptAfter (take_put o nvm)
     put_taken None = a
@@ -241,7 +242,7 @@ module _ (flash : FlashConfig) where
 
         by : (given : Option ℕ) → Accounted flash (past older (reclaimed_by given (steps.reclaim nvm.pair.small.flash nvm.pair.large) nvm).change.part) (reclaimed_by given (steps.reclaim nvm.pair.small.flash nvm.pair.large) nvm).change.nvm.pair.large
         by None = a
-        by (Some region) = accounts_behind flash older m.outcome less (settled Flushing m.outcome less) (settled_still Flushing m.outcome less) (none_opened flash older m.outcome.opened m.state (reclaim_quiet nvm.pair.small.flash nvm.pair.large).1 left)
+        by (Some region) = accounts_behind flash older m.outcome less (settled Flushing m.outcome less) (settled_leaves still Flushing m.outcome less) (none_opened flash older m.outcome.opened m.state (reclaim_quiet nvm.pair.small.flash nvm.pair.large).1 left)
 
   -- ---- results
 

@@ -8,6 +8,7 @@ use Rattle.hc_machine.specs.Takes as takes
 use Rattle.hc_machine.specs.Takes.{Taken, resumed}
 use Rattle.hc_machine.specs.Cache.{Cache, Moved, Answer, Refused, Opened, Discarded, Replied, Waits, Moment, Took, Reclaimed, takes_in}
 use Rattle.hc_machine.specs.Evicting.{allocate}
+use Rattle.hc_memory.specs.Memory.{linked_at}
 use Rattle.hc_machine.specs.Calls as calls
 use Rattle.hc_machine.specs.Workers.{fill, after_take, take_on, reclaim_on, after_finish, finish_on}
 use Rattle.hc_machine.specs.World.{order_in, result_at, io_of, done_of}
@@ -15,8 +16,9 @@ use Rattle.hc_machine.specs.Schedule.{Open, Put, PutNew, Discard, Find, Remove, 
 use Rattle.hc_proof.proofs.frames.JobLists.{job_number}
 use Rattle.hc_theorem.specs.idle.Still.{StillOption, StillStep}
 use Rattle.hc_theorem.specs.idle.Stones.{StonesRun, StonesOf, JobsOf, StepKeepsStones}
-use Rattle.hc_theorem.proofs.idle.StillParts.{fill_still}
-use Rattle.hc_theorem.proofs.idle.StillSteps.{allocate_still, discard_still, insert_still, new_still, find_still, remove_still, reply_still, tick_still}
+use Rattle.hc_theorem.proofs.idle.StillParts.{calm}
+use Rattle.hc_laws.proofs.walk.Parts.{as_served, fill_leaves}
+use Rattle.hc_laws.proofs.walk.Calls.{allocate_leaves, discard_leaves, insert_leaves, new_leaves, find_leaves, remove_leaves, reply_leaves, tick_leaves}
 use Rattle.hc_theorem.proofs.idle.StonesRun.{still_stones, writer_run, filler_run, reclaim_run, went_run}
 
 still_of : (old new : Option Nvm) → StillOption old new → StonesOf old → StonesOf new
@@ -26,12 +28,12 @@ still_of (Some old) None s r = absurd s
 still_of (Some old) (Some new) s r = still_stones old new s r
 
 called : (cache : Cache) (moved : Moved) → StillStep cache moved → StonesOf cache.nvm → StonesOf moved.cache.nvm
-called cache moved s r = still_of cache.nvm moved.cache.nvm s.still r
+called cache moved s r = still_of cache.nvm moved.cache.nvm s.flash r
 
 taken_keeps : (taken : Taken) (cache : Cache) → StonesRun taken.nvm → StonesOf (after_take taken cache).cache.nvm
 taken_keeps taken cache r =
     let base = (takes_in taken.part taken.nvm cache).cache in
-    still_of (Some taken.nvm) (fill taken.filled base).cache.nvm (fill_still taken.filled base).still r
+    still_of (Some taken.nvm) (fill taken.filled base).cache.nvm (fill_leaves (as_served calm) taken.filled base).flash r
 
 filled : (number : ℕ) (answer : Answer) (scene : Scene) (moved : Moved) → StonesOf moved.cache.nvm → StonesOf (fills number answer scene moved).scene.world.cache.nvm
 filled number (Refused refusal) scene moved r = r
@@ -48,19 +50,19 @@ module _ (client : ℕ) (scene : Scene) (r : StonesOf scene.world.cache.nvm) whe
   open_keeps (Some slot) number pool key value ttl = r
   open_keeps None number pool key value ttl =
       let moved = allocate pool key value ttl scene.world.cache in
-      filled number moved.answer scene moved (called scene.world.cache moved (allocate_still pool key value ttl scene.world.cache) r)
+      filled number moved.answer scene moved (called scene.world.cache moved (allocate_leaves calm pool key value ttl scene.world.cache) r)
 
   put_keeps : (o : Option Slot) → StonesOf (puts o client scene).scene.world.cache.nvm
   put_keeps None = r
-  put_keeps (Some slot) = called scene.world.cache (calls.insert_or_replace client slot.handle scene.world.cache) (insert_still client slot.handle scene.world.cache) r
+  put_keeps (Some slot) = called scene.world.cache (calls.insert_or_replace client slot.handle scene.world.cache) (insert_leaves calm client slot.handle scene.world.cache) r
 
   new_keeps : (o : Option Slot) → StonesOf (puts_new o client scene).scene.world.cache.nvm
   new_keeps None = r
-  new_keeps (Some slot) = called scene.world.cache (calls.insert client slot.handle scene.world.cache) (new_still client slot.handle scene.world.cache) r
+  new_keeps (Some slot) = called scene.world.cache (calls.insert client slot.handle scene.world.cache) (new_leaves calm client slot.handle scene.world.cache) r
 
   discard_keeps : (o : Option Slot) → StonesOf (discards o scene).scene.world.cache.nvm
   discard_keeps None = r
-  discard_keeps (Some slot) = called scene.world.cache (calls.discard slot.handle scene.world.cache) (discard_still slot.handle scene.world.cache) r
+  discard_keeps (Some slot) = called scene.world.cache (calls.discard slot.handle scene.world.cache) (discard_leaves calm slot.handle scene.world.cache) r
 
 writer_keeps : (cache : Cache) (o : Option Nvm) → cache.nvm ≡ o → JobsOf o → StonesOf o → StonesOf (take_on o takes.writer_take cache).cache.nvm
 writer_keeps cache None e j r = subst StonesOf (sym e) r
@@ -104,10 +106,10 @@ step_keeps_stones client (Open slot pool key value ttl) scene j r = open_keeps c
 step_keeps_stones client (Put slot) scene j r = put_keeps client scene r (slot_at slot scene.slots)
 step_keeps_stones client (PutNew slot) scene j r = new_keeps client scene r (slot_at slot scene.slots)
 step_keeps_stones client (Discard slot) scene j r = discard_keeps client scene r (slot_at slot scene.slots)
-step_keeps_stones client (Find key) scene j r = called scene.world.cache (calls.find client key scene.world.cache) (find_still client key scene.world.cache) r
-step_keeps_stones client (Remove key) scene j r = called scene.world.cache (calls.remove client key scene.world.cache) (remove_still client key scene.world.cache) r
-step_keeps_stones client (Reply call) scene j r = called scene.world.cache (calls.take_reply call scene.world.cache) (reply_still call scene.world.cache) r
-step_keeps_stones client (Tick moment) scene j r = called scene.world.cache (calls.tick moment scene.world.cache) (tick_still moment scene.world.cache) r
+step_keeps_stones client (Find key) scene j r = called scene.world.cache (calls.find client key scene.world.cache) (find_leaves calm client key scene.world.cache) r
+step_keeps_stones client (Remove key) scene j r = called scene.world.cache (calls.remove client key scene.world.cache) (remove_leaves calm (calls.remove_reply (linked_at key scene.world.cache.memory.pools)) client key scene.world.cache) r
+step_keeps_stones client (Reply call) scene j r = called scene.world.cache (calls.take_reply call scene.world.cache) (reply_leaves calm call scene.world.cache) r
+step_keeps_stones client (Tick moment) scene j r = called scene.world.cache (calls.tick moment scene.world.cache) (tick_leaves calm moment scene.world.cache) r
 step_keeps_stones client WriterTake scene j r = writer_keeps scene.world.cache scene.world.cache.nvm refl j r
 step_keeps_stones client FillerTake scene j r = filler_keeps scene.world.cache scene.world.cache.nvm refl r
 step_keeps_stones client Reclaim scene j r = reclaim_keeps scene.world.cache scene.world.cache.nvm refl r

@@ -24,7 +24,8 @@ use Rattle.hc_theorem.proofs.writer.SmallStarts.{waits_so, ends_so, delete_start
 use Rattle.hc_theorem.specs.idle.Idling.{is_ready}
 use Rattle.hc_theorem.specs.idle.Still.{StillNvm}
 use Rattle.hc_theorem.specs.idle.Stones.{deletes, is_deleting, StonesRun, StonesBut}
-use Rattle.hc_theorem.proofs.idle.StillParts.{holds_still, settled_still}
+use Rattle.hc_laws.proofs.walk.Parts.{holds_leaves, settled_leaves}
+use Rattle.hc_theorem.proofs.idle.StillParts.{still}
 use Rattle.hc_theorem.proofs.idle.Idle.{both-not}
 
 -- ---- what leaves jobs and tombstones as they are
@@ -61,9 +62,9 @@ apart_deletes Flushing key stones h = refl
 
 settled_run : (task : Task) (outcome : Outcome) (nvm : Nvm) → StonesBut task nvm → StonesRun (settled task outcome nvm).nvm
 settled_run task outcome nvm r key h =
-    let b = settled_still task outcome nvm in
+    let b = settled_leaves still task outcome nvm in
     let apart : deletes key task ≡ false = apart_deletes task key (holds outcome nvm).nvm.tombstones h in
-    let all = still_but task nvm (settled task outcome nvm).nvm b.still r key h in
+    let all = still_but task nvm (settled task outcome nvm).nvm b.flash r key h in
     (rw apart at all)
 
 ends_run : (number : ℕ) (task : Task) (outcome : Outcome) (nvm : Nvm) → StonesBut task nvm → StonesRun (ends number task outcome nvm).nvm
@@ -85,7 +86,7 @@ launched_run task (Io order outcome) nvm busy r =
     let job : Job = record { number = nvm.made + 1; task = task; order = order } in
     let more : Nvm = record nvm { jobs = nvm.jobs ++ job ∷ []; made = nvm.made + 1 } in
     let pushed : StonesRun more = λ key h. any-push (λ (j : Job). deletes key j.task) nvm.jobs job ∙ turned (deletes key task) (is_deleting key nvm.jobs) (r key h) in
-    still_stones more (holds outcome more).nvm (holds_still outcome more).still pushed
+    still_stones more (holds outcome more).nvm (holds_leaves still outcome more).flash pushed
   where
     turned : (a b : Bool) → (a || b) ≡ true → (b || a) ≡ true
     turned true true h = refl
@@ -136,7 +137,7 @@ pub went_run : (job : Job) (next : Next) (nvm : Nvm) → job_at job.number nvm.j
 went_run job Busy nvm at one r = r
 went_run job (Io order outcome) nvm at one r =
     let more : Nvm = record nvm { jobs = ordered job.number order nvm.jobs } in
-    still_stones more (holds outcome more).nvm (holds_still outcome more).still (λ key h. list_same key job.number order nvm.jobs ∙ r key h)
+    still_stones more (holds outcome more).nvm (holds_leaves still outcome more).flash (λ key h. list_same key job.number order nvm.jobs ∙ r key h)
 went_run job (Done outcome) nvm at one r = ends_run job.number job.task outcome (record nvm { jobs = without_job job.number nvm.jobs }) (λ key h. goes_out key job.number nvm.jobs job at one (r key h))
 
 -- ---- takes
@@ -209,4 +210,4 @@ reclaim_run nvm r = by (steps.reclaim nvm.pair.small.flash nvm.pair.large).outco
     by (Some region) =
         let m = steps.reclaim nvm.pair.small.flash nvm.pair.large in
         let less : Nvm = record nvm { pair = record nvm.pair { large = m.state } } in
-        still_stones less (settled Flushing m.outcome less).nvm (settled_still Flushing m.outcome less).still r
+        still_stones less (settled Flushing m.outcome less).nvm (settled_leaves still Flushing m.outcome less).flash r

@@ -14,35 +14,19 @@ use Rattle.hc_machine.specs.Nvm.{Nvm, Tombstone, Fill, Task, Putting, Deleting, 
 use Rattle.hc_machine.specs.Leaving.{Changed}
 use Rattle.hc_machine.specs.Takes as takes
 use Rattle.hc_machine.specs.Takes.{Take, Idle, Finished, Work, Taken, region_note, fill_out, finished, ends, settled, holds, launched, take_sized, take_put, take_delete, take_flush, take_fill, reclaimed_by, goes_on}
-use Rattle.hc_theorem.specs.idle.Still.{AllPlain, StillBehind}
-use Rattle.hc_theorem.specs.idle.Takings.{AllMute, JobsTaken, TakenSo, JobsWent, WentSo}
-use Rattle.hc_theorem.proofs.idle.StillParts.{holds_still, settled_still}
+use Rattle.hc_machine.specs.Cache.{Cache, takes_in}
+use Rattle.hc_machine.specs.Workers.{fill, after_take}
+use Rattle.hc_machine.specs.Quiet.{jobs_in}
+use Rattle.hc_laws.specs.Walking.{LeavesBehind}
+use Rattle.hc_laws.proofs.walk.Parts.{none_both, as_aside, holds_leaves, settled_leaves, opened_too, fill_leaves}
+use Rattle.hc_theorem.specs.idle.Still.{StillNvm}
+use Rattle.hc_theorem.specs.idle.Takings.{is_of_calls, AllMute, JobsTaken, TakenSo, JobsWent, WentSo}
+use Rattle.hc_theorem.proofs.idle.StillParts.{mute, still_jobs}
 
 -- ---- notes
 
-pub mute-append : (one two : List Note) → AllMute one → AllMute two → AllMute (one ++ two)
-mute-append [] two p q = q
-mute-append (notes.Begin call client op ∷ one) two p q = absurd p
-mute-append (notes.End call ∷ one) two p q = absurd p
-mute-append (notes.Read page result ∷ one) two p q = absurd p
-mute-append (notes.Wrote page bytes is_written ∷ one) two p q = absurd p
-mute-append (note ∷ one) two p q = mute-append one two p q
-
-pub mute-plain : (part : List Note) → AllPlain part → AllMute part
-mute-plain [] h = tt
-mute-plain (notes.Begin call client op ∷ part) h = absurd h
-mute-plain (notes.End call ∷ part) h = absurd h
-mute-plain (notes.Read page result ∷ part) h = absurd h
-mute-plain (notes.Wrote page bytes is_written ∷ part) h = absurd h
-mute-plain (notes.Opened region ∷ part) h = absurd h
-mute-plain (note ∷ part) h = mute-plain part h
-
-pub mute-behind : (outcome : Outcome) (nvm : Nvm) (change : Changed) → StillBehind outcome nvm change → AllMute change.part
-mute-behind outcome nvm change b = subst AllMute (sym b.told) (go outcome.opened)
-  where
-    go : (o : Option ℕ) → AllMute (region_note notes.Opened o ++ b.rest)
-    go None = mute-plain b.rest b.plain
-    go (Some r) = mute-plain b.rest b.plain
+mute-behind : (outcome : Outcome) (nvm : Nvm) (change : Changed) → LeavesBehind is_of_calls StillNvm outcome nvm change → AllMute change.part
+mute-behind outcome nvm change b = opened_too (as_aside mute) outcome nvm change (λ region. refl) b
 
 -- ---- an operation is over, or begins
 
@@ -52,10 +36,10 @@ pub record EndsSo (nvm : Nvm) (taken : Taken) : Type 0 where
   pub jobs : taken.nvm.jobs ≡ nvm.jobs
 
 pub ends_so : (number : ℕ) (task : Task) (outcome : Outcome) (nvm : Nvm) → EndsSo nvm (ends number task outcome nvm)
-ends_so number task outcome nvm = go task (settled task outcome nvm) (mute-behind outcome nvm _ b) b.still.jobs
+ends_so number task outcome nvm = go task (settled task outcome nvm) (mute-behind outcome nvm _ b) b.flash.jobs
   where
-    b : StillBehind outcome nvm (settled task outcome nvm)
-    b = settled_still task outcome nvm
+    b : LeavesBehind is_of_calls StillNvm outcome nvm (settled task outcome nvm)
+    b = settled_leaves (as_aside mute) task outcome nvm
 
     out : (o : Option Fill) (change : Changed) → AllMute change.part → change.nvm.jobs ≡ nvm.jobs → EndsSo nvm (fill_out o outcome.answer change)
     out None change m j = record { mute = m; take = refl; jobs = j }
@@ -71,14 +55,14 @@ ended_jobs : (nvm : Nvm) (taken : Taken) → EndsSo nvm taken → JobsTaken nvm 
 ended_jobs nvm taken e = subst (λ (t : Take). JobsTaken nvm t taken.nvm.jobs) (sym e.take) e.jobs
 
 idle_so : (nvm : Nvm) → TakenSo nvm (takes.idle nvm)
-idle_so nvm = record { mute = tt; jobs = refl }
+idle_so nvm = record { mute = refl; jobs = refl }
 
 pub launched_so : (task : Task) (next : Next) (nvm : Nvm) → TakenSo nvm (launched task next nvm)
 launched_so task Busy nvm = idle_so nvm
 launched_so task (Io order outcome) nvm =
     let more : Nvm = record nvm { jobs = nvm.jobs ++ record { number = nvm.made + 1; task = task; order = order } ∷ []; made = nvm.made + 1 } in
-    let b = holds_still outcome more in
-    record { mute = mute-behind outcome more (holds outcome more) b; jobs = (task, refl, b.still.jobs) }
+    let b = holds_leaves (as_aside mute) outcome more in
+    record { mute = mute-behind outcome more (holds outcome more) b; jobs = (task, refl, b.flash.jobs) }
 launched_so task (Done outcome) nvm = let e = ends_so (nvm.made + 1) task outcome nvm in record { mute = e.mute; jobs = ended_jobs nvm (ends (nvm.made + 1) task outcome nvm) e }
 
 -- with the same jobs and the same number of them
@@ -129,8 +113,8 @@ pub goes_on_so : (job : Job) (next : Next) (nvm : Nvm) → (next ≡ Busy → �
 goes_on_so job Busy nvm not_busy = absurd (not_busy refl)
 goes_on_so job (Io order outcome) nvm not_busy =
     let more : Nvm = record nvm { jobs = ordered job.number order nvm.jobs } in
-    let b = holds_still outcome more in
-    record { mute = mute-behind outcome more (holds outcome more) b; jobs = (refl, b.still.jobs) }
+    let b = holds_leaves (as_aside mute) outcome more in
+    record { mute = mute-behind outcome more (holds outcome more) b; jobs = (refl, b.flash.jobs) }
 goes_on_so job (Done outcome) nvm not_busy =
     let less : Nvm = record nvm { jobs = without_job job.number nvm.jobs } in
     let e = ends_so job.number job.task outcome less in
@@ -149,8 +133,20 @@ reclaim_so nvm = by (steps.reclaim nvm.pair.small.flash nvm.pair.large).outcome.
     m = steps.reclaim nvm.pair.small.flash nvm.pair.large
 
     by : (given : Option ℕ) → ReclaimSo nvm (reclaimed_by given (steps.reclaim nvm.pair.small.flash nvm.pair.large) nvm).change
-    by None = record { mute = tt; jobs = refl }
+    by None = record { mute = refl; jobs = refl }
     by (Some region) =
         let less : Nvm = record nvm { pair = record nvm.pair { large = m.state } } in
-        let b = settled_still Flushing m.outcome less in
-        record { mute = mute-behind m.outcome less (settled Flushing m.outcome less) b; jobs = b.still.jobs }
+        let b = settled_leaves (as_aside mute) Flushing m.outcome less in
+        record { mute = mute-behind m.outcome less (settled Flushing m.outcome less) b; jobs = b.flash.jobs }
+
+-- ---- what a take leaves behind is done
+
+pub after_mute : (taken : Taken) (cache : Cache) → AllMute taken.part → AllMute (after_take taken cache).part
+after_mute taken cache h =
+    let base = (takes_in taken.part taken.nvm cache).cache in
+    none_both is_of_calls taken.part (fill taken.filled base).part h (fill_leaves mute taken.filled base).none
+
+pub after_jobs : (taken : Taken) (cache : Cache) → jobs_in (after_take taken cache).cache.nvm ≡ taken.nvm.jobs
+after_jobs taken cache =
+    let base = (takes_in taken.part taken.nvm cache).cache in
+    still_jobs (Some taken.nvm) (fill taken.filled base).cache.nvm (fill_leaves mute taken.filled base).flash

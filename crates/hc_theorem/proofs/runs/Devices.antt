@@ -19,8 +19,8 @@ use Rattle.hc_theorem.specs.runs.Device.{CallKeepsDevice, IoKeepsDevice, Waiting
 
 pub silent_pages : (older part : List Note) → NoIo part → (page : ℕ) → bytes_at (past older part) page ≡ bytes_at older page
 silent_pages older [] h page = refl
-silent_pages older (notes.Read p result ∷ part) h page = absurd h
-silent_pages older (notes.Wrote p bytes is_written ∷ part) h page = absurd h
+silent_pages older (notes.Read p result ∷ part) h page = absurd cc
+silent_pages older (notes.Wrote p bytes is_written ∷ part) h page = absurd cc
 silent_pages older (note ∷ part) h page = silent_pages (note ∷ older) part h page
 
 -- a result's note does to the books' pages what the result did to the device's

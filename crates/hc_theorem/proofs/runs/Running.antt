@@ -30,10 +30,10 @@ use Rattle.hc_invariant.specs.Good.{Agrees, Good, GoodRun, FlashPart, IsResult, 
 use Rattle.hc_invariant.specs.Laws.{KeptBy, Laws, LineSized, StepKeeps}
 use Rattle.hc_invariant.proofs.Beginning.{new_run}
 use Rattle.hc_invariant.proofs.Ends.{run_legal}
-use Rattle.hc_theorem.specs.runs.NoIo.{NoIo, NoIoStep, KeepsOrders, FinishStep}
+use Rattle.hc_theorem.specs.runs.NoIo.{is_io, NoIo, NoIoStep, KeepsOrders, FinishStep}
 use Rattle.hc_theorem.specs.runs.Alone.{Alone}
 use Rattle.hc_theorem.specs.runs.Runs.{LinesKeep, RunIsRight}
-use Rattle.hc_theorem.proofs.runs.SilentParts.{no_io-append}
+use Rattle.hc_laws.proofs.walk.Parts.{none_both}
 use Rattle.hc_theorem.proofs.runs.SilentSteps.{allocate_no_io, discard_no_io, insert_no_io, new_no_io, find_no_io, remove_no_io, reply_no_io, tick_no_io, writer_no_io, filler_no_io, reclaim_no_io, finish_step}
 use Rattle.hc_theorem.proofs.runs.WritesAlone.{orders_alone, runs_of}
 use Rattle.hc_theorem.proofs.runs.ResultsSuit.{suits}
@@ -44,8 +44,8 @@ use Rattle.hc_proof.proofs.frames.JobLists.{job_number}
 
 pub silent_honest : (older part : List Note) → NoIo part → HonestAfter older part
 silent_honest older [] h = tt
-silent_honest older (notes.Read page result ∷ part) h = absurd h
-silent_honest older (notes.Wrote page bytes is_written ∷ part) h = absurd h
+silent_honest older (notes.Read page result ∷ part) h = absurd cc
+silent_honest older (notes.Wrote page bytes is_written ∷ part) h = absurd cc
 silent_honest older (note ∷ part) h = (tt, silent_honest (note ∷ older) part h)
 
 pub honest-append : (older log part : List Note) → HonestAfter older log → HonestAfter (past older log) part → HonestAfter older (log ++ part)
@@ -82,7 +82,7 @@ joined config older cache first second answer p q =
         good = subst (λ (log : List Note). Good config log second.cache) (sym ends) q.kept.good;
       };
       no_io = record {
-        silent = no_io-append first.part second.part p.no_io.silent q.no_io.silent;
+        silent = none_both is_io first.part second.part p.no_io.silent q.no_io.silent;
         orders = orders_both cache.nvm first.cache.nvm second.cache.nvm p.no_io.orders q.no_io.orders;
       };
     }

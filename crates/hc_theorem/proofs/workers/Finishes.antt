@@ -29,9 +29,10 @@ use Rattle.hc_theorem.proofs.runs.ResultsSuit.{suits}
 use Rattle.hc_proof.proofs.frames.JobLists.{job_number}
 use Rattle.hc_follows.specs.Desk.{Out, Desk, job_out}
 use Rattle.hc_follows.specs.Workers.{IsNoted, IsToldFirst, FinishPart, result_out}
-use Rattle.hc_theorem.specs.idle.Takings.{AllMute, JobsWent, WentSo}
-use Rattle.hc_theorem.proofs.idle.StillParts.{fill_still}
-use Rattle.hc_theorem.proofs.idle.TakesStill.{mute-append, mute-plain, goes_on_so}
+use Rattle.hc_theorem.specs.idle.Takings.{is_of_calls, AllMute, JobsWent, WentSo}
+use Rattle.hc_laws.proofs.walk.Parts.{none_both, fill_leaves}
+use Rattle.hc_theorem.proofs.idle.StillParts.{mute}
+use Rattle.hc_theorem.proofs.idle.TakesStill.{after_jobs, goes_on_so}
 use Rattle.hc_theorem.specs.clients.Matches.{JobsMatch, Matches}
 use Rattle.hc_theorem.specs.clients.Deeds.{Followed, DeedFollows}
 use Rattle.hc_theorem.proofs.clients.Stepping.{older_after}
@@ -39,7 +40,7 @@ use Rattle.hc_theorem.proofs.workers.Filled.{went_fills}
 use Rattle.hc_theorem.proofs.workers.Served.{Settled}
 use Rattle.hc_theorem.proofs.workers.JobsOut.{outs_went, went_jobs}
 use Rattle.hc_theorem.proofs.workers.Made.{still_matches}
-use Rattle.hc_theorem.proofs.workers.Takes.{mute_calls, after_jobs, flash_at, jobs_match, settles}
+use Rattle.hc_theorem.proofs.workers.Takes.{mute_calls, flash_at, jobs_match, settles}
 
 -- ---- what goes on is in no other's way
 
@@ -162,7 +163,7 @@ module _ (number : ℕ) (config : Config) (log : List Note) (scene : Scene) (des
     rest_mute : AllMute rest
     rest_mute =
         let base = (takes_in taken.part taken.nvm scene.world.cache).cache in
-        mute-append (goes_on job moved.next more).part (fill taken.filled base).part went.mute (mute-plain (fill taken.filled base).part (fill_still taken.filled base).plain)
+        none_both is_of_calls (goes_on job moved.next more).part (fill taken.filled base).part went.mute (fill_leaves mute taken.filled base).none
 
     same_number : job.number ≡ number
     same_number = job_number number nvm.jobs job at

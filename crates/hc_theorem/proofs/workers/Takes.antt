@@ -23,10 +23,8 @@ use Rattle.hc_theorem.proofs.runs.OrdersStay.{order-is}
 use Rattle.hc_follows.specs.Desk.{Out, Desk, job_out}
 use Rattle.hc_follows.specs.Telling.{NoCall}
 use Rattle.hc_follows.specs.Workers.{TakePart}
-use Rattle.hc_theorem.specs.idle.Still.{StillOption}
 use Rattle.hc_theorem.specs.idle.Takings.{AllMute, JobsTaken, TakenSo}
-use Rattle.hc_theorem.proofs.idle.StillParts.{fill_still}
-use Rattle.hc_theorem.proofs.idle.TakesStill.{mute-append, mute-plain}
+use Rattle.hc_theorem.proofs.idle.TakesStill.{after_mute, after_jobs}
 use Rattle.hc_theorem.specs.clients.Matches.{JobsMatch, Matches}
 use Rattle.hc_theorem.proofs.clients.Stepping.{older_after}
 use Rattle.hc_theorem.proofs.workers.Filled.{FillsTaken}
@@ -37,27 +35,13 @@ use Rattle.hc_theorem.proofs.workers.JobsOut.{outs_by, taken_jobs}
 
 pub mute_calls : (part : List Note) → AllMute part → NoCall part
 mute_calls [] h = (refl, refl, refl)
-mute_calls (notes.Begin call client op ∷ part) h = absurd h
-mute_calls (notes.End call ∷ part) h = absurd h
-mute_calls (notes.Read page result ∷ part) h = absurd h
-mute_calls (notes.Wrote page bytes is_written ∷ part) h = absurd h
+mute_calls (notes.Begin call client op ∷ part) h = absurd cc
+mute_calls (notes.End call ∷ part) h = absurd cc
+mute_calls (notes.Read page result ∷ part) h = absurd cc
+mute_calls (notes.Wrote page bytes is_written ∷ part) h = absurd cc
 mute_calls (note ∷ part) h = mute_calls part h
 
-pub after_mute : (taken : Taken) (cache : Cache) → AllMute taken.part → AllMute (after_take taken cache).part
-after_mute taken cache h =
-    let base = (takes_in taken.part taken.nvm cache).cache in
-    mute-append taken.part (fill taken.filled base).part h (mute-plain (fill taken.filled base).part (fill_still taken.filled base).plain)
-
 -- ---- states
-
-pub still_jobs : (nvm : Nvm) (o : Option Nvm) → StillOption (Some nvm) o → jobs_in o ≡ nvm.jobs
-still_jobs nvm None h = absurd h
-still_jobs nvm (Some new) h = h.jobs
-
-pub after_jobs : (taken : Taken) (cache : Cache) → jobs_in (after_take taken cache).cache.nvm ≡ taken.nvm.jobs
-after_jobs taken cache =
-    let base = (takes_in taken.part taken.nvm cache).cache in
-    still_jobs taken.nvm (fill taken.filled base).cache.nvm (fill_still taken.filled base).still
 
 -- where there is flash, it is good
 pub record OnFlash (flash : Option FlashConfig) (older : List Note) (memory : Memory) (nvm : Nvm) : Type 0 where

@@ -1,18 +1,22 @@
 -- What a take and a result leave: which job comes, goes on or goes, and that each tombstone that is taken has its delete
 -- under way.
-use Rattle.std.specs.Prelude.{◌≡◌, ℕ, ◌+◌, List, [], ◌∷◌, ◌++◌}
+use Rattle.std.specs.Prelude.{◌≡◌, ℕ, ◌+◌, Bool, true, false, List, [], ◌∷◌, ◌++◌}
 use Rattle.hc_history.specs.Note.{Note, Begin, End, Read, Wrote}
 use Rattle.hc_machine.specs.Nvm.{Nvm, Task, Job, without_job, ordered}
 use Rattle.hc_machine.specs.Takes.{Take, Idle, Finished, Work, Taken}
+use Rattle.hc_laws.specs.First.{NonePasses}
 
--- no call begins or ends, and no page is read or written; a region may open
+-- a call begins or ends, or a page is read or written
+abbrev pub is_of_calls : Note → Bool
+is_of_calls (Begin call client op) = true
+is_of_calls (End call) = true
+is_of_calls (Read page result) = true
+is_of_calls (Wrote page bytes is_written) = true
+is_of_calls note = false
+
+-- none does; a region may open
 abbrev pub AllMute : List Note → Type 0
-AllMute [] = Unit {0}
-AllMute (Begin call client op ∷ notes) = ⊥
-AllMute (End call ∷ notes) = ⊥
-AllMute (Read page result ∷ notes) = ⊥
-AllMute (Wrote page bytes is_written ∷ notes) = ⊥
-AllMute (note ∷ notes) = AllMute notes
+AllMute notes = NonePasses is_of_calls notes
 
 -- ---- jobs after a take, and after a result
 

@@ -1,32 +1,22 @@
 -- What a part of a step leaves of the jobs and of the device: nothing is read or written but by a result that is handed in.
-use Rattle.std.specs.Prelude.{◌≡◌, ℕ, ◌==◌, false, List, [], ◌∷◌, Option, Some}
+use Rattle.std.specs.Prelude.{◌≡◌, ℕ, ◌==◌, Bool, true, false, List, ◌∷◌, Option, Some}
 use Rattle.hc_engines.specs.Engine.{Order, IoResult}
 use Rattle.hc_history.specs.Note.{Note, Read, Wrote}
 use Rattle.hc_machine.specs.Nvm.{Nvm}
-use Rattle.hc_machine.specs.Leaving.{Changed}
 use Rattle.hc_machine.specs.Takes.{result_note}
-use Rattle.hc_machine.specs.Cache.{Cache, Told, Moved}
+use Rattle.hc_machine.specs.Cache.{Cache, Moved}
 use Rattle.hc_machine.specs.World.{order_in}
-use Rattle.hc_machine.specs.Quiet.{jobs_in}
+use Rattle.hc_laws.specs.First.{NonePasses}
+
+-- a page is read or written
+abbrev pub is_io : Note → Bool
+is_io (Read page result) = true
+is_io (Wrote page bytes is_written) = true
+is_io note = false
 
 -- the notes tell of no read and no write
 abbrev pub NoIo : List Note → Type 0
-NoIo [] = Unit {0}
-NoIo (Read page result ∷ notes) = ⊥
-NoIo (Wrote page bytes is_written ∷ notes) = ⊥
-NoIo (note ∷ notes) = NoIo notes
-
--- ---- parts that leave the jobs as they are
-
-pub record NoIoChange (nvm : Nvm) (change : Changed) : Type 0 where
-  pub silent : NoIo change.part
-  pub jobs : change.nvm.jobs ≡ nvm.jobs
-
-pub record NoIoPart (cache : Cache) (told : Told) : Type 0 where
-  pub silent : NoIo told.part
-  pub jobs : jobs_in told.cache.nvm ≡ jobs_in cache.nvm
-
--- ---- steps that leave the orders as they are
+NoIo notes = NonePasses is_io notes
 
 -- each job goes on with its order
 abbrev pub KeepsOrders : Option Nvm → Option Nvm → Type 0
