@@ -1,18 +1,17 @@
 -- The walk over the calls of clients.
-use Rattle.std.proofs.Common.{◌≡◌, ℕ, ◌+◌, Bool, true, false, ◌||◌, List, [], ◌∷◌, ◌++◌, length, Option, Some, None, refl}
+use Rattle.std.proofs.Common.{◌≡◌, ℕ, ◌+◌, Bool, true, false, List, [], ◌∷◌, length, Option, Some, None, refl}
 use Rattle.std.specs.Prelude.{if◌then◌else◌, is_some, nat_lt}
 use Rattle.hc_types.specs.declared.refusal.Refusal.{Refusal}
 use Rattle.hc_memory.specs.Item.{Handle}
-use Rattle.hc_memory.specs.Memory.{linked_at}
 use Rattle.hc_history.specs.Note.{Note, Op, Insert, Add, Find, Remove, Reply, Stored, Begin, Did, End, Freed, Now}
 use Rattle.hc_machine.specs.items.Allocating.{refusal_of}
 use Rattle.hc_machine.specs.Nvm.{Nvm, Wish, ToFind, ToAdd, joined_by}
 use Rattle.hc_machine.specs.Cache.{Cache, Owed, Told, Moved, tells, and_then, owed_at}
 use Rattle.hc_machine.specs.Evicting.{allocate_by, allocate}
 use Rattle.hc_machine.specs.Waiting.{plant, uproot, entry_of_handle, end_fill, live, find_reply}
-use Rattle.hc_machine.specs.Calls.{begin, replies_then, wait_in, wait_for, is_known, discard, store, insert_or_replace, in_memory, must_wait, add, insert, used, find_by, find, remove_reply, remove_by, remove, take_of, take_reply, tick}
+use Rattle.hc_machine.specs.Calls.{begin, replies_then, wait_in, wait_for, is_known, discard, store, insert_or_replace, in_memory, must_wait, add, insert, used, find_by, find, remove_by, take_of, take_reply, tick}
 use Rattle.hc_laws.specs.First.{NonePasses}
-use Rattle.hc_laws.specs.Walking.{is_called, Asked, Across, Leaves, LeavesCalls}
+use Rattle.hc_laws.specs.Walking.{is_called, Asked, Leaves, LeavesCalls}
 use Rattle.hc_laws.proofs.walk.Parts.{none_both, none_one, nothing, as_aside, as_served, same_across, across_from, same_calls, both_calls, make_charge_leaves, uproot_leaves, plant_leaves, end_fill_leaves}
 
 module _ {test : Note → Bool} {R : Nvm → Nvm → Type 0} (a : Asked is_called test R) where

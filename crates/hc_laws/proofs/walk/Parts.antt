@@ -11,7 +11,7 @@ use Rattle.hc_engines.specs.Engine.{Loss, Outcome}
 use Rattle.hc_engines.specs.pair.Pair.{is_indexed}
 use Rattle.hc_memory.specs.Item.{Item, Handle}
 use Rattle.hc_memory.specs.Memory.{linked_at, victims_of, after_room, after_unlink, after_link}
-use Rattle.hc_history.specs.Note.{Note, Reply, Stored, Exists, Begin, Did, End, Lose, Charged, Linked, Freed, Queued, Unqueued, Written, Buried, Raised, Opened, Flushed, Cleared, Now}
+use Rattle.hc_history.specs.Note.{Note, Stored, Exists, Begin, Did, End, Lose, Charged, Linked, Freed, Queued, Unqueued, Written, Buried, Raised, Opened, Flushed, Cleared, Now}
 use Rattle.hc_machine.specs.Nvm.{Nvm, Tombstone, Waiter, Wish, ToFind, ToAdd, Fill, Task, Putting, Deleting, Filling, Flushing, put_at, is_due, fill_at, without_put, without_fill}
 use Rattle.hc_machine.specs.Leaving as leaving
 use Rattle.hc_machine.specs.Leaving.{Changed, changed, cause_for, waits_unless, evicted, unqueue, bury, unindex, outdate}

@@ -12,7 +12,7 @@ use Rattle.hc_history.specs.Lawful.{past}
 use Rattle.hc_machine.specs.Nvm.{Fill}
 use Rattle.hc_machine.specs.Cache.{Cache, Moved, Refused, Replied, Discarded, and_then, answers, stays}
 use Rattle.hc_machine.specs.World.{by_call}
-use Rattle.hc_machine.specs.Waiting.{uproot, end_fill, free}
+use Rattle.hc_machine.specs.Waiting.{uproot, free}
 use Rattle.hc_machine.specs.Calls.{begin, replies_then, store, is_known, remove_reply}
 use Rattle.hc_machine.specs.Calls as calls
 use Rattle.hc_machine.specs.Schedule.{Slot, Scene, Put, Discard, Remove, NoSlot, Tells, slot_at, is_slot, without_slot, in_world, puts, discards}

@@ -23,7 +23,8 @@ use Rattle.hc_machine.specs.Takes as flash
 use Rattle.hc_machine.specs.Takes.{Idle, told_before, launch_by, launched, take_sized, take_put, take_delete, take_flush, settled, fill_out, take_fill, reclaimed}
 use Rattle.hc_invariant.specs.Jobs.{JobsRun}
 use Rattle.hc_invariant.specs.Good.{FlashPart}
-use Rattle.hc_theorem.specs.idle.Idling.{is_ready, can_be_put, can_be_filled, WriterIdles, FillerIdles, ReclaimIdles}
+use Rattle.hc_laws.specs.Serving.{can_put, can_delete, can_fill}
+use Rattle.hc_theorem.specs.idle.Idling.{WriterIdles, FillerIdles, ReclaimIdles}
 use Rattle.hc_proof.proofs.frames.ByNumber.{found-passes, none-counted}
 use Rattle.hc_theorem.proofs.writer.SmallStarts.{waits_so, ends_so, put_starts, delete_starts, get_starts}
 use Rattle.hc_theorem.proofs.writer.SmallPuts.{free_by}
@@ -47,7 +48,7 @@ delete_works : (nvm : Nvm) (stone : Tombstone) → JobsRun nvm → next_delete n
 delete_works nvm stone j found = by (delete_starts nvm.pair.small (nvm.made + 1) stone.key free none)
   where
     free : is_busy (bucket_at nvm.pair.small.flash stone.key) nvm.pair.small.jobs ≡ false
-    free = both-not stone.taken (pairs.is_busy_for nvm.pair stone.key) (found-passes (is_ready nvm) nvm.tombstones stone found)
+    free = both-not stone.taken (pairs.is_busy_for nvm.pair stone.key) (found-passes (can_delete nvm) nvm.tombstones stone found)
 
     none : bighash.job_at (nvm.made + 1) nvm.pair.small.jobs ≡ None
     none = j.small_ones (nvm.made + 1) (j.fresh (nvm.made + 1) (omega arith))
@@ -81,7 +82,7 @@ picked_other P false x y e h = h
 
 put_works : (nvm : Nvm) (put : FlashEntry) (b : Bool) → is_small_by nvm.pair.small.flash put.key (length put.value) ≡ b → JobsRun nvm → next_put nvm ≡ Some put → (take_sized b put (record nvm { queue = without_put put.key nvm.queue })).take ≡ Idle → ⊥
 put_works nvm e true small j found h =
-    let free = free_by (is_small_by nvm.pair.small.flash e.key (length e.value)) (pairs.is_busy_for nvm.pair e.key) (found-passes (can_be_put nvm) nvm.queue e found) small in
+    let free = free_by (is_small_by nvm.pair.small.flash e.key (length e.value)) (pairs.is_busy_for nvm.pair e.key) (found-passes (can_put nvm) nvm.queue e found) small in
     let none : bighash.job_at (nvm.made + 1) nvm.pair.small.jobs ≡ None = j.small_ones (nvm.made + 1) (j.fresh (nvm.made + 1) (omega arith)) in
     let starts = put_starts nvm.pair.small (nvm.made + 1) e small free none in
     let to_small : (launch_by (Putting e.key) (pairs.by_small nvm.pair (bighash.start nvm.pair.small (nvm.made + 1) (Put e))) (record nvm { queue = without_put e.key nvm.queue })).take ≡ Idle =
@@ -124,7 +125,7 @@ writer_idles config older cache nvm g n h =
     let moved = steps.flush nvm.pair.small.flash (nvm.made + 1) nvm.pair.large in
     let none : moved.order ≡ None = flush_next moved.outcome moved.order nvm (record nvm.pair { large = moved.state }) h in
     let rest = no_delete nvm (next_delete nvm) refl j (behind_flush nvm (pairs.start (nvm.made + 1) Flush nvm.pair).next (pairs.start (nvm.made + 1) Flush nvm.pair).pair h) in
-    record { pages = none; deletes = none-counted (is_ready nvm) nvm.tombstones rest.0; puts = none-counted (can_be_put nvm) nvm.queue rest.1 }
+    record { pages = none; deletes = none-counted (can_delete nvm) nvm.tombstones rest.0; puts = none-counted (can_put nvm) nvm.queue rest.1 }
 
 -- ---- the filler
 
@@ -142,7 +143,7 @@ fill_works : (nvm : Nvm) (fill : Fill) → JobsRun nvm → next_fill nvm ≡ Som
 fill_works nvm fill j found = by (get_starts nvm.pair.small (nvm.made + 1) fill.key free none)
   where
     free : is_busy (bucket_at nvm.pair.small.flash fill.key) nvm.pair.small.jobs ≡ false
-    free = both-not (is_some fill.job) (pairs.is_busy_for nvm.pair fill.key) (found-passes (can_be_filled nvm) nvm.fills fill found)
+    free = both-not (is_some fill.job) (pairs.is_busy_for nvm.pair fill.key) (found-passes (can_fill nvm) nvm.fills fill found)
 
     none : bighash.job_at (nvm.made + 1) nvm.pair.small.jobs ≡ None
     none = j.small_ones (nvm.made + 1) (j.fresh (nvm.made + 1) (omega arith))
@@ -165,7 +166,7 @@ no_fill nvm None found j h = refl
 no_fill nvm (Some fill) found j h = absurd (fill_works nvm fill j found h)
 
 pub filler_idles : FillerIdles
-filler_idles config older cache nvm g n h = none-counted (can_be_filled nvm) nvm.fills (no_fill nvm (next_fill nvm) refl (jobs_in config.flash older cache.memory cache.nvm nvm n g.flash) h)
+filler_idles config older cache nvm g n h = none-counted (can_fill nvm) nvm.fills (no_fill nvm (next_fill nvm) refl (jobs_in config.flash older cache.memory cache.nvm nvm n g.flash) h)
 
 -- ---- reclaim
 

@@ -21,7 +21,7 @@ use Rattle.hc_proof.proofs.frames.Lists.{any-push}
 use Rattle.hc_memory.proofs.Keyed.{same_bytes}
 use Rattle.hc_proof.proofs.frames.ByNumber.{found-passes}
 use Rattle.hc_theorem.proofs.writer.SmallStarts.{waits_so, ends_so, delete_starts}
-use Rattle.hc_theorem.specs.idle.Idling.{is_ready}
+use Rattle.hc_laws.specs.Serving.{can_delete}
 use Rattle.hc_theorem.specs.idle.Still.{StillNvm}
 use Rattle.hc_theorem.specs.idle.Stones.{deletes, is_deleting, StonesRun, StonesBut}
 use Rattle.hc_laws.proofs.walk.Parts.{holds_leaves, settled_leaves}
@@ -180,7 +180,7 @@ delete_run (Some stone) nvm found j r =
         go false h = r key h
 
     never : (pairs.start (nvm.made + 1) (Delete stone.key) nvm.pair).next ≡ Busy → ⊥
-    never e = by (delete_starts nvm.pair.small (nvm.made + 1) stone.key (both-not stone.taken (pairs.is_busy_for nvm.pair stone.key) (found-passes (is_ready nvm) nvm.tombstones stone found)) (j.small_ones (nvm.made + 1) (j.fresh (nvm.made + 1) (omega arith))))
+    never e = by (delete_starts nvm.pair.small (nvm.made + 1) stone.key (both-not stone.taken (pairs.is_busy_for nvm.pair stone.key) (found-passes (can_delete nvm) nvm.tombstones stone found)) (j.small_ones (nvm.made + 1) (j.fresh (nvm.made + 1) (omega arith))))
       where
         by : (bighash.start nvm.pair.small (nvm.made + 1) (Delete stone.key) ≡ waits_so nvm.pair.small (nvm.made + 1) (Delete stone.key) bighash.Reading)
             ⊎ ((bighash.start nvm.pair.small (nvm.made + 1) (Delete stone.key) ≡ ends_so nvm.pair.small engine.Over) × (bighash.word_at nvm.pair.small (bucket_at nvm.pair.small.flash stone.key) ≡ None)) → ⊥

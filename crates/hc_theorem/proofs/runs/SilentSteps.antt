@@ -1,10 +1,10 @@
 -- Each call hands in no result, but for `finish`: nothing is read or written, and each job goes on with its order.
-use Rattle.std.proofs.Common.{◌≡◌, ℕ, ◌==◌, Bool, true, false, List, [], ◌∷◌, ◌++◌, Option, Some, None, refl, ap, sym, ◌∙◌, subst}
+use Rattle.std.proofs.Common.{◌≡◌, ℕ, ◌==◌, false, List, ◌++◌, Option, Some, None, refl, ap, sym, ◌∙◌, subst}
 use Rattle.std.specs.Prelude.{option_map}
 use Rattle.hc_engines.specs.Engine.{Order, IoResult, Next, Busy, Io, Done}
 use Rattle.hc_memory.specs.Item.{Handle}
 use Rattle.hc_memory.specs.Memory.{linked_at}
-use Rattle.hc_history.specs.Note.{Note, Begin, End, Read, Wrote, Opened}
+use Rattle.hc_history.specs.Note.{Note, Read, Wrote}
 use Rattle.hc_engines.specs.pair.Pair as pairs
 use Rattle.hc_machine.specs.Nvm.{Nvm, Job, job_at}
 use Rattle.hc_machine.specs.Takes as takes

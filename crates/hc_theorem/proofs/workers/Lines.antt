@@ -36,7 +36,8 @@ use Rattle.hc_invariant.proofs.Placing.{map_queued}
 use Rattle.hc_proof.proofs.frames.ByNumber.{found-passes}
 use Rattle.hc_proof.proofs.frames.Lists.{found-counts, found-only}
 use Rattle.hc_proof.proofs.frames.JobLists.{run_at}
-use Rattle.hc_theorem.specs.idle.Idling.{is_ready, can_be_put, can_be_filled, NothingToWrite}
+use Rattle.hc_laws.specs.Serving.{can_put, can_delete, can_fill}
+use Rattle.hc_theorem.specs.idle.Idling.{NothingToWrite}
 use Rattle.hc_theorem.specs.idle.Stones.{deletes, is_deleting, StonesRun}
 use Rattle.hc_follows.specs.Desk.{Out, Desk}
 use Rattle.hc_follows.specs.Idle.{page_of, is_read, is_busy, is_small_entry, waits_for_bucket, keys_free, reads_behind}
@@ -81,7 +82,7 @@ found_any p q (y ∷ ys) x at e = go (p y) at (found_any p q ys x)
 
 -- ---- the writer: what waits
 
-waits_small : (flash : FlashConfig) (nvm : Nvm) (put : FlashEntry) → nvm.pair.small.flash ≡ flash → can_be_put nvm put ≡ false → (is_small_by flash put.key (length put.value) ≡ true) × (is_busy_for nvm.pair put.key ≡ true)
+waits_small : (flash : FlashConfig) (nvm : Nvm) (put : FlashEntry) → nvm.pair.small.flash ≡ flash → can_put nvm put ≡ false → (is_small_by flash put.key (length put.value) ≡ true) × (is_busy_for nvm.pair put.key ≡ true)
 waits_small flash nvm put same h = let both = split (is_small_by nvm.pair.small.flash put.key (length put.value)) (is_busy_for nvm.pair put.key) h in (subst (λ (f : FlashConfig). is_small_by f put.key (length put.value) ≡ true) same both.0, both.1)
   where
     split : (a b : Bool) → (not a || not b) ≡ false → (a ≡ true) × (b ≡ true)
@@ -106,7 +107,7 @@ module _ (flash : FlashConfig) (config : Config) (is : config.flash ≡ Some fla
       go None at s = absurd cc
       go (Some put) at s =
           let own : put.key ≡ key = same_bytes put.key key (found-passes (is_put_of key) nvm.queue put at) in
-          let both = waits_small flash nvm put f.engines.same (fails_all (is_put_of key) (can_be_put nvm) nvm.queue put (can_be_put nvm put) at refl idle.puts) in
+          let both = waits_small flash nvm put f.engines.same (fails_all (is_put_of key) (can_put nvm) nvm.queue put (can_put nvm put) at refl idle.puts) in
           let small : is_small_entry flash key (entry_at (Some flash) desk.older key) ≡ true = ap (is_small_entry flash key) (queued_entry key put at) ∙ subst (λ (k : List ℕ). is_small_by flash k (length put.value) ≡ true) own both.0 in
           let busy : is_busy_for nvm.pair key ≡ true = subst (λ (k : List ℕ). is_busy_for nvm.pair k ≡ true) own both.1 in
           and_both (is_small_entry flash key (entry_at (Some flash) desk.older key)) (is_busy flash desk.jobs key) small (busy_out flash desk.older nvm desk.jobs desk.pages rs pages key f.engines f.jobs m busy)
@@ -143,7 +144,7 @@ module _ (flash : FlashConfig) (config : Config) (is : config.flash ≡ Some fla
   buried_one run idle key h =
       let one = any_found (is_stone_of key) nvm.tombstones (sym (f.waits.buried key) ∙ h) in
       let own : one.0.key ≡ key = same_bytes one.0.key key (found-passes (is_stone_of key) nvm.tombstones one.0 one.1) in
-      by one.0.taken refl own one.1 (is_busy_for nvm.pair one.0.key) refl (fails_all (is_stone_of key) (is_ready nvm) nvm.tombstones one.0 (is_ready nvm one.0) one.1 refl idle.deletes)
+      by one.0.taken refl own one.1 (is_busy_for nvm.pair one.0.key) refl (fails_all (is_stone_of key) (can_delete nvm) nvm.tombstones one.0 (can_delete nvm one.0) one.1 refl idle.deletes)
     where
       by : {stone : Tombstone} (t : Bool) → stone.taken ≡ t → stone.key ≡ key → find (is_stone_of key) nvm.tombstones ≡ Some stone → (b : Bool) → is_busy_for nvm.pair stone.key ≡ b → (not stone.taken && not (is_busy_for nvm.pair stone.key)) ≡ false → is_busy flash desk.jobs key ≡ true
       by {stone} true t own at b e unready =
@@ -210,10 +211,10 @@ module _ (flash : FlashConfig) (config : Config) (is : config.flash ≡ Some fla
   brings_out key n fill at job free None e None w b = absurd b
   brings_out key n fill at job free None e (Some (Writing r bytes)) w b = absurd b
 
-  reads_one : count (can_be_filled nvm) nvm.fills ≡ 0 → (key : List ℕ) (fill : Fill) → fill_at key nvm.fills ≡ Some fill → is_busy flash desk.jobs key ≡ false → ReadsFor (λ (out : Out). is_read out.order && nat_le flash.buckets (page_of out.order)) nvm.fills desk.jobs key
+  reads_one : count (can_fill nvm) nvm.fills ≡ 0 → (key : List ℕ) (fill : Fill) → fill_at key nvm.fills ≡ Some fill → is_busy flash desk.jobs key ≡ false → ReadsFor (λ (out : Out). is_read out.order && nat_le flash.buckets (page_of out.order)) nvm.fills desk.jobs key
   reads_one idle key fill at free =
       let own : fill.key ≡ key = same_bytes fill.key key (found-passes (is_fill_of key) nvm.fills fill at) in
-      let not_now = fails_all (is_fill_of key) (can_be_filled nvm) nvm.fills fill (can_be_filled nvm fill) at refl idle in
+      let not_now = fails_all (is_fill_of key) (can_fill nvm) nvm.fills fill (can_fill nvm fill) at refl idle in
       let holds = fill_holds key nvm.fills fill at f.fills.each in
       by fill.job refl own (taken (is_some fill.job) (is_busy_for nvm.pair fill.key) not_now (unbusy (is_busy_for nvm.pair fill.key) refl own)) holds.brought
     where
@@ -248,7 +249,7 @@ module _ (flash : FlashConfig) (config : Config) (is : config.flash ≡ Some fla
       go true e h more = let own : (x.number == x.number) ≡ true = eq-eqb x.number x.number refl in (x, (rw own refl), same_bytes (key_of x.op) key e)
       go false e h more = tail (more h)
 
-  pub filler_line : CallsTell desk.older cache.calls cache.owed nvm.fills → count (can_be_filled nvm) nvm.fills ≡ 0 → nat_le (length (keys_free flash desk)) (reads_behind flash desk.jobs) ≡ true
+  pub filler_line : CallsTell desk.older cache.calls cache.owed nvm.fills → count (can_fill nvm) nvm.fills ≡ 0 → nat_le (length (keys_free flash desk)) (reads_behind flash desk.jobs) ≡ true
   filler_line t idle = le_true (length (keys_free flash desk)) (reads_behind flash desk.jobs) (few_free flash desk nvm.fills f.fills.one_each each)
     where
       le_true : (a b : ℕ) → a ≤ b → nat_le a b ≡ true

@@ -11,8 +11,8 @@ use Rattle.hc_history.specs.Pages.{bytes_at}
 use Rattle.hc_history.specs.Lawful.{past}
 use Rattle.hc_machine.specs.Nvm.{Nvm, Job, job_at}
 use Rattle.hc_machine.specs.Takes.{Take, Idle, Finished, Work, Taken}
-use Rattle.hc_machine.specs.Cache.{Cache, Took, takes_in}
-use Rattle.hc_machine.specs.Workers.{fill, after_take}
+use Rattle.hc_machine.specs.Cache.{Took}
+use Rattle.hc_machine.specs.Workers.{after_take}
 use Rattle.hc_machine.specs.World.{Says, World, order_in, result_at, by_call}
 use Rattle.hc_machine.specs.Schedule.{Scene, Tells, in_world}
 use Rattle.hc_invariant.specs.Good.{FlashPart, FlashGood, GoodRun, IsResult}
