@@ -5,22 +5,15 @@ use Rattle.hc_types.specs.declared.refusal.Refusal.TheVariants.{ForeignHandle, E
 use Rattle.hc_memory.specs.Item.{Handle}
 use Rattle.hc_memory.specs.Memory.{linked_at}
 use Rattle.hc_history.specs.Note.{Note, Op, Insert, Add, Find, Remove, Reply, Stored, Begin, Did, End}
-use Rattle.hc_machine.specs.Nvm.{Nvm, ToFind, ToAdd}
+use Rattle.hc_machine.specs.Nvm.{ToFind, ToAdd}
 use Rattle.hc_machine.specs.Cache.{Cache, Moved, Told, Refused, Replied, Waits, and_then, answers, stays}
 use Rattle.hc_machine.specs.Waiting.{uproot, plant, entry_of_handle, live, find_reply, end_fill}
 use Rattle.hc_machine.specs.Calls.{begin, replies_then, wait_for, is_known, store, must_wait, in_memory, used, find_now, remove_reply}
-use Rattle.hc_laws.specs.Walking.{is_aside, is_served, Asked, LeavesCalls}
+use Rattle.hc_laws.specs.Walking.{is_aside, is_served, Asked, AnyFlash, LeavesCalls}
 use Rattle.hc_laws.specs.Telling.{begins_or_ends, is_of_call, Framed, CallsAreFramed, AnswersAreFramed}
-use Rattle.hc_laws.proofs.walk.Parts.{uproot_leaves, plant_leaves, end_fill_leaves}
+use Rattle.hc_laws.proofs.walk.Parts.{any_flash, uproot_leaves, plant_leaves, end_fill_leaves}
 
 -- ---- what is asked of the pieces of a call
-
--- flash may change in any way
-abbrev Whatever : Nvm → Nvm → Type 0
-Whatever old new = Unit {0}
-
-asked_of : (kind test : Note → Bool) → ((note : Note) → kind note ≡ true → test note ≡ false) → Asked kind test Whatever
-asked_of kind test h = record { spares = h; same = λ nvm. tt; both = λ a b c p q. tt; queues = λ nvm queue. tt; fills = λ nvm fills. tt; buries = λ nvm key. tt; raises = λ nvm ends. tt; unindexes = λ nvm key. tt }
 
 tells_no_call : (note : Note) → is_aside note ≡ true → is_of_call note ≡ false
 tells_no_call (Begin call client op) h = absurd cc
@@ -33,11 +26,11 @@ tells_no_frame (Begin call client op) h = absurd cc
 tells_no_frame (End call) h = absurd cc
 tells_no_frame note h = refl
 
-first_asked : Asked is_aside is_of_call Whatever
-first_asked = asked_of is_aside is_of_call tells_no_call
+first_asked : Asked is_aside is_of_call AnyFlash
+first_asked = any_flash is_aside is_of_call tells_no_call
 
-rest_asked : Asked is_served begins_or_ends Whatever
-rest_asked = asked_of is_served begins_or_ends tells_no_frame
+rest_asked : Asked is_served begins_or_ends AnyFlash
+rest_asked = any_flash is_served begins_or_ends tells_no_frame
 
 -- ---- the calls
 
@@ -48,7 +41,7 @@ module _ (client : ℕ) (cache : Cache) where
   abbrev replied : Op → Reply → (Cache → Told) → (Cache → Told) → Moved
   replied op reply first rest = answers (Replied reply) (and_then (begin client op cache) (λ c. and_then (first c) (replies_then reply rest)))
 
-  framed : (op : Op) (reply : Reply) (first rest : Cache → Told) → LeavesCalls is_of_call Whatever begun (first begun) → ((c : Cache) → LeavesCalls begins_or_ends Whatever c (rest c)) → Framed client op reply cache (replied op reply first rest)
+  framed : (op : Op) (reply : Reply) (first rest : Cache → Told) → LeavesCalls is_of_call AnyFlash begun (first begun) → ((c : Cache) → LeavesCalls begins_or_ends AnyFlash c (rest c)) → Framed client op reply cache (replied op reply first rest)
   framed op reply first rest p q = let r = q (first begun).cache in record {
     before = (first begun).part;
     behind = (rest (first begun).cache).part;

@@ -3,7 +3,7 @@ use Rattle.std.specs.Prelude.{◌≡◌, ℕ, Bool, true, false, not, List, [], 
 use Rattle.hc_types.specs.FlashEntry.{FlashEntry}
 use Rattle.hc_engines.specs.Engine.{Outcome}
 use Rattle.hc_engines.specs.pair.Pair.{take_index}
-use Rattle.hc_history.specs.Note.{Note, Begin, Did, End, Read, Wrote, Opened, Now}
+use Rattle.hc_history.specs.Note.{Note, Begin, Did, End, Charged, Linked, Freed, Read, Wrote, Opened, Now}
 use Rattle.hc_machine.specs.Nvm.{Nvm, Tombstone, Fill}
 use Rattle.hc_machine.specs.Leaving.{Changed}
 use Rattle.hc_machine.specs.Takes.{region_note}
@@ -12,16 +12,26 @@ use Rattle.hc_laws.specs.First.{NonePasses}
 
 -- ---- kinds of notes
 
--- of an item, of what waits for flash, or of what flash keeps
+-- of what waits for flash, or of what flash keeps
+abbrev pub is_of_flash : Note → Bool
+is_of_flash (Begin call client op) = false
+is_of_flash (Did call reply) = false
+is_of_flash (End call) = false
+is_of_flash (Charged charge key pool bytes) = false
+is_of_flash (Linked charge) = false
+is_of_flash (Freed charge) = false
+is_of_flash (Read page result) = false
+is_of_flash (Wrote page bytes is_written) = false
+is_of_flash (Opened region) = false
+is_of_flash (Now moment) = false
+is_of_flash note = true
+
+-- or of an item
 abbrev pub is_aside : Note → Bool
-is_aside (Begin call client op) = false
-is_aside (Did call reply) = false
-is_aside (End call) = false
-is_aside (Read page result) = false
-is_aside (Wrote page bytes is_written) = false
-is_aside (Opened region) = false
-is_aside (Now moment) = false
-is_aside note = true
+is_aside (Charged charge key pool bytes) = true
+is_aside (Linked charge) = true
+is_aside (Freed charge) = true
+is_aside note = is_of_flash note
 
 -- or a call is answered
 abbrev pub is_served : Note → Bool
@@ -47,6 +57,10 @@ pub record Asked (kind test : Note → Bool) (R : Nvm → Nvm → Type 0) : Type
   pub buries : (nvm : Nvm) (key : List ℕ) → R nvm (record nvm { tombstones = nvm.tombstones ++ record { key = key; taken = false } ∷ [] })
   pub raises : (nvm : Nvm) (ends : Tombstone → Bool) → R nvm (record nvm { tombstones = filter (λ stone. not (ends stone)) nvm.tombstones })
   pub unindexes : (nvm : Nvm) (key : List ℕ) → R nvm (record nvm { pair = take_index key nvm.pair })
+
+-- flash may change in any way
+abbrev pub AnyFlash : Nvm → Nvm → Type 0
+AnyFlash old new = Unit {0}
 
 -- ---- what a piece leaves
 

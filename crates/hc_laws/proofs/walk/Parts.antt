@@ -21,12 +21,16 @@ use Rattle.hc_machine.specs.Evicting.{entry_of_item, leaves_for, leaves, all_lea
 use Rattle.hc_machine.specs.Waiting.{freed_note, clear, uproot, plant, live, find_reply, answer, serve, there_after, serve_all, serve_fill, end_fill_of, end_fill}
 use Rattle.hc_machine.specs.Workers.{can_link, link_clean, bring, fill}
 use Rattle.hc_laws.specs.First.{NonePasses}
-use Rattle.hc_laws.specs.Walking.{is_aside, is_served, is_called, Asked, Across, Leaves, LeavesCalls, LeavesBehind}
+use Rattle.hc_laws.specs.Walking.{is_of_flash, is_aside, is_served, is_called, Asked, AnyFlash, Across, Leaves, LeavesCalls, LeavesBehind}
 
 -- ---- notes
 
 pub none_both : (test : Note → Bool) (one two : List Note) → NonePasses test one → NonePasses test two → NonePasses test (one ++ two)
 none_both test one two p q = list_any-append test one two ∙ (λ i. p i || q i)
+
+-- whatever flash does
+pub any_flash : (kind test : Note → Bool) → ((note : Note) → kind note ≡ true → test note ≡ false) → Asked kind test AnyFlash
+any_flash kind test h = record { spares = h; same = λ nvm. tt; both = λ a b c p q. tt; queues = λ nvm queue. tt; fills = λ nvm fills. tt; buries = λ nvm key. tt; raises = λ nvm ends. tt; unindexes = λ nvm key. tt }
 
 -- what the test passes, another does too
 pub none_less : (test other : Note → Bool) → ((note : Note) → other note ≡ false → test note ≡ false) → (notes : List Note) → NonePasses other notes → NonePasses test notes
@@ -36,6 +40,12 @@ none_less test other less (note ∷ notes) h = go (other note) refl h (none_less
     go : (t : Bool) → other note ≡ t → (t || list_any other notes) ≡ false → (NonePasses other notes → NonePasses test notes) → NonePasses test (note ∷ notes)
     go true e h more = absurd cc
     go false e h more = λ i. less note e i || more h i
+
+aside : (note : Note) → is_of_flash note ≡ true → is_aside note ≡ true
+aside (Charged charge key pool bytes) h = refl
+aside (Linked charge) h = refl
+aside (Freed charge) h = refl
+aside note h = h
 
 served : (note : Note) → is_aside note ≡ true → is_served note ≡ true
 served (Did call reply) h = refl
@@ -50,6 +60,9 @@ called note h = h
 module _ {test : Note → Bool} {R : Nvm → Nvm → Type 0} where
   asked_less : (kind more : Note → Bool) → ((note : Note) → kind note ≡ true → more note ≡ true) → Asked more test R → Asked kind test R
   asked_less kind more less a = record { spares = λ note h. a.spares note (less note h); same = a.same; both = a.both; queues = a.queues; fills = a.fills; buries = a.buries; raises = a.raises; unindexes = a.unindexes }
+
+  pub as_flash : Asked is_aside test R → Asked is_of_flash test R
+  as_flash a = asked_less is_of_flash is_aside aside a
 
   pub as_aside : Asked is_served test R → Asked is_aside test R
   as_aside a = asked_less is_aside is_served served a
@@ -96,20 +109,20 @@ module _ {kind test : Note → Bool} {R : Nvm → Nvm → Type 0} (a : Asked kin
       let r = q first.cache in
       record { none = none_both test first.part (f first.cache).part p.none r.none; flash = both_across cache.nvm first.cache.nvm (f first.cache).cache.nvm p.flash r.flash; calls = r.calls ∙ p.calls }
 
-module _ {test : Note → Bool} {R : Nvm → Nvm → Type 0} (a : Asked is_aside test R) where
+module _ {test : Note → Bool} {R : Nvm → Nvm → Type 0} (a : Asked is_of_flash test R) where
   -- ---- what waits for flash, and what it keeps
 
-  evicted_leaves : (now pool want : ℕ) (entry : FlashEntry) (nvm : Nvm) → Leaves test R (Some nvm) (evicted now pool want entry nvm).part (Some (evicted now pool want entry nvm).nvm)
+  pub evicted_leaves : (now pool want : ℕ) (entry : FlashEntry) (nvm : Nvm) → Leaves test R (Some nvm) (evicted now pool want entry nvm).part (Some (evicted now pool want entry nvm).nvm)
   evicted_leaves now pool want entry nvm = go (cause_for now pool want entry nvm)
     where
       go : (cause : Option Cause) → Leaves test R (Some nvm) (waits_unless cause entry nvm).part (Some (waits_unless cause entry nvm).nvm)
       go None = record { none = none_one a (Queued entry.key) refl; flash = a.queues nvm (nvm.queue ++ entry ∷ []) }
       go (Some cause) = record { none = none_one a (Lose (scopes.Key entry.key) cause) refl; flash = a.same nvm }
 
-  unqueue_leaves : (key : List ℕ) (nvm : Nvm) → Leaves test R (Some nvm) (unqueue key nvm).part (Some (unqueue key nvm).nvm)
+  pub unqueue_leaves : (key : List ℕ) (nvm : Nvm) → Leaves test R (Some nvm) (unqueue key nvm).part (Some (unqueue key nvm).nvm)
   unqueue_leaves key nvm = leave_if a (is_some (put_at key nvm.queue)) (Some nvm) _ _ (record { none = none_one a (Unqueued key) refl; flash = a.queues nvm (without_put key nvm.queue) }) (nothing a (Some nvm))
 
-  outdate_leaves : (key : List ℕ) (nvm : Nvm) → Leaves test R (Some nvm) (outdate key nvm).part (Some (outdate key nvm).nvm)
+  pub outdate_leaves : (key : List ℕ) (nvm : Nvm) → Leaves test R (Some nvm) (outdate key nvm).part (Some (outdate key nvm).nvm)
   outdate_leaves key nvm =
       let buried = (bury key nvm).nvm in
       both_leave a (Some nvm) (Some buried) (Some (unindex key buried).nvm) (bury key nvm).part (unindex key buried).part
@@ -152,7 +165,7 @@ module _ {test : Note → Bool} {R : Nvm → Nvm → Type 0} (a : Asked is_aside
       written Filling = refl
       written Flushing = refl
 
-      region : (note : ℕ → Note) → ((r : ℕ) → is_aside (note r) ≡ true) → (o : Option ℕ) → NonePasses test (region_note note o)
+      region : (note : ℕ → Note) → ((r : ℕ) → is_of_flash (note r) ≡ true) → (o : Option ℕ) → NonePasses test (region_note note o)
       region note h None = refl
       region note h (Some r) = none_one a (note r) (h r)
 
@@ -177,6 +190,7 @@ module _ {test : Note → Bool} {R : Nvm → Nvm → Type 0} (a : Asked is_aside
       go None = b.none
       go (Some region) = λ i. opens region i || b.none i
 
+module _ {test : Note → Bool} {R : Nvm → Nvm → Type 0} (a : Asked is_aside test R) where
   -- ---- items leave, come and go
 
   flash_leaves : (f : Nvm → Changed) → ((nvm : Nvm) → Leaves test R (Some nvm) (f nvm).part (Some (f nvm).nvm)) → (cache : Cache) → LeavesCalls test R cache (on_flash f cache)
@@ -192,7 +206,7 @@ module _ {test : Note → Bool} {R : Nvm → Nvm → Type 0} (a : Asked is_aside
       go : (t : Bool) (o : Option Nvm) → cache.nvm ≡ o → LeavesCalls test R cache (if t then tells [] cache else leaves_for o pool want item cache)
       go true o e = same_calls a [] cache cache refl refl refl
       go false None e = same_calls a (Lose _ _ ∷ []) cache cache (none_one a (Lose _ _) refl) refl refl
-      go false (Some nvm) e = let q = evicted_leaves cache.now pool want (entry_of_item item) nvm in record { none = q.none; flash = across_from R cache.nvm nvm _ e q.flash; calls = refl }
+      go false (Some nvm) e = let q = evicted_leaves (as_flash a) cache.now pool want (entry_of_item item) nvm in record { none = q.none; flash = across_from R cache.nvm nvm _ e q.flash; calls = refl }
 
   all_leave_leaves : (pool want : ℕ) (items : List Item) (cache : Cache) → LeavesCalls test R cache (all_leave pool want items cache)
   all_leave_leaves pool want [] cache = same_calls a [] cache cache refl refl refl
@@ -207,8 +221,8 @@ module _ {test : Note → Bool} {R : Nvm → Nvm → Type 0} (a : Asked is_aside
 
   clear_leaves : (key : List ℕ) (cache : Cache) → LeavesCalls test R cache (clear key cache)
   clear_leaves key cache =
-      both_calls a cache (on_flash (unqueue key) cache) (λ c. and_then (tells (freed_note (linked_at key c.memory.pools)) c) (on_flash (outdate key))) (flash_leaves (unqueue key) (unqueue_leaves key) cache)
-      (λ c. both_calls a c (tells (freed_note (linked_at key c.memory.pools)) c) (on_flash (outdate key)) (same_calls a _ c c (freed (linked_at key c.memory.pools)) refl refl) (flash_leaves (outdate key) (outdate_leaves key)))
+      both_calls a cache (on_flash (unqueue key) cache) (λ c. and_then (tells (freed_note (linked_at key c.memory.pools)) c) (on_flash (outdate key))) (flash_leaves (unqueue key) (unqueue_leaves (as_flash a) key) cache)
+      (λ c. both_calls a c (tells (freed_note (linked_at key c.memory.pools)) c) (on_flash (outdate key)) (same_calls a _ c c (freed (linked_at key c.memory.pools)) refl refl) (flash_leaves (outdate key) (outdate_leaves (as_flash a) key)))
     where
       freed : (o : Option Item) → NonePasses test (freed_note o)
       freed None = refl

@@ -9,6 +9,9 @@ use Rattle.hc_history.specs.Note.{Note, Exists, Did, Charged, Linked, Freed}
 use Rattle.hc_history.specs.Books.{Charge, charges, has_number, linked_at}
 use Rattle.hc_history.specs.Lawful.{past}
 use Rattle.hc_machine.specs.items.Items.{item_has}
+use Rattle.hc_laws.specs.First.{NonePasses}
+use Rattle.hc_laws.specs.Walking.{is_of_flash, Asked, AnyFlash}
+use Rattle.hc_laws.proofs.walk.Parts.{any_flash}
 use Rattle.hc_proof.proofs.frames.ByNumber.{same_number}
 use Rattle.hc_proof.proofs.frames.Charges.{first-order}
 use Rattle.hc_follows.specs.Desk.{Adding}
@@ -17,39 +20,44 @@ use Rattle.hc_follows.specs.Charging.{charged_in, is_linked_next, is_waited_for,
 
 -- ---- notes that tell of no charge
 
-abbrev pub NoCharges : List Note → Type 0
-NoCharges [] = Unit {0}
-NoCharges (Charged number key pool bytes ∷ notes) = ⊥
-NoCharges (Linked number ∷ notes) = ⊥
-NoCharges (Freed number ∷ notes) = ⊥
-NoCharges (note ∷ notes) = NoCharges notes
+abbrev pub is_of_charges : Note → Bool
+is_of_charges (Charged number key pool bytes) = true
+is_of_charges (Linked number) = true
+is_of_charges (Freed number) = true
+is_of_charges note = false
 
-pub none-append : (one two : List Note) → NoCharges one → NoCharges two → NoCharges (one ++ two)
-none-append [] two p q = q
-none-append (Charged number key pool bytes ∷ one) two p q = absurd p
-none-append (Linked number ∷ one) two p q = absurd p
-none-append (Freed number ∷ one) two p q = absurd p
-none-append (note ∷ one) two p q = none-append one two p q
+abbrev pub NoCharges : List Note → Type 0
+NoCharges notes = NonePasses is_of_charges notes
+
+no_charges : (note : Note) → is_of_flash note ≡ true → is_of_charges note ≡ false
+no_charges (Charged number key pool bytes) h = absurd cc
+no_charges (Linked number) h = absurd cc
+no_charges (Freed number) h = absurd cc
+no_charges note h = refl
+
+-- what is told of flash is of no charge
+pub uncharged : Asked is_of_flash is_of_charges AnyFlash
+uncharged = any_flash is_of_flash is_of_charges no_charges
 
 pub none_made : (part : List Note) → NoCharges part → charged_in part ≡ 0
 none_made [] h = refl
-none_made (Charged number key pool bytes ∷ part) h = absurd h
-none_made (Linked number ∷ part) h = absurd h
-none_made (Freed number ∷ part) h = absurd h
+none_made (Charged number key pool bytes ∷ part) h = absurd cc
+none_made (Linked number ∷ part) h = absurd cc
+none_made (Freed number ∷ part) h = absurd cc
 none_made (note ∷ part) h = none_made part h
 
 pub none_freed : (adds : List Adding) (older part : List Note) → NoCharges part → frees_no_open adds older part ≡ true
 none_freed adds older [] h = refl
-none_freed adds older (Charged number key pool bytes ∷ part) h = absurd h
-none_freed adds older (Linked number ∷ part) h = absurd h
-none_freed adds older (Freed number ∷ part) h = absurd h
+none_freed adds older (Charged number key pool bytes ∷ part) h = absurd cc
+none_freed adds older (Linked number ∷ part) h = absurd cc
+none_freed adds older (Freed number ∷ part) h = absurd cc
 none_freed adds older (note ∷ part) h = none_freed adds (note ∷ older) part h
 
 pub same_charges : (older part : List Note) → NoCharges part → charges (past older part) ≡ charges older
 same_charges older [] h = refl
-same_charges older (Charged number key pool bytes ∷ part) h = absurd h
-same_charges older (Linked number ∷ part) h = absurd h
-same_charges older (Freed number ∷ part) h = absurd h
+same_charges older (Charged number key pool bytes ∷ part) h = absurd cc
+same_charges older (Linked number ∷ part) h = absurd cc
+same_charges older (Freed number ∷ part) h = absurd cc
 same_charges older (note ∷ part) h = same_charges (note ∷ older) part h
 
 -- ---- parts that are joined

@@ -1,13 +1,12 @@
 -- The pieces of a step: none makes a charge but that of an item, and none frees an open one but that of an add which is answered
 -- that its key exists.
 use Rattle.std.proofs.Common.{◌≡◌, ℕ, ◌+◌, ◌≤◌, ◌==◌, Bool, true, false, not, ◌&&◌, ◌||◌, List, [], ◌∷◌, ◌++◌, length, Option, Some, None, refl, ap, sym, ◌∙◌, subst, arith, cond, append_assoc, slice_get, slice_set}
-use Rattle.std.specs.Prelude.{if◌then◌else◌, find, option_map, is_some}
+use Rattle.std.specs.Prelude.{if◌then◌else◌, find, option_map}
 use Rattle.std.specs.List.{list_any}
 use Rattle.std.specs.Option.{option_map_or}
 use Rattle.std.proofs.lemmas.Bool.{eqb-true}
 use Rattle.std.proofs.lemmas.Option.{same_Some}
 use Rattle.hc_types.specs.Charge.{charge_of}
-use Rattle.hc_types.specs.Loss.{Cause}
 use Rattle.hc_types.specs.Tally.{tally, count}
 use Rattle.hc_types.proofs.Tallies.{tally-append, tally-push}
 use Rattle.hc_types.specs.FlashEntry.{FlashEntry}
@@ -22,9 +21,8 @@ use Rattle.hc_machine.proofs.items.Flat.{linked-flat, unlinked-flat, changed-fla
 use Rattle.hc_history.specs.Note.{Note, Reply, Stored, Exists, Lose, Did, Charged, Linked, Freed}
 use Rattle.hc_history.specs.Lawful.{past}
 use Rattle.hc_history.proofs.Appended.{past-append}
-use Rattle.hc_engines.specs.pair.Pair.{is_indexed}
-use Rattle.hc_machine.specs.Nvm.{Nvm, Waiter, Wish, ToFind, ToAdd, Fill, put_at, is_due, is_fill_of, fill_at, without_fill}
-use Rattle.hc_machine.specs.Leaving.{Changed, cause_for, waits_unless, evicted, unqueue, bury, unindex, outdate}
+use Rattle.hc_machine.specs.Nvm.{Nvm, Waiter, Wish, ToFind, ToAdd, Fill, is_fill_of, fill_at, without_fill}
+use Rattle.hc_machine.specs.Leaving.{Changed, unqueue, outdate}
 use Rattle.hc_machine.specs.Cache.{Cache, Told, tells, and_then, with_memory, with_nvm, on_flash_of, on_flash, unmarked_by}
 use Rattle.hc_machine.specs.Evicting.{entry_of_item, leaves_for, leaves, all_leave, make_room, charge, make_charge, handle_for}
 use Rattle.hc_machine.specs.Waiting.{freed_note, clear, uproot, plant, live, answer, serve, there_after, serve_all, serve_fill, end_fill_of, end_fill}
@@ -44,7 +42,8 @@ use Rattle.hc_follows.specs.Charging.{charged_in, is_waited_for, links_what_it_c
 use Rattle.hc_theorem.specs.clients.Matches.{charge_kept, charge_of_wish, AllTold}
 use Rattle.hc_theorem.proofs.clients.Adds.{told-parts}
 use Rattle.hc_theorem.proofs.clients.Claims.{counted_any}
-use Rattle.hc_theorem.proofs.charges.Notes.{NoCharges, none-append, none_made, none_freed, made-append, links-behind, links-before, frees-append, open_freed, open_linked, none_linked, open_brought, open_still, Apart, apart_less, item_linked, own_counts, found_linked}
+use Rattle.hc_laws.proofs.walk.Parts.{evicted_leaves, unqueue_leaves, outdate_leaves}
+use Rattle.hc_theorem.proofs.charges.Notes.{NoCharges, uncharged, none_made, none_freed, made-append, links-behind, links-before, frees-append, open_freed, open_linked, none_linked, open_brought, open_still, Apart, apart_less, item_linked, own_counts, found_linked}
 
 -- ---- what a piece leaves
 
@@ -71,22 +70,6 @@ quiet_safe adds older items told none fewer h = record {
 
 -- ---- flash
 
-none_if : (t : Bool) (a b : Changed) → NoCharges a.part → NoCharges b.part → NoCharges (if t then a else b).part
-none_if true a b p q = p
-none_if false a b p q = q
-
-unqueue_none : (key : List ℕ) (nvm : Nvm) → NoCharges (unqueue key nvm).part
-unqueue_none key nvm = none_if (is_some (put_at key nvm.queue)) _ _ tt tt
-
-bury_none : (key : List ℕ) (nvm : Nvm) → NoCharges (bury key nvm).part
-bury_none key nvm = none_if (is_due nvm key) _ _ tt tt
-
-unindex_none : (key : List ℕ) (nvm : Nvm) → NoCharges (unindex key nvm).part
-unindex_none key nvm = none_if (is_indexed nvm.pair key) _ _ tt tt
-
-outdate_none : (key : List ℕ) (nvm : Nvm) → NoCharges (outdate key nvm).part
-outdate_none key nvm = none-append (bury key nvm).part (unindex key (bury key nvm).nvm).part (bury_none key nvm) (unindex_none key (bury key nvm).nvm)
-
 -- marks go, and no item
 pub marks_same : (n : ℕ) (notes : List Note) (memory : Memory) → count (item_has n) (items_of (unmarked_by notes memory).pools) ≡ count (item_has n) (items_of memory.pools)
 marks_same n [] memory = refl
@@ -97,7 +80,7 @@ flash_safe : (adds : List Adding) (older : List Note) (f : Nvm → Changed) → 
 flash_safe adds older f none cache h = go cache.nvm
   where
     go : (nvm : Option Nvm) → Safe adds older (on_flash_of nvm f cache)
-    go None = quiet_safe adds older (items_of cache.memory.pools) (on_flash_of None f cache) tt (λ n. omega arith) h
+    go None = quiet_safe adds older (items_of cache.memory.pools) (on_flash_of None f cache) refl (λ n. omega arith) h
     go (Some nvm) = quiet_safe adds older (items_of cache.memory.pools) (on_flash_of (Some nvm) f cache) (none nvm) (λ n. omega (arith, marks_same n (f nvm).part cache.memory)) h
 
 -- ---- a key leaves, and its item
@@ -116,10 +99,10 @@ item_freed adds older cache (Some item) key e h =
 clear_safe : (adds : List Adding) (older : List Note) (key : List ℕ) (cache : Cache) → Apart older (items_of cache.memory.pools) → Safe adds older (clear key cache)
 clear_safe adds older key cache h =
     let first = on_flash (unqueue key) cache in
-    let p = flash_safe adds older (unqueue key) (unqueue_none key) cache h in
+    let p = flash_safe adds older (unqueue key) (λ nvm. (unqueue_leaves uncharged key nvm).none) cache h in
     let second = tells (freed_note (linked_at key first.cache.memory.pools)) first.cache in
     let q = item_freed adds (past older first.part) first.cache (linked_at key first.cache.memory.pools) key refl p.apart in
-    let r = flash_safe adds (past (past older first.part) second.part) (outdate key) (outdate_none key) first.cache q.apart in
+    let r = flash_safe adds (past (past older first.part) second.part) (outdate key) (λ nvm. (outdate_leaves uncharged key nvm).none) first.cache q.apart in
     both_safe adds older first (λ c. and_then (tells (freed_note (linked_at key c.memory.pools)) c) (on_flash (outdate key))) p (both_safe adds (past older first.part) second (on_flash (outdate key)) q r)
 
 pub uproot_safe : (adds : List Adding) (older : List Note) (key : List ℕ) (cache : Cache) → Apart older (items_of cache.memory.pools) → Safe adds older (uproot key cache)
@@ -129,7 +112,7 @@ uproot_safe adds older key cache h =
     let memory = first.cache.memory in
     let fewer : (n : ℕ) → count (item_has n) (items_of (after_unlink memory key).pools) ≤ count (item_has n) (items_of memory.pools) =
     λ n. omega (arith, ap (count (item_has n)) (unlinked-flat key memory.pools), without-less (λ (item : Item). cond (item_has n item) 1 0) key (items_of memory.pools)) in
-    both_safe adds older first (λ c. tells [] (with_memory (after_unlink c.memory key) c)) p (quiet_safe adds (past older first.part) (items_of memory.pools) (tells [] (with_memory (after_unlink memory key) first.cache)) tt fewer p.apart)
+    both_safe adds older first (λ c. tells [] (with_memory (after_unlink c.memory key) c)) p (quiet_safe adds (past older first.part) (items_of memory.pools) (tells [] (with_memory (after_unlink memory key) first.cache)) refl fewer p.apart)
 
 -- a charge that was linked is an item's
 planted : (older newer : List Note) (memory : Memory) (clean : Bool) (handle : Handle) → ((n : ℕ) → is_open n newer ≡ true → is_open n older ≡ true) → is_open handle.number newer ≡ false → Apart older (items_of memory.pools) → Apart newer (items_of (after_link memory clean handle).pools)
@@ -175,7 +158,7 @@ or_right true b e = refl
 or_right false b e = e
 
 answered : (adds : List Adding) (older : List Note) (call : ℕ) (reply : Reply) (cache : Cache) → Apart older (items_of cache.memory.pools) → Safe adds older (answer call reply cache)
-answered adds older call reply cache h = quiet_safe adds older (items_of cache.memory.pools) (answer call reply cache) tt (λ n. omega arith) h
+answered adds older call reply cache h = quiet_safe adds older (items_of cache.memory.pools) (answer call reply cache) refl (λ n. omega arith) h
 
 serve_safe : (adds : List Adding) (older : List Note) (call : ℕ) (wish : Wish) (there : Option FlashEntry) (cache : Cache) → charge_kept call adds ≡ charge_of_wish wish → Apart older (items_of cache.memory.pools) → Safe adds older (serve call wish there cache)
 serve_safe adds older call ToFind there cache told h = answered adds older call _ cache h
@@ -223,13 +206,6 @@ end_fill_safe adds older key there cache told h = go cache.nvm told
 
 -- ---- room is made
 
-evicted_none : (now pool want : ℕ) (entry : FlashEntry) (nvm : Nvm) → NoCharges (evicted now pool want entry nvm).part
-evicted_none now pool want entry nvm = go (cause_for now pool want entry nvm)
-  where
-    go : (cause : Option Cause) → NoCharges (waits_unless cause entry nvm).part
-    go None = tt
-    go (Some cause) = tt
-
 -- what an item that leaves tells, and that its cache has the items that it had
 record LeavesSo (cache : Cache) (told : Told) : Type 0 where
   none : NoCharges told.part
@@ -239,9 +215,9 @@ leaves_so : (pool want : ℕ) (item : Item) (cache : Cache) → LeavesSo cache (
 leaves_so pool want item cache = go item.clean cache.nvm
   where
     go : (t : Bool) (nvm : Option Nvm) → LeavesSo cache (if t then tells [] cache else leaves_for nvm pool want item cache)
-    go true nvm = record { none = tt; same = refl }
-    go false None = record { none = tt; same = refl }
-    go false (Some nvm) = record { none = evicted_none cache.now pool want (entry_of_item item) nvm; same = refl }
+    go true nvm = record { none = refl; same = refl }
+    go false None = record { none = refl; same = refl }
+    go false (Some nvm) = record { none = (evicted_leaves uncharged cache.now pool want (entry_of_item item) nvm).none; same = refl }
 
 all_leave_safe : (adds : List Adding) (older : List Note) (pool want : ℕ) (items : List Item) (cache : Cache) → Apart older (items ++ items_of cache.memory.pools) → Safe adds older (all_leave pool want items cache)
 all_leave_safe adds older pool want [] cache h = record { none = refl; frees = refl; apart = h }

@@ -74,15 +74,15 @@ tame_if adds older false a b p q = q
 replies_safe : (adds : List Adding) (older : List Note) (reply : Said) (f : Cache → Told) (cache : Cache) → ((newer : List Note) → Apart newer (items_of cache.memory.pools) → Safe adds newer (f cache)) → Apart older (items_of cache.memory.pools) → Safe adds older (replies_then reply f cache)
 replies_safe adds older reply f cache does h =
     let did = tells (Did cache.calls reply ∷ []) cache in
-    let p = quiet_safe adds older (items_of cache.memory.pools) did tt (λ n. omega arith) h in
+    let p = quiet_safe adds older (items_of cache.memory.pools) did refl (λ n. omega arith) h in
     let middle = Did cache.calls reply ∷ older in
     let q = does middle p.apart in
     let last = tells (End cache.calls ∷ []) (f cache).cache in
-    let r = quiet_safe adds (past middle (f cache).part) (items_of (f cache).cache.memory.pools) last tt (λ n. omega arith) q.apart in
+    let r = quiet_safe adds (past middle (f cache).part) (items_of (f cache).cache.memory.pools) last refl (λ n. omega arith) q.apart in
     both_safe adds older did (λ c. and_then (f cache) (tells (End cache.calls ∷ []))) p (both_safe adds middle (f cache) (tells (End cache.calls ∷ [])) q r)
 
 begun_safe : (adds : List Adding) (older : List Note) (client : ℕ) (op : Op) (cache : Cache) → Apart older (items_of cache.memory.pools) → Safe adds older (begin client op cache)
-begun_safe adds older client op cache h = quiet_safe adds older (items_of cache.memory.pools) (begin client op cache) tt (λ n. omega arith) h
+begun_safe adds older client op cache h = quiet_safe adds older (items_of cache.memory.pools) (begin client op cache) refl (λ n. omega arith) h
 
 store_safe : (adds : List Adding) (older : List Note) (handle : Handle) (cache : Cache) → AllTold adds (waiters_of (fills_of cache.nvm)) → Apart older (items_of cache.memory.pools) → Safe adds older (store handle cache)
 store_safe adds older handle cache told h =

@@ -1,13 +1,12 @@
 -- What a take, a result and a reclaim tell of charges, and whose calls wait for the fill that ends.
-use Rattle.std.proofs.Common.{◌≡◌, ℕ, ◌+◌, Bool, true, false, List, [], ◌∷◌, ◌++◌, length, map, Option, Some, None, refl, ap, sym, subst}
-use Rattle.std.specs.Prelude.{if◌then◌else◌, filter}
+use Rattle.std.proofs.Common.{◌≡◌, ℕ, ◌+◌, Bool, true, false, List, [], ◌∷◌, ◌++◌, length, Option, Some, None, refl, ap, sym, subst}
+use Rattle.std.specs.Prelude.{if◌then◌else◌}
 use Rattle.hc_types.specs.Places.{is_small_by}
 use Rattle.hc_types.specs.FlashEntry.{FlashEntry}
 use Rattle.hc_engines.specs.Engine as engine
 use Rattle.hc_engines.specs.Engine.{Put, Get, Delete, Loss, Outcome, Next, Busy, Io, Done}
 use Rattle.hc_engines.specs.large.Block as block
 use Rattle.hc_engines.specs.large.Steps as steps
-use Rattle.hc_history.specs.Note.{Raised, Opened, Flushed, Cleared}
 use Rattle.hc_engines.specs.pair.Pair as pairs
 use Rattle.hc_engines.specs.pair.Pair.{Pair}
 use Rattle.hc_machine.specs.Nvm.{Nvm, Tombstone, Waiter, Fill, Task, Putting, Deleting, Filling, Flushing, Job, is_fill_of, fill_by, is_brought_by, without_job, ordered, next_put, next_delete, next_fill, without_put, taken_stone, taken_fill}
@@ -17,50 +16,17 @@ use Rattle.hc_machine.specs.Takes.{Take, Finished, Filled, Taken, region_note, l
 use Rattle.hc_invariant.specs.Tells.{waiters_of}
 use Rattle.hc_follows.specs.Desk.{Adding}
 use Rattle.hc_theorem.specs.clients.Matches.{AllTold}
-use Rattle.hc_theorem.proofs.charges.Notes.{NoCharges, none-append}
+use Rattle.hc_theorem.proofs.charges.Notes.{NoCharges, uncharged}
+use Rattle.hc_laws.proofs.walk.Parts.{holds_leaves, settled_leaves, opened_too}
 use Rattle.hc_theorem.proofs.charges.Pieces.{fill_told}
 
 -- ---- what an outcome tells
 
-losses_none : (losses : List Loss) → NoCharges (loss_notes losses)
-losses_none [] = tt
-losses_none (one ∷ losses) = losses_none losses
-
-raised_none : (stones : List Tombstone) → NoCharges (map (λ (stone : Tombstone). Raised stone.key) stones)
-raised_none [] = tt
-raised_none (stone ∷ stones) = raised_none stones
-
-raise_all_none : (bucket : Option ℕ) (nvm : Nvm) → NoCharges (raise_all bucket nvm).part
-raise_all_none None nvm = tt
-raise_all_none (Some bucket) nvm = raised_none (filter _ nvm.tombstones)
-
 holds_none : (outcome : Outcome) (nvm : Nvm) → NoCharges (holds outcome nvm).part
-holds_none outcome nvm = none-append (region_note Opened outcome.opened ++ loss_notes outcome.losses) (raise_all (bucket_lost outcome.losses) nvm).part (none-append (region_note Opened outcome.opened) (loss_notes outcome.losses) (opened outcome.opened) (losses_none outcome.losses)) (raise_all_none (bucket_lost outcome.losses) nvm)
-  where
-    opened : (o : Option ℕ) → NoCharges (region_note Opened o)
-    opened None = tt
-    opened (Some region) = tt
-
-closing_none : (task : Task) (outcome : Outcome) → NoCharges (closing_notes task outcome)
-closing_none task outcome = none-append (written_note task) (region_note Flushed outcome.flushed ++ region_note Cleared outcome.cleared) (written task) (regions outcome.flushed outcome.cleared)
-  where
-    written : (task : Task) → NoCharges (written_note task)
-    written (Putting key) = tt
-    written (Deleting key) = tt
-    written Filling = tt
-    written Flushing = tt
-
-    regions : (flushed cleared : Option ℕ) → NoCharges (region_note Flushed flushed ++ region_note Cleared cleared)
-    regions None None = tt
-    regions None (Some r) = tt
-    regions (Some f) None = tt
-    regions (Some f) (Some r) = tt
+holds_none outcome nvm = opened_too uncharged outcome nvm (holds outcome nvm) (λ region. refl) (holds_leaves uncharged outcome nvm)
 
 settled_none : (task : Task) (outcome : Outcome) (nvm : Nvm) → NoCharges (settled task outcome nvm).part
-settled_none task outcome nvm =
-    let middle = (holds outcome nvm).nvm in
-    let raised = raise (ends_with task) middle in
-    none-append (holds outcome nvm).part (raised.part ++ closing_notes task outcome) (holds_none outcome nvm) (none-append raised.part (closing_notes task outcome) (raised_none (filter (ends_with task) middle.tombstones)) (closing_none task outcome))
+settled_none task outcome nvm = opened_too uncharged outcome nvm (settled task outcome nvm) (λ region. refl) (settled_leaves uncharged task outcome nvm)
 
 holds_fills : (outcome : Outcome) (nvm : Nvm) → (holds outcome nvm).nvm.fills ≡ nvm.fills
 holds_fills outcome nvm = go (bucket_lost outcome.losses)
@@ -95,7 +61,7 @@ module _ (adds : List Adding) where
       go Flushing change none told = record { none = none; told = tt }
 
   idle_so : (nvm : Nvm) → TakenSo adds (takes.idle nvm)
-  idle_so nvm = record { none = tt; told = tt }
+  idle_so nvm = record { none = refl; told = tt }
 
   launched_so : (task : Task) (next : Next) (nvm : Nvm) → AllTold adds (waiters_of nvm.fills) → TakenSo adds (launched task next nvm)
   launched_so task Busy nvm told = idle_so nvm
@@ -139,7 +105,7 @@ pub record WriterSo (taken : Taken) : Type 0 where
   pub unfilled : taken.filled ≡ None
 
 written_so : (task : Task) (next : Next) (nvm : Nvm) → FillsNothing task → WriterSo (launched task next nvm)
-written_so task Busy nvm other = record { none = tt; unfilled = refl }
+written_so task Busy nvm other = record { none = refl; unfilled = refl }
 written_so task (Io order outcome) nvm other = record { none = holds_none outcome (record nvm { jobs = nvm.jobs ++ record { number = nvm.made + 1; task = task; order = order } ∷ []; made = nvm.made + 1 }); unfilled = refl }
 written_so task (Done outcome) nvm other = go task other (settled task outcome nvm) (settled_none task outcome nvm)
   where
@@ -154,7 +120,7 @@ sized_so true put nvm = let m = pairs.start (nvm.made + 1) (Put put) nvm.pair in
 sized_so false put nvm = let m = pairs.start (nvm.made + 1) (Put put) nvm.pair in let q = written_so Flushing m.next (record nvm { pair = m.pair }) tt in record { none = q.none; unfilled = q.unfilled }
 
 put_so : (o : Option FlashEntry) (nvm : Nvm) → WriterSo (take_put o nvm)
-put_so None nvm = record { none = tt; unfilled = refl }
+put_so None nvm = record { none = refl; unfilled = refl }
 put_so (Some put) nvm = sized_so (is_small_by nvm.pair.small.flash put.key (length put.value)) put (record nvm { queue = without_put put.key nvm.queue })
 
 delete_so : (o : Option Tombstone) (nvm : Nvm) → WriterSo (take_delete o nvm)
@@ -180,5 +146,5 @@ reclaim_none nvm = by (steps.reclaim nvm.pair.small.flash nvm.pair.large).outcom
     m = steps.reclaim nvm.pair.small.flash nvm.pair.large
 
     by : (given : Option ℕ) → NoCharges (reclaimed_by given (steps.reclaim nvm.pair.small.flash nvm.pair.large) nvm).change.part
-    by None = tt
+    by None = refl
     by (Some region) = settled_none Flushing m.outcome (record nvm { pair = record nvm.pair { large = m.state } })

@@ -20,8 +20,8 @@ use Rattle.hc_machine.specs.Evicting.{make_room, handle_for, allocate_by}
 use Rattle.hc_machine.specs.Schedule.{Slot, Scene, Deed, Open as OpenSlot, Tells, NoSlot, Filled, is_slot, slot_at, with_slot, fills, opens}
 use Rattle.hc_invariant.specs.Good.{Agrees, fills_of}
 use Rattle.hc_proof.proofs.frames.ByNumber.{none-counted}
-use Rattle.hc_laws.proofs.walk.Parts.{make_charge_leaves}
-use Rattle.hc_theorem.proofs.idle.StillParts.{still, still_jobs}
+use Rattle.hc_laws.proofs.walk.Parts.{as_aside, as_served, make_charge_leaves}
+use Rattle.hc_theorem.proofs.idle.StillParts.{calm, still_jobs}
 use Rattle.hc_follows.specs.Desk.{Desk, Kept, with_kept}
 use Rattle.hc_follows.specs.Telling.{IsCharged}
 use Rattle.hc_follows.specs.Clients.{OpenPart, newest, expires_at}
@@ -92,7 +92,7 @@ module _ (config : Config) (log : List Note) (scene : Scene) (desk : Desk) (m : 
       record {
         part = subst (λ (k : Option Kept). OpenPart config desk.older k pool key value Filled moved.part) (sym (kept_is log desk scene number None m at))
             (refusal_same config desk.older cache.memory pool key (length value) g.memory ∙ e, charged_last key pool bytes made room.part, no_call moved.part (answering moved.part (aside-append room.part (note.Charged made key pool bytes ∷ []) r.aside tt)));
-        matches = called_matches log desk scene (with_slot its scene.slots) moved (with_kept (kept (newest (charges (past desk.older moved.part))) (expires_at (now_at desk.older) ttl)) desk.slots) desk.adds m (still_jobs cache.nvm moved.cache.nvm (make_charge_leaves still pool key (length value) cache).flash)
+        matches = called_matches log desk scene (with_slot its scene.slots) moved (with_kept (kept (newest (charges (past desk.older moved.part))) (expires_at (now_at desk.older) ttl)) desk.slots) desk.adds m (still_jobs cache.nvm moved.cache.nvm (make_charge_leaves (as_aside (as_served calm)) pool key (length value) cache).flash)
             (slots_by (with_kept (kept (newest (charges (past desk.older moved.part))) (expires_at (now_at desk.older) ttl)) desk.slots) (with_slot its scene.slots) moved.cache.memory.charges (fills_of moved.cache.nvm) kept_same (one_more its scene.slots at m.slots.one_slot)
             (subst (λ (all : List Fill). Opens (with_slot its scene.slots) (adds_in all) moved.cache.memory.charges) (sym r.fills) (subst (Opens (with_slot its scene.slots) (adds_in (fills_of cache.nvm))) (sym charges_are) opens)))
             (subst (λ (calls : ℕ). AddsMatch desk.adds calls (fills_of moved.cache.nvm)) (sym r.calls) (subst (AddsMatch desk.adds cache.calls) (sym r.fills) m.adds));

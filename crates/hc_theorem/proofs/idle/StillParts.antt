@@ -5,8 +5,8 @@ use Rattle.hc_history.specs.Note.{Note, Begin, End, Read, Wrote, Opened}
 use Rattle.hc_machine.specs.Nvm.{Nvm, Tombstone, is_stone_of}
 use Rattle.hc_machine.specs.Quiet.{jobs_in}
 use Rattle.hc_invariant.specs.Jobs.{is_taken}
-use Rattle.hc_laws.specs.Walking.{is_called, is_served, is_aside, Asked}
-use Rattle.hc_laws.proofs.walk.Parts.{as_served, as_aside}
+use Rattle.hc_laws.specs.Walking.{is_called, is_served, is_of_flash, Asked}
+use Rattle.hc_laws.proofs.walk.Parts.{as_served, as_aside, as_flash}
 use Rattle.hc_theorem.specs.idle.Still.{is_of_pages, StillNvm, StillOption}
 use Rattle.hc_theorem.specs.idle.Takings.{is_of_calls}
 
@@ -71,8 +71,8 @@ no_calls note h = refl
 pub calm : Asked is_called is_of_pages StillNvm
 calm = stays is_called is_of_pages no_pages
 
-pub still : Asked is_aside is_of_pages StillNvm
-still = as_aside (as_served calm)
+pub still : Asked is_of_flash is_of_pages StillNvm
+still = as_flash (as_aside (as_served calm))
 
 pub mute : Asked is_served is_of_calls StillNvm
 mute = stays is_served is_of_calls no_calls

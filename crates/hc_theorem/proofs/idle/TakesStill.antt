@@ -16,7 +16,7 @@ use Rattle.hc_machine.specs.Cache.{Cache, takes_in}
 use Rattle.hc_machine.specs.Workers.{fill, after_take}
 use Rattle.hc_machine.specs.Quiet.{jobs_in}
 use Rattle.hc_laws.specs.Walking.{LeavesBehind}
-use Rattle.hc_laws.proofs.walk.Parts.{none_both, as_aside, holds_leaves, settled_leaves, opened_too, fill_leaves}
+use Rattle.hc_laws.proofs.walk.Parts.{none_both, as_aside, as_flash, holds_leaves, settled_leaves, opened_too, fill_leaves}
 use Rattle.hc_theorem.specs.idle.Still.{StillNvm}
 use Rattle.hc_theorem.specs.idle.Takings.{is_of_calls, AllMute, JobsTaken, TakenSo, JobsWent, WentSo}
 use Rattle.hc_theorem.proofs.idle.StillParts.{mute, still_jobs}
@@ -24,7 +24,7 @@ use Rattle.hc_theorem.proofs.idle.StillParts.{mute, still_jobs}
 -- ---- notes
 
 mute-behind : (outcome : Outcome) (nvm : Nvm) (change : Changed) → LeavesBehind is_of_calls StillNvm outcome nvm change → AllMute change.part
-mute-behind outcome nvm change b = opened_too (as_aside mute) outcome nvm change (λ region. refl) b
+mute-behind outcome nvm change b = opened_too (as_flash (as_aside mute)) outcome nvm change (λ region. refl) b
 
 -- ---- an operation is over, or begins
 
@@ -37,7 +37,7 @@ pub ends_so : (number : ℕ) (task : Task) (outcome : Outcome) (nvm : Nvm) → E
 ends_so number task outcome nvm = go task (settled task outcome nvm) (mute-behind outcome nvm _ b) b.flash.jobs
   where
     b : LeavesBehind is_of_calls StillNvm outcome nvm (settled task outcome nvm)
-    b = settled_leaves (as_aside mute) task outcome nvm
+    b = settled_leaves (as_flash (as_aside mute)) task outcome nvm
 
     out : (o : Option Fill) (change : Changed) → AllMute change.part → change.nvm.jobs ≡ nvm.jobs → EndsSo nvm (fill_out o outcome.answer change)
     out None change m j = record { mute = m; take = refl; jobs = j }
@@ -59,7 +59,7 @@ pub launched_so : (task : Task) (next : Next) (nvm : Nvm) → TakenSo nvm (launc
 launched_so task Busy nvm = idle_so nvm
 launched_so task (Io order outcome) nvm =
     let more : Nvm = record nvm { jobs = nvm.jobs ++ record { number = nvm.made + 1; task = task; order = order } ∷ []; made = nvm.made + 1 } in
-    let b = holds_leaves (as_aside mute) outcome more in
+    let b = holds_leaves (as_flash (as_aside mute)) outcome more in
     record { mute = mute-behind outcome more (holds outcome more) b; jobs = (task, refl, b.flash.jobs) }
 launched_so task (Done outcome) nvm = let e = ends_so (nvm.made + 1) task outcome nvm in record { mute = e.mute; jobs = ended_jobs nvm (ends (nvm.made + 1) task outcome nvm) e }
 
@@ -111,7 +111,7 @@ pub goes_on_so : (job : Job) (next : Next) (nvm : Nvm) → (next ≡ Busy → �
 goes_on_so job Busy nvm not_busy = absurd (not_busy refl)
 goes_on_so job (Io order outcome) nvm not_busy =
     let more : Nvm = record nvm { jobs = ordered job.number order nvm.jobs } in
-    let b = holds_leaves (as_aside mute) outcome more in
+    let b = holds_leaves (as_flash (as_aside mute)) outcome more in
     record { mute = mute-behind outcome more (holds outcome more) b; jobs = (refl, b.flash.jobs) }
 goes_on_so job (Done outcome) nvm not_busy =
     let less : Nvm = record nvm { jobs = without_job job.number nvm.jobs } in
@@ -134,7 +134,7 @@ reclaim_so nvm = by (steps.reclaim nvm.pair.small.flash nvm.pair.large).outcome.
     by None = record { mute = refl; jobs = refl }
     by (Some region) =
         let less : Nvm = record nvm { pair = record nvm.pair { large = m.state } } in
-        let b = settled_leaves (as_aside mute) Flushing m.outcome less in
+        let b = settled_leaves (as_flash (as_aside mute)) Flushing m.outcome less in
         record { mute = mute-behind m.outcome less (settled Flushing m.outcome less) b; jobs = b.flash.jobs }
 
 -- ---- what a take leaves behind is done
