@@ -21,16 +21,16 @@ use Rattle.hc_machine.specs.Schedule.{Slot, Scene, Deed, Open as OpenSlot, Tells
 use Rattle.hc_invariant.specs.Good.{Agrees, fills_of}
 use Rattle.hc_proof.proofs.frames.ByNumber.{none-counted}
 use Rattle.hc_laws.proofs.walk.Parts.{as_aside, as_served, make_charge_leaves}
-use Rattle.hc_theorem.proofs.idle.StillParts.{calm, still_jobs}
+use Rattle.hc_theorem.proofs.idle.StillParts.{calm, mute, still_jobs}
 use Rattle.hc_follows.specs.Desk.{Desk, Kept, with_kept}
 use Rattle.hc_follows.specs.Telling.{IsCharged}
 use Rattle.hc_follows.specs.Clients.{OpenPart, newest, expires_at}
 use Rattle.hc_theorem.specs.clients.Matches.{kept_of, AddsMatch, Matches}
 use Rattle.hc_theorem.specs.slots.Opens.{Opens, adds_in}
 use Rattle.hc_theorem.specs.clients.Deeds.{Followed, DeedFollows}
-use Rattle.hc_proof.proofs.shapes.Asides.{aside-append, answering, room_aside}
+use Rattle.hc_proof.proofs.shapes.Asides.{room_aside}
 use Rattle.hc_theorem.proofs.slots.Opens.{slot_comes, with_counts}
-use Rattle.hc_theorem.proofs.clients.Telling.{no_call}
+use Rattle.hc_theorem.proofs.clients.Telling.{mute_calls}
 use Rattle.hc_theorem.proofs.clients.Stepping.{good_at, opens_at, slots_by, kept-with, called_matches}
 use Rattle.hc_theorem.proofs.clients.Putting.{kept_is, nothing_matches}
 use Rattle.hc_theorem.proofs.clients.Refusing.{refusal_same}
@@ -91,7 +91,7 @@ module _ (config : Config) (log : List Note) (scene : Scene) (desk : Desk) (m : 
       (λ i. with_kept (kept (told i) (expires i)) (m.slots.same i)) ∙ kept-with its scene.slots in
       record {
         part = subst (λ (k : Option Kept). OpenPart config desk.older k pool key value Filled moved.part) (sym (kept_is log desk scene number None m at))
-            (refusal_same config desk.older cache.memory pool key (length value) g.memory ∙ e, charged_last key pool bytes made room.part, no_call moved.part (answering moved.part (aside-append room.part (note.Charged made key pool bytes ∷ []) r.aside tt)));
+            (refusal_same config desk.older cache.memory pool key (length value) g.memory ∙ e, charged_last key pool bytes made room.part, mute_calls moved.part (make_charge_leaves (as_aside mute) pool key (length value) cache).none);
         matches = called_matches log desk scene (with_slot its scene.slots) moved (with_kept (kept (newest (charges (past desk.older moved.part))) (expires_at (now_at desk.older) ttl)) desk.slots) desk.adds m (still_jobs cache.nvm moved.cache.nvm (make_charge_leaves (as_aside (as_served calm)) pool key (length value) cache).flash)
             (slots_by (with_kept (kept (newest (charges (past desk.older moved.part))) (expires_at (now_at desk.older) ttl)) desk.slots) (with_slot its scene.slots) moved.cache.memory.charges (fills_of moved.cache.nvm) kept_same (one_more its scene.slots at m.slots.one_slot)
             (subst (λ (all : List Fill). Opens (with_slot its scene.slots) (adds_in all) moved.cache.memory.charges) (sym r.fills) (subst (Opens (with_slot its scene.slots) (adds_in (fills_of cache.nvm))) (sym charges_are) opens)))

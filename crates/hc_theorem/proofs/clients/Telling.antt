@@ -4,6 +4,7 @@ use Rattle.hc_history.specs.Note.{Note, Begin, Did, End, Read, Wrote, Flushed}
 use Rattle.hc_history.specs.Books.{begun}
 use Rattle.hc_follows.specs.Telling.{did_in, ended_in, io_in, NoCall}
 use Rattle.hc_proof.specs.shapes.Asides.{Aside, Answering}
+use Rattle.hc_theorem.specs.idle.Takings.{AllMute}
 
 -- what is answered beside leaves no call begun or ended
 pub quiet_before : (one two : List Note) → Answering one → (begun (one ++ two) ≡ begun two) × (ended_in (one ++ two) ≡ ended_in two) × (io_in (one ++ two) ≡ io_in two)
@@ -14,13 +15,13 @@ quiet_before (Read page result ∷ one) two h = absurd h
 quiet_before (Wrote page bytes is_written ∷ one) two h = absurd h
 quiet_before (note ∷ one) two h = quiet_before one two h
 
-pub no_call : (part : List Note) → Answering part → NoCall part
-no_call [] h = (refl, refl, refl)
-no_call (Begin call client op ∷ part) h = absurd h
-no_call (End call ∷ part) h = absurd h
-no_call (Read page result ∷ part) h = absurd h
-no_call (Wrote page bytes is_written ∷ part) h = absurd h
-no_call (note ∷ part) h = no_call part h
+pub mute_calls : (part : List Note) → AllMute part → NoCall part
+mute_calls [] h = (refl, refl, refl)
+mute_calls (Begin call client op ∷ part) h = absurd cc
+mute_calls (End call ∷ part) h = absurd cc
+mute_calls (Read page result ∷ part) h = absurd cc
+mute_calls (Wrote page bytes is_written ∷ part) h = absurd cc
+mute_calls (note ∷ part) h = mute_calls part h
 
 -- what is told aside answers nothing
 pub did_behind : (call : ℕ) (one two : List Note) → Aside one → did_in call (one ++ two) ≡ did_in call two

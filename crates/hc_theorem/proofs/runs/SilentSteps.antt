@@ -125,8 +125,10 @@ goes_on_to job Busy nvm = record { silent = refl; others = λ n other. refl }
 goes_on_to job (Io order outcome) nvm = went_on job.number nvm (goes_on job (Io order outcome) nvm) (goes_on_so job (Io order outcome) nvm (λ e. absurd cc))
 goes_on_to job (Done outcome) nvm = went_on job.number nvm (goes_on job (Done outcome) nvm) (goes_on_so job (Done outcome) nvm (λ e. absurd cc))
 
-finish_is : (nvm : Nvm) (number : ℕ) (job : Job) (result : IoResult) (moved : pairs.Moved) → job_at number nvm.jobs ≡ Some job → pairs.resume job.number result nvm.pair ≡ Some moved → takes.finish number result nvm ≡ Some (resumed job result nvm moved)
-finish_is nvm number job result moved at resume = ap (λ o. takes.finish_job o result nvm) at ∙ ap (option_map (resumed job result nvm)) resume
+pub finish_is : (cache : Cache) (nvm : Nvm) (number : ℕ) (job : Job) (result : IoResult) (m : pairs.Moved) → cache.nvm ≡ Some nvm → job_at number nvm.jobs ≡ Some job → pairs.resume job.number result nvm.pair ≡ Some m
+    → workers.finish number result cache ≡ after_take (resumed job result nvm m) cache
+finish_is cache nvm number job result m e at goes =
+    ap (λ o. workers.finish_on o number result cache) e ∙ ap (λ o. workers.after_finish o cache) (ap (λ o. takes.finish_job o result nvm) at ∙ ap (option_map (resumed job result nvm)) goes)
 
 pub finish_step : (cache : Cache) (nvm : Nvm) (number : ℕ) (job : Job) (result : IoResult) (moved : pairs.Moved) → cache.nvm ≡ Some nvm → job_at number nvm.jobs ≡ Some job → pairs.resume job.number result nvm.pair ≡ Some moved
     → FinishStep cache number job.order result (workers.finish number result cache)
@@ -135,8 +137,7 @@ finish_step cache nvm number job result moved e at resume =
     let left = (goes_on job moved.next (record nvm { pair = moved.pair })).part in
     let filled = fill taken.filled (takes_in taken.part taken.nvm cache).cache in
     let went = goes_on_to job moved.next (record nvm { pair = moved.pair }) in
-    let step : workers.finish number result cache ≡ after_take taken cache = ap (λ o. workers.finish_on o number result cache) e ∙ ap (λ o. workers.after_finish o cache) (finish_is nvm number job result moved at resume) in
-    subst (λ (m : Moved). FinishStep cache number job.order result m) (sym step) (record {
+    subst (λ (m : Moved). FinishStep cache number job.order result m) (sym (finish_is cache nvm number job result moved e at resume)) (record {
       rest = left ++ filled.part;
       told = refl;
       silent = none_both is_io left filled.part went.silent (silent filled.part (fill_leaves mute taken.filled (takes_in taken.part taken.nvm cache).cache).none);

@@ -13,10 +13,8 @@ use Rattle.hc_history.specs.Lawful.{past}
 use Rattle.hc_engines.specs.pair.Pair as pairs
 use Rattle.hc_engines.specs.pair.Pair.{Pair}
 use Rattle.hc_machine.specs.Nvm.{Nvm, Job, job_at}
-use Rattle.hc_machine.specs.Takes as takes
 use Rattle.hc_machine.specs.Takes.{Take, Idle, Finished, Work, Taken, result_note, goes_on, resumed}
-use Rattle.hc_machine.specs.Cache.{Cache, Moved, Took, takes_in}
-use Rattle.hc_machine.specs.Workers as workers
+use Rattle.hc_machine.specs.Cache.{Moved, Took, takes_in}
 use Rattle.hc_machine.specs.Workers.{fill, after_take}
 use Rattle.hc_machine.specs.World.{Says, World, Result, order_in, result_at, without_result, by_call, done_of}
 use Rattle.hc_machine.specs.Schedule.{Scene, Finish, Tells, in_world}
@@ -32,6 +30,7 @@ use Rattle.hc_follows.specs.Workers.{IsNoted, IsToldFirst, FinishPart, result_ou
 use Rattle.hc_theorem.specs.idle.Takings.{is_of_calls, AllMute, JobsWent, WentSo}
 use Rattle.hc_laws.proofs.walk.Parts.{none_both, fill_leaves}
 use Rattle.hc_theorem.proofs.idle.StillParts.{mute}
+use Rattle.hc_theorem.proofs.runs.SilentSteps.{finish_is}
 use Rattle.hc_theorem.proofs.idle.TakesStill.{after_jobs, goes_on_so}
 use Rattle.hc_theorem.specs.clients.Matches.{JobsMatch, Matches}
 use Rattle.hc_theorem.specs.clients.Deeds.{Followed, DeedFollows}
@@ -40,7 +39,8 @@ use Rattle.hc_theorem.proofs.workers.Filled.{went_fills}
 use Rattle.hc_theorem.proofs.workers.Served.{Settled}
 use Rattle.hc_theorem.proofs.workers.JobsOut.{outs_went, went_jobs}
 use Rattle.hc_theorem.proofs.workers.Made.{still_matches}
-use Rattle.hc_theorem.proofs.workers.Takes.{mute_calls, flash_at, jobs_match, settles}
+use Rattle.hc_theorem.proofs.clients.Telling.{mute_calls}
+use Rattle.hc_theorem.proofs.workers.Takes.{flash_at, jobs_match, settles}
 
 -- ---- what goes on is in no other's way
 
@@ -127,11 +127,6 @@ result_none job outs rs each none = go (job_out job outs) refl
     go (Some out) e = each out e ∙ none
 
 -- ---- the step
-
-finish_is : (cache : Cache) (nvm : Nvm) (number : ℕ) (job : Job) (result : IoResult) (m : pairs.Moved) → cache.nvm ≡ Some nvm → job_at number nvm.jobs ≡ Some job → pairs.resume job.number result nvm.pair ≡ Some m
-    → workers.finish number result cache ≡ after_take (resumed job result nvm m) cache
-finish_is cache nvm number job result m e at goes =
-    ap (λ o. workers.finish_on o number result cache) e ∙ ap (λ o. workers.after_finish o cache) (ap (λ o. takes.finish_job o result nvm) at ∙ ap (option_map (resumed job result nvm)) goes)
 
 some_of : (o : Option pairs.Moved) → is_some o ≡ true → (m : pairs.Moved) × (o ≡ Some m)
 some_of None h = absurd cc

@@ -1,11 +1,10 @@
 -- What a take comes to at the desk, and a reclaim: the desk matches the scene after it.
-use Rattle.std.proofs.Common.{◌≡◌, ℕ, ◌+◌, Bool, true, List, [], ◌∷◌, ◌++◌, Option, Some, None, refl, ap, sym, ◌∙◌, subst, arith}
+use Rattle.std.proofs.Common.{◌≡◌, ℕ, ◌+◌, Bool, true, List, [], ◌++◌, Option, Some, None, refl, ap, sym, ◌∙◌, subst, arith}
 use Rattle.std.specs.Prelude.{option_map}
 use Rattle.hc_types.specs.Config.{Config}
 use Rattle.hc_types.specs.declared.config.FlashConfig.{FlashConfig}
 use Rattle.hc_engines.specs.Engine.{Order, IoResult}
 use Rattle.hc_memory.specs.Memory.{Memory}
-use Rattle.hc_history.specs.Note as notes
 use Rattle.hc_history.specs.Note.{Note}
 use Rattle.hc_history.specs.Pages.{bytes_at}
 use Rattle.hc_history.specs.Lawful.{past}
@@ -21,25 +20,15 @@ use Rattle.hc_theorem.specs.runs.Scene.{SceneHolds}
 use Rattle.hc_theorem.proofs.runs.Devices.{waiting_is}
 use Rattle.hc_theorem.proofs.runs.OrdersStay.{order-is}
 use Rattle.hc_follows.specs.Desk.{Out, Desk, job_out}
-use Rattle.hc_follows.specs.Telling.{NoCall}
 use Rattle.hc_follows.specs.Workers.{TakePart}
-use Rattle.hc_theorem.specs.idle.Takings.{AllMute, JobsTaken, TakenSo}
+use Rattle.hc_theorem.specs.idle.Takings.{JobsTaken, TakenSo}
 use Rattle.hc_theorem.proofs.idle.TakesStill.{after_mute, after_jobs}
+use Rattle.hc_theorem.proofs.clients.Telling.{mute_calls}
 use Rattle.hc_theorem.specs.clients.Matches.{JobsMatch, Matches}
 use Rattle.hc_theorem.proofs.clients.Stepping.{older_after}
 use Rattle.hc_theorem.proofs.workers.Filled.{FillsTaken}
 use Rattle.hc_theorem.proofs.workers.Served.{Settled, taken_settles}
 use Rattle.hc_theorem.proofs.workers.JobsOut.{outs_by, taken_jobs}
-
--- ---- parts
-
-pub mute_calls : (part : List Note) → AllMute part → NoCall part
-mute_calls [] h = (refl, refl, refl)
-mute_calls (notes.Begin call client op ∷ part) h = absurd cc
-mute_calls (notes.End call ∷ part) h = absurd cc
-mute_calls (notes.Read page result ∷ part) h = absurd cc
-mute_calls (notes.Wrote page bytes is_written ∷ part) h = absurd cc
-mute_calls (note ∷ part) h = mute_calls part h
 
 -- ---- states
 

@@ -38,7 +38,8 @@ use Rattle.hc_theorem.proofs.clients.Stepping.{good_at}
 use Rattle.hc_theorem.proofs.workers.Filled.{writer_fills, filler_fills, reclaim_fills}
 use Rattle.hc_theorem.proofs.workers.JobsOut.{outs_by}
 use Rattle.hc_theorem.proofs.workers.Made.{still_matches, io_follows}
-use Rattle.hc_theorem.proofs.workers.Takes.{OnFlash, no_flash, flash_at, jobs_match, taken_matches, taken_part, mute_calls}
+use Rattle.hc_theorem.proofs.clients.Telling.{mute_calls}
+use Rattle.hc_theorem.proofs.workers.Takes.{OnFlash, no_flash, flash_at, jobs_match, taken_matches, taken_part}
 use Rattle.hc_theorem.proofs.workers.Lines.{and_both, waiting_line, buried_line, filler_line}
 use Rattle.hc_theorem.proofs.workers.Draining.{clean_same, reclaim_line}
 use Rattle.hc_theorem.proofs.workers.Regions.{regions_line}
