@@ -79,6 +79,13 @@ pub record LeavesCalls (test : Note → Bool) (R : Nvm → Nvm → Type 0) (cach
   pub none : NonePasses test told.part
   pub flash : Across R cache.nvm told.cache.nvm
   pub calls : told.cache.calls ≡ cache.calls
+  pub clock : told.cache.now ≡ cache.now
+
+-- a whole step, but a tick
+pub record LeavesStep (test : Note → Bool) (R : Nvm → Nvm → Type 0) (cache : Cache) (part : List Note) (after : Cache) : Type 0 where
+  pub none : NonePasses test part
+  pub flash : Across R cache.nvm after.nvm
+  pub clock : after.now ≡ cache.now
 
 -- what holds from an outcome on: the region that it opened is told first
 pub record LeavesBehind (test : Note → Bool) (R : Nvm → Nvm → Type 0) (outcome : Outcome) (nvm : Nvm) (change : Changed) : Type 0 where

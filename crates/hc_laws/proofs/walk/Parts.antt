@@ -101,13 +101,13 @@ module _ {kind test : Note → Bool} {R : Nvm → Nvm → Type 0} (a : Asked kin
 
   -- ---- the cache
 
-  pub same_calls : (part : List Note) (cache after : Cache) → NonePasses test part → after.nvm ≡ cache.nvm → after.calls ≡ cache.calls → LeavesCalls test R cache (tells part after)
-  same_calls part cache after h same count = record { none = h; flash = subst (λ (o : Option Nvm). Across R cache.nvm o) (sym same) (same_across cache.nvm); calls = count }
+  pub same_calls : (part : List Note) (cache after : Cache) → NonePasses test part → after.nvm ≡ cache.nvm → after.calls ≡ cache.calls → after.now ≡ cache.now → LeavesCalls test R cache (tells part after)
+  same_calls part cache after h same count still = record { none = h; flash = subst (λ (o : Option Nvm). Across R cache.nvm o) (sym same) (same_across cache.nvm); calls = count; clock = still }
 
   pub both_calls : (cache : Cache) (first : Told) (f : Cache → Told) → LeavesCalls test R cache first → ((c : Cache) → LeavesCalls test R c (f c)) → LeavesCalls test R cache (and_then first f)
   both_calls cache first f p q =
       let r = q first.cache in
-      record { none = none_both test first.part (f first.cache).part p.none r.none; flash = both_across cache.nvm first.cache.nvm (f first.cache).cache.nvm p.flash r.flash; calls = r.calls ∙ p.calls }
+      record { none = none_both test first.part (f first.cache).part p.none r.none; flash = both_across cache.nvm first.cache.nvm (f first.cache).cache.nvm p.flash r.flash; calls = r.calls ∙ p.calls; clock = r.clock ∙ p.clock }
 
 module _ {test : Note → Bool} {R : Nvm → Nvm → Type 0} (a : Asked is_of_flash test R) where
   -- ---- what waits for flash, and what it keeps
@@ -197,61 +197,61 @@ module _ {test : Note → Bool} {R : Nvm → Nvm → Type 0} (a : Asked is_aside
   flash_leaves f q cache = go cache.nvm refl
     where
       go : (o : Option Nvm) → cache.nvm ≡ o → LeavesCalls test R cache (on_flash_of o f cache)
-      go None e = same_calls a [] cache cache refl refl refl
-      go (Some nvm) e = record { none = (q nvm).none; flash = across_from R cache.nvm nvm (Some (f nvm).nvm) e (q nvm).flash; calls = refl }
+      go None e = same_calls a [] cache cache refl refl refl refl
+      go (Some nvm) e = record { none = (q nvm).none; flash = across_from R cache.nvm nvm (Some (f nvm).nvm) e (q nvm).flash; calls = refl; clock = refl }
 
   leaves_leaves : (pool want : ℕ) (item : Item) (cache : Cache) → LeavesCalls test R cache (leaves pool want item cache)
   leaves_leaves pool want item cache = go item.clean cache.nvm refl
     where
       go : (t : Bool) (o : Option Nvm) → cache.nvm ≡ o → LeavesCalls test R cache (if t then tells [] cache else leaves_for o pool want item cache)
-      go true o e = same_calls a [] cache cache refl refl refl
-      go false None e = same_calls a (Lose _ _ ∷ []) cache cache (none_one a (Lose _ _) refl) refl refl
-      go false (Some nvm) e = let q = evicted_leaves (as_flash a) cache.now pool want (entry_of_item item) nvm in record { none = q.none; flash = across_from R cache.nvm nvm _ e q.flash; calls = refl }
+      go true o e = same_calls a [] cache cache refl refl refl refl
+      go false None e = same_calls a (Lose _ _ ∷ []) cache cache (none_one a (Lose _ _) refl) refl refl refl
+      go false (Some nvm) e = let q = evicted_leaves (as_flash a) cache.now pool want (entry_of_item item) nvm in record { none = q.none; flash = across_from R cache.nvm nvm _ e q.flash; calls = refl; clock = refl }
 
   all_leave_leaves : (pool want : ℕ) (items : List Item) (cache : Cache) → LeavesCalls test R cache (all_leave pool want items cache)
-  all_leave_leaves pool want [] cache = same_calls a [] cache cache refl refl refl
+  all_leave_leaves pool want [] cache = same_calls a [] cache cache refl refl refl refl
   all_leave_leaves pool want (item ∷ items) cache =
-      both_calls a cache (tells (Freed item.number ∷ []) cache) (λ c. and_then (leaves pool want item c) (all_leave pool want items)) (same_calls a (Freed item.number ∷ []) cache cache (none_one a (Freed item.number) refl) refl refl)
+      both_calls a cache (tells (Freed item.number ∷ []) cache) (λ c. and_then (leaves pool want item c) (all_leave pool want items)) (same_calls a (Freed item.number ∷ []) cache cache (none_one a (Freed item.number) refl) refl refl refl)
       (λ c. both_calls a c (leaves pool want item c) (all_leave pool want items) (leaves_leaves pool want item c) (all_leave_leaves pool want items))
 
   pub make_charge_leaves : (pool : ℕ) (key : List ℕ) (size : ℕ) (cache : Cache) → LeavesCalls test R cache (make_charge pool key size cache)
   make_charge_leaves pool key size cache =
       let q = all_leave_leaves pool (charge_of key size) (victims_of cache.memory pool (charge_of key size)) (with_memory (after_room cache.memory pool (charge_of key size)) cache) in
-      both_calls a cache (make_room pool (charge_of key size) cache) (charge pool key size) (record { none = q.none; flash = q.flash; calls = q.calls }) (λ c. same_calls a _ c _ (none_one a (Charged _ _ _ _) refl) refl refl)
+      both_calls a cache (make_room pool (charge_of key size) cache) (charge pool key size) (record { none = q.none; flash = q.flash; calls = q.calls; clock = q.clock }) (λ c. same_calls a _ c _ (none_one a (Charged _ _ _ _) refl) refl refl refl)
 
   clear_leaves : (key : List ℕ) (cache : Cache) → LeavesCalls test R cache (clear key cache)
   clear_leaves key cache =
       both_calls a cache (on_flash (unqueue key) cache) (λ c. and_then (tells (freed_note (linked_at key c.memory.pools)) c) (on_flash (outdate key))) (flash_leaves (unqueue key) (unqueue_leaves (as_flash a) key) cache)
-      (λ c. both_calls a c (tells (freed_note (linked_at key c.memory.pools)) c) (on_flash (outdate key)) (same_calls a _ c c (freed (linked_at key c.memory.pools)) refl refl) (flash_leaves (outdate key) (outdate_leaves (as_flash a) key)))
+      (λ c. both_calls a c (tells (freed_note (linked_at key c.memory.pools)) c) (on_flash (outdate key)) (same_calls a _ c c (freed (linked_at key c.memory.pools)) refl refl refl) (flash_leaves (outdate key) (outdate_leaves (as_flash a) key)))
     where
       freed : (o : Option Item) → NonePasses test (freed_note o)
       freed None = refl
       freed (Some item) = none_one a (Freed item.number) refl
 
   pub uproot_leaves : (key : List ℕ) (cache : Cache) → LeavesCalls test R cache (uproot key cache)
-  uproot_leaves key cache = both_calls a cache (clear key cache) (λ c. tells [] (with_memory (after_unlink c.memory key) c)) (clear_leaves key cache) (λ c. same_calls a [] c _ refl refl refl)
+  uproot_leaves key cache = both_calls a cache (clear key cache) (λ c. tells [] (with_memory (after_unlink c.memory key) c)) (clear_leaves key cache) (λ c. same_calls a [] c _ refl refl refl refl)
 
   pub plant_leaves : (handle : Handle) (cache : Cache) → LeavesCalls test R cache (plant handle cache)
-  plant_leaves handle cache = both_calls a cache (clear handle.key cache) (λ c. tells (Linked handle.number ∷ []) (with_memory (after_link c.memory false handle) c)) (clear_leaves handle.key cache) (λ c. same_calls a _ c _ (none_one a (Linked handle.number) refl) refl refl)
+  plant_leaves handle cache = both_calls a cache (clear handle.key cache) (λ c. tells (Linked handle.number ∷ []) (with_memory (after_link c.memory false handle) c)) (clear_leaves handle.key cache) (λ c. same_calls a _ c _ (none_one a (Linked handle.number) refl) refl refl refl)
 
   bring_leaves : (entry : Option FlashEntry) (cache : Cache) → LeavesCalls test R cache (bring entry cache)
-  bring_leaves None cache = same_calls a [] cache cache refl refl refl
+  bring_leaves None cache = same_calls a [] cache cache refl refl refl refl
   bring_leaves (Some entry) cache = go (can_link cache entry)
     where
       go : (t : Bool) → LeavesCalls test R cache (if t then and_then (make_charge entry.pool entry.key (length entry.value) cache) (link_clean (handle_for cache entry.pool entry.key entry.value entry.expiry)) else tells [] cache)
-      go true = both_calls a cache (make_charge entry.pool entry.key (length entry.value) cache) (link_clean (handle_for cache entry.pool entry.key entry.value entry.expiry)) (make_charge_leaves entry.pool entry.key (length entry.value) cache) (λ c. same_calls a _ c _ (none_one a (Linked _) refl) refl refl)
-      go false = same_calls a [] cache cache refl refl refl
+      go true = both_calls a cache (make_charge entry.pool entry.key (length entry.value) cache) (link_clean (handle_for cache entry.pool entry.key entry.value entry.expiry)) (make_charge_leaves entry.pool entry.key (length entry.value) cache) (λ c. same_calls a _ c _ (none_one a (Linked _) refl) refl refl refl)
+      go false = same_calls a [] cache cache refl refl refl refl
 
 module _ {test : Note → Bool} {R : Nvm → Nvm → Type 0} (a : Asked is_served test R) where
   -- ---- calls that waited
 
   serve_leaves : (call : ℕ) (wish : Wish) (there : Option FlashEntry) (cache : Cache) → LeavesCalls test R cache (serve call wish there cache)
-  serve_leaves call ToFind there cache = same_calls a _ cache _ (none_one a (Did call (find_reply there)) refl) refl refl
-  serve_leaves call (ToAdd handle) (Some entry) cache = same_calls a _ cache _ (none_both test (Freed handle.number ∷ []) (Did call Exists ∷ []) (none_one a (Freed handle.number) refl) (none_one a (Did call Exists) refl)) refl refl
-  serve_leaves call (ToAdd handle) None cache = both_calls a cache (plant handle cache) (answer call Stored) (plant_leaves (as_aside a) handle cache) (λ c. same_calls a _ c _ (none_one a (Did call Stored) refl) refl refl)
+  serve_leaves call ToFind there cache = same_calls a _ cache _ (none_one a (Did call (find_reply there)) refl) refl refl refl
+  serve_leaves call (ToAdd handle) (Some entry) cache = same_calls a _ cache _ (none_both test (Freed handle.number ∷ []) (Did call Exists ∷ []) (none_one a (Freed handle.number) refl) (none_one a (Did call Exists) refl)) refl refl refl
+  serve_leaves call (ToAdd handle) None cache = both_calls a cache (plant handle cache) (answer call Stored) (plant_leaves (as_aside a) handle cache) (λ c. same_calls a _ c _ (none_one a (Did call Stored) refl) refl refl refl)
 
   serve_all_leaves : (waiters : List Waiter) (there : Option FlashEntry) (cache : Cache) → LeavesCalls test R cache (serve_all waiters there cache)
-  serve_all_leaves [] there cache = same_calls a [] cache cache refl refl refl
+  serve_all_leaves [] there cache = same_calls a [] cache cache refl refl refl refl
   serve_all_leaves (waiter ∷ waiters) there cache =
       both_calls a cache (serve waiter.call waiter.wish (live cache.now there) cache) (serve_all waiters (there_after waiter.wish (live cache.now there))) (serve_leaves waiter.call waiter.wish (live cache.now there) cache) (serve_all_leaves waiters (there_after waiter.wish (live cache.now there)))
 
@@ -259,16 +259,16 @@ module _ {test : Note → Bool} {R : Nvm → Nvm → Type 0} (a : Asked is_serve
   end_fill_leaves key there cache = go cache.nvm refl
     where
       ended : (o : Option Fill) (nvm : Nvm) → cache.nvm ≡ Some nvm → LeavesCalls test R cache (serve_fill o nvm there cache)
-      ended None nvm e = same_calls a [] cache cache refl refl refl
+      ended None nvm e = same_calls a [] cache cache refl refl refl refl
       ended (Some one) nvm e =
           let less : Nvm = record nvm { fills = without_fill one.key nvm.fills } in
           let q = serve_all_leaves one.waiters there (with_nvm less cache) in
-          record { none = q.none; flash = across_from R cache.nvm nvm _ e (both_across a (Some nvm) (Some less) (serve_all one.waiters there (with_nvm less cache)).cache.nvm (a.fills nvm (without_fill one.key nvm.fills)) q.flash); calls = q.calls }
+          record { none = q.none; flash = across_from R cache.nvm nvm _ e (both_across a (Some nvm) (Some less) (serve_all one.waiters there (with_nvm less cache)).cache.nvm (a.fills nvm (without_fill one.key nvm.fills)) q.flash); calls = q.calls; clock = q.clock }
 
       go : (o : Option Nvm) → cache.nvm ≡ o → LeavesCalls test R cache (end_fill_of o key there cache)
-      go None e = same_calls a [] cache cache refl refl refl
+      go None e = same_calls a [] cache cache refl refl refl refl
       go (Some nvm) e = ended (fill_at key nvm.fills) nvm e
 
   pub fill_leaves : (filled : Option Filled) (cache : Cache) → LeavesCalls test R cache (fill filled cache)
-  fill_leaves None cache = same_calls a [] cache cache refl refl refl
+  fill_leaves None cache = same_calls a [] cache cache refl refl refl refl
   fill_leaves (Some filled) cache = both_calls a cache (bring filled.entry cache) (serve_all filled.waiters filled.entry) (bring_leaves (as_aside a) filled.entry cache) (serve_all_leaves filled.waiters filled.entry)

@@ -155,7 +155,7 @@ step_keeps_accounts client (Discard slot) config older scene g a = discard_keeps
 step_keeps_accounts client (Find key) config older scene g a = called config older scene.world.cache (calls.find client key scene.world.cache) (find_leaves calm client key scene.world.cache) a
 step_keeps_accounts client (Remove key) config older scene g a = called config older scene.world.cache (calls.remove client key scene.world.cache) (remove_leaves calm (calls.remove_reply (linked_at key scene.world.cache.memory.pools)) client key scene.world.cache) a
 step_keeps_accounts client (Reply call) config older scene g a = called config older scene.world.cache (calls.take_reply call scene.world.cache) (reply_leaves calm call scene.world.cache) a
-step_keeps_accounts client (Tick moment) config older scene g a = called config older scene.world.cache (calls.tick moment scene.world.cache) (tick_leaves calm moment scene.world.cache) a
+step_keeps_accounts client (Tick moment) config older scene g a = let t = tick_leaves calm moment scene.world.cache in still_of config older config.flash older (calls.tick moment scene.world.cache).part scene.world.cache.nvm (calls.tick moment scene.world.cache).cache.nvm t.none t.flash a
 step_keeps_accounts client WriterTake config older scene g a = writer_keeps config older scene.world.cache g a scene.world.cache.nvm refl
 step_keeps_accounts client FillerTake config older scene g a = filler_keeps config older scene.world.cache g a scene.world.cache.nvm refl
 step_keeps_accounts client Reclaim config older scene g a = reclaim_keeps config older scene.world.cache g a scene.world.cache.nvm refl

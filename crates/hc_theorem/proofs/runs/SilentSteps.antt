@@ -58,7 +58,7 @@ pub reply_no_io : (call : ℕ) (cache : Cache) → NoIoStep cache (calls.take_re
 reply_no_io call cache = no_io cache _ (reply_leaves calm call cache)
 
 pub tick_no_io : (moment : ℕ) (cache : Cache) → NoIoStep cache (calls.tick moment cache)
-tick_no_io moment cache = no_io cache _ (tick_leaves calm moment cache)
+tick_no_io moment cache = record { silent = none_less is_io is_of_pages of_pages (calls.tick moment cache).part (tick_leaves calm moment cache).none; orders = λ n order h. h }
 
 -- ---- takes
 

@@ -8,7 +8,7 @@ use Rattle.hc_machine.specs.Leaving.{Changed}
 use Rattle.hc_machine.specs.Cache.{Cache, Moved}
 use Rattle.hc_invariant.specs.Jobs.{is_taken}
 use Rattle.hc_laws.specs.First.{NonePasses}
-use Rattle.hc_laws.specs.Walking.{Across, Leaves, LeavesBehind}
+use Rattle.hc_laws.specs.Walking.{Across, LeavesStep, LeavesBehind}
 
 -- a page is read or written, or a region opens
 abbrev pub is_of_pages : Note → Bool
@@ -32,9 +32,9 @@ pub record StillNvm (old new : Nvm) : Type 0 where
 abbrev pub StillOption : Option Nvm → Option Nvm → Type 0
 StillOption old new = Across StillNvm old new
 
--- a client's step
+-- a client's step, but a tick
 abbrev pub StillStep : Cache → Moved → Type 0
-StillStep cache moved = Leaves is_of_pages StillNvm cache.nvm moved.part moved.cache.nvm
+StillStep cache moved = LeavesStep is_of_pages StillNvm cache moved.part moved.cache
 
 -- what holds from an outcome on: the region that it opened is told first
 abbrev pub StillBehind : Outcome → Nvm → Changed → Type 0
