@@ -2,7 +2,7 @@
 use Rattle.std.specs.Prelude.{ℕ, ◌+◌, ◌++◌, min, nat_lt, Bool, true, false, List, [], ◌∷◌, length, Option, Some, None, codes}
 use Rattle.std.specs.Fmt.{decimal}
 use Rattle.hc_history.specs.declared.stats.Stats.{Stats}
-use Rattle.hc_lines.specs.Texts.{line_text, stats_text, verdict_text}
+use Rattle.hc_trace_text.specs.Texts.{line_text, stats_text, verdict_text}
 use Rattle.hc_threads.specs.declared.close.Report.{Report}
 
 -- ---- counts

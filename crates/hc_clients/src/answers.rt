@@ -3,7 +3,7 @@
 use crate::closing::write_text;
 use crate::session::Session;
 use hc_core::{ReadHandle, Refusal};
-use hc_lines::{add_hit, add_refusal, add_word};
+use hc_trace_text::{add_hit, add_refusal, add_word};
 use std::alloc::{AllocError, Global};
 use std::io::{self, Write};
 

@@ -3,9 +3,9 @@ ghost use Rattle.std.specs.Prelude.{◌≡◌, length};
 
 use crate::answers::Answer;
 use hc_core::{Blank, Fill, Kept, Key, Refusal, Removed, Sealed, Uncharged, Unlinked};
-use hc_lines::{NewItem, Step, Value};
 use hc_shard_threads::{ShardClient, Shards};
 use hc_threads::{Added, Unadded};
+use hc_trace_text::{NewItem, Step, Value};
 use std::alloc::{AllocError, Global};
 use std::sync::Wait;
 

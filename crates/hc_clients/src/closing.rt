@@ -4,8 +4,8 @@ ghost use Rattle.std.specs.Io.KnownBytes.{Appends};
 ghost use Rattle.hc_clients.specs.Closing as spec;
 
 use hc_history::Stats;
-use hc_lines::{add_number, add_stats, add_verdict};
 use hc_threads::Report;
+use hc_trace_text::{add_number, add_stats, add_verdict};
 use std::alloc::{AllocError, Global};
 use std::io::{self, Write};
 use std::marker::Model;

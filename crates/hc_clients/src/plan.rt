@@ -2,8 +2,8 @@
 ghost use Rattle.std.specs.Prelude.{◌<◌, length};
 
 use crate::calls::Call;
-use hc_lines::{Line, Order, Step, line_in, number};
 use hc_shards::Sharded;
+use hc_trace_text::{Line, Order, Step, line_in, number};
 use hc_types::{Config, FlashConfig, PoolSize};
 use memchr::memchr;
 use std::alloc::{AllocError, Global};

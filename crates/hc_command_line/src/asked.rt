@@ -8,7 +8,7 @@ ghost use Rattle.hc_command_line.specs.declared.asked.Unread.TheVariants.{NoMemo
 
 use clap::error::ErrorKind;
 use clap::{Arg, Command};
-use hc_lines::number;
+use hc_trace_text::number;
 use std::alloc::{AllocError, Global};
 use std::env::Env;
 use std::{env, io};

@@ -3,8 +3,8 @@ use Rattle.std.specs.Prelude.{◌≡◌, Bool, true, false, List, Option, Some, 
 use Rattle.hc_types.specs.Config.{Config}
 use Rattle.hc_history.specs.Note.{Note}
 use Rattle.hc_history.specs.Told.{Log}
-use Rattle.hc_logged.specs.Outcome.{Outcome, Whole, outcome_of}
-use Rattle.hc_replayed.specs.Trace.{Trace}
+use Rattle.hc_trace_log.specs.Outcome.{Outcome, Whole, outcome_of}
+use Rattle.hc_trace_meaning.specs.Trace.{Trace}
 use Rattle.hc_verdict.specs.declared.verdict.Verdict.{Verdict}
 use Rattle.hc_verdict.specs.Verdict.{IsVerdict}
 

@@ -1,11 +1,11 @@
 // The log that a trace leaves, judged.
 ghost use Rattle.std.specs.Prelude.{IfOk};
-ghost use Rattle.hc_replayed.specs.Trace.{trace_of};
+ghost use Rattle.hc_trace_meaning.specs.Trace.{trace_of};
 ghost use Rattle.hc_verdict.specs.Verdict.{IsVerdict};
 ghost use Rattle.hc_golden.specs.Judged.{IsSaid};
 
 use hc_history::Note;
-use hc_logged::{Logged, log_of};
+use hc_trace_log::{Logged, log_of};
 use hc_types::Config;
 use hc_verdict::{Verdict, judge};
 use std::alloc::{AllocError, Global};

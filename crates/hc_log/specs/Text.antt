@@ -6,8 +6,8 @@ use Rattle.hc_types.specs.Config.{Config}
 use Rattle.hc_types.specs.declared.config.PoolSize.{PoolSize}
 use Rattle.hc_types.specs.declared.config.FlashConfig.{FlashConfig}
 use Rattle.hc_history.specs.Note.{Note}
-use Rattle.hc_lines.specs.Texts.{line_text}
-use Rattle.hc_notes.specs.Text.{joined, flash_text, note_text}
+use Rattle.hc_trace_text.specs.Texts.{line_text}
+use Rattle.hc_log_text.specs.Text.{joined, flash_text, note_text}
 
 abbrev pub pool_line : PoolSize → List ℕ
 pool_line size = line_text (joined (codes "pool" ∷ decimal size.bytes ∷ decimal size.items ∷ []))

@@ -7,7 +7,7 @@
 mod text;
 
 use crate::text::add_log;
-use hc_logged::{Logged, log_of};
+use hc_trace_log::{Logged, log_of};
 use std::io;
 use std::io::{Read, Write};
 use std::process::ExitCode;

@@ -2,12 +2,12 @@
 ghost use Rattle.std.specs.Prelude.{◌≡◌, ◌++◌, ◌∷◌, [], map, OnOk};
 ghost use Rattle.std.specs.Fmt.{decimal};
 ghost use Rattle.std.specs.List.{concat};
-ghost use Rattle.hc_notes.specs.Text.{behind};
+ghost use Rattle.hc_log_text.specs.Text.{behind};
 ghost use Rattle.hc_log.specs.Text.{pool_line, flash_line, note_line, log_text};
 
 use hc_history::Note;
-use hc_lines::{add_number, add_word};
-use hc_notes::{write_flash, write_note};
+use hc_log_text::{write_flash, write_note};
+use hc_trace_text::{add_number, add_word};
 use hc_types::{Config, FlashConfig, PoolSize};
 use std::alloc::{AllocError, Global};
 

@@ -8,8 +8,8 @@ use Rattle.hc_engines.specs.Engine.{Order, IoResult, pages_after}
 use Rattle.hc_flash.specs.Devices.{Memory, held_by}
 use Rattle.hc_history.specs.Told.{told_more}
 use Rattle.hc_history.proofs.Telling.{told-nothing}
-use Rattle.hc_lines.specs.Steps as steps
-use Rattle.hc_lines.specs.Steps.{Io, Finish, Answer}
+use Rattle.hc_trace_text.specs.Steps as steps
+use Rattle.hc_trace_text.specs.Steps.{Io, Finish, Answer}
 use Rattle.hc_memory.specs.Item.{Handle}
 use Rattle.hc_machine.specs.Cache as machine
 use Rattle.hc_machine.specs.Cache.{Cache, Moved, stays}
@@ -17,8 +17,8 @@ use Rattle.hc_machine.specs.Evicting.{allocate}
 use Rattle.hc_machine.specs.Workers as workers
 use Rattle.hc_machine.specs.World as world
 use Rattle.hc_machine.specs.World.{World, Line, Result, by_call, inserted, step, made, io_of, done_of, result_of, order_in, result_at, without_result}
-use Rattle.hc_replayed.specs.Actions as replayed
-use Rattle.hc_replayed.specs.Actions.{Action, Deed, Serve, unless, deed_of, done, by_step, act, answer_of, io_answer}
+use Rattle.hc_trace_meaning.specs.Actions as replayed
+use Rattle.hc_trace_meaning.specs.Actions.{Action, Deed, Serve, unless, deed_of, done, by_step, act, answer_of, io_answer}
 use Rattle.hc_core.specs.Logged.{Logged, IsCall}
 use Rattle.hc_core.specs.Answers.{refusal_in}
 use Rattle.hc_player.specs.Alike.{Alike}

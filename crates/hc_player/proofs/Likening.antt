@@ -6,7 +6,7 @@ use Rattle.hc_machine.specs.World as world
 use Rattle.hc_machine.specs.World.{World, Line, Result, Stepped, step, io_of, done_of, order_in, result_at, result_of, breaks_next}
 use Rattle.hc_player.specs.Alike.{Alike}
 use Rattle.hc_player.proofs.Resulting.{result-gone}
-use Rattle.hc_replayed.specs.Actions.{Action, Deed, Acts, Barred, Moved, said_answer, deed_of, done, act}
+use Rattle.hc_trace_meaning.specs.Actions.{Action, Deed, Acts, Barred, Moved, said_answer, deed_of, done, act}
 
 -- ---- a step
 

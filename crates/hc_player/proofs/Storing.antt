@@ -5,15 +5,15 @@ use Rattle.hc_types.specs.declared.refusal.Refusal.{Refusal}
 use Rattle.hc_types.specs.declared.refusal.Refusal.TheVariants.{NoMemory, Exists}
 use Rattle.hc_flash.specs.Devices.{Memory}
 use Rattle.hc_history.specs.Note as note
-use Rattle.hc_lines.specs.Steps as steps
-use Rattle.hc_lines.specs.Steps.{NewItem, Set, Add, Answer}
+use Rattle.hc_trace_text.specs.Steps as steps
+use Rattle.hc_trace_text.specs.Steps.{NewItem, Set, Add, Answer}
 use Rattle.hc_machine.specs.Cache as machine
 use Rattle.hc_machine.specs.Cache.{Cache, Moved, Replied, Refused, Discarded}
 use Rattle.hc_machine.specs.Evicting.{allocate}
 use Rattle.hc_machine.specs.Calls.{insert_or_replace, discard}
 use Rattle.hc_machine.specs.World as world
 use Rattle.hc_machine.specs.World.{Line, Result, inserted, put_new}
-use Rattle.hc_replayed.specs.Actions.{Do, answer_of}
+use Rattle.hc_trace_meaning.specs.Actions.{Do, answer_of}
 use Rattle.hc_core.specs.Logged.{Logged, IsCall}
 use Rattle.hc_core.specs.Answers.{refusal_in}
 use Rattle.hc_player.specs.Playing.{world_of, Acts}

@@ -2,10 +2,10 @@
 use Rattle.std.specs.Prelude.{◌≡◌, List, [], Some}
 use Rattle.hc_flash.specs.Devices.{Memory, held_by}
 use Rattle.hc_history.specs.Told.{Heard, told_more}
-use Rattle.hc_lines.specs.Steps.{Answer}
+use Rattle.hc_trace_text.specs.Steps.{Answer}
 use Rattle.hc_machine.specs.Cache.{Cache, Moved}
 use Rattle.hc_machine.specs.World.{World, Result}
-use Rattle.hc_replayed.specs.Actions.{Action, answer_of, act}
+use Rattle.hc_trace_meaning.specs.Actions.{Action, answer_of, act}
 use Rattle.hc_player.specs.Alike.{Alike}
 
 -- the machine's cache, what is heard of its log, its device, and the results that wait

@@ -1,5 +1,5 @@
 -- How the code's answers are seen.
-use Rattle.hc_lines.specs.Steps as steps
+use Rattle.hc_trace_text.specs.Steps as steps
 use Rattle.hc_player.specs.declared.answers.Answer.{Answer}
 use Rattle.hc_player.specs.declared.answers.Answer.TheVariants.{Stored, Refused, Hit, Miss, Found, Absent, Moment, Exists, Waiting, Idle, Finished, Reads, Writes, Made, Failed, Reclaimed}
 

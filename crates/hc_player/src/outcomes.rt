@@ -6,7 +6,7 @@ ghost use Rattle.hc_flash.specs.Seen.{result_of};
 ghost use Rattle.hc_nvm.specs.Seen.{take_of};
 ghost use Rattle.hc_machine.specs.Cache as machine;
 ghost use Rattle.hc_core.specs.Answers.{found_answer, inserted_answer, removed_answer};
-ghost use Rattle.hc_replayed.specs.Actions.{answer_of, reply_answer, take_answer, reclaim_answer, io_answer};
+ghost use Rattle.hc_trace_meaning.specs.Actions.{answer_of, reply_answer, take_answer, reclaim_answer, io_answer};
 ghost use Rattle.hc_player.specs.Seen.{answer_seen};
 
 use crate::answers::Answer;

@@ -3,14 +3,14 @@ ghost use Rattle.std.specs.Prelude.{◌≡◌, ◌⊎◌, ℕ, [], None, Some, I
 ghost use Rattle.hc_flash.specs.Devices.{held_by};
 ghost use Rattle.hc_types.specs.Limits.{first_wrong};
 ghost use Rattle.hc_history.specs.Told.{IfLog, losses_taken};
-ghost use Rattle.hc_replayed.specs.Trace.{fresh};
+ghost use Rattle.hc_trace_meaning.specs.Trace.{fresh};
 ghost use Rattle.hc_player.specs.Playing.{world_of};
 ghost use Rattle.hc_player.specs.Alike.{Alike};
 
 use hc_core::Core;
 use hc_flash::MemFlash;
 use hc_history::{Counting, Note, Notes};
-use hc_results::Results;
+use hc_io_results::Results;
 use hc_types::{Config, FlashConfig, Refusal};
 use std::alloc::{AllocError, Global};
 use std::marker::Model;

@@ -1,9 +1,9 @@
 // What a client does, or the clock.
 ghost use Rattle.std.specs.Prelude.{◌≡◌, IfOk};
 ghost use Rattle.hc_memory.specs.Seen.{filled};
-ghost use Rattle.hc_lines.specs.Seen.{bytes_of, item_seen, step_seen};
-ghost use Rattle.hc_lines.specs.Steps.{Set, Add, Get, Del, Now};
-ghost use Rattle.hc_replayed.specs.Actions.{Do};
+ghost use Rattle.hc_trace_text.specs.Seen.{bytes_of, item_seen, step_seen};
+ghost use Rattle.hc_trace_text.specs.Steps.{Set, Add, Get, Del, Now};
+ghost use Rattle.hc_trace_meaning.specs.Actions.{Do};
 ghost use Rattle.hc_player.specs.Seen.{answer_seen};
 ghost use Rattle.hc_player.specs.Playing.{Acts};
 
@@ -11,8 +11,8 @@ use crate::answers::Answer;
 use crate::outcomes::{found, inserted, refused, removed};
 use crate::player::Player;
 use hc_history::{Note, Notes};
-use hc_lines::{NewItem, Step, Value};
 use hc_memory::Fill;
+use hc_trace_text::{NewItem, Step, Value};
 use std::alloc::AllocError;
 
 /// As what an item of this value begins.

@@ -2,9 +2,9 @@
 ghost use Rattle.std.specs.Prelude.{IfOk};
 ghost use Rattle.hc_flash.specs.Seen.{result_of};
 ghost use Rattle.hc_machine.specs.Workers.{finish as finish_step};
-ghost use Rattle.hc_lines.specs.Seen.{work_seen};
-ghost use Rattle.hc_lines.specs.Steps.{Writer, Filler, Reclaim, Io, Finish, Reply};
-ghost use Rattle.hc_replayed.specs.Actions.{Serve};
+ghost use Rattle.hc_trace_text.specs.Seen.{work_seen};
+ghost use Rattle.hc_trace_text.specs.Steps.{Writer, Filler, Reclaim, Io, Finish, Reply};
+ghost use Rattle.hc_trace_meaning.specs.Actions.{Serve};
 ghost use Rattle.hc_player.specs.Seen.{answer_seen};
 ghost use Rattle.hc_player.specs.Playing.{Acts, Calls};
 
@@ -14,8 +14,8 @@ use crate::outcomes::{made, reclaimed, refused, replied, taken};
 use crate::player::Player;
 use hc_flash::IoResult;
 use hc_history::{Note, Notes};
-use hc_lines::Work;
 use hc_nvm::Unfinished;
+use hc_trace_text::Work;
 use hc_types::Refusal;
 use std::alloc::AllocError;
 

@@ -12,7 +12,7 @@ ghost use Rattle.hc_shards.specs.Parts.{Beside};
 use crate::window::Window;
 use bytes::Bytes;
 use hc_flash::{Flash, FlashError, IoResult, Order};
-use hc_results::copy;
+use hc_io_results::copy;
 use std::alloc::{AllocError, Allocator};
 
 /// What came of an operation, for two owners: one hands it in later, one is told.

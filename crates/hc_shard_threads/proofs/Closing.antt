@@ -3,7 +3,7 @@ use Rattle.std.proofs.Common.{◌≡◌, ◌<◌, ◌+◌, ℕ, List, [], ◌∷
 use Rattle.std.proofs.lemmas.List.{drop_more, map-append, append_assoc}
 use Rattle.std.proofs.lemmas.Option.{slice_get_read}
 use Rattle.std.proofs.lemmas.List.Elements.{All-same, All-head, All-tail, All-cons}
-use Rattle.hc_records.specs.Records.{Record}
+use Rattle.hc_client_records.specs.Records.{Record}
 
 -- ---- what is true of each
 

@@ -7,8 +7,8 @@ use Rattle.hc_history.specs.Honest.{Honest}
 use Rattle.hc_history.specs.Lawful.{Legal}
 use Rattle.hc_judge_memory.specs.Lies.{IsFirstLie}
 use Rattle.hc_marked.specs.Marked.{Marked, NoneCollides}
-use Rattle.hc_records.specs.Records.{Record, Reconciled, failures}
-use Rattle.hc_records.specs.declared.record.Mismatch.{Mismatch}
+use Rattle.hc_client_records.specs.Records.{Record, Reconciled, failures}
+use Rattle.hc_client_records.specs.declared.record.Mismatch.{Mismatch}
 use Rattle.hc_core.specs.Logged.{Logged}
 use Rattle.hc_threads.specs.Settled.{IsSettled}
 use Rattle.hc_threads.specs.declared.close.Report.{Report}

@@ -1,6 +1,6 @@
 -- What a client of shards did: a record for each shard.
 use Rattle.std.specs.Prelude.{◌≡◌, ℕ, ◌++◌, List, [], ◌∷◌, Some, map, length, take, drop, slice_get, slice_set}
-use Rattle.hc_records.specs.Records.{Record}
+use Rattle.hc_client_records.specs.Records.{Record}
 
 -- the client of this shard did so, and no other's record changed
 pub record AtShard (shard : ℕ) (Did : Record → Record → Type 0) (old new : List Record) : Type 0 where

@@ -2,17 +2,17 @@
 ghost use Rattle.std.specs.Prelude.{◌≡◌, ◌⊎◌, ◌<◌, ◌≤◌, ℕ, List, [], replicate, map, length, None, IfOk, IfErr, OnOk, OnErr};
 ghost use Rattle.hc_history.specs.Note.{Insert, Add, Find, Remove, Stored, Hit};
 ghost use Rattle.hc_memory.specs.Seen.{filled};
-ghost use Rattle.hc_records.specs.Records.{IsRecorded, IsLeftOpen};
+ghost use Rattle.hc_client_records.specs.Records.{IsRecorded, IsLeftOpen};
 ghost use Rattle.hc_shards.specs.Shards.{shard_of};
 ghost use Rattle.hc_threads.specs.Asked.{IsAsked, RefusesAllocation, RefusesInsert, RefusesAdding};
 ghost use Rattle.hc_threads.specs.Seen.{found_as, looked_as, removed_as, added_as, GivesBack, LeavesAdd, KeptAs};
 ghost use Rattle.hc_shard_threads.specs.Rows.{AtShard, AreNew, ticked, ticked_in, forgotten};
 
 use crate::shards::Shards;
+use hc_client_records::Recorded;
 use hc_history::{Note, Notes};
 use hc_memory::{Blank, Fill, ReadHandle, Sealed, Uncharged};
 use hc_paged::{Device, Digest};
-use hc_records::Recorded;
 use hc_state::{Removed, Unlinked};
 use hc_threads::{Added, Client, KeptItem, Looked, Port, Ticket, Unadded};
 use hc_types::{Key, Refusal};
@@ -30,7 +30,7 @@ pub struct ShardClient<A: Allocator = Global> {
 
 impl<A: Allocator> Model for ShardClient<A> {
     ghost use Rattle.std.specs.Prelude.{List};
-    ghost use Rattle.hc_records.specs.Records.{Record};
+    ghost use Rattle.hc_client_records.specs.Records.{Record};
 
     ghost Value = { List Record };
 

@@ -1,14 +1,14 @@
 // The end: what the logs and the records come to.
 ghost use Rattle.std.specs.Prelude.{◌≡◌, ◌<◌, ◌≤◌, ℕ, true, false, List, Some, All, length, slice_get, IfOk, IfErr};
-ghost use Rattle.hc_records.specs.Records.{Record as Did, failures as failures_in_log};
+ghost use Rattle.hc_client_records.specs.Records.{Record as Did, failures as failures_in_log};
 ghost use Rattle.hc_shards.specs.Shards.{share_of};
 ghost use Rattle.hc_shard_threads.specs.Closed.{AreClosed, IsColumn, IsOf, IsUnclosed};
 
 use crate::client::ShardClient;
 use crate::shards::Shards;
+use hc_client_records::{Record, Recorded, failures as failures_of};
 use hc_history::Kept;
 use hc_paged::Digest;
-use hc_records::{Record, Recorded, failures as failures_of};
 use hc_threads::Report;
 use std::alloc::{AllocError, Global};
 use std::marker::Model;
@@ -31,7 +31,7 @@ struct InShard<'x> {
 }
 
 impl<'x> Model for InShard<'x> {
-    ghost use Rattle.hc_records.specs.Records.{Record as Did};
+    ghost use Rattle.hc_client_records.specs.Records.{Record as Did};
 
     ghost Value = { Did };
 
@@ -46,7 +46,7 @@ struct Column<'x> {
 
 impl<'x> Model for Column<'x> {
     ghost use Rattle.std.specs.Prelude.{List};
-    ghost use Rattle.hc_records.specs.Records.{Record as Did};
+    ghost use Rattle.hc_client_records.specs.Records.{Record as Did};
 
     ghost Value = { List Did };
 

@@ -2,8 +2,8 @@
 use Rattle.std.specs.Prelude.{◌≡◌, ◌≢◌, ◌⊎◌, ℕ, ◌<◌, List, IfOk, OnOk, OnErr, Result}
 use Rattle.hc_types.specs.Config.{Config}
 use Rattle.hc_history.specs.Told.{Log, IfLog}
-use Rattle.hc_records.specs.Records as records
-use Rattle.hc_records.specs.Records.{Record, Reconciled}
+use Rattle.hc_client_records.specs.Records as records
+use Rattle.hc_client_records.specs.Records.{Record, Reconciled}
 use Rattle.hc_core.specs.Logged.{Logged}
 use Rattle.hc_threads.specs.declared.close.Report.{Report}
 

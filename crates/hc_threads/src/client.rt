@@ -2,7 +2,7 @@
 ghost use Rattle.std.specs.Prelude.{◌≡◌, ◌⊎◌, ◌<◌, ◌≤◌, ℕ, List, [], replicate, None, IfOk, IfErr, OnOk, OnErr};
 ghost use Rattle.hc_history.specs.Note.{Insert, Add, Find, Remove, Stored, Hit};
 ghost use Rattle.hc_history.specs.Seen as spec;
-ghost use Rattle.hc_records.specs.Records.{IsRecorded, IsLeftOpen, IsTicked};
+ghost use Rattle.hc_client_records.specs.Records.{IsRecorded, IsLeftOpen, IsTicked};
 ghost use Rattle.hc_memory.specs.Seen.{filled};
 ghost use Rattle.hc_threads.specs.Asked.{IsAsked, RefusesAllocation, RefusesInsert, RefusesAdding};
 ghost use Rattle.hc_threads.specs.Seen.{found_as, looked_as, removed_as, added_as, GivesBack, LeavesAdd, KeptAs};
@@ -12,12 +12,12 @@ use crate::finding::Unfound;
 use crate::leasing::Looked;
 use crate::port::Port;
 use crate::shared::Shared;
+use hc_client_records::{Entry, OpenCall, Record, Recorded};
 use hc_flash::MemFlash;
 use hc_history::{Listener, Note, Notes, Op, Reply};
 use hc_leased::{KeptItem, Ticket};
 use hc_memory::{Blank, Fill, ReadHandle, Sealed, Uncharged};
 use hc_paged::{Device, Digest};
-use hc_records::{Entry, OpenCall, Record, Recorded};
 use hc_state::{Removed, Unlinked};
 use hc_types::{Key, Refusal};
 use std::alloc::{AllocError, Allocator, Global};
@@ -32,7 +32,7 @@ pub struct Client<A: Allocator = Global> {
 }
 
 impl<A: Allocator> Model for Client<A> {
-    ghost use Rattle.hc_records.specs.Records.{Record as Answers};
+    ghost use Rattle.hc_client_records.specs.Records.{Record as Answers};
 
     ghost Value = { Answers };
 

@@ -25,5 +25,5 @@ pub use serving::serve;
 pub use shared::Shared;
 
 // The types of the calls' signatures, so that a caller needs no other crate but the core's.
+pub use hc_client_records::{Entry, Mismatch, OpenCall, Record, Recorded};
 pub use hc_leased::{DEFAULT_SLOTS, KeptItem, Ticket, slots_for};
-pub use hc_records::{Entry, Mismatch, OpenCall, Record, Recorded};

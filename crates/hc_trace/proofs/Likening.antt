@@ -3,16 +3,16 @@ use Rattle.std.proofs.Common.{◌≡◌, ℕ, ◌+◌, List, [], ◌∷◌, ◌+
 use Rattle.hc_types.specs.declared.config.PoolSize.{PoolSize}
 use Rattle.hc_history.specs.Told.{Counts, counts_more}
 use Rattle.hc_history.specs.declared.stats.Stats.{Stats}
-use Rattle.hc_lines.specs.Grammar as grammar
-use Rattle.hc_lines.specs.Grammar.{Skipped, Says, Fault, Pool, NoFlash, Flash, line_of}
-use Rattle.hc_lines.specs.Texts.{losses_text}
+use Rattle.hc_trace_text.specs.Grammar as grammar
+use Rattle.hc_trace_text.specs.Grammar.{Skipped, Says, Fault, Pool, NoFlash, Flash, line_of}
+use Rattle.hc_trace_text.specs.Texts.{losses_text}
 use Rattle.hc_machine.specs.World.{World}
 use Rattle.hc_player.specs.Alike.{Alike}
 use Rattle.hc_player.proofs.Likening.{act-alike}
-use Rattle.hc_replayed.specs.Actions.{Action, Do, Serve, act}
-use Rattle.hc_replayed.specs.Trace.{action_text, answered_text, ending, onto}
-use Rattle.hc_replayed.specs.Turns as turns
-use Rattle.hc_replayed.specs.Turns.{turned, after_turn, output_from}
+use Rattle.hc_trace_meaning.specs.Actions.{Action, Do, Serve, act}
+use Rattle.hc_trace_meaning.specs.Trace.{action_text, answered_text, ending, onto}
+use Rattle.hc_trace_meaning.specs.Turns as turns
+use Rattle.hc_trace_meaning.specs.Turns.{turned, after_turn, output_from}
 use Rattle.hc_trace.specs.declared.state.State.{State}
 use Rattle.hc_trace.specs.declared.state.State.TheVariants.{Configuring, Running}
 use Rattle.hc_trace.specs.Places.{counts_in, place_of, IsBetween, IsAt}

@@ -2,12 +2,12 @@
 use Rattle.std.proofs.Common.{◌≡◌, ℕ, List, [], ◌∷◌, ◌++◌, Option, Some, Result, Ok, Err, OnOk, refl, sym, ap, subst, ◌∙◌}
 use Rattle.hc_history.specs.Note.{Note, Begin, Did, End, Lose, Charged, Linked, Freed, Queued, Unqueued, Writing, Written, Buried, Raised, Read, Wrote, Opened, Flushed, Cleared, Now}
 use Rattle.hc_history.specs.Told.{Heard, Counts, told_more, counts_more, losses_of, losses_taken}
-use Rattle.hc_lines.specs.Steps.{Answer}
-use Rattle.hc_lines.specs.Texts.{line_text, answer_text, losses_text, loss_text}
+use Rattle.hc_trace_text.specs.Steps.{Answer}
+use Rattle.hc_trace_text.specs.Texts.{line_text, answer_text, losses_text, loss_text}
 use Rattle.hc_player.specs.Alike.{Alike}
 use Rattle.hc_player.specs.Playing.{Playing, world_of, Acts}
-use Rattle.hc_replayed.specs.Actions.{Action, act}
-use Rattle.hc_replayed.specs.Trace.{answered_text}
+use Rattle.hc_trace_meaning.specs.Actions.{Action, act}
+use Rattle.hc_trace_meaning.specs.Trace.{answered_text}
 use Rattle.hc_trace.specs.Places.{counts_in, losses_in, IsCounted}
 use Rattle.hc_trace.specs.Telling.{IsTold}
 

@@ -4,14 +4,14 @@ use Rattle.std.proofs.lemmas.Bool.{lt-ltb}
 use Rattle.std.proofs.lemmas.Grind.{common_steps}
 use Rattle.std.proofs.KnownBytes.{Appends-nil, Appends-trans, Consumes-nil, Consumes-trans, Keeps-refl, append_known-grown}
 use Rattle.std.specs.Io.KnownBytes.{Appends, Consumes, IsAtEnd, append_known}
-use Rattle.hc_lines.specs.Lines.{onto_first, lines_of, Lacks}
-use Rattle.hc_lines.specs.Texts.{fault_text}
-use Rattle.hc_replayed.specs.Trace.{onto, output_of}
-use Rattle.hc_replayed.specs.Turns.{State, begun, stops, turn_of, ended, after_turn, output_from}
+use Rattle.hc_trace_text.specs.Lines.{onto_first, lines_of, Lacks}
+use Rattle.hc_trace_text.specs.Texts.{fault_text}
+use Rattle.hc_trace_meaning.specs.Trace.{onto, output_of}
+use Rattle.hc_trace_meaning.specs.Turns.{State, begun, stops, turn_of, ended, after_turn, output_from}
 use Rattle.hc_trace.specs.Trace.{Answers}
 use Rattle.hc_trace.specs.Places.{output_after, Leads, Ends}
-use Rattle.hc_lines.proofs.Parts.{lacks-append, lines-ended}
-use Rattle.hc_replayed.proofs.Same.{output_is_by_lines}
+use Rattle.hc_trace_text.proofs.Parts.{lacks-append, lines-ended}
+use Rattle.hc_trace_meaning.proofs.Same.{output_is_by_lines}
 
 pub on-ok : {T E P : Type 0} (r : Result T E) → P → OnOk r P
 on-ok (Ok x) h = h

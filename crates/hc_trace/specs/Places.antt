@@ -5,13 +5,13 @@ use Rattle.hc_types.specs.declared.config.FlashConfig.{FlashConfig}
 use Rattle.hc_history.specs.Note.{Note}
 use Rattle.hc_history.specs.Told.{Heard, Counts, no_counts}
 use Rattle.hc_history.specs.declared.stats.Stats.{Stats}
-use Rattle.hc_lines.specs.Lines.{lines_of}
-use Rattle.hc_lines.specs.Texts.{fault_text}
+use Rattle.hc_trace_text.specs.Lines.{lines_of}
+use Rattle.hc_trace_text.specs.Texts.{fault_text}
 use Rattle.hc_player.specs.Alike.{Alike}
 use Rattle.hc_player.specs.Playing.{world_of}
-use Rattle.hc_replayed.specs.Turns as turns
-use Rattle.hc_replayed.specs.Turns.{Turn, stops, with_flash, output_from}
-use Rattle.hc_replayed.specs.Trace.{onto}
+use Rattle.hc_trace_meaning.specs.Turns as turns
+use Rattle.hc_trace_meaning.specs.Turns.{Turn, stops, with_flash, output_from}
+use Rattle.hc_trace_meaning.specs.Trace.{onto}
 use Rattle.hc_trace.specs.declared.state.State.{State}
 use Rattle.hc_trace.specs.declared.state.State.TheVariants.{Configuring, Running}
 

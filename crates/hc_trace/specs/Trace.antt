@@ -1,7 +1,7 @@
 -- What a replay answers.
 use Rattle.std.specs.Prelude.{◌≡◌, ℕ, List, Option, IfSome}
 use Rattle.std.specs.Io.KnownBytes.{Appends}
-use Rattle.hc_replayed.specs.Trace.{output_of}
+use Rattle.hc_trace_meaning.specs.Trace.{output_of}
 
 -- where the bytes that are read are known, the status and what is written are theirs
 abbrev pub Answers : Option (List ℕ) → Option (List ℕ) → Option (List ℕ) → ℕ → Type 0

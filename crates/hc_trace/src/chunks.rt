@@ -1,16 +1,16 @@
 // The loop: it reads by chunks, and writes what was gathered.
 ghost use Rattle.std.specs.Prelude.{◌≡◌, ◌≢◌, ◌<◌, ◌≤◌, ◌+◌, ◌++◌, ◌∷◌, ◌^◌, ◌==◌, [], length, take, vec_len, IfOk, OnOk, IfSome, OnSome, MatchOption, if◌then◌else◌};
 ghost use Rattle.std.specs.Io.KnownBytes.{Appends, Consumes, IsAtEnd, append_known};
-ghost use Rattle.hc_lines.specs.Lines.{Lacks};
-ghost use Rattle.hc_replayed.specs.Promise.{LogsAreRight};
-ghost use Rattle.hc_replayed.specs.Runs.{TracesAreRuns};
-ghost use Rattle.hc_replayed.specs.Turns.{begun, turn_of, output_from};
+ghost use Rattle.hc_trace_text.specs.Lines.{Lacks};
+ghost use Rattle.hc_trace_meaning.specs.Promise.{LogsAreRight};
+ghost use Rattle.hc_trace_meaning.specs.Runs.{TracesAreRuns};
+ghost use Rattle.hc_trace_meaning.specs.Turns.{begun, turn_of, output_from};
 ghost use Rattle.hc_trace.specs.Trace.{Answers};
 ghost use Rattle.hc_trace.specs.Places.{place_of, IsAt, IsBetween, Leads, Ends};
 
 use crate::machine::{end, turn};
 use crate::state::State;
-use hc_lines::LONGEST;
+use hc_trace_text::LONGEST;
 use hc_types::Config;
 use memchr::memchr;
 use std::alloc::{AllocError, Global};

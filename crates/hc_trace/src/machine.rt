@@ -3,20 +3,22 @@ ghost use Rattle.std.specs.Prelude.{◌≡◌, ◌+◌, ◌^◌, ◌<◌, ◌++�
 ghost use Rattle.hc_types.specs.Limits.{first_wrong};
 ghost use Rattle.hc_history.specs.Told.{Counts, no_counts};
 ghost use Rattle.hc_trace.specs.declared.state.State.TheVariants.{Running};
-ghost use Rattle.hc_lines.specs.Seen.{order_seen, step_seen, work_seen};
-ghost use Rattle.hc_lines.specs.Grammar as spec;
-ghost use Rattle.hc_lines.specs.Texts.{fault_text};
+ghost use Rattle.hc_trace_text.specs.Seen.{order_seen, step_seen, work_seen};
+ghost use Rattle.hc_trace_text.specs.Grammar as spec;
+ghost use Rattle.hc_trace_text.specs.Texts.{fault_text};
 ghost use Rattle.hc_player.specs.Alike.{Alike};
 ghost use Rattle.hc_player.specs.Playing.{world_of};
-ghost use Rattle.hc_replayed.specs.Trace.{fresh};
-ghost use Rattle.hc_replayed.specs.Turns.{obeyed, turn_of, ended};
+ghost use Rattle.hc_trace_meaning.specs.Trace.{fresh};
+ghost use Rattle.hc_trace_meaning.specs.Turns.{obeyed, turn_of, ended};
 ghost use Rattle.hc_trace.specs.Places.{place_of, closed, IsAt, IsBetween};
 
 use crate::state::State;
 use crate::telling::{do_work, take_step};
 use hc_history::Counting;
-use hc_lines::{Line, Order, Step, Work, add_fault, add_refusal, add_stats, add_verdict, line_in};
 use hc_player::Player;
+use hc_trace_text::{
+    Line, Order, Step, Work, add_fault, add_refusal, add_stats, add_verdict, line_in,
+};
 use hc_types::{Config, FlashConfig, PoolSize, Refusal};
 use std::alloc::{AllocError, Global};
 

@@ -1,20 +1,20 @@
 // A line behind the configuration, and what is printed for it.
 ghost use Rattle.std.specs.Prelude.{◌≡◌, ◌++◌, OnOk};
-ghost use Rattle.hc_lines.specs.Seen.{step_seen, work_seen};
-ghost use Rattle.hc_lines.specs.Texts.{line_text, answer_text, losses_text};
+ghost use Rattle.hc_trace_text.specs.Seen.{step_seen, work_seen};
+ghost use Rattle.hc_trace_text.specs.Texts.{line_text, answer_text, losses_text};
 ghost use Rattle.hc_history.specs.Told.{losses_taken};
 ghost use Rattle.hc_player.specs.Seen.{answer_seen};
 ghost use Rattle.hc_player.specs.Playing.{world_of};
-ghost use Rattle.hc_replayed.specs.Actions.{Do, Serve, act};
+ghost use Rattle.hc_trace_meaning.specs.Actions.{Do, Serve, act};
 ghost use Rattle.hc_trace.specs.Places.{IsCounted, losses_in};
 ghost use Rattle.hc_trace.specs.Telling.{IsTold};
 
 use hc_history::Counting;
-use hc_lines::{
+use hc_player::{Answer, Player};
+use hc_trace_text::{
     Step, Work, add_hit, add_losses, add_moment, add_reads, add_reclaimed, add_refusal,
     add_waiting, add_word, add_writes,
 };
-use hc_player::{Answer, Player};
 use std::alloc::AllocError;
 
 // The answer of a line.

@@ -2,7 +2,7 @@
 use crate::heap::Heap;
 use bytes::Bytes;
 use hc_core::{Found, Inserted, Order, Refusal, Removed, Reply, Take};
-use hc_lines::{
+use hc_trace_text::{
     add_hit, add_moment, add_reads, add_reclaimed, add_refusal, add_waiting, add_word, add_writes,
 };
 use std::alloc::AllocError;

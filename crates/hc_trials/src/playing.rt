@@ -11,7 +11,7 @@ use crate::trace::{configuration, first_line};
 use crate::twins::Twins;
 use crate::values::Values;
 use hc_core::{Config, Refusal};
-use hc_lines::{Line, Order, add_refusal, add_stats, line_in};
+use hc_trace_text::{Line, Order, add_refusal, add_stats, line_in};
 use hc_verdict::{first_lie, judge};
 use std::alloc::{AllocError, Global};
 use test_allocator::Refusing;

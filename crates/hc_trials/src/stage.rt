@@ -6,7 +6,7 @@ use crate::difference::Wrong;
 use crate::heap::{Cache, Heap};
 use crate::twins::Twins;
 use hc_core::{Config, Core, Kept, Refusal};
-use hc_results::Results;
+use hc_io_results::Results;
 
 /// A cache, its device, and the results that wait.
 pub(crate) struct Stage<'a> {

@@ -5,7 +5,7 @@ use crate::heap::Heap;
 use crate::stage::Stage;
 use crate::storing::Wanted;
 use hc_core::{Fill, Found, Inserted, Key};
-use hc_lines::{NewItem, Step, Value, Work};
+use hc_trace_text::{NewItem, Step, Value, Work};
 
 fn wanted<'t>(item: &NewItem<'t>) -> Wanted<'t> {
     let fill = match item.value {

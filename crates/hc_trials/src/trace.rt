@@ -1,7 +1,7 @@
 // A trace as lines.
 use crate::heap::Heap;
 use hc_core::{Config, PoolSize};
-use hc_lines::{Line, Order, line_in};
+use hc_trace_text::{Line, Order, line_in};
 use memchr::memchr;
 use std::alloc::AllocError;
 

@@ -4,7 +4,7 @@ use crate::difference::{Difference, Trial, Wrong};
 use crate::played::Played;
 use crate::playing::play;
 use crate::trace::first_line;
-use hc_lines::add_verdict;
+use hc_trace_text::add_verdict;
 use std::alloc::{AllocError, Global};
 
 /// What came of the trials of a trace.

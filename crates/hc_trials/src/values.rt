@@ -2,7 +2,7 @@
 use crate::answers::Answer;
 use crate::log::behind;
 use hc_core::{Note, Reply, Said};
-use hc_lines::{NewItem, Step, Value, Work};
+use hc_trace_text::{NewItem, Step, Value, Work};
 use std::alloc::{AllocError, Allocator, Global};
 
 // What a key has from a line on: a value, or none.

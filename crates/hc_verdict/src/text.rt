@@ -5,7 +5,7 @@ ghost use Rattle.hc_verdict.specs.Verdict.{verdict_text, status_of, with_line, I
 
 use crate::verdict::{Verdict, judge};
 use hc_history::Note;
-use hc_notes::{LogText, read_log};
+use hc_log_text::{LogText, read_log};
 use hc_types::{Config, Refusal};
 use std::alloc::{AllocError, Global};
 

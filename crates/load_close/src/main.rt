@@ -8,8 +8,8 @@
 mod making;
 
 use crate::making::{Closing, closing_of};
+use hc_client_records::{failures, reconcile};
 use hc_judge_memory::first_lie_in;
-use hc_records::{failures, reconcile};
 use std::alloc::Global;
 use std::env::{self, Env};
 use std::io;

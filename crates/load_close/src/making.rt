@@ -1,7 +1,7 @@
 // A log, and the records that go with it.
 use bytes::Bytes;
+use hc_client_records::{Entry, Record};
 use hc_history::{Note, Op, Reply, Said};
-use hc_records::{Entry, Record};
 use hc_types::{Key, Refusal};
 use std::alloc::{AllocError, Global};
 use std::io;

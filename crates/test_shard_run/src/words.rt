@@ -1,7 +1,7 @@
 // Logs and answers as bytes, to compare them.
 use hc_flash::{IoResult, Order};
 use hc_history::{Kept, Reply};
-use hc_notes::write_note;
+use hc_log_text::write_note;
 use hc_nvm::Take;
 use hc_run::{Answer, Outcome};
 use std::alloc::Global;

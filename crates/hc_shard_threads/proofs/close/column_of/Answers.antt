@@ -1,5 +1,5 @@
 use Rattle.std.proofs.Common.{◌≡◌, ◌<◌, List, Some, length, slice_get}
-use Rattle.hc_records.specs.Records.{Record}
+use Rattle.hc_client_records.specs.Records.{Record}
 use Rattle.hc_shard_threads.proofs.Closing.{all-rest, record-at, column-more}
 use Rattle.hc_shard_threads.proofs.close.column_of.Goals as goal
 

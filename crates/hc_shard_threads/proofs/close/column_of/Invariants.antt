@@ -1,5 +1,5 @@
 use Rattle.std.proofs.Common.{◌≡◌, ◌<◌, ◌++◌, All, List, Some, drop, map, length, slice_get}
-use Rattle.hc_records.specs.Records.{Record}
+use Rattle.hc_client_records.specs.Records.{Record}
 use Rattle.hc_shard_threads.proofs.close.column_of.Given as goal
 
 -- the records so far, and those of the clients that are left

@@ -1,5 +1,5 @@
 use Rattle.std.proofs.Common.{◌≡◌, ℕ, List, Some, length, slice_get}
-use Rattle.hc_records.specs.Records.{Record}
+use Rattle.hc_client_records.specs.Records.{Record}
 use Rattle.hc_shard_threads.specs.Closed.{IsColumn}
 use Rattle.hc_shard_threads.proofs.close.columns_of.Given as goal
 

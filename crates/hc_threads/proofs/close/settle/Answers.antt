@@ -2,8 +2,8 @@ use Rattle.std.proofs.Common.{◌⊎◌, ◌<◌, [], List, map, inl, inr, subst
 use Rattle.std.proofs.lemmas.Bool.{false≢true}
 use Rattle.hc_history.specs.Note.{Note}
 use Rattle.hc_history.specs.Told.{Heard, IfLog}
-use Rattle.hc_records.specs.Records as records
-use Rattle.hc_records.specs.Records.{Reconciled}
+use Rattle.hc_client_records.specs.Records as records
+use Rattle.hc_client_records.specs.Records.{Reconciled}
 use Rattle.hc_judge_memory.specs.Lies.{IsFirstLie}
 use Rattle.hc_threads.proofs.Closing.{legal-from}
 use Rattle.hc_threads.proofs.close.settle.Goals as goal

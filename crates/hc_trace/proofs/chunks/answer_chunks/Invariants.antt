@@ -1,6 +1,6 @@
 use Rattle.std.proofs.Common.{◌≡◌, ◌≤◌, vec_len}
 use Rattle.std.specs.Io.KnownBytes.{append_known}
-use Rattle.hc_lines.specs.Lines.{Lacks}
+use Rattle.hc_trace_text.specs.Lines.{Lacks}
 use Rattle.hc_trace.specs.Places.{place_of, IsBetween}
 use Rattle.hc_trace.proofs.Streams.{Progress}
 use Rattle.hc_trace.proofs.chunks.answer_chunks.Given as goal

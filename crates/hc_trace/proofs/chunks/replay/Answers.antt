@@ -1,5 +1,5 @@
-use Rattle.hc_replayed.proofs.Logs.{logs_are_right}
-use Rattle.hc_replayed.proofs.Traces.{traces_are_runs}
+use Rattle.hc_trace_meaning.proofs.Logs.{logs_are_right}
+use Rattle.hc_trace_meaning.proofs.Traces.{traces_are_runs}
 use Rattle.hc_trace.proofs.chunks.replay.Goals as goal
 
 pub returns-in-Ok-write_out-clause-log : goal.returns-in-Ok-write_out-clause-log

@@ -1,5 +1,5 @@
 use Rattle.std.proofs.Common.{◌+◌, ◌-◌, length, drop, arith, take_all, length-drop}
-use Rattle.hc_lines.proofs.Parts.{lacks-all, lacks-before, around}
+use Rattle.hc_trace_text.proofs.Parts.{lacks-all, lacks-before, around}
 use Rattle.hc_trace.proofs.chunks.split_line.Goals as goal
 
 pub returns-in_err-at : goal.returns-in_err-at

@@ -1,5 +1,5 @@
 use Rattle.std.proofs.Common.{◌<◌, ◌++◌, ◌∷◌, length, ap, ◌∙◌, arith, length-append}
-use Rattle.hc_lines.proofs.Parts.{lacks-append}
+use Rattle.hc_trace_text.proofs.Parts.{lacks-append}
 use Rattle.hc_trace.specs.Places.{place_of}
 use Rattle.hc_trace.proofs.Likening.{at-same, at-between}
 use Rattle.hc_trace.proofs.Streams.{leads-line, leads-fault, leads-long}

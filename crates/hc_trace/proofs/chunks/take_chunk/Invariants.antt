@@ -1,6 +1,6 @@
 use Rattle.std.proofs.Common.{◌≤◌, ◌+◌, ◌++◌, length}
 use Rattle.std.specs.Io.KnownBytes.{append_known}
-use Rattle.hc_lines.specs.Lines.{Lacks}
+use Rattle.hc_trace_text.specs.Lines.{Lacks}
 use Rattle.hc_trace.specs.Places.{place_of, IsBetween, Leads}
 use Rattle.hc_trace.proofs.chunks.take_chunk.Given as goal
 

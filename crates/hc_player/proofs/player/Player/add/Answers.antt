@@ -1,6 +1,6 @@
 use Rattle.std.proofs.lemmas.Result.{IfOk-weaker}
 use Rattle.hc_core.specs.Answers.{inserted_answer}
-use Rattle.hc_lines.specs.Seen.{item_seen}
+use Rattle.hc_trace_text.specs.Seen.{item_seen}
 use Rattle.hc_player.specs.Seen.{answer_seen}
 use Rattle.hc_player.proofs.Storing.{add-done, add-refused}
 use Rattle.hc_player.proofs.player.Player.add.Goals as goal

@@ -1,10 +1,10 @@
 use Rattle.std.proofs.Common.{refl}
 use Rattle.std.proofs.lemmas.Result.{IfOk-weaker}
 use Rattle.hc_core.specs.Answers.{removed_answer}
-use Rattle.hc_lines.specs.Steps.{Del}
+use Rattle.hc_trace_text.specs.Steps.{Del}
 use Rattle.hc_machine.specs.Calls as calls
 use Rattle.hc_machine.specs.World as world
-use Rattle.hc_replayed.specs.Actions.{Do}
+use Rattle.hc_trace_meaning.specs.Actions.{Do}
 use Rattle.hc_player.specs.Playing.{world_of}
 use Rattle.hc_player.proofs.Acting.{playing, acts-step, keyed, unkeyed}
 use Rattle.hc_player.proofs.player.Player.delete.Goals as goal

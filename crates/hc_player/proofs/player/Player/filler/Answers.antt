@@ -1,5 +1,5 @@
 use Rattle.std.proofs.Common.{refl, Some, ap}
-use Rattle.hc_lines.specs.Steps.{Answer}
+use Rattle.hc_trace_text.specs.Steps.{Answer}
 use Rattle.hc_machine.specs.Cache.{Took}
 use Rattle.hc_machine.specs.Workers.{filler_take}
 use Rattle.hc_nvm.specs.Seen.{take_of}

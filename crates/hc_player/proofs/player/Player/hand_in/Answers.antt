@@ -1,7 +1,7 @@
 use Rattle.std.proofs.Common.{Some, ap}
 use Rattle.std.proofs.lemmas.Result.{IfOk-weaker}
 use Rattle.hc_flash.specs.Seen.{result_of}
-use Rattle.hc_lines.specs.Steps.{Answer}
+use Rattle.hc_trace_text.specs.Steps.{Answer}
 use Rattle.hc_machine.specs.Cache.{Took}
 use Rattle.hc_machine.specs.Workers.{finish}
 use Rattle.hc_nvm.specs.Seen.{take_of}

@@ -1,5 +1,5 @@
 use Rattle.std.proofs.Common.{refl, Some, ap}
-use Rattle.hc_lines.specs.Steps.{Answer}
+use Rattle.hc_trace_text.specs.Steps.{Answer}
 use Rattle.hc_machine.specs.Cache.{Reclaimed}
 use Rattle.hc_machine.specs.Workers.{reclaim}
 use Rattle.hc_player.proofs.Acting.{acts-step}

@@ -1,7 +1,7 @@
 use Rattle.std.proofs.Common.{refl, Some, ap}
 use Rattle.std.proofs.lemmas.Result.{IfOk-weaker}
 use Rattle.hc_history.specs.Seen.{reply_of}
-use Rattle.hc_lines.specs.Steps.{Answer}
+use Rattle.hc_trace_text.specs.Steps.{Answer}
 use Rattle.hc_machine.specs.Cache.{Replied}
 use Rattle.hc_machine.specs.Calls.{take_reply}
 use Rattle.hc_player.proofs.Acting.{acts-step, acts-unmade}

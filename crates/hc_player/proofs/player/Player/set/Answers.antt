@@ -1,5 +1,5 @@
 use Rattle.std.proofs.lemmas.Result.{IfOk-weaker}
-use Rattle.hc_lines.specs.Seen.{item_seen}
+use Rattle.hc_trace_text.specs.Seen.{item_seen}
 use Rattle.hc_player.specs.Seen.{answer_seen}
 use Rattle.hc_player.proofs.Storing.{set-done, set-refused}
 use Rattle.hc_player.proofs.player.Player.set.Goals as goal

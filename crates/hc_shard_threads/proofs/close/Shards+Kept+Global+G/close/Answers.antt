@@ -3,7 +3,7 @@ use Rattle.std.proofs.lemmas.List.{length_push}
 use Rattle.std.proofs.lemmas.Option.{slice_get_read}
 use Rattle.std.specs.Vec.Iter.{into_iter_items}
 use Rattle.hc_types.specs.Config.{Config}
-use Rattle.hc_records.specs.Records.{failures}
+use Rattle.hc_client_records.specs.Records.{failures}
 use Rattle.hc_threads.specs.declared.close.Report.{Report}
 use Rattle.hc_shards.specs.Shards.{share_of}
 use Rattle.hc_shard_threads.specs.Closed.{IsClosed, IsOf, failures_in}

@@ -1,7 +1,7 @@
 use Rattle.std.proofs.Common.{◌≡◌, ◌+◌, ◌∷◌, [], ◌++◌, ◌∙◌, List, length, ap}
 use Rattle.std.proofs.lemmas.List.{length_push, length-replicate}
 use Rattle.hc_types.specs.Config.{Config}
-use Rattle.hc_records.specs.Records.{Record}
+use Rattle.hc_client_records.specs.Records.{Record}
 use Rattle.hc_shards.specs.Shards.{Sharded, share_of}
 use Rattle.hc_shard_threads.proofs.Rows.{is-forgotten, new-more, one-each}
 use Rattle.hc_shard_threads.proofs.shards.Shards.client.Goals as goal

@@ -2,8 +2,8 @@ use Rattle.std.proofs.Common.{◌≡◌, ◌≢◌, ◌⊎◌, ◌<◌, None, If
 use Rattle.hc_types.specs.Config.{Config}
 use Rattle.hc_history.specs.Lawful.{Legal}
 use Rattle.hc_history.specs.Told.{IfLog}
-use Rattle.hc_records.specs.Records as records
-use Rattle.hc_records.specs.Records.{Reconciled}
+use Rattle.hc_client_records.specs.Records as records
+use Rattle.hc_client_records.specs.Records.{Reconciled}
 use Rattle.hc_threads.proofs.Closing.{honest_report, true_report, lawful_report}
 use Rattle.hc_tracked.proofs.Tracking.{marked-report}
 use Rattle.hc_threads.proofs.close.Shared+Kept+Global+G.close.Goals as goal

@@ -1,0 +1,11 @@
+use Rattle.std.proofs.Common.{◌≡◌, [], length}
+use Rattle.hc_history.specs.Lawful.{past}
+use Rattle.hc_client_records.specs.Records as records
+use Rattle.hc_client_records.proofs.calls.answered.Given as goal
+
+-- the notes that were passed say nothing of it
+abbrev pub invariant-loop-note : goal.invariant-loop-note
+invariant-loop-note l = records.answered l.call (past [] l.left) ≡ records.answered l.call (past [] l.before)
+
+abbrev pub decreases-loop-note : goal.decreases-loop-note
+decreases-loop-note l = length l.left

@@ -1,0 +1,9 @@
+use Rattle.std.proofs.Common.{List}
+use Rattle.std.specs.Ordering.{nat_cmp}
+use Rattle.std.specs.BTreeMap.{get}
+use Rattle.hc_client_records.specs.Records.{Record}
+use Rattle.hc_client_records.specs.Walk.{AreTheirs, IsAmong}
+use Rattle.hc_client_records.proofs.own.keep_open.Given as goal
+
+abbrev pub invariant-loop-left : goal.invariant-loop-left
+invariant-loop-left l = (records : List Record) → IsAmong l.did records → AreTheirs (get nat_cmp l.initial.calls) records → AreTheirs (get nat_cmp l.calls) records

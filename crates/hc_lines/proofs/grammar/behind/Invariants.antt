@@ -1,5 +1,0 @@
-use Rattle.std.proofs.Common.{◌≡◌, take}
-use Rattle.hc_lines.proofs.grammar.behind.Given as goal
-
-abbrev pub invariant-word : goal.invariant-word
-invariant-word l = take l.at l.line ≡ take l.at l.word

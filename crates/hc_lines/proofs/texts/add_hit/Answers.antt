@@ -1,5 +1,0 @@
-use Rattle.hc_lines.proofs.Values.{reads-back}
-use Rattle.hc_lines.proofs.texts.add_hit.Goals as goal
-
-pub returns-clause-reads_back : goal.returns-clause-reads_back
-returns-clause-reads_back c = reads-back c.args.value.now

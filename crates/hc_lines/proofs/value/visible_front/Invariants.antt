@@ -1,7 +1,0 @@
-use Rattle.std.proofs.Common.{◌≡◌, true, take}
-use Rattle.std.specs.List.{list_all}
-use Rattle.hc_lines.specs.Numbers.{is_visible}
-use Rattle.hc_lines.proofs.value.visible_front.Given as goal
-
-abbrev pub invariant-text : goal.invariant-text
-invariant-text l = list_all is_visible (take l.at l.text) ≡ true

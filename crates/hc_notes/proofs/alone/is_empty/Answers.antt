@@ -1,8 +1,0 @@
-use Rattle.std.proofs.Common.{sym, ap, ◌∙◌}
-use Rattle.hc_lines.proofs.Parts.{fields-some}
-use Rattle.hc_notes.specs.Left.{left}
-use Rattle.hc_notes.specs.Reading.{is_end}
-use Rattle.hc_notes.proofs.alone.is_empty.Goals as goal
-
-pub returns-in-Text : goal.returns-in-Text
-returns-in-Text c = sym (ap (λ rest. is_end (left rest)) c.in-Text.is ∙ ap is_end (fields-some c.in-Text.field-0.now).is)

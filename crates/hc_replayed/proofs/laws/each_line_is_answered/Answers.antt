@@ -1,5 +1,0 @@
-use Rattle.hc_replayed.proofs.Answered as by
-use Rattle.hc_replayed.proofs.laws.each_line_is_answered.Goals as goal
-
-pub returns : goal.returns
-returns c = by.each_line_is_answered

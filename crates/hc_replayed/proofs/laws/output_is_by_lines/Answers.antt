@@ -1,5 +1,0 @@
-use Rattle.hc_replayed.proofs.Same as by
-use Rattle.hc_replayed.proofs.laws.output_is_by_lines.Goals as goal
-
-pub returns : goal.returns
-returns c = by.output_is_by_lines

@@ -1,5 +1,0 @@
-use Rattle.hc_replayed.proofs.Traces as by
-use Rattle.hc_replayed.proofs.laws.traces_are_runs.Goals as goal
-
-pub returns : goal.returns
-returns c = by.traces_are_runs
