@@ -62,65 +62,28 @@ impl Kind {
         }
     }
 
-    /// The same, called once more.
-    fn called(self) -> Kind {
-        Kind {
-            idle: 0,
-            starved: 0,
-            calls: self.calls.wrapping_add(1),
-        }
+    /// They are called.
+    fn call(&mut self) {
+        self.idle = 0;
+        self.starved = 0;
+        self.calls = self.calls.wrapping_add(1);
     }
 
-    /// The same behind one more that was at this.
-    fn with(self, duty: Duty) -> Kind {
-        let Kind {
-            idle,
-            starved,
-            calls,
-        } = self;
+    /// One more of them is at this.
+    fn add(&mut self, duty: Duty) {
         match duty {
-            Duty::Looking | Duty::Working => self,
-            Duty::Idle => Kind {
-                idle: idle.saturating_add(1),
-                starved,
-                calls,
-            },
-            Duty::Starved => Kind {
-                idle,
-                starved: starved.saturating_add(1),
-                calls,
-            },
+            Duty::Idle => self.idle = self.idle.saturating_add(1),
+            Duty::Starved => self.starved = self.starved.saturating_add(1),
+            Duty::Looking | Duty::Working => {}
         }
     }
 
-    /// The same without one that was at this.
-    fn without(self, duty: Duty) -> Kind {
-        let Kind {
-            idle,
-            starved,
-            calls,
-        } = self;
+    /// One of them isn't at this any more.
+    fn remove(&mut self, duty: Duty) {
         match duty {
-            Duty::Looking | Duty::Working => self,
-            Duty::Idle => Kind {
-                idle: idle.saturating_sub(1),
-                starved,
-                calls,
-            },
-            Duty::Starved => Kind {
-                idle,
-                starved: starved.saturating_sub(1),
-                calls,
-            },
-        }
-    }
-
-    /// The same, where those that found nothing to do look once more.
-    fn roused(self) -> Kind {
-        Kind {
-            idle: 0,
-            starved: self.starved,
-            calls: self.calls,
+            Duty::Idle => self.idle = self.idle.saturating_sub(1),
+            Duty::Starved => self.starved = self.starved.saturating_sub(1),
+            Duty::Looking | Duty::Working => {}
         }
     }
 }
@@ -130,7 +93,8 @@ impl Kind {
 /// A call that waits is answered by workers alone. Where memory lacks for what a worker is at, the worker waits until it is
 /// called, which each call that changes something does. But whoever would make the next call may be waiting for this very
 /// worker. So a call that waits gives up where the workers are stuck: memory lacked for one of them, none is at work or was
-/// called, and no client does a filler's job. (Where a job was lost, that each is idle or gone is enough: nobody will answer what waits for it.)
+/// called, and no client does a filler's job. (Where a job was lost, that each is idle or gone is enough: nobody will answer
+/// what waits for it.)
 ///
 /// No wake is lost: what is known of the workers is changed in the same hold of the lock as the core, those that wait look
 /// at it before they sleep, and each change by which they may come to be stuck wakes the calls that wait. Those of a kind that
@@ -199,21 +163,25 @@ impl Crew {
     /// The worker is gone.
     pub(crate) fn leave(&mut self, turn: Turn) {
         if !self.is_called(turn) {
-            self.set_kind(turn.worker, self.kind(turn.worker).without(turn.duty));
+            let mut kind = self.kind(turn.worker);
+            kind.remove(turn.duty);
+            self.set_kind(turn.worker, kind);
         }
         self.there = self.there.saturating_sub(1);
     }
 
     /// Calls those of this kind: they look for work, or try what they are at, once more.
     pub(crate) fn call(&mut self, worker: Worker) {
-        self.set_kind(worker, self.kind(worker).called());
+        let mut kind = self.kind(worker);
+        kind.call();
+        self.set_kind(worker, kind);
     }
 
     /// Calls all that are there.
     pub(crate) fn call_all(&mut self) {
-        self.writer = self.writer.called();
-        self.fillers = self.fillers.called();
-        self.reclaimer = self.reclaimer.called();
+        self.writer.call();
+        self.fillers.call();
+        self.reclaimer.call();
     }
 
     /// Whether the worker was called.
@@ -232,19 +200,25 @@ impl Crew {
 
     /// The worker, which is at work, found nothing to do.
     pub(crate) fn rest(&mut self, turn: &mut Turn) {
-        self.set_kind(turn.worker, self.kind(turn.worker).with(Duty::Idle));
-        *turn = self.turn(turn.worker, Duty::Idle);
+        self.await_call(turn, Duty::Idle);
     }
 
     /// Memory lacked for what the worker is at. Those that found nothing to do look once more, since it may have changed
     /// something before.
     pub(crate) fn starve(&mut self, turn: &mut Turn) {
         self.rouses = self.rouses.wrapping_add(1);
-        self.writer = self.writer.roused();
-        self.fillers = self.fillers.roused();
-        self.reclaimer = self.reclaimer.roused();
-        self.set_kind(turn.worker, self.kind(turn.worker).with(Duty::Starved));
-        *turn = self.turn(turn.worker, Duty::Starved);
+        self.writer.idle = 0;
+        self.fillers.idle = 0;
+        self.reclaimer.idle = 0;
+        self.await_call(turn, Duty::Starved);
+    }
+
+    /// The worker, which is at work, waits to be called.
+    fn await_call(&mut self, turn: &mut Turn, duty: Duty) {
+        let mut kind = self.kind(turn.worker);
+        kind.add(duty);
+        self.set_kind(turn.worker, kind);
+        *turn = self.turn(turn.worker, duty);
     }
 
     /// A worker ends with a job that isn't over.
