@@ -104,8 +104,10 @@ def has_a_socket_of_its_own_from_the_first():
 
 
 def watch_modes(path, modes, ends):
-    """Adds the rights that a file has, as long as it is watched."""
-    while not ends.is_set():
+    """Adds the rights that a file has as long as it is watched, and once more behind that."""
+    is_over = False
+    while not is_over:
+        is_over = ends.is_set()
         try:
             modes.add(os.stat(path).st_mode & 0o777)
         except FileNotFoundError:
