@@ -1,2 +1,3 @@
 -- What the service's contracts say.
 pub mod Metering
+pub mod Sharing

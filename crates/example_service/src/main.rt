@@ -2,18 +2,23 @@
 #![tactic(auto)]
 
 mod badges;
+mod crowd;
 mod metered;
 mod profiles;
 mod renewing;
+mod sharing;
 mod worker;
 
 use crate::badges::badge;
+use crate::crowd::{CLIENTS, ask_at_once};
 use crate::metered::{Metered, comes_back};
 use crate::profiles::{open, print_state, profile};
 use crate::renewing::forget;
 use crate::worker::Worker;
 use hc_core::{Core, Counting};
 use hc_flash::MemFlash;
+use std::sync::Wait;
+use std::thread::Threads;
 use std::{fs, io};
 
 // The file of the cache's pages.
@@ -92,8 +97,18 @@ fn try_memory(rt: &(impl Print + Eprint + AllocGlobal)) -> io::Result<()> {
     }
 }
 
+// Clients in threads ask for one row: one of them loads it.
+fn print_crowd<R: Print + Eprint + AllocGlobal + Threads + Wait + Sync>(rt: &R) -> io::Result<()> {
+    match ask_at_once(rt, rt.alloc(), "the news") {
+        Ok(Some(stats)) => println!(rt; "{CLIENTS} clients want a row, loads: {}", stats.stored),
+        Ok(None) => eprintln!(rt; "the log isn't what the clients were answered"),
+        Err(refusal) => eprintln!(rt; "{refusal}"),
+    }
+}
+
 fn main(rt: HostRuntime) -> io::Result<()> {
     try_memory(&rt)?;
+    print_crowd(&rt)?;
     match Worker::new(&rt, rt.alloc(), FILE) {
         Ok(worker) => with_cache(&rt, worker)?,
         Err(error) => return eprintln!(rt; "no device: {error}"),
