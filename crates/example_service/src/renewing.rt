@@ -13,7 +13,7 @@ use hc_core::{Core, Counting, Refusal, Removed};
 const TRIES: u32 = 3;
 
 /// Has the cache forget a key whose row was changed in the database. Until it has, the old row may still be served: so a
-/// delete for which memory lacks is tried again.
+/// delete for which there is no memory is tried again.
 pub fn forget(cache: &mut Core<Counting>, key: &[u8]) -> Result<Removed, Refusal>
     ensures ok { IfOk result (λ removed. IsCall (remove_step 0 key.now cache.old.cache) (removed_answer removed) cache.old cache.new) }
     ensures memory { IfOk result (λ removed. removed_reply removed ≡ remove_reply (linked_at key.now cache.old.cache.memory.pools)) }

@@ -36,7 +36,7 @@ fn load(alloc: Global, key: &Key) -> Result<Bytes, AllocError>
     Ok(Bytes::from_vec(row)?)
 }
 
-// The row as an item that can be inserted. None where memory lacks, or where it has no room in the pool.
+// The row as an item that can be inserted. None when out of memory, or where it has no room in the pool.
 fn item<R: Wait>(
     rt: &R,
     shared: &Shared<Kept>,
@@ -63,7 +63,7 @@ fn item<R: Wait>(
     }
 }
 
-// Inserts the item with the ticket. Where its key was changed since, or memory lacks, it comes back.
+// Inserts the item with the ticket. Where its key was changed since, or when out of memory, it comes back.
 fn insert<R: Wait>(
     rt: &R,
     shared: &Shared<Kept>,

@@ -15,7 +15,7 @@ const PAGE: u32 = 512;
 // A file, and the digest of each of its pages: what the disk lost or tore isn't served. Over it a meter of the service's own.
 type Disk = Metered<Checked<FileDevice<File>, Folded>>;
 
-// The device does one operation. One that it can't do for want of memory has failed: the cache does without it.
+// The device does one operation. One that it can't do for lack of memory has failed: the cache does without it.
 fn make(device: &mut Disk, order: &Order) -> IoResult {
     match operate(device, order) {
         Ok(came) => came,
@@ -23,7 +23,7 @@ fn make(device: &mut Disk, order: &Order) -> IoResult {
     }
 }
 
-/// The device, and the result, with its job, that couldn't be handed in yet for want of memory.
+/// The device, and the result, with its job, that couldn't be handed in yet for lack of memory.
 #[derive(Drop)]
 pub struct Worker {
     device: Disk,

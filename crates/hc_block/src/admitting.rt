@@ -7,7 +7,8 @@ ghost use Rattle.hc_engines.specs.large.Entries.{entry_bytes as bytes_of};
 ghost use Rattle.hc_block.specs.Moves.{CanStart};
 
 use crate::block_cache::BlockCache;
-use hc_types::{Entry, Refusal};
+use hc_region::HEAD;
+use hc_types::{Entry, Refusal, VALUE_MAX};
 use std::alloc::Allocator;
 
 /// Whether the entry's value has at most 1,048,576 bytes, and the entry at most so many.
@@ -16,7 +17,7 @@ fn is_within<A: Allocator>(entry: &Entry<A>, most: u64) -> bool
 {
     let key = entry.key.len();
     let value = entry.value.len();
-    value <= 1_048_576 && (14 + key + value) as u64 <= most
+    value as u64 <= VALUE_MAX && (HEAD + key + value) as u64 <= most
 }
 
 impl<A: Allocator + Clone + Copy> BlockCache<A> {

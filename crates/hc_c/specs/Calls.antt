@@ -12,7 +12,7 @@ use Rattle.hc_state.specs.declared.answers.Inserted.TheVariants as inserted
 use Rattle.hc_core.specs.Logged.{Logged, IsCall}
 use Rattle.hc_core.specs.Plain.{set_step, add_step, give_up_step, MayRefuse, MayRefuseNew}
 use Rattle.hc_lease.specs.Turns.{without_turn}
-use Rattle.hc_leased.specs.Leased.{Leased, SameLeases, Changes, Become, stamps_added}
+use Rattle.hc_leased.specs.Leased.{Leased, SameLeases, Changes, NothingStored, Become, stamps_added}
 use Rattle.hc_c.specs.declared.status.Status.{Status}
 use Rattle.hc_c.specs.declared.status.Status.TheVariants.{Done, Refused, Miss, Short, Waits}
 
@@ -22,16 +22,12 @@ WhyKey key refusal = (key_refusal key ≡ Some refusal) ⊎ ((key_refusal key �
 
 -- ---- set and add
 
-abbrev pub SetRefused : ℕ → List ℕ → List ℕ → ℕ → Refusal → Logged → Logged → Type 0
-SetRefused pool key value ttl refusal old new =
-    (new ≡ old) ⊎ (IsCall (give_up_step pool key value ttl old.cache) Discarded old new × (refusal ≡ NoMemory))
-
 abbrev pub Sets : ℕ → List ℕ → List ℕ → ℕ → Status → Leased → Leased → Type 0
 Sets pool key value ttl Done old new =
     IsCall (set_step pool key value ttl old.logged.cache) (Replied note.Stored) old.logged new.logged
     × (Changes key old new × (key_refusal key ≡ None))
 Sets pool key value ttl (Refused refusal) old new =
-    SetRefused pool key value ttl refusal old.logged new.logged
+    NothingStored pool key value ttl refusal old.logged new.logged
     × (SameLeases old new
     × ((key_refusal key ≡ Some refusal) ⊎ ((key_refusal key ≡ None) × MayRefuse (allocate pool key value ttl old.logged.cache).answer refusal)))
 Sets pool key value ttl status old new = ⊥

@@ -6,9 +6,9 @@ use Rattle.hc_machine.specs.Evicting.{allocate}
 use Rattle.hc_core.specs.Plain.{MayRefuse}
 use Rattle.hc_lease.specs.Stamps.{ticket_at}
 use Rattle.hc_lease.specs.Turns.{busy_at, turned, without_turn}
-use Rattle.hc_leased.specs.Leased.{Leased, SameLeases, Keeps}
+use Rattle.hc_leased.specs.Leased.{Leased, SameLeases, NothingStored, Keeps}
 use Rattle.hc_leased.specs.declared.answers.Kept.TheVariants as kept
-use Rattle.hc_c.specs.Calls.{WhyKey, SetRefused}
+use Rattle.hc_c.specs.Calls.{WhyKey}
 use Rattle.hc_c.specs.declared.status.Status.{Status}
 use Rattle.hc_c.specs.declared.status.Status.TheVariants.{Done, Refused, Waits, Idle, Stale}
 
@@ -23,7 +23,7 @@ abbrev pub SetsLeased : ℕ → ℕ → List ℕ → List ℕ → ℕ → Status
 SetsLeased ticket pool key value ttl Done old new = Keeps ticket pool key value ttl kept.Stored old new
 SetsLeased ticket pool key value ttl Stale old new = Keeps ticket pool key value ttl kept.Stale old new
 SetsLeased ticket pool key value ttl (Refused refusal) old new =
-    SetRefused pool key value ttl refusal old.logged new.logged
+    NothingStored pool key value ttl refusal old.logged new.logged
     × (SameLeases old new
     × ((key_refusal key ≡ Some refusal) ⊎ ((key_refusal key ≡ None) × MayRefuse (allocate pool key value ttl old.logged.cache).answer refusal)))
 SetsLeased ticket pool key value ttl status old new = ⊥

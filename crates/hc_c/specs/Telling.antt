@@ -1,18 +1,22 @@
 -- What a cache tells of itself.
-use Rattle.std.specs.Prelude.{◌≡◌, ℕ, List, Option, Some, None}
+use Rattle.std.specs.Prelude.{◌≡◌, ℕ, ◌==◌, nat_lt, Bool, true, false, not, ◌&&◌, List, length, Option, Some, None, option_map}
 use Rattle.hc_types.specs.declared.refusal.Refusal.TheVariants.{NoPool}
 use Rattle.hc_history.specs.Losses.{total_lost}
 use Rattle.hc_history.specs.Told.{Heard, Sums}
 use Rattle.hc_history.specs.declared.losses.Losses.{Losses}
 use Rattle.hc_history.specs.declared.stats.Stats.{Stats}
 use Rattle.hc_memory.specs.declared.usage.PoolUsage.{PoolUsage}
-use Rattle.hc_memory.specs.Memory.{pool_usage}
+use Rattle.hc_memory.specs.declared.pool.Glance.{Glance}
+use Rattle.hc_memory.specs.Memory.{Memory, pool_usage, linked_at}
+use Rattle.hc_memory.specs.Seen.{glance_of}
+use Rattle.hc_machine.specs.Calls.{queue_in}
 use Rattle.hc_leased.specs.Leased.{Leased}
+use Rattle.hc_c.specs.Calls.{WhyKey}
 use Rattle.hc_c.specs.declared.telling.Counts.{Counts}
 use Rattle.hc_c.specs.declared.telling.LossCounts.{LossCounts}
 use Rattle.hc_c.specs.declared.telling.Usage.{Usage}
 use Rattle.hc_c.specs.declared.status.Status.{Status}
-use Rattle.hc_c.specs.declared.status.Status.TheVariants.{Done, Refused}
+use Rattle.hc_c.specs.declared.status.Status.TheVariants.{Done, Refused, Miss}
 
 abbrev pub counts_of : Counts → Stats
 counts_of counts = record {
@@ -61,6 +65,25 @@ CountedLosses losses status old new = ⊥
 abbrev pub Called : ℕ → Status → Leased → Leased → Type 0
 Called calls Done old new = (new ≡ old) × (calls ≡ old.logged.cache.calls)
 Called calls status old new = ⊥
+
+abbrev pub Queued : ℕ → Status → Leased → Leased → Type 0
+Queued waiting Done old new = (new ≡ old) × (waiting ≡ length (queue_in old.logged.cache.nvm))
+Queued waiting status old new = ⊥
+
+-- what is seen of an item, if there is one, is that it is expired
+abbrev pub is_over : ℕ → Option Glance → Bool
+is_over now None = false
+is_over now (Some glance) = not (glance.expiry == 0) && not (nat_lt now glance.expiry)
+
+-- the item that memory has under a key is expired
+abbrev pub has_expired : List ℕ → ℕ → Memory → Bool
+has_expired key now memory = is_over now (option_map glance_of (linked_at key memory.pools))
+
+abbrev pub TellsExpired : List ℕ → Status → Leased → Leased → Type 0
+TellsExpired key Done old new = (new ≡ old) × (has_expired key old.logged.cache.now old.logged.cache.memory ≡ true)
+TellsExpired key Miss old new = (new ≡ old) × (has_expired key old.logged.cache.now old.logged.cache.memory ≡ false)
+TellsExpired key (Refused refusal) old new = (new ≡ old) × WhyKey key refusal
+TellsExpired key status old new = ⊥
 
 pub record IsUsage (usage : PoolUsage) (told : Usage) : Type 0 where
   pub limit_bytes : told.limit_bytes ≡ usage.limits.bytes

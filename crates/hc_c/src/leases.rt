@@ -76,8 +76,8 @@ fn end_turn(cache: &mut Leased<Core<Totals>>, alloc: Global, key: &[u8]) -> Stat
     }
 }
 
-// The key of these bytes.
-fn key_of(alloc: Global, bytes: &[u8]) -> Result<Key, Refusal>
+/// The key of these bytes.
+pub fn key_of(alloc: Global, bytes: &[u8]) -> Result<Key, Refusal>
     ensures ok { IfOk result (λ key. key ≡ bytes.now) }
     ensures why { IfErr result (λ refusal. WhyKey bytes.now refusal) }
 {

@@ -38,8 +38,8 @@ pub use pages::{kilambosetry_finish_page, kilambosetry_order_page, kilambosetry_
 pub use reading::Reading;
 pub use status::Status;
 pub use telling::{
-    Counts, LossCounts, Usage, kilambosetry_calls, kilambosetry_counts, kilambosetry_losses,
-    kilambosetry_tick, kilambosetry_usage,
+    Counts, LossCounts, Usage, kilambosetry_calls, kilambosetry_counts, kilambosetry_is_expired,
+    kilambosetry_losses, kilambosetry_queue_length, kilambosetry_tick, kilambosetry_usage,
 };
 pub use value_handle::ValueHandle;
 pub use values::{

@@ -133,8 +133,8 @@ pub extern "C" fn kilambosetry_page_new(alloc: Global, page: &mut ValueHandle, b
 }
 
 /// Tells the device operation for which the job waits, as `kilambosetry_order` does. A page that is to be written is handed
-/// out by its handle, and isn't copied: its bytes are read when the cache is free for others. What the handle has is freed
-/// first, so that it has a page after a write alone. Refused with `UnknownJob`, and with `NoMemory`.
+/// out by its handle, and isn't copied: its bytes are read when the cache is free for others. Where there is a cache, what the
+/// handle has is freed first, so that it has a page after a write alone. Refused with `UnknownJob`, and with `NoMemory`.
 #[unsafe(no_mangle)]
 pub extern "C" fn kilambosetry_order_page(
     alloc: Global,

@@ -1,11 +1,12 @@
 // What a cache tells of itself, and its clock.
 ghost use Rattle.std.specs.Prelude.{◌≡◌};
 ghost use Rattle.hc_c.specs.Calls.{MovesTo};
-ghost use Rattle.hc_c.specs.Telling.{Counted, CountedLosses, Called, Used, counts_of, losses_of, IsUsage};
+ghost use Rattle.hc_c.specs.Telling.{Counted, CountedLosses, Called, Queued, TellsExpired, Used, counts_of, losses_of, IsUsage};
 ghost use Rattle.hc_c.specs.Statuses.{OnCache};
 
 use crate::cache_handle::CacheHandle;
 use crate::calls;
+use crate::leases::key_of;
 use crate::status::Status;
 use hc_core::{Core, Losses, PoolUsage, Stats, Totals};
 use hc_leased::Leased;
@@ -114,6 +115,33 @@ fn tell_calls(cache: &Leased<Core<Totals>>, calls: &mut u64) -> Status
     Status::Done
 }
 
+fn tell_queue(cache: &Leased<Core<Totals>>, length: &mut u64) -> Status
+    ensures { Queued length.new result cache.now cache.now }
+{
+    *length = cache.cache().queue_len() as u64;
+    Status::Done
+}
+
+fn tell_expired(cache: &Leased<Core<Totals>>, alloc: Global, key: &[u8]) -> Status
+    ensures { TellsExpired key.now result cache.now cache.now }
+{
+    let key = match key_of(alloc, key) {
+        Ok(key) => key,
+        Err(refusal) => return Status::Refused(refusal),
+    };
+    let now = cache.cache().now();
+    match cache.cache().pools().peek(&key) {
+        Some(glance) => {
+            if glance.is_expired(now) {
+                Status::Done
+            } else {
+                Status::Miss
+            }
+        }
+        None => Status::Miss,
+    }
+}
+
 fn tell_counts(cache: &Leased<Core<Totals>>, counts: &mut Counts) -> Status
     ensures { Counted counts.new result cache.now cache.now }
 {
@@ -161,6 +189,37 @@ pub extern "C" fn kilambosetry_calls(alloc: Global, handle: &mut CacheHandle, ca
         return Status::Empty.number();
     };
     let status = tell_calls(&cache.leased, calls);
+    handle.put(cache);
+    status.number()
+}
+
+/// Tells how many values wait to be written to flash; 0 without flash.
+#[unsafe(no_mangle)]
+pub extern "C" fn kilambosetry_queue_length(
+    alloc: Global,
+    handle: &mut CacheHandle,
+    length: &mut u64,
+) -> u8
+    ensures { OnCache handle.old.seat.cache handle.new.seat.cache result (Queued length.new) }
+{
+    let Some(cache) = handle.take(alloc) else {
+        return Status::Empty.number();
+    };
+    let status = tell_queue(&cache.leased, length);
+    handle.put(cache);
+    status.number()
+}
+
+/// Whether memory holds an item under the key whose time is over: then a get of the key misses, and this is why. It is a miss
+/// where there is no such item. Nothing changes: the item stays where it is, and isn't used.
+#[unsafe(no_mangle)]
+pub extern "C" fn kilambosetry_is_expired(alloc: Global, handle: &mut CacheHandle, key: &[u8]) -> u8
+    ensures { OnCache handle.old.seat.cache handle.new.seat.cache result (TellsExpired key.now) }
+{
+    let Some(cache) = handle.take(alloc) else {
+        return Status::Empty.number();
+    };
+    let status = tell_expired(&cache.leased, alloc, key);
     handle.put(cache);
     status.number()
 }

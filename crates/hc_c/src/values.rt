@@ -13,7 +13,7 @@ use hc_core::{Core, Found, Refusal, Reply, Totals};
 use hc_leased::Leased;
 use std::alloc::Global;
 
-// Empties the handle, and makes room for what it is handed: first, so that what a call brought isn't lost for want of memory.
+// Empties the handle, and makes room for what it is handed: first, so that what a call brought isn't lost for lack of memory.
 fn make_room(alloc: Global, value: &mut ValueHandle) -> Result<Box<Reading>, Refusal>
     ensures empty { value.new.seat.value ≡ None }
     ensures memory { IfErr result (λ refusal. refusal ≡ NoMemory) }
@@ -117,7 +117,8 @@ fn copy_piece(bytes: &Bytes, from: usize, out: &mut [u8], len: &mut usize) -> St
 }
 
 /// Finds the value under the key, and hands it out as it lies in the cache: it stays readable until it is freed, whatever
-/// becomes of its item and of the cache. A value that the handle has is freed first, so that it has one after `Done` alone.
+/// becomes of its item and of the cache. Where there is a cache, a value that the handle has is freed first, so that it has one
+/// after `Done` alone.
 #[unsafe(no_mangle)]
 pub extern "C" fn kilambosetry_read(
     alloc: Global,

@@ -11,7 +11,8 @@ use Rattle.hc_history.specs.Note.{Op, Insert, Add, Find, Remove, Reply, Stored, 
 use Rattle.hc_history.specs.Books.{now_at}
 use Rattle.hc_history.specs.Lawful.{past}
 use Rattle.hc_client_records.specs.Records.{Entry, OpenCall, Record, finished, Agrees, HasAsked, IsOwn, IsReached, Reconciled}
-use Rattle.hc_client_records.specs.Judge.{op_eq, reply_eq, entry_eq, agrees, has_entry, has_open, has_asked, has_ticked, is_own, is_reached, reconciles}
+use Rattle.hc_client_records.specs.Judge.{op_eq, entry_eq, agrees, has_entry, has_open, has_asked, has_ticked, is_own, is_reached, reconciles}
+use Rattle.hc_legal.specs.Replies.{reply_eq}
 
 and3 : (P Q R : Type 0) (x y z : Bool) → Decides x P → Decides y Q → Decides z R → Decides ((x && y) && z) (P × Q × R)
 and3 P Q R x y z p q r =

@@ -3,10 +3,11 @@ use Rattle.std.specs.Prelude.{◌≡◌, ℕ, ◌==◌, ◌&&◌, ◌||◌, nat_
 use Rattle.std.specs.Cmp.Lexicographic.{pointwise}
 use Rattle.std.specs.List.{list_any, list_all}
 use Rattle.std.specs.Str.{bytes_eq}
-use Rattle.hc_history.specs.Note.{Op, Insert, Add, Find, Remove, Reply, Stored, Exists, Hit, Miss, FoundInMemory, NotInMemory, Note, Begin, Now}
+use Rattle.hc_history.specs.Note.{Op, Insert, Add, Find, Remove, Note, Begin, Now}
 use Rattle.hc_history.specs.Books.{now_at}
 use Rattle.hc_history.specs.Lawful.{past}
 use Rattle.hc_client_records.specs.Records.{Entry, OpenCall, Record, finished}
+use Rattle.hc_legal.specs.Replies.{reply_eq}
 
 abbrev pub op_eq : Op → Op → Bool
 op_eq (Insert k v e) (Insert l w f) = bytes_eq k l && bytes_eq v w && (e == f)
@@ -14,15 +15,6 @@ op_eq (Add k v e) (Add l w f) = bytes_eq k l && bytes_eq v w && (e == f)
 op_eq (Find k) (Find l) = bytes_eq k l
 op_eq (Remove k) (Remove l) = bytes_eq k l
 op_eq a b = false
-
-abbrev pub reply_eq : Reply → Reply → Bool
-reply_eq Stored Stored = true
-reply_eq Exists Exists = true
-reply_eq (Hit v) (Hit w) = bytes_eq v w
-reply_eq Miss Miss = true
-reply_eq FoundInMemory FoundInMemory = true
-reply_eq NotInMemory NotInMemory = true
-reply_eq a b = false
 
 abbrev pub entry_eq : Entry → Entry → Bool
 entry_eq a b = (a.call == b.call) && op_eq a.op b.op && reply_eq a.reply b.reply

@@ -5,6 +5,7 @@ ghost use Rattle.std.specs.Bool.{Decides};
 ghost use Rattle.hc_history.specs.Note.{Note as Meaning};
 ghost use Rattle.hc_history.specs.Lawful.{past};
 ghost use Rattle.hc_history.specs.Seen.{op_of, reply_of};
+ghost use Rattle.hc_legal.specs.Replies.{reply_eq};
 ghost use Rattle.hc_client_records.specs.Judge as judge;
 ghost use Rattle.hc_client_records.specs.Judge.{Leaves, Differs};
 ghost use Rattle.hc_client_records.specs.Records.{Reconciled, finished_at};
@@ -160,7 +161,7 @@ pub(crate) fn is_op(a: &Op, b: &Op) -> bool
 }
 
 fn is_reply(a: &Reply, b: &Reply) -> bool
-    ensures { result ≡ judge.reply_eq (reply_of a.now) (reply_of b.now) }
+    ensures { result ≡ reply_eq (reply_of a.now) (reply_of b.now) }
 {
     match (a, b) {
         (Reply::Hit(v), Reply::Hit(w)) => v == w,

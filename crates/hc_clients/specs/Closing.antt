@@ -2,6 +2,7 @@
 use Rattle.std.specs.Prelude.{ℕ, ◌+◌, ◌++◌, min, nat_lt, Bool, true, false, List, [], ◌∷◌, length, Option, Some, None, codes}
 use Rattle.std.specs.Fmt.{decimal}
 use Rattle.hc_history.specs.declared.stats.Stats.{Stats}
+use Rattle.hc_history.specs.Told.{no_counts}
 use Rattle.hc_trace_text.specs.Texts.{line_text, stats_text, verdict_text}
 use Rattle.hc_threads.specs.declared.close.Report.{Report}
 
@@ -21,9 +22,6 @@ with_counts a b = record {
   reads = with_count a.reads b.reads;
   writes = with_count a.writes b.writes;
 }
-
-abbrev pub no_counts : Stats
-no_counts = record { stored = 0; hits = 0; misses = 0; removes = 0; losses = 0; reads = 0; writes = 0 }
 
 -- these counts, and those of the shards
 abbrev pub counts_with : Stats → List Report → Stats

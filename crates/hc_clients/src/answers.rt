@@ -57,7 +57,7 @@ pub(crate) fn in_order<'b>(
 }
 
 /// Writes the lines of the answers, in their order, up to the first request that has none: nobody could tell whose answers
-/// those behind it are. Where memory lacks for a line, those before it are written.
+/// those behind it are. Where there is no memory for a line, those before it are written.
 pub(crate) fn write_answers<W: Write>(
     alloc: Global,
     writer: &mut W,
@@ -78,7 +78,7 @@ pub(crate) fn write_answers<W: Write>(
     write_text(writer, &out)
 }
 
-/// Adds the line of the answer, or nothing where memory lacks.
+/// Adds the line of the answer, or nothing when out of memory.
 fn add_whole(out: &mut Vec<u8>, answer: &Answer) -> Result<(), AllocError> {
     let before = out.len();
     let added = add_answer(out, answer);

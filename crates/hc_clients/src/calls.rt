@@ -41,7 +41,7 @@ impl<'a> Call<'a> {
     }
 }
 
-/// Makes the call, and answers what it came to, once it was answered. An error is want of memory.
+/// Makes the call, and answers what it came to, once it was answered. An error is out of memory.
 pub(crate) fn ask<R: Wait>(
     rt: &R,
     alloc: Global,

@@ -1,6 +1,7 @@
 // The end of a replay.
 ghost use Rattle.std.specs.Prelude.{◌≡◌, ◌≢◌, ◌⊎◌, ◌++◌, nat_lt, length, OnOk};
 ghost use Rattle.std.specs.Io.KnownBytes.{Appends};
+ghost use Rattle.hc_history.specs.Told.{no_counts};
 ghost use Rattle.hc_clients.specs.Closing as spec;
 
 use hc_history::Stats;
@@ -28,7 +29,7 @@ impl Model for Lie {
 }
 
 /// Writes the last two lines: the counts of all shards together, and what was found of their logs. Answers the status: 3
-/// after a lie, 4 where it can't be written or memory lacks, and else 0.
+/// after a lie, 4 where it can't be written or is out of memory, and else 0.
 pub fn verdict<W: Write>(alloc: Global, writer: &mut W, reports: &[Report]) -> u8
     ensures status { result ≢ 4 → result ≡ spec.closing_status (spec.lie_from 0 reports.now) }
     ensures text { result ≢ 4 → Appends (W.contents writer.old) (W.contents writer.new) (spec.closing_text reports.now) }
@@ -70,7 +71,7 @@ pub(crate) fn write_text<W: Write>(writer: &mut W, out: &[u8]) -> io::Result<()>
 
 /// The counts of all shards together.
 fn counts_of(reports: &[Report]) -> Stats
-    ensures { result ≡ spec.counts_with spec.no_counts reports.now }
+    ensures { result ≡ spec.counts_with no_counts reports.now }
 {
     let mut counts = Stats::default();
     for report in reports {

@@ -21,7 +21,7 @@ use std::thread::{self, Threads};
 /// Replays the trace that the reader has by so many clients, in threads of their own beside three workers for each shard
 /// over a device in memory, and writes the answers in the order of the trace, and then the verdict. A trace with a fault, and
 /// one whose configuration is refused, is answered by that alone, with status 1; a verdict of a mismatch or a lie has status
-/// 3. Status 4 says that reading, writing or memory failed. Where memory lacked for a request, the answers before it are
+/// 3. Status 4 says that reading, writing or memory failed. Where there was no memory for a request, the answers before it are
 /// written, and no verdict.
 pub fn replay_by<T: Threads + Wait + Sync, R: Read, W: Write>(
     rt: &T,
@@ -105,7 +105,7 @@ fn new_shards(alloc: Global, sharded: &Sharded) -> Result<Shards<Kept>, Refusal>
     )
 }
 
-/// Writes the refusal of a configuration alone. The status is 1, but 4 for want of memory.
+/// Writes the refusal of a configuration alone. The status is 1, but 4 for lack of memory.
 fn write_refused<W: Write>(alloc: Global, writer: &mut W, refusal: Refusal) -> io::Result<u8> {
     if refusal == Refusal::NoMemory {
         return Err(io::Error::from(AllocError));

@@ -64,7 +64,7 @@ impl<'a> Session<'a> {
         client
     }
 
-    /// Makes all requests by a client of its own, one after the other, up to one for which memory lacks. Then workers and
+    /// Makes all requests by a client of its own, one after the other, up to one for which there is no memory. Then workers and
     /// other clients, for which it may lack too, look again: what this client held is given back.
     pub(crate) fn run<R: Wait>(&mut self, rt: &R, alloc: Global, shards: &Shards<Kept>) {
         let Ok(mut client) = shards.client(rt, alloc) else {

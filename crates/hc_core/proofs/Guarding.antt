@@ -14,10 +14,11 @@ use Rattle.hc_machine.specs.Waiting.{live}
 use Rattle.hc_machine.specs.Calls.{begin, is_known, is_kept_in, store, insert_or_replace, in_memory, add, insert}
 use Rattle.hc_invariant.specs.Good.{IsSized}
 use Rattle.hc_proof.proofs.calls.Adds.{and_both}
-use Rattle.hc_theorem.specs.runs.Events.{Event, EventSized, Allocates, Inserts, Adds, Discards, Finds, Removes, Replies, Ticks, Writes, Fills, Reclaims, Finishes, act}
+use Rattle.hc_machine.specs.Call.{CacheCall, Allocates, Inserts, Adds, Discards, Finds, Removes, Replies, Ticks, Writes, Fills, Reclaims, Finishes, act}
+use Rattle.hc_theorem.specs.runs.Honesty.{CallSized}
 use Rattle.hc_theorem.specs.runs.Lock.{Stands, Guarded}
 use Rattle.hc_theorem.proofs.headlines.WholeRuns as theorem
-use Rattle.hc_core.specs.Events.{EventFits}
+use Rattle.hc_core.specs.Arguments.{CallFits}
 use Rattle.hc_core.specs.Holds.{is_long, AreShort}
 
 -- ---- a handle that is known is within the limits of an item
@@ -48,7 +49,7 @@ idle log cache g = subst (λ (l : List Note). Guarded cache.config l cache) (sym
     ends [] = refl
     ends (x ∷ xs) = ap (λ ys. x ∷ ys) (ends xs)
 
-by_event : (event : Event) (log : List Note) (cache : Cache) → EventSized event → Guarded cache.config log cache → GuardedBy log (act event cache)
+by_event : (event : CacheCall) (log : List Note) (cache : Cache) → CallSized event → Guarded cache.config log cache → GuardedBy log (act event cache)
 by_event event log cache fits g honest =
     let moved = act event cache in
     let stands = theorem.guarded cache.config log cache event fits g honest in
@@ -76,7 +77,7 @@ adds log cache client handle fits short g = go (is_known cache handle) refl
         subst (λ (b : Bool). GuardedBy log (if is_some (live cache.now (in_memory cache handle.key)) then stays (Refused AlreadyExists) cache else (if b then add client handle cache else stays (Refused ForeignHandle) cache))) (sym e)
         (refused (is_some (live cache.now (in_memory cache handle.key))))
 
-each : (event : Event) (log : List Note) (cache : Cache) → EventFits event → AreShort cache.memory.charges → Guarded cache.config log cache → GuardedBy log (act event cache)
+each : (event : CacheCall) (log : List Note) (cache : Cache) → CallFits event → AreShort cache.memory.charges → Guarded cache.config log cache → GuardedBy log (act event cache)
 each (Allocates pool key value ttl) log cache fits short g = by_event (Allocates pool key value ttl) log cache fits g
 each (Inserts client handle) log cache fits short g = inserts log cache client handle fits short g
 each (Adds client handle) log cache fits short g = adds log cache client handle fits short g
@@ -96,7 +97,7 @@ each (Finishes number result) log cache fits short g = by_event (Finishes number
 abbrev pub IsGuarded : Heard → Cache → Type 0
 IsGuarded heard cache = IfLog heard (λ log. Guarded cache.config log cache)
 
-pub stays-guarded : (event : Event) (heard : Heard) (cache : Cache) → EventFits event → AreShort cache.memory.charges → IsGuarded heard cache → IsGuarded (told_more heard (act event cache).part) (act event cache).cache
+pub stays-guarded : (event : CacheCall) (heard : Heard) (cache : Cache) → CallFits event → AreShort cache.memory.charges → IsGuarded heard cache → IsGuarded (told_more heard (act event cache).part) (act event cache).cache
 stays-guarded event Nothing cache fits short g = tt
 stays-guarded event (Counts counts losses) cache fits short g = tt
 stays-guarded event (Sums counts losses) cache fits short g = tt

@@ -14,7 +14,7 @@ use Rattle.hc_machine.specs.Calls.{insert_or_replace, discard}
 use Rattle.hc_machine.specs.World.{then_inserted, inserted}
 use Rattle.hc_invariant.specs.Structure.{Structured}
 use Rattle.hc_theorem.specs.runs.Lock.{Guarded}
-use Rattle.hc_theorem.specs.runs.Events.{Event, Allocates, Inserts, Adds, Discards, Finds, Removes, Replies, Ticks, Writes, Fills, Reclaims, Finishes, act}
+use Rattle.hc_machine.specs.Call.{CacheCall, Allocates, Inserts, Adds, Discards, Finds, Removes, Replies, Ticks, Writes, Fills, Reclaims, Finishes, act}
 use Rattle.hc_proof.proofs.structure.Calls as clients
 use Rattle.hc_proof.proofs.structure.Workers as workers
 use Rattle.hc_state.specs.wait.Begin.{OwesBegun}
@@ -22,14 +22,14 @@ use Rattle.hc_state.specs.set.Short.{set_step, give_up_step, is_awaited, is_brie
 use Rattle.hc_state.specs.Whole.{Whole, Stays, IsStep, IsUnchanged}
 use Rattle.hc_state.proofs.Begun as calls
 use Rattle.hc_state.proofs.Unchanged.{stays-unchanged}
-use Rattle.hc_core.specs.Events.{EventFits}
+use Rattle.hc_core.specs.Arguments.{CallFits}
 use Rattle.hc_core.specs.Holds.{AreShort, Holds}
 use Rattle.hc_core.proofs.Short.{stays-short}
 use Rattle.hc_core.proofs.Guarding.{guarded-as, new-guarded, stays-guarded}
 
 -- ---- by the kind of the step
 
-structured : (event : Event) (cache : Cache) → Structured cache → Structured (act event cache).cache
+structured : (event : CacheCall) (cache : Cache) → Structured cache → Structured (act event cache).cache
 structured (Allocates pool key value ttl) cache h = clients.allocates cache pool key value ttl h
 structured (Inserts client handle) cache h = clients.inserts cache client handle h
 structured (Adds client handle) cache h = clients.adds_keep cache client handle h
@@ -43,7 +43,7 @@ structured Fills cache h = workers.fills cache h
 structured Reclaims cache h = workers.reclaims cache h
 structured (Finishes number result) cache h = workers.finishes cache number result h
 
-begun : (event : Event) (cache : Cache) → OwesBegun cache → OwesBegun (act event cache).cache
+begun : (event : CacheCall) (cache : Cache) → OwesBegun cache → OwesBegun (act event cache).cache
 begun (Allocates pool key value ttl) cache h = calls.allocate-begun pool key value ttl cache h
 begun (Inserts client handle) cache h = calls.insert-or-replace-begun client handle cache h
 begun (Adds client handle) cache h = calls.insert-begun client handle cache h
@@ -68,7 +68,7 @@ new-holds config heard whole right empty is log = record {
   guarded = guarded-as heard whole.log (new_cache config) whole.cache log is (new-guarded config heard right empty);
 }
 
-step_holds : (event : Event) (answer : Answer) (old new : Whole) → EventFits event → Holds old → IsStep (act event old.cache) answer old new → Holds new
+step_holds : (event : CacheCall) (answer : Answer) (old new : Whole) → CallFits event → Holds old → IsStep (act event old.cache) answer old new → Holds new
 step_holds event answer old new fits h step =
     let moved = act event old.cache in
     record {
@@ -93,7 +93,7 @@ stays_holds old new h stays = unchanged_holds old new h (stays-unchanged old new
 
 -- ---- calls
 
-module _ {T E : Type 0} (event : Event) (old new : Whole) (fits : EventFits event) (h : Holds old) where
+module _ {T E : Type 0} (event : CacheCall) (old new : Whole) (fits : CallFits event) (h : Holds old) where
   pub call-holds : (answer : T → Answer) (result : Result T E) → IfOk result (λ x. IsStep (act event old.cache) (answer x) old new) → OnErr result (IsUnchanged old new) → Holds new
   call-holds answer (Ok x) ok err = step_holds event (answer x) old new fits h ok
   call-holds answer (Err e) ok err = unchanged_holds old new h err

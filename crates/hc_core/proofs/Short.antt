@@ -22,7 +22,7 @@ use Rattle.hc_machine.specs.Evicting.{leaves_for, leaves, all_leave, make_room, 
 use Rattle.hc_machine.specs.Waiting.{freed_note, clear, uproot, plant, free, live, find_reply, serve, there_after, serve_all, serve_fill, end_fill_of, end_fill, entry_of_handle}
 use Rattle.hc_machine.specs.Calls.{begin, replies_then, wait_in, wait_for, is_known, discard, store, insert_or_replace, in_memory, must_wait, add, insert, used, find_now, find, remove, take_of, take_reply}
 use Rattle.hc_machine.specs.Workers.{can_link, link_clean, bring, fill, after_take, take_on, reclaim_on, reclaim, after_finish, finish_on, finish}
-use Rattle.hc_theorem.specs.runs.Events.{Event, Allocates, Inserts, Adds, Discards, Finds, Removes, Replies, Ticks, Writes, Fills, Reclaims, Finishes, act}
+use Rattle.hc_machine.specs.Call.{CacheCall, Allocates, Inserts, Adds, Discards, Finds, Removes, Replies, Ticks, Writes, Fills, Reclaims, Finishes, act}
 use Rattle.hc_theorem.proofs.runs.Running.{short_value}
 use Rattle.hc_core.specs.Holds.{is_long, AreShort}
 
@@ -258,7 +258,7 @@ finishes number result cache h = go cache.nvm
     go None = h
     go (Some nvm) = by (takes.finish number result nvm)
 
-pub stays-short : (event : Event) (cache : Cache) → AreShort cache.memory.charges → AreShort (act event cache).cache.memory.charges
+pub stays-short : (event : CacheCall) (cache : Cache) → AreShort cache.memory.charges → AreShort (act event cache).cache.memory.charges
 stays-short (Allocates pool key value ttl) cache h = allocates pool key value ttl cache h
 stays-short (Inserts client handle) cache h = inserts client handle cache h
 stays-short (Adds client handle) cache h = adds client handle cache h

@@ -1,6 +1,6 @@
 -- What each call of the cache does.
 pub mod Logged
 pub mod Answers
-pub mod Events
+pub mod Arguments
 pub mod Holds
 pub mod Plain

@@ -167,7 +167,7 @@ impl<N: Notes<Note<A>>, A: Allocator + Clone + Copy> Core<N, A> {
     }
 
     /// Makes room in the pool for an item of this key and of `size` bytes that expires `ttl` seconds from now (0: never),
-    /// and charges it: the items that were used longest ago are evicted, none while there is room, and wait for flash where
+    /// and charges it: the least recently used items are evicted, none while there is room, and wait for flash where
     /// they may. The item can't be found until its handle is sealed and inserted. Tick before the first one, as `tick`
     /// says. Refused with `NoPool`, `ValueTooLong` and `NoRoom`, the first that holds, and with `NoMemory`; then the key
     /// comes back.

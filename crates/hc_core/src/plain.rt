@@ -32,7 +32,7 @@ fn key_of<A: Allocator + Copy>(config: &Config<A>, bytes: &[u8]) -> Result<Key<A
     Key::new(*config.pools.allocator(), bytes)
 }
 
-// The sealed handle of a new item that begins as `fill`. An item that can't be sealed for want of memory is given up.
+// The sealed handle of a new item that begins as `fill`. An item that can't be sealed for lack of memory is given up.
 fn open_with<N: Notes<Note<A>>, A: Allocator + Clone + Copy>(
     core: &mut Core<N, A>,
     pool: u8,
@@ -61,7 +61,7 @@ fn open_with<N: Notes<Note<A>>, A: Allocator + Clone + Copy>(
     }
 }
 
-// Inserts an item of this cache, in place of what the key has. For want of memory it is given up.
+// Inserts an item of this cache, in place of what the key has. For out of memory it is given up.
 fn link<N: Notes<Note<A>>, A: Allocator + Clone + Copy>(
     core: &mut Core<N, A>,
     sealed: Sealed<A>,

@@ -10,6 +10,7 @@ use Rattle.hc_history.specs.Note.{Note, Wrote, Opened}
 use Rattle.hc_history.specs.Books.{Entry, Call, waiting, buried, open_calls, entry_at}
 use Rattle.hc_history.specs.Regions.{Filing, filed, in_use, flushed, open_region, filling, is_one_of, clean_count, key_of}
 use Rattle.hc_follows.specs.Desk.{Out, Desk}
+use Rattle.hc_machine.specs.Nvm.{is_number_in}
 
 -- ---- orders
 
@@ -62,16 +63,12 @@ pages_written flash region (note ∷ older) = pages_written flash region older
 abbrev pub has_no_full_page : FlashConfig → List Note → ℕ → Bool
 has_no_full_page flash older region = nat_lt (filling flash older) ((pages_written flash region older + 1) * flash.page) || nat_le flash.region_pages (pages_written flash region older + 1)
 
-abbrev pub is_the_open_one : ℕ → Option ℕ → Bool
-is_the_open_one region None = false
-is_the_open_one region (Some other) = other == region
-
 -- nothing to write of a region in use: it is whole on flash, it failed, a page of it is out, or it is open and has no page that
 -- could go before it is full
 abbrev pub needs_no_write : FlashConfig → Desk → ℕ → Bool
 needs_no_write flash desk region =
     is_one_of region (flushed desk.older) || has_failed flash region desk.older || is_being_written flash desk.jobs region
-    || (is_the_open_one region (open_region flash desk.older) && has_no_full_page flash desk.older region)
+    || (is_number_in region (open_region flash desk.older) && has_no_full_page flash desk.older region)
 
 -- nothing to write of what is buried, of what waits and of regions: a large put may always go, and else the key's bucket is busy
 abbrev pub is_written_out : Option FlashConfig → Desk → Bool

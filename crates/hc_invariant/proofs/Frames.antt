@@ -18,7 +18,8 @@ use Rattle.hc_history.specs.Books.{Entry, charges, waiting, is_among, is_linked,
 use Rattle.hc_history.specs.Pages.{bytes_at}
 use Rattle.hc_machine.specs.Nvm.{Nvm, put_at}
 use Rattle.hc_machine.specs.Cache.{Cache}
-use Rattle.hc_invariant.specs.Standing.{PlacedAt, queued_at, written_at, buried_at, small_at, large_at}
+use Rattle.hc_machine.specs.Calls.{waiting_at, buried_at}
+use Rattle.hc_invariant.specs.Standing.{PlacedAt, written_at, small_at, large_at}
 use Rattle.hc_invariant.specs.Tells.{keys_of, WaitsTell, MemoryTells}
 use Rattle.hc_invariant.proofs.Placing.{placed_eq, map_lost}
 use Rattle.hc_invariant.proofs.Ends.{linked_charges}
@@ -28,7 +29,7 @@ use Rattle.hc_invariant.proofs.Ends.{linked_charges}
 -- all that is said of the key is as it was
 pub record SameAt (flash : Option FlashConfig) (older newer : List Note) (before after : Cache) (key : List ℕ) : Type 0 where
   pub linked : linked_at key after.memory.pools ≡ linked_at key before.memory.pools
-  pub queued : queued_at after.nvm key ≡ queued_at before.nvm key
+  pub queued : waiting_at after.nvm key ≡ waiting_at before.nvm key
   pub written : written_at after.nvm key ≡ written_at before.nvm key
   pub buried : buried_at after.nvm key ≡ buried_at before.nvm key
   pub small_one : small_at (bytes_at newer) after.nvm key ≡ small_at (bytes_at older) before.nvm key
@@ -37,7 +38,7 @@ pub record SameAt (flash : Option FlashConfig) (older newer : List Note) (before
 
 pub placed_still : (flash : Option FlashConfig) (older newer : List Note) (before after : Cache) (key : List ℕ) → SameAt flash older newer before after key → PlacedAt flash older before key → PlacedAt flash newer after key
 placed_still flash older newer before after key h p =
-    placed_eq (linked_at key before.memory.pools) (linked_at key after.memory.pools) (queued_at before.nvm key) (queued_at after.nvm key) (written_at before.nvm key) (written_at after.nvm key) (buried_at before.nvm key) (buried_at after.nvm key)
+    placed_eq (linked_at key before.memory.pools) (linked_at key after.memory.pools) (waiting_at before.nvm key) (waiting_at after.nvm key) (written_at before.nvm key) (written_at after.nvm key) (buried_at before.nvm key) (buried_at after.nvm key)
     (small_at (bytes_at older) before.nvm key) (small_at (bytes_at newer) after.nvm key) (large_at (bytes_at older) before.nvm key) (large_at (bytes_at newer) after.nvm key) (entry_at flash older key) (entry_at flash newer key)
     h.linked h.queued h.written h.buried h.small_one h.large_one h.map p
 

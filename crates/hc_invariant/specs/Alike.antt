@@ -4,7 +4,7 @@ use Rattle.std.specs.Str.{bytes_eq}
 use Rattle.hc_types.specs.declared.config.PoolSize.{PoolSize}
 use Rattle.hc_types.specs.FlashEntry.{FlashEntry}
 use Rattle.hc_engines.specs.Engine.{Order, Read, Write}
-use Rattle.hc_history.specs.Note.{Op as Asked, Add, Find, Reply, Stored, Exists, Hit, Miss, FoundInMemory, NotInMemory}
+use Rattle.hc_history.specs.Note.{Op as Asked, Add, Find}
 use Rattle.hc_history.specs.Books.{Entry, Charge}
 
 abbrev pub is_same : {A : Type 0} → (A → A → Bool) → Option A → Option A → Bool
@@ -42,15 +42,6 @@ abbrev pub same_op : Asked → Asked → Bool
 same_op (Find k) (Find l) = bytes_eq k l
 same_op (Add k v e) (Add l w f) = bytes_eq k l && (bytes_eq v w && (e == f))
 same_op a b = false
-
-abbrev pub same_reply : Reply → Reply → Bool
-same_reply Stored Stored = true
-same_reply Exists Exists = true
-same_reply (Hit v) (Hit w) = bytes_eq v w
-same_reply Miss Miss = true
-same_reply FoundInMemory FoundInMemory = true
-same_reply NotInMemory NotInMemory = true
-same_reply a b = false
 
 abbrev pub same_order : Order → Order → Bool
 same_order (Read p) (Read q) = p == q

@@ -13,7 +13,7 @@ use Rattle.hc_memory.specs.Item.{charge_by}
 use Rattle.hc_memory.specs.Charges.{is_open}
 use Rattle.hc_memory.specs.Memory.{Memory, linked_at}
 use Rattle.hc_engines.specs.pair.Pair.{Pair, hash_in}
-use Rattle.hc_machine.specs.Nvm.{Nvm, Tombstone, Wish, ToFind, ToAdd, Waiter, Fill, Task, Putting, Deleting, Filling, Flushing, Job, put_at, is_buried, is_stone_of, is_job, job_at, is_fill_of, is_brought_by, adds}
+use Rattle.hc_machine.specs.Nvm.{Nvm, Tombstone, Wish, ToFind, ToAdd, Waiter, Fill, Task, Putting, Deleting, Filling, Flushing, Job, put_at, is_buried, is_stone_of, is_job, job_at, is_fill_of, is_number_in, adds}
 use Rattle.hc_invariant.specs.Standing.{put_in, written_by}
 use Rattle.hc_invariant.specs.Tells.{waiters_of}
 
@@ -105,6 +105,6 @@ AllFill pages memory nvm (fill ∷ fills) = FillHolds pages memory nvm fill × A
 pub record FillsHold (pages : Pages) (memory : Memory) (nvm : Nvm) : Type 0 where
   pub each : AllFill pages memory nvm nvm.fills
   pub one : (key : List ℕ) → count (is_fill_of key) nvm.fills ≤ 1
-  pub one_each : (n : ℕ) → count (λ (fill : Fill). is_brought_by n fill.job) nvm.fills ≤ 1
+  pub one_each : (n : ℕ) → count (λ (fill : Fill). is_number_in n fill.job) nvm.fills ≤ 1
   -- no two adds have one charge
   pub one_add : (n : ℕ) → count (adds n) (waiters_of nvm.fills) ≤ 1

@@ -12,9 +12,10 @@ use Rattle.hc_memory.specs.Memory.{linked_at}
 use Rattle.hc_history.specs.Note.{Note}
 use Rattle.hc_history.specs.Books.{Entry, entry_at}
 use Rattle.hc_history.specs.Pages.{bytes_at}
-use Rattle.hc_machine.specs.Nvm.{Nvm, put_at, is_buried}
+use Rattle.hc_machine.specs.Nvm.{Nvm}
 use Rattle.hc_machine.specs.Evicting.{entry_of_item}
 use Rattle.hc_machine.specs.Cache.{Cache}
+use Rattle.hc_machine.specs.Calls.{waiting_at, buried_at}
 
 -- what the map has for an item, and for an entry
 abbrev pub map_of : FlashEntry → Entry
@@ -58,17 +59,9 @@ abbrev pub written_by : List ℕ → List bighash.Job → Option FlashEntry
 written_by key [] = None
 written_by key (job ∷ jobs) = first_of (put_in key job.op) (written_by key jobs)
 
-abbrev pub queued_at : Option Nvm → List ℕ → Option FlashEntry
-queued_at None key = None
-queued_at (Some nvm) key = put_at key nvm.queue
-
 abbrev pub written_at : Option Nvm → List ℕ → Option FlashEntry
 written_at None key = None
 written_at (Some nvm) key = written_by key nvm.pair.small.jobs
-
-abbrev pub buried_at : Option Nvm → List ℕ → Bool
-buried_at None key = false
-buried_at (Some nvm) key = is_buried nvm key
 
 abbrev pub small_at : Pages → Option Nvm → List ℕ → Option FlashEntry
 small_at pages None key = None
@@ -81,5 +74,5 @@ large_at pages (Some nvm) key = (large.held nvm.pair.small.flash pages nvm.pair.
 -- where the key stands in this cache, after this history
 abbrev pub PlacedAt : Option FlashConfig → List Note → Cache → List ℕ → Type 0
 PlacedAt flash older cache key =
-    Placed (linked_at key cache.memory.pools) (queued_at cache.nvm key) (written_at cache.nvm key) (buried_at cache.nvm key)
+    Placed (linked_at key cache.memory.pools) (waiting_at cache.nvm key) (written_at cache.nvm key) (buried_at cache.nvm key)
     (small_at (bytes_at older) cache.nvm key) (large_at (bytes_at older) cache.nvm key) (entry_at flash older key)

@@ -12,7 +12,7 @@ use Rattle.hc_memory.specs.Item.{Item}
 use Rattle.hc_memory.specs.Pool.{is_at}
 use Rattle.hc_memory.specs.Memory.{Memory}
 use Rattle.hc_machine.specs.items.Items.{items_of, item_has, open_has}
-use Rattle.hc_machine.specs.Nvm.{Nvm, Tombstone, Fill, Job, is_put_of, is_stone_of, is_job, is_fill_of, is_brought_by, adds}
+use Rattle.hc_machine.specs.Nvm.{Nvm, Tombstone, Fill, Job, is_put_of, is_stone_of, is_job, is_fill_of, is_number_in, adds}
 use Rattle.hc_machine.specs.Cache.{Cache}
 use Rattle.hc_invariant.specs.Tells.{waiters_of}
 use Rattle.hc_invariant.specs.Jobs.{AllWishes}
@@ -67,7 +67,7 @@ AllAsk pair (fill ∷ fills) = AsksIf pair fill.key fill.job × AllAsk pair fill
 
 -- the fills that the job with this number brings
 abbrev pub brings : ℕ → Fill → Bool
-brings n fill = is_brought_by n fill.job
+brings n fill = is_number_in n fill.job
 
 -- how many operations of the engines have a number
 abbrev pub operations : Pair → ℕ → ℕ

@@ -15,10 +15,11 @@ use Rattle.hc_history.specs.Regions.{in_use, is_one_of, flushed, open_region, fi
 use Rattle.hc_engines.specs.large.Region.{Region, is_clean, region_at, filled_to}
 use Rattle.hc_engines.specs.large.Index.{place_at, region_in}
 use Rattle.hc_engines.specs.large.Block.{Block}
-use Rattle.hc_machine.specs.Nvm.{Nvm, Wish, ToFind, ToAdd, Waiter, Fill, Job, is_put_of, is_stone_of, is_buried, puts, is_written_now}
+use Rattle.hc_machine.specs.Nvm.{Nvm, Wish, ToFind, ToAdd, Waiter, Fill, Job, is_put_of, is_stone_of, is_buried, puts, is_written_now, is_number_in}
 use Rattle.hc_machine.specs.Leaving.{is_too_large}
 use Rattle.hc_machine.specs.Cache.{Owed, is_owed, owed_at}
 use Rattle.hc_machine.specs.items.Items.{charge_at, open_at, item_has, open_has}
+use Rattle.hc_invariant.specs.Standing.{first_of}
 
 -- ---- charges
 
@@ -68,14 +69,10 @@ abbrev pub asked_by : ℕ → List ℕ → List Waiter → Option Op
 asked_by call key [] = None
 asked_by call key (waiter ∷ waiters) = if waiter.call == call then Some (op_of key waiter.wish) else asked_by call key waiters
 
-abbrev pub or_else : {A : Type 0} → Option A → Option A → Option A
-or_else (Some x) other = Some x
-or_else None other = other
-
 -- what the call that waits asked
 abbrev pub asked_in : ℕ → List Fill → Option Op
 asked_in call [] = None
-asked_in call (fill ∷ fills) = or_else (asked_by call fill.key fill.waiters) (asked_in call fills)
+asked_in call (fill ∷ fills) = first_of (asked_by call fill.key fill.waiters) (asked_in call fills)
 
 abbrev pub reply_in : ℕ → List Answer → Option Reply
 reply_in call [] = None
@@ -109,10 +106,6 @@ pub record CallsTell (older : List Note) (calls : ℕ) (all : List Owed) (fills 
 
 -- ---- regions
 
-abbrev pub is_here : ℕ → Option ℕ → Bool
-is_here region None = false
-is_here region (Some other) = other == region
-
 abbrev pub files : ℕ → ℕ → Filing → Bool
 files hash region filing = (filing.kept == hash) && (filing.region == region)
 
@@ -122,6 +115,6 @@ pub record RegionsTell (flash : FlashConfig) (older : List Note) (s : Block) : T
   pub used_number : length (in_use older) ≡ count (λ (region : Region). not (is_clean region.status)) s.regions
   pub in_order : s.flushed ≡ reverse (flushed older)
   -- what is filed under a region is what the index leads to there
-  pub filings : (hash region : ℕ) → count (files hash region) (filed flash older) ≡ (if is_here region (region_in (place_at hash s.index)) then 1 else 0)
+  pub filings : (hash region : ℕ) → count (files hash region) (filed flash older) ≡ (if is_number_in region (region_in (place_at hash s.index)) then 1 else 0)
   pub current : open_region flash older ≡ s.current
   pub filled : (r : ℕ) → s.current ≡ Some r → filling flash older ≡ filled_to flash (region_at r s.regions)

@@ -18,15 +18,17 @@ use Rattle.hc_history.specs.Pages.{bytes_at}
 use Rattle.hc_history.specs.Regions.{key_of}
 use Rattle.hc_history.specs.Lawful.{past}
 use Rattle.hc_legal.specs.Judge.{is_at_end}
+use Rattle.hc_legal.specs.Replies.{reply_eq}
 use Rattle.hc_machine.specs.Nvm.{Nvm, Wish, ToFind, ToAdd, Waiter, Fill}
 use Rattle.hc_machine.specs.Evicting.{entry_of_item}
 use Rattle.hc_machine.specs.Cache.{Cache, Owed, is_owed, owed_at}
 use Rattle.hc_machine.specs.World.{World, Result, order_in, Line, Stepped, step, new_world}
-use Rattle.hc_invariant.specs.Standing.{map_of, map_of_item, queued_at, written_at, buried_at, small_at, large_at}
+use Rattle.hc_invariant.specs.Standing.{map_of, map_of_item, written_at, small_at, large_at}
 use Rattle.hc_machine.specs.items.Items.{charge_at, open_at, item_has, open_has}
+use Rattle.hc_machine.specs.Calls.{waiting_at, buried_at}
 use Rattle.hc_invariant.specs.Tells.{waiters_of, asked_in, reply_in, is_call, is_unanswered, reply_of}
 use Rattle.hc_invariant.specs.Good.{fills_of, pages_behind}
-use Rattle.hc_invariant.specs.Alike.{is_same, all_same, both, same_map, same_entry, same_bytes, same_size, same_charge, same_op, same_reply, below}
+use Rattle.hc_invariant.specs.Alike.{is_same, all_same, both, same_map, same_entry, same_bytes, same_size, same_charge, same_op, below}
 use Rattle.hc_invariant.specs.TrialOfFlash.{buckets_tell, fills_fresh, fills_hold, hashes_of, jobs_run, large_fits, large_sound, one_flush, read_holds, regions_tell, rested, small_fits, waits_tell}
 
 -- ---- what a history names
@@ -60,7 +62,7 @@ is_placed i q w b s l m = false
 
 abbrev pub placed_at : Option FlashConfig → List Note → Cache → List ℕ → Bool
 placed_at flash older cache key =
-    is_placed (linked_at key cache.memory.pools) (queued_at cache.nvm key) (written_at cache.nvm key) (buried_at cache.nvm key)
+    is_placed (linked_at key cache.memory.pools) (waiting_at cache.nvm key) (written_at cache.nvm key) (buried_at cache.nvm key)
     (small_at (bytes_at older) cache.nvm key) (large_at (bytes_at older) cache.nvm key) (entry_at flash older key)
 
 -- ---- memory
@@ -96,7 +98,7 @@ calls_tell older calls all fills =
     && (nat_le (count (λ (call : Call). call.number == n) (open_calls older)) 1
     && (nat_le (count (is_call n) (waiters_of fills)) 1
     && (both (is_unanswered (owed_at n all)) (is_some (asked_in n fills))
-    && (is_same same_reply (reply_in n (owed older)) (reply_of (owed_at n all))
+    && (is_same reply_eq (reply_in n (owed older)) (reply_of (owed_at n all))
     && (nat_le (count (λ (answer : Answer). answer.number == n) (owed older)) 1
     && (nat_le (count (is_owed n) all) 1
     && (nat_le n calls || not (is_some (owed_at n all))))))))))

@@ -12,7 +12,7 @@ use Rattle.hc_engines.specs.small.Bloom.{word_of}
 use Rattle.hc_engines.specs.small.Entries.{without, page_put}
 use Rattle.hc_engines.specs.small.BigHash as bighash
 use Rattle.hc_engines.specs.small.Held as small
-use Rattle.hc_engines.specs.large.Region.{Status, Open, Sealed, Flushing, Region, Appended, is_clean, is_draining, filled_to, next_page, region_at, page_no, region_len, is_sealed}
+use Rattle.hc_engines.specs.large.Region.{Status, Open, Flushing, Region, Appended, is_clean, is_draining, filled_to, next_page, region_at, page_no, region_len, is_sealed}
 use Rattle.hc_types.specs.FlashEntry.{FlashEntry}
 use Rattle.hc_engines.specs.large.Entries.{entry_in}
 use Rattle.hc_engines.specs.large.Index.{Indexed, place_at, is_place}
@@ -29,14 +29,15 @@ use Rattle.hc_history.specs.Note.{Note}
 use Rattle.hc_history.specs.Books.{waiting, writing, buried, is_among}
 use Rattle.hc_history.specs.Pages.{bytes_at, bucket_entries}
 use Rattle.hc_history.specs.Regions.{in_use, is_one_of, flushed, open_region, filling, filed}
-use Rattle.hc_machine.specs.Nvm.{Nvm, Wish, ToFind, ToAdd, Waiter, Fill, Task, Putting, Deleting, Filling, Flushing, Job, put_at, is_buried, is_put_of, is_stone_of, puts, is_written_now, is_job, job_at, is_fill_of, is_brought_by, adds}
+use Rattle.hc_machine.specs.Nvm.{Nvm, Wish, ToFind, ToAdd, Waiter, Fill, Task, Putting, Deleting, Filling, Flushing, Job, put_at, is_buried, is_put_of, is_stone_of, puts, is_written_now, is_job, job_at, is_fill_of, is_number_in, adds}
 use Rattle.hc_machine.specs.Leaving.{is_too_large}
 use Rattle.hc_invariant.specs.Standing.{put_in, written_by}
-use Rattle.hc_invariant.specs.Tells.{keys_of, waiters_of, is_here, files}
+use Rattle.hc_invariant.specs.Tells.{keys_of, waiters_of, files}
 use Rattle.hc_invariant.specs.Jobs.{is_taken, small_order, large_order, small_job, large_work}
 use Rattle.hc_invariant.specs.Alike.{is_same, all_same, is_number, both, same_entry, same_order, below, implies}
 use Rattle.hc_history.specs.Regions.{is_put_of as put_is_of, put_under_way}
 use Rattle.hc_invariant.specs.Fresh.{changed_since}
+use Rattle.hc_invariant.specs.Structure.{is_get_of}
 
 -- ---- puts and tombstones
 
@@ -68,7 +69,7 @@ regions_tell hashes flash older s =
     && (list_all (λ r. both (is_one_of r (in_use older)) (not (is_clean (region_at r s.regions).status))) (below (flash.regions + 1))
     && ((length (in_use older) == count (λ (region : Region). not (is_clean region.status)) s.regions)
     && (all_same is_number s.flushed (reverse (flushed older))
-    && (list_all (λ hash. list_all (λ r. count (files hash r) (filed flash older) == (if is_here r (region_in (place_at hash s.index)) then 1 else 0)) (below (flash.regions + 1))) hashes
+    && (list_all (λ hash. list_all (λ r. count (files hash r) (filed flash older) == (if is_number_in r (region_in (place_at hash s.index)) then 1 else 0)) (below (flash.regions + 1))) hashes
     && (same_region (open_region flash older) s.current
     && if_current s.current (λ r. filling flash older == filled_to flash (region_at r s.regions)))))))
 
@@ -179,12 +180,8 @@ abbrev pub wish_holds : Memory → List ℕ → Wish → Bool
 wish_holds memory key ToFind = true
 wish_holds memory key (ToAdd handle) = bytes_eq handle.key key && (is_open (charge_by handle) memory.charges && nat_lt handle.pool (length memory.pools))
 
-abbrev pub gets : List ℕ → Op → Bool
-gets key (Get k) = bytes_eq k key
-gets key op = false
-
 abbrev pub brings : Pages → Nvm → List ℕ → Option bighash.Job → Option block.Work → Bool
-brings pages nvm key (Some job) None = gets key job.op
+brings pages nvm key (Some job) None = is_get_of key job.op
 brings pages nvm key None (Some (block.Getting reading)) = bytes_eq reading.key key && (not (is_some (written_by key nvm.pair.small.jobs)) && (not (is_some (small.held nvm.pair.small pages key))
     && (is_place (place_at (kept_of nvm.pair.small.flash.bits key) nvm.pair.large.index) reading.place || not (is_some (large.held nvm.pair.small.flash pages nvm.pair.large key)))))
 brings pages nvm key job work = false
@@ -205,7 +202,7 @@ fill_holds pages memory nvm fill =
 abbrev pub fills_hold : Pages → Memory → Nvm → Bool
 fills_hold pages memory nvm =
     list_all (fill_holds pages memory nvm) nvm.fills
-    && (list_all (λ n. nat_le (count (λ (fill : Fill). is_brought_by n fill.job) nvm.fills) 1) (below (nvm.made + 1))
+    && (list_all (λ n. nat_le (count (λ (fill : Fill). is_number_in n fill.job) nvm.fills) 1) (below (nvm.made + 1))
     && list_all (λ n. nat_le (count (adds n) (waiters_of nvm.fills)) 1) (below (memory.made + 1)))
 
 -- ---- what the last notes tell

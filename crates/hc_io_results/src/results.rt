@@ -90,7 +90,7 @@ impl<A: Allocator + Clone> Results<A> {
     }
 }
 
-/// The same result, for another owner. Only that of a page that was read may be refused, for want of memory.
+/// The same result, for another owner. Only that of a page that was read may be refused, for lack of memory.
 pub fn copy<A: Allocator>(came: &IoResult<A>) -> Result<IoResult<A>, AllocError>
     ensures ok { IfOk result (λ copy. result_of copy ≡ result_of came.now) }
     ensures err { OnErr result (IsPage (result_of came.now)) }

@@ -17,9 +17,9 @@ use Rattle.hc_machine.specs.Takes.{Filled}
 use Rattle.hc_machine.specs.Cache.{Owed, Cache, Moved, Refused, Discarded, Replied, Waits, tells, and_then, answers, stays, with_nvm, with_memory, on_flash_of, on_flash, owed_at}
 use Rattle.hc_machine.specs.Evicting.{entry_of_item, leaves_for, leaves, all_leave, make_charge, handle_for, allocate_by, allocate}
 use Rattle.hc_machine.specs.Waiting.{clear, uproot, plant, entry_of_handle, live, find_reply, free, serve, there_after, serve_all, serve_fill, end_fill_of, end_fill}
-use Rattle.hc_machine.specs.Calls.{begin, wait_in, wait_for, is_known, discard, store, insert_or_replace, must_wait, in_memory, add, insert, used, find_now, find_by, find, remove, take_of, take_reply}
+use Rattle.hc_machine.specs.Calls.{begin, wait_in, wait_for, is_known, discard, store, insert_or_replace, must_wait, in_memory, add, insert, used, find_now, find_by, find, remove, take_of, take_reply, buried_at}
 use Rattle.hc_machine.specs.Workers.{can_link, link_clean, bring, fill}
-use Rattle.hc_laws.specs.Tombstones.{is_buried_on, Stays}
+use Rattle.hc_laws.specs.Tombstones.{Stays}
 
 module _ (key : List ℕ) where
   -- ---- flash
@@ -54,7 +54,7 @@ module _ (key : List ℕ) where
     where
       go : (o : Option Nvm) → cache.nvm ≡ o → Stays key cache (on_flash_of o f cache).cache
       go None e h = h
-      go (Some nvm) e h = q nvm (sym (ap (λ o. is_buried_on o key) e) ∙ h)
+      go (Some nvm) e h = q nvm (sym (ap (λ o. buried_at o key) e) ∙ h)
 
   leave_stays : (pool want : ℕ) (item : Item) (cache : Cache) → Stays key cache (leaves pool want item cache).cache
   leave_stays pool want item cache = go item.clean cache.nvm refl
@@ -66,7 +66,7 @@ module _ (key : List ℕ) where
       go : (t : Bool) (o : Option Nvm) → cache.nvm ≡ o → Stays key cache (if t then tells [] cache else leaves_for o pool want item cache).cache
       go true o e h = h
       go false None e h = h
-      go false (Some nvm) e h = waits (cause_for cache.now pool want (entry_of_item item) nvm) (entry_of_item item) nvm (sym (ap (λ o. is_buried_on o key) e) ∙ h)
+      go false (Some nvm) e h = waits (cause_for cache.now pool want (entry_of_item item) nvm) (entry_of_item item) nvm (sym (ap (λ o. buried_at o key) e) ∙ h)
 
   all_stay : (pool want : ℕ) (items : List Item) (cache : Cache) → Stays key cache (all_leave pool want items cache).cache
   all_stay pool want [] cache h = h
@@ -92,7 +92,7 @@ module _ (key : List ℕ) where
     where
       by : (o : Option Fill) (nvm : Nvm) → cache.nvm ≡ Some nvm → Stays key cache (serve_fill o nvm there cache).cache
       by None nvm e h = h
-      by (Some one) nvm e h = all_served one.waiters there (with_nvm (record nvm { fills = without_fill one.key nvm.fills }) cache) (sym (ap (λ o. is_buried_on o key) e) ∙ h)
+      by (Some one) nvm e h = all_served one.waiters there (with_nvm (record nvm { fills = without_fill one.key nvm.fills }) cache) (sym (ap (λ o. buried_at o key) e) ∙ h)
 
       go : (o : Option Nvm) → cache.nvm ≡ o → Stays key cache (end_fill_of o k there cache).cache
       go None e h = h
@@ -136,7 +136,7 @@ module _ (key : List ℕ) where
     where
       go : (o : Option Nvm) → cache.nvm ≡ o → Stays key cache (wait_in o k wish cache)
       go None e h = h
-      go (Some nvm) e h = sym (ap (λ o. is_buried_on o key) e) ∙ h
+      go (Some nvm) e h = sym (ap (λ o. buried_at o key) e) ∙ h
 
   pub replace_stays : (client : ℕ) (handle : Handle) (cache : Cache) → Stays key cache (insert_or_replace client handle cache).cache
   replace_stays client handle cache = moved_if cache (is_known cache handle) (answers (Replied Stored) (and_then (begin client (Insert handle.key handle.value handle.expiry) cache) (store handle))) (stays (Refused ForeignHandle) cache)

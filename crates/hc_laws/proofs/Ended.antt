@@ -15,8 +15,9 @@ use Rattle.hc_machine.specs.Takes as takes
 use Rattle.hc_machine.specs.Takes.{Taken, bucket_lost, launched, launch, take_sized, take_put, take_delete, take_fill, finish_job, resumed, reclaimed}
 use Rattle.hc_machine.specs.Cache.{Cache, Moved, takes_in}
 use Rattle.hc_machine.specs.Workers.{after_take, take_on, after_finish, finish_on, reclaim_on, writer_take, finish}
+use Rattle.hc_machine.specs.Calls.{buried_at}
 use Rattle.hc_laws.specs.Serving.{ADelete, next_page, can_delete, page_goes}
-use Rattle.hc_laws.specs.Tombstones.{is_buried_on, Stays, is_delete_over, is_lost_first, gives_up, DeletedAtOnce, EndedBy, TombstoneEnds, TombstonesEndByDeletesAndLosses}
+use Rattle.hc_laws.specs.Tombstones.{Stays, is_delete_over, is_lost_first, gives_up, DeletedAtOnce, EndedBy, TombstoneEnds, TombstonesEndByDeletesAndLosses}
 use Rattle.hc_laws.proofs.Firsts.{found_first}
 use Rattle.hc_laws.proofs.Serves.{writer_by, writer_is, served}
 use Rattle.hc_laws.proofs.Refuses.{finish_is}
@@ -111,19 +112,19 @@ module _ (key : List ℕ) where
 
   -- ---- on the cache
 
-  stays_behind : (taken : Taken) (cache : Cache) → is_buried taken.nvm key ≡ true → is_buried_on (after_take taken cache).cache.nvm key ≡ true
+  stays_behind : (taken : Taken) (cache : Cache) → is_buried taken.nvm key ≡ true → buried_at (after_take taken cache).cache.nvm key ≡ true
   stays_behind taken cache h = fill_stays key taken.filled (takes_in taken.part taken.nvm cache).cache h
 
   -- what isn't there behind a take went by it
-  went : (taken : Taken) (cache : Cache) → is_buried_on (after_take taken cache).cache.nvm key ≡ false → is_buried taken.nvm key ≡ false
+  went : (taken : Taken) (cache : Cache) → buried_at (after_take taken cache).cache.nvm key ≡ false → is_buried taken.nvm key ≡ false
   went taken cache h = by (is_buried taken.nvm key) refl
     where
       by : (b : Bool) → is_buried taken.nvm key ≡ b → is_buried taken.nvm key ≡ false
       by true e = absurd (let t : true ≡ false = sym (stays_behind taken cache e) ∙ h in cc)
       by false e = e
 
-  on_flash : (nvm : Nvm) (cache : Cache) → cache.nvm ≡ Some nvm → is_buried_on cache.nvm key ≡ is_buried nvm key
-  on_flash nvm cache e = ap (λ o. is_buried_on o key) e
+  on_flash : (nvm : Nvm) (cache : Cache) → cache.nvm ≡ Some nvm → buried_at cache.nvm key ≡ is_buried nvm key
+  on_flash nvm cache e = ap (λ o. buried_at o key) e
 
   module _ (cache : Cache) where
     filler_stays : (o : Option Nvm) → cache.nvm ≡ o → Stays key cache (take_on o takes.filler_take cache).cache
@@ -148,17 +149,17 @@ module _ (key : List ℕ) where
     writer_on : (nvm : Nvm) → cache.nvm ≡ Some nvm → writer_take cache ≡ after_take (takes.writer_take nvm) cache
     writer_on nvm e = ap (λ o. take_on o takes.writer_take cache) e
 
-    writer_ends : (nvm : Nvm) → cache.nvm ≡ Some nvm → is_buried nvm key ≡ true → is_buried_on (writer_take cache).cache.nvm key ≡ false → DeletedAtOnce key nvm
-    writer_ends nvm e there h = by_writer nvm there (went (takes.writer_take nvm) cache (sym (ap (λ (m : Moved). is_buried_on m.cache.nvm key) (writer_on nvm e)) ∙ h))
+    writer_ends : (nvm : Nvm) → cache.nvm ≡ Some nvm → is_buried nvm key ≡ true → buried_at (writer_take cache).cache.nvm key ≡ false → DeletedAtOnce key nvm
+    writer_ends nvm e there h = by_writer nvm there (went (takes.writer_take nvm) cache (sym (ap (λ (m : Moved). buried_at m.cache.nvm key) (writer_on nvm e)) ∙ h))
 
-    at_once : (nvm : Nvm) → cache.nvm ≡ Some nvm → DeletedAtOnce key nvm → is_buried_on (writer_take cache).cache.nvm key ≡ false
+    at_once : (nvm : Nvm) → cache.nvm ≡ Some nvm → DeletedAtOnce key nvm → buried_at (writer_take cache).cache.nvm key ≡ false
     at_once nvm e d =
         let taken : Taken = take_delete (Some d.stone) nvm in
-        ap (λ (m : Moved). is_buried_on m.cache.nvm key) (writer_on nvm e ∙ ap (λ t. after_take t cache) (served nvm (ADelete d.stone) d.turn))
+        ap (λ (m : Moved). buried_at m.cache.nvm key) (writer_on nvm e ∙ ap (λ t. after_take t cache) (served nvm (ADelete d.stone) d.turn))
         ∙ bare taken (delete_unfilled d.stone.key _ _) ∙ over_left nvm d
       where
-        bare : (taken : Taken) → taken.filled ≡ None → is_buried_on (after_take taken cache).cache.nvm key ≡ is_buried taken.nvm key
-        bare taken none = ap (λ (o : Option takes.Filled). is_buried_on (after_take (record taken { filled = o }) cache).cache.nvm key) none
+        bare : (taken : Taken) → taken.filled ≡ None → buried_at (after_take taken cache).cache.nvm key ≡ is_buried taken.nvm key
+        bare taken none = ap (λ (o : Option takes.Filled). buried_at (after_take (record taken { filled = o }) cache).cache.nvm key) none
 
     -- ---- results
 
@@ -167,20 +168,20 @@ module _ (key : List ℕ) where
         ∙ ap (λ flash. is_buried nvm key && not (is_delete_over key job.task moved.next || gives_up (bucket_at flash key) moved.next)) (resume_keeps_flash job.number result nvm.pair moved r)
 
     module _ (nvm : Nvm) (number : ℕ) (result : IoResult) where
-      unchanged : cache.nvm ≡ Some nvm → is_buried nvm key ≡ true → (moved : Moved) → finish number result cache ≡ moved → moved.cache ≡ cache → is_buried_on (finish number result cache).cache.nvm key ≡ false → ⊥
+      unchanged : cache.nvm ≡ Some nvm → is_buried nvm key ≡ true → (moved : Moved) → finish number result cache ≡ moved → moved.cache ≡ cache → buried_at (finish number result cache).cache.nvm key ≡ false → ⊥
       unchanged e there moved f c h =
-          let t : true ≡ false = sym (on_flash nvm cache e ∙ there) ∙ ap (λ (x : Cache). is_buried_on x.nvm key) (sym c) ∙ ap (λ (m : Moved). is_buried_on m.cache.nvm key) (sym f) ∙ h in
+          let t : true ≡ false = sym (on_flash nvm cache e ∙ there) ∙ ap (λ (x : Cache). buried_at x.nvm key) (sym c) ∙ ap (λ (m : Moved). buried_at m.cache.nvm key) (sym f) ∙ h in
           cc
 
-      by_resume : (job : Job) (o : Option pairs.Moved) → cache.nvm ≡ Some nvm → job_at number nvm.jobs ≡ Some job → resume job.number result nvm.pair ≡ o → is_buried nvm key ≡ true → is_buried_on (finish number result cache).cache.nvm key ≡ false → EndedBy number result key nvm
+      by_resume : (job : Job) (o : Option pairs.Moved) → cache.nvm ≡ Some nvm → job_at number nvm.jobs ≡ Some job → resume job.number result nvm.pair ≡ o → is_buried nvm key ≡ true → buried_at (finish number result cache).cache.nvm key ≡ false → EndedBy number result key nvm
       by_resume job None e j r there h = absurd (unchanged e there _ (finish_is cache number result nvm job None e j r) refl h)
       by_resume job (Some moved) e j r there h =
           let f = finish_is cache number result nvm job (Some moved) e j r in
-          let less = went (resumed job result nvm moved) cache (sym (ap (λ (m : Moved). is_buried_on m.cache.nvm key) f) ∙ h) in
+          let less = went (resumed job result nvm moved) cache (sym (ap (λ (m : Moved). buried_at m.cache.nvm key) f) ∙ h) in
           let over = is_delete_over key job.task moved.next || gives_up (bucket_in nvm.pair key) moved.next in
           record { job = job; has_job = j; moved = moved; resumes = r; ends = gone _ (ap (λ b. b && not over) (sym there) ∙ sym (result_left nvm job result moved r) ∙ less) }
 
-      by_job : (o : Option Job) → cache.nvm ≡ Some nvm → job_at number nvm.jobs ≡ o → is_buried nvm key ≡ true → is_buried_on (finish number result cache).cache.nvm key ≡ false → EndedBy number result key nvm
+      by_job : (o : Option Job) → cache.nvm ≡ Some nvm → job_at number nvm.jobs ≡ o → is_buried nvm key ≡ true → buried_at (finish number result cache).cache.nvm key ≡ false → EndedBy number result key nvm
       by_job None e j there h = absurd (unchanged e there _ ((λ i. finish_on (e i) number result cache) ∙ (λ i. after_finish (finish_job (j i) result nvm) cache)) refl h)
       by_job (Some job) e j there h = by_resume job (resume job.number result nvm.pair) e j refl there h
 

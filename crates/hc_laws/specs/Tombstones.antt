@@ -10,17 +10,13 @@ use Rattle.hc_machine.specs.Takes as takes
 use Rattle.hc_machine.specs.Takes.{Taken, bucket_lost}
 use Rattle.hc_machine.specs.Cache.{Cache}
 use Rattle.hc_machine.specs.Evicting.{allocate}
-use Rattle.hc_machine.specs.Calls.{discard, insert_or_replace, insert, find, remove, take_reply, tick}
+use Rattle.hc_machine.specs.Calls.{discard, insert_or_replace, insert, find, remove, take_reply, tick, buried_at}
 use Rattle.hc_machine.specs.Workers.{writer_take, filler_take, reclaim, finish}
 use Rattle.hc_laws.specs.Serving.{ADelete, IsTurn}
 
-abbrev pub is_buried_on : Option Nvm → List ℕ → Bool
-is_buried_on None key = false
-is_buried_on (Some nvm) key = is_buried nvm key
-
 -- a tombstone that the key has before is there after
 abbrev pub Stays : List ℕ → Cache → Cache → Type 0
-Stays key before after = is_buried_on before.nvm key ≡ true → is_buried_on after.nvm key ≡ true
+Stays key before after = buried_at before.nvm key ≡ true → buried_at after.nvm key ≡ true
 
 -- ---- what ends one
 
@@ -71,10 +67,10 @@ pub record TombstoneEnds (key : List ℕ) (cache : Cache) : Type 0 where
   pub filler_take : Stays key cache (filler_take cache).cache
   pub reclaim : Stays key cache (reclaim cache).cache
   -- the writer ends it only by a delete that is over at once, and that ends it
-  pub by_writer : (nvm : Nvm) → cache.nvm ≡ Some nvm → is_buried nvm key ≡ true → is_buried_on (writer_take cache).cache.nvm key ≡ false → DeletedAtOnce key nvm
-  pub at_once : (nvm : Nvm) → cache.nvm ≡ Some nvm → DeletedAtOnce key nvm → is_buried_on (writer_take cache).cache.nvm key ≡ false
+  pub by_writer : (nvm : Nvm) → cache.nvm ≡ Some nvm → is_buried nvm key ≡ true → buried_at (writer_take cache).cache.nvm key ≡ false → DeletedAtOnce key nvm
+  pub at_once : (nvm : Nvm) → cache.nvm ≡ Some nvm → DeletedAtOnce key nvm → buried_at (writer_take cache).cache.nvm key ≡ false
   -- and a result only so. That ends it, before the calls that wait for a fill are served: an add among them may bury its key anew.
-  pub by_result : (nvm : Nvm) (number : ℕ) (result : IoResult) → cache.nvm ≡ Some nvm → is_buried nvm key ≡ true → is_buried_on (finish number result cache).cache.nvm key ≡ false → EndedBy number result key nvm
+  pub by_result : (nvm : Nvm) (number : ℕ) (result : IoResult) → cache.nvm ≡ Some nvm → is_buried nvm key ≡ true → buried_at (finish number result cache).cache.nvm key ≡ false → EndedBy number result key nvm
   pub ended : (nvm : Nvm) (number : ℕ) (result : IoResult) (taken : Taken) → takes.finish number result nvm ≡ Some taken → EndedBy number result key nvm → is_buried taken.nvm key ≡ false
 
 abbrev pub TombstonesEndByDeletesAndLosses : Type 0

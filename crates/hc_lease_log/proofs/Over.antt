@@ -11,7 +11,8 @@ use Rattle.hc_lease.specs.Steps as steps
 use Rattle.hc_lease.specs.Service.{IsAmong}
 use Rattle.hc_lease.specs.declared.stamps.Adding.{Adding}
 use Rattle.hc_lease.proofs.Stamping.{Known, IsBarred, any-push, is_key, known-after, barred-after, stamped-bars, waits-in, barred-stale, ticket-known}
-use Rattle.hc_lease_log.specs.Log.{is_change_of, changes_of, key_of, Kind, Changing, Waiting, Replying, Other, Step, stamped_by, stamps_after, log_after, OnlyBegins, Tells, AllTell, FreshOverLog}
+use Rattle.hc_lease_log.specs.Log.{changes_of, key_of, Kind, Changing, Waiting, Replying, Other, Step, stamped_by, stamps_after, log_after, OnlyBegins, Tells, AllTell, FreshOverLog}
+use Rattle.hc_legal.specs.Replies.{is_change_of}
 
 -- ---- calls that are open
 

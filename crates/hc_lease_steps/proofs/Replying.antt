@@ -10,7 +10,7 @@ use Rattle.hc_machine.specs.Cache.{Cache, Owed, Waits, Replied, owed_at, new_cac
 use Rattle.hc_machine.specs.Calls.{find, take_of, must_wait}
 use Rattle.hc_invariant.specs.Tells.{asked_in, is_unanswered, reply_in, reply_of}
 use Rattle.hc_invariant.specs.Good.{Agrees, fills_of}
-use Rattle.hc_theorem.specs.runs.Events.{Finds, Removes, act, acts}
+use Rattle.hc_machine.specs.Call.{Finds, Removes, act, acts}
 use Rattle.hc_theorem.proofs.headlines.WholeRuns as theorem
 use Rattle.hc_lease.specs.Stamps.{Stamps}
 use Rattle.hc_lease.specs.Service.{IsAmong}

@@ -14,7 +14,8 @@ use Rattle.hc_machine.specs.Cache.{Cache, Owed, Moved, Answer, Replied, Waits, R
 use Rattle.hc_machine.specs.Waiting.{live}
 use Rattle.hc_machine.specs.Calls.{insert_or_replace, insert, take_reply, take_of, in_memory, is_known, must_wait, wait_for, begin, store}
 use Rattle.hc_invariant.specs.Good.{Agrees}
-use Rattle.hc_theorem.specs.runs.Events.{Event, Allocates, Inserts, Adds, Discards, Finds, Removes, Replies, Ticks, Writes, Fills, Reclaims, Finishes, act, acts, AllEventSized}
+use Rattle.hc_machine.specs.Call.{CacheCall, Allocates, Inserts, Adds, Discards, Finds, Removes, Replies, Ticks, Writes, Fills, Reclaims, Finishes, act, acts}
+use Rattle.hc_theorem.specs.runs.Honesty.{AllCallSized}
 use Rattle.hc_theorem.specs.runs.Lock.{Guarded}
 use Rattle.hc_theorem.proofs.runs.Honesty.{honest-split}
 use Rattle.hc_theorem.proofs.headlines.WholeRuns as theorem
@@ -24,7 +25,7 @@ use Rattle.hc_lease_log.proofs.Over.{fresh-over}
 use Rattle.hc_lease_steps.specs.Runs.{kind_of, step_of, steps_of, TicketsHold}
 use Rattle.hc_lease_steps.proofs.Telling.{calls-tell}
 
-abbrev TellsBy : Event → List Note → Answer → List Note → Type 0
+abbrev TellsBy : CacheCall → List Note → Answer → List Note → Type 0
 TellsBy event older answer part = Tells (kind_of event answer) older part
 
 -- by what it is answered
@@ -67,7 +68,7 @@ by-reply config older call cache g (Some owed) e = go owed.reply refl
         let replied : (take_reply call cache).answer ≡ Replied reply = ap (λ (o : Option Owed). (take_of o cache).answer) (e ∙ ap (λ r. Some (record owed { reply = r })) f) in
         subst (λ (a : Answer). TellsBy (Replies call) older a (take_reply call cache).part) (sym replied) ((calls-tell older 0 cache).replied config call reply g replied)
 
-pub call-tells : (config : Config) (older : List Note) (event : Event) (cache : Cache) → Agrees config older cache → TellsBy event older (act event cache).answer (act event cache).part
+pub call-tells : (config : Config) (older : List Note) (event : CacheCall) (cache : Cache) → Agrees config older cache → TellsBy event older (act event cache).answer (act event cache).part
 call-tells config older (Allocates pool key value ttl) cache g = (calls-tell older 0 cache).allocated pool key value ttl
 call-tells config older (Inserts client handle) cache g = by-insert older client handle cache (is_known cache handle) refl
 call-tells config older (Adds client handle) cache g = by-add older client handle cache (new_at handle cache) (is_known cache handle) (must_wait cache handle.key) refl refl refl
@@ -84,11 +85,11 @@ call-tells config older (Finishes number result) cache g = (calls-tell older 0 c
 -- ---- the books are those of the cache, as long as the log is honest
 
 -- before each call
-abbrev pub AllAgree : Config → List Event → List Note → Cache → Type 0
+abbrev pub AllAgree : Config → List CacheCall → List Note → Cache → Type 0
 AllAgree config [] older cache = Unit {0}
 AllAgree config (event ∷ events) older cache = Agrees config older cache × AllAgree config events (past older (act event cache).part) (act event cache).cache
 
-pub all-agree : (config : Config) (events : List Event) (log : List Note) (cache : Cache) → AllEventSized events → Guarded config log cache → Honest (log ++ (acts events cache).log) → AllAgree config events (past [] log) cache
+pub all-agree : (config : Config) (events : List CacheCall) (log : List Note) (cache : Cache) → AllCallSized events → Guarded config log cache → Honest (log ++ (acts events cache).log) → AllAgree config events (past [] log) cache
 all-agree config [] log cache sized guarded honest = tt
 all-agree config (event ∷ events) log cache sized guarded honest =
     let moved = act event cache in
@@ -98,7 +99,7 @@ all-agree config (event ∷ events) log cache sized guarded honest =
     (stands.good.agrees, subst (λ (older : List Note). AllAgree config events older moved.cache) (past-append [] log moved.part) later)
 
 -- after all calls of a new cache
-pub agrees-at-last : (config : Config) (events : List Event) (log : List Note) (cache : Cache) → AllEventSized events → Guarded config log cache → Honest (log ++ (acts events cache).log)
+pub agrees-at-last : (config : Config) (events : List CacheCall) (log : List Note) (cache : Cache) → AllCallSized events → Guarded config log cache → Honest (log ++ (acts events cache).log)
     → Agrees config (past (past [] log) (acts events cache).log) (acts events cache).cache
 agrees-at-last config [] log cache sized guarded honest = (guarded (honest-split [] log [] honest).0).good.agrees
 agrees-at-last config (event ∷ events) log cache sized guarded honest =
@@ -110,21 +111,21 @@ agrees-at-last config (event ∷ events) log cache sized guarded honest =
 
 -- ---- any calls
 
-all-tell : (config : Config) (events : List Event) (older : List Note) (cache : Cache) → AllAgree config events older cache → AllTell (steps_of events cache) older
+all-tell : (config : Config) (events : List CacheCall) (older : List Note) (cache : Cache) → AllAgree config events older cache → AllTell (steps_of events cache) older
 all-tell config [] older cache g = tt
 all-tell config (event ∷ events) older cache g = (call-tells config older event cache g.0, all-tell config events (past older (act event cache).part) (act event cache).cache g.1)
 
-pub after : List Event → Cache → Cache
+pub after : List CacheCall → Cache → Cache
 after [] cache = cache
 after (event ∷ events) cache = after events (act event cache).cache
 
-pub steps-append : (earlier later : List Event) (cache : Cache) → steps_of (earlier ++ later) cache ≡ steps_of earlier cache ++ steps_of later (after earlier cache)
+pub steps-append : (earlier later : List CacheCall) (cache : Cache) → steps_of (earlier ++ later) cache ≡ steps_of earlier cache ++ steps_of later (after earlier cache)
 unfolding after
 steps-append [] later cache = refl
 steps-append (event ∷ earlier) later cache = ap (λ steps. step_of event (act event cache) ∷ steps) (steps-append earlier later (act event cache).cache)
 
 -- the log by its steps
-pub log-by-steps : (events : List Event) (older : List Note) (cache : Cache) → log_after (steps_of events cache) older ≡ past older (acts events cache).log
+pub log-by-steps : (events : List CacheCall) (older : List Note) (cache : Cache) → log_after (steps_of events cache) older ≡ past older (acts events cache).log
 log-by-steps [] older cache = refl
 log-by-steps (event ∷ events) older cache =
     let moved = act event cache in

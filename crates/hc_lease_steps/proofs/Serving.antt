@@ -19,7 +19,7 @@ use Rattle.hc_proof.specs.frames.Midst.{none_moves}
 use Rattle.hc_proof.proofs.frames.BetweenSteps.{good_is_rest}
 use Rattle.hc_proof.proofs.calls.NoWaiting.{memory_tells}
 use Rattle.hc_proof.proofs.calls.Serving.{there_by_map}
-use Rattle.hc_theorem.specs.runs.Events.{Event, Allocates, Inserts, Adds, Discards, Finds, Removes, Replies, Ticks, Writes, Fills, Reclaims, Finishes, act, acts}
+use Rattle.hc_machine.specs.Call.{CacheCall, Allocates, Inserts, Adds, Discards, Finds, Removes, Replies, Ticks, Writes, Fills, Reclaims, Finishes, act, acts}
 use Rattle.hc_theorem.proofs.headlines.WholeRuns as theorem
 use Rattle.hc_lease_log.specs.Log.{Step}
 use Rattle.hc_lease_log.specs.Rows as rows
@@ -64,7 +64,7 @@ log-is (Ask key ticket ∷ deeds) s = log-is deeds (after (Ask key ticket) s)
 -- ---- what the service owes is all that the log's pattern asks
 
 module _ (version : List ℕ → ℕ) (config : Config) where
-  pub no-wait : (event : Event) (answer : Answer) (w : World) → MayCall version event w → IsNoWait (kind_of event answer)
+  pub no-wait : (event : CacheCall) (answer : Answer) (w : World) → MayCall version event w → IsNoWait (kind_of event answer)
   no-wait (Allocates pool key value ttl) answer w may = tt
   no-wait (Inserts client handle) (Replied reply) w may = tt
   no-wait (Inserts client handle) answer w may = tt
@@ -87,7 +87,7 @@ module _ (version : List ℕ → ℕ) (config : Config) where
   insert-stores client handle cache w false e may =
       subst (λ (t : Bool). Stores (MayStore version w) (if t then answers (Replied Stored) (and_then (begin client (Insert handle.key handle.value handle.expiry) cache) (store handle)) else stays (Refused ForeignHandle) cache).part) (sym e) tt
 
-  pub stores : (event : Event) (cache : Cache) (w : World) → MayCall version event w → Stores (MayStore version w) (act event cache).part
+  pub stores : (event : CacheCall) (cache : Cache) (w : World) → MayCall version event w → Stores (MayStore version w) (act event cache).part
   stores (Allocates pool key value ttl) cache w may = (calls-store version w 0 cache).allocated pool key value ttl
   stores (Inserts client handle) cache w may = insert-stores client handle cache w (is_known cache handle) refl may
   stores (Adds client handle) cache w may = absurd may

@@ -9,7 +9,7 @@ use Rattle.hc_invariant.specs.Good.{IsSized}
 use Rattle.hc_machine.specs.Cache.{Replied, new_cache}
 use Rattle.hc_machine.specs.Calls.{find}
 use Rattle.hc_machine.proofs.Tables.{no_flash}
-use Rattle.hc_theorem.specs.runs.Events.{Allocates, Inserts, Removes, acts}
+use Rattle.hc_machine.specs.Call.{Allocates, Inserts, Removes, acts}
 use Rattle.hc_theorem.proofs.runs.Running.{silent_honest}
 use Rattle.hc_lease.specs.Stamps.{is_fresh}
 use Rattle.hc_lease_log.specs.Rows.{MayStore}

@@ -8,7 +8,8 @@ use Rattle.hc_history.specs.Books.{value_at}
 use Rattle.hc_history.specs.Honest.{Honest}
 use Rattle.hc_machine.specs.Cache.{Cache, Replied, Waits, new_cache}
 use Rattle.hc_machine.specs.Calls.{find, take_reply}
-use Rattle.hc_theorem.specs.runs.Events.{Event, Inserts, Adds, Finds, Removes, act, acts, AllEventSized}
+use Rattle.hc_machine.specs.Call.{CacheCall, Inserts, Adds, Finds, Removes, act, acts}
+use Rattle.hc_theorem.specs.runs.Honesty.{AllCallSized}
 use Rattle.hc_lease.specs.Stamps.{Stamps}
 use Rattle.hc_lease.specs.Service.{IsAmong}
 use Rattle.hc_lease_log.specs.Rows as rows
@@ -20,7 +21,7 @@ pub data Deed : Type 0 where
   -- a change of the row is committed in the database
   Commit : (key : List ℕ) → Deed
   -- a call of the cache, by a client or a worker
-  Calls : (event : Event) → Deed
+  Calls : (event : CacheCall) → Deed
   -- a ticket is handed out
   Lend : Deed
   -- the database is asked for the row, by someone who has the ticket
@@ -50,7 +51,7 @@ run [] service = service
 run (deed ∷ deeds) service = run deeds (after deed service)
 
 -- the calls of the cache among them
-abbrev pub calls_of : List Deed → List Event
+abbrev pub calls_of : List Deed → List CacheCall
 calls_of [] = []
 calls_of (Calls event ∷ deeds) = event ∷ calls_of deeds
 calls_of (deed ∷ deeds) = calls_of deeds
@@ -58,7 +59,7 @@ calls_of (deed ∷ deeds) = calls_of deeds
 -- What the service and its database owe: who asks the database has a ticket already; what is stored is what the
 -- database answered with a ticket that is fresh, no older than what was committed before it was asked, or the newest
 -- row, while nobody else can change it; and nothing is added.
-abbrev pub MayCall : (List ℕ → ℕ) → Event → World → Type 0
+abbrev pub MayCall : (List ℕ → ℕ) → CacheCall → World → Type 0
 MayCall version (Inserts client handle) world = MayStore version world handle.key handle.value
 MayCall version (Adds client handle) world = ⊥
 MayCall version event world = Unit {0}
@@ -79,7 +80,7 @@ new_service config stamps versions = record { world = record { rows = versions; 
 -- what holds of a service from its beginning on, as long as the device tells no lie
 pub record Serves (version : List ℕ → ℕ) (config : Config) (deeds : List Deed) (begins : Service) : Type 0 where
   pub right : first_wrong config ≡ None
-  pub sized : AllEventSized (calls_of deeds)
+  pub sized : AllCallSized (calls_of deeds)
   pub honest : Honest (acts (calls_of deeds) (new_cache config)).log
   pub slots : 0 < length begins.world.stamps.slots
   pub may : AllMay version deeds begins

@@ -9,7 +9,8 @@ use Rattle.hc_machine.specs.Cache.{Cache, Answer, Opened, Replied, Waits, new_ca
 use Rattle.hc_machine.specs.Evicting.{allocate}
 use Rattle.hc_machine.specs.Calls.{find, take_reply}
 use Rattle.hc_core.specs.Holds.{AreShort}
-use Rattle.hc_theorem.specs.runs.Events.{Event, AllEventSized, Allocates, Inserts, Adds, Discards, Finds, Removes, act, acts}
+use Rattle.hc_machine.specs.Call.{CacheCall, Allocates, Inserts, Adds, Discards, Finds, Removes, act, acts}
+use Rattle.hc_theorem.specs.runs.Honesty.{AllCallSized}
 use Rattle.hc_lease.specs.Stamps.{Stamps}
 use Rattle.hc_lease_log.specs.Rows as rows
 use Rattle.hc_lease_log.specs.Rows.{World}
@@ -32,7 +33,7 @@ bare stamps = roomed 0 stamps
 abbrev twin : List Note → Service → steps.Service
 twin log s = record { world = record { rows = s.rows; log = log; stamps = bare s.leased.stamps; lent = s.lent; loads = s.loads }; cache = s.leased.logged.cache }
 
-abbrev as_calls : List Event → List steps.Deed
+abbrev as_calls : List CacheCall → List steps.Deed
 as_calls [] = []
 as_calls (event ∷ events) = steps.Calls event ∷ as_calls events
 
@@ -64,10 +65,10 @@ may-append version (deed ∷ one) two s h k = (h.0, may-append version one two (
 
 -- ---- calls of the machine, one after the other
 
-abbrev called : List Event → steps.Service → steps.Service
+abbrev called : List CacheCall → steps.Service → steps.Service
 called events t = record { world = record t.world { log = past t.world.log (acts events t.cache).log; stamps = stamps_by events t.cache t.world.stamps }; cache = (acts events t.cache).cache }
 
-calls-run : (events : List Event) (t : steps.Service) → steps.run (as_calls events) t ≡ called events t
+calls-run : (events : List CacheCall) (t : steps.Service) → steps.run (as_calls events) t ≡ called events t
 calls-run [] t = refl
 calls-run (event ∷ events) t =
     let moved = act event t.cache in
@@ -75,7 +76,7 @@ calls-run (event ∷ events) t =
     calls-run events (steps.after (steps.Calls event) t)
     ∙ ap (λ (log : List Note). record { world = record t.world { log = log; stamps = stamps_by (event ∷ events) t.cache t.world.stamps }; cache = rest.cache }) (sym (past-append t.world.log moved.part rest.log))
 
-calls-of-calls : (events : List Event) → steps.calls_of (as_calls events) ≡ events
+calls-of-calls : (events : List CacheCall) → steps.calls_of (as_calls events) ≡ events
 calls-of-calls [] = refl
 calls-of-calls (event ∷ events) = ap (λ rest. event ∷ rest) (calls-of-calls events)
 
@@ -102,7 +103,7 @@ stored-as : (version : List ℕ → ℕ) (s : Service) (log : List Note) (key va
 stored-as version s log key value (inl l) = inl (record { load = l.load; asked = l.asked; own = l.own; fresh = l.fresh; least = l.least })
 stored-as version s log key value (inr h) = inr h
 
-look-may : (version : List ℕ → ℕ) (event : Event) (w : World) → IsLook event → steps.MayCall version event w
+look-may : (version : List ℕ → ℕ) (event : CacheCall) (w : World) → IsLook event → steps.MayCall version event w
 look-may version (Inserts client handle) w look = absurd look
 look-may version (Adds client handle) w look = absurd look
 look-may version event w look = tt
@@ -250,13 +251,13 @@ leased-never-stale version config earlier later first before last client finder 
     (subst (λ (t : steps.Service). steps.AllMay version (all_deeds deeds new) t) starts
     (subst (λ (c : Cache). steps.AllMay version (all_deeds deeds c) (twin [] first)) start (follow-may version deeds first last [] whole))) in
     let events : all_events (calls_of deeds) new ≡ steps.calls_of (e-one ++ steps.Calls (Removes client key) ∷ e-two) = sym (all-calls deeds new) ∙ ap steps.calls_of parts in
-    let sized : AllEventSized (all_events (calls_of deeds) new) =
-    subst (λ (c : Cache). AllEventSized (all_events (calls_of deeds) c)) start
+    let sized : AllCallSized (all_events (calls_of deeds) new) =
+    subst (λ (c : Cache). AllCallSized (all_events (calls_of deeds) c)) start
     (chain-sized (calls_of deeds) first.leased last.leased (follow-chain version deeds first last whole) fits (subst (λ (c : Cache). AreShort c.memory.charges) (sym start) refl)) in
     let serves : steps.Serves version config (e-one ++ steps.Calls (Removes client key) ∷ e-two) service = record {
       right = begins.leased.right;
-      sized = subst AllEventSized events sized;
-      honest = subst (λ (es : List Event). Honest (acts es new).log) events honest;
+      sized = subst AllCallSized events sized;
+      honest = subst (λ (es : List CacheCall). Honest (acts es new).log) events honest;
       slots = begins.leased.slots;
       may = may;
     } in
@@ -320,13 +321,13 @@ leased-replies-never-stale version config earlier between later first before ask
     (subst (λ (t : steps.Service). steps.AllMay version (all_deeds deeds new) t) starts
     (subst (λ (c : Cache). steps.AllMay version (all_deeds deeds c) (twin [] first)) start (follow-may version deeds first last [] whole))) in
     let events : all_events (calls_of deeds) new ≡ steps.calls_of all = sym (all-calls deeds new) ∙ ap steps.calls_of parts in
-    let sized : AllEventSized (all_events (calls_of deeds) new) =
-    subst (λ (c : Cache). AllEventSized (all_events (calls_of deeds) c)) start
+    let sized : AllCallSized (all_events (calls_of deeds) new) =
+    subst (λ (c : Cache). AllCallSized (all_events (calls_of deeds) c)) start
     (chain-sized (calls_of deeds) first.leased last.leased (follow-chain version deeds first last whole) fits (subst (λ (c : Cache). AreShort c.memory.charges) (sym start) refl)) in
     let serves : steps.Serves version config all service = record {
       right = begins.leased.right;
-      sized = subst AllEventSized events sized;
-      honest = subst (λ (es : List Event). Honest (acts es new).log) events honest;
+      sized = subst AllCallSized events sized;
+      honest = subst (λ (es : List CacheCall). Honest (acts es new).log) events honest;
       slots = begins.leased.slots;
       may = may;
     } in

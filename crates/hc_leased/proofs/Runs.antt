@@ -17,7 +17,7 @@ use Rattle.hc_state.specs.declared.answers.Inserted.{Inserted}
 use Rattle.hc_state.specs.declared.answers.Inserted.TheVariants as inserted
 use Rattle.hc_core.specs.Answers.{inserted_answer}
 use Rattle.hc_core.specs.Logged.{Logged, IsCall}
-use Rattle.hc_theorem.specs.runs.Events.{Event, Allocates, Inserts, Adds, Discards, Finds, Removes, Replies, Ticks, Writes, Fills, Reclaims, Finishes, act, acts}
+use Rattle.hc_machine.specs.Call.{CacheCall, Allocates, Inserts, Adds, Discards, Finds, Removes, Replies, Ticks, Writes, Fills, Reclaims, Finishes, act, acts}
 use Rattle.hc_lease.specs.Stamps.{Stamps, changed, is_of_call, ended}
 use Rattle.hc_lease.specs.declared.stamps.Adding.{Adding}
 use Rattle.hc_lease_log.specs.Log.{Kind, Changing, Waiting, Replying, Other, stamped_by}
@@ -40,7 +40,7 @@ stamped-roomed room (Replying call) stamps = go (find (is_of_call call) stamps.a
     go (Some add) = refl
 stamped-roomed room Other stamps = refl
 
-pub stamps-roomed : (room : ℕ) (events : List Event) (cache : Cache) (stamps : Stamps) → stamps_by events cache (roomed room stamps) ≡ roomed room (stamps_by events cache stamps)
+pub stamps-roomed : (room : ℕ) (events : List CacheCall) (cache : Cache) (stamps : Stamps) → stamps_by events cache (roomed room stamps) ≡ roomed room (stamps_by events cache stamps)
 stamps-roomed room [] cache stamps = refl
 stamps-roomed room (event ∷ events) cache stamps =
     let kind = kind_of event (act event cache).answer in
@@ -51,21 +51,21 @@ same-room old new e = λ i. record (e i) { room = new.room }
 
 -- ---- one run after another
 
-pub acts-cache : (one two : List Event) (cache : Cache) → (acts (one ++ two) cache).cache ≡ (acts two (acts one cache).cache).cache
+pub acts-cache : (one two : List CacheCall) (cache : Cache) → (acts (one ++ two) cache).cache ≡ (acts two (acts one cache).cache).cache
 acts-cache [] two cache = refl
 acts-cache (event ∷ one) two cache = acts-cache one two (act event cache).cache
 
-pub acts-log : (one two : List Event) (cache : Cache) → (acts (one ++ two) cache).log ≡ (acts one cache).log ++ (acts two (acts one cache).cache).log
+pub acts-log : (one two : List CacheCall) (cache : Cache) → (acts (one ++ two) cache).log ≡ (acts one cache).log ++ (acts two (acts one cache).cache).log
 acts-log [] two cache = refl
 acts-log (event ∷ one) two cache =
     let moved = act event cache in
     ap (λ log. moved.part ++ log) (acts-log one two moved.cache) ∙ sym (append_assoc moved.part (acts one moved.cache).log (acts two (acts one moved.cache).cache).log)
 
-pub stamps-append : (one two : List Event) (cache : Cache) (stamps : Stamps) → stamps_by (one ++ two) cache stamps ≡ stamps_by two (acts one cache).cache (stamps_by one cache stamps)
+pub stamps-append : (one two : List CacheCall) (cache : Cache) (stamps : Stamps) → stamps_by (one ++ two) cache stamps ≡ stamps_by two (acts one cache).cache (stamps_by one cache stamps)
 stamps-append [] two cache stamps = refl
 stamps-append (event ∷ one) two cache stamps = stamps-append one two (act event cache).cache (stamped_by (kind_of event (act event cache).answer) stamps)
 
-pub run-append : (one two : List Event) (a b c : Leased) → IsRun one a b → IsRun two b c → IsRun (one ++ two) a c
+pub run-append : (one two : List CacheCall) (a b c : Leased) → IsRun one a b → IsRun two b c → IsRun (one ++ two) a c
 run-append one two a b c first second = record {
   cache = second.cache ∙ (ap (λ (k : Cache). (acts two k).cache) first.cache ∙ sym (acts-cache one two a.logged.cache));
   log = λ log e. second.log (log ++ (acts one a.logged.cache).log) (first.log log e)
@@ -87,7 +87,7 @@ append-none : (log : List Note) → log ++ [] ≡ log
 append-none [] = refl
 append-none (note ∷ log) = ap (λ ns. note ∷ ns) (append-none log)
 
-pub one-run : (event : Event) (answer : Answer) (old new : Leased) → IsCall (act event old.logged.cache) answer old.logged new.logged → Become (stamped_by (kind_of event answer) old.stamps) new.stamps → IsRun (event ∷ []) old new
+pub one-run : (event : CacheCall) (answer : Answer) (old new : Leased) → IsCall (act event old.logged.cache) answer old.logged new.logged → Become (stamped_by (kind_of event answer) old.stamps) new.stamps → IsRun (event ∷ []) old new
 one-run event answer old new call stamps =
     let moved = act event old.logged.cache in
     record {
@@ -96,7 +96,7 @@ one-run event answer old new call stamps =
       stamps = subst (λ (a : Answer). Become (stamped_by (kind_of event a) old.stamps) new.stamps) call.answer_is stamps;
     }
 
-pub look-kind : (event : Event) (answer : Answer) → IsLook event → kind_of event answer ≡ Other
+pub look-kind : (event : CacheCall) (answer : Answer) → IsLook event → kind_of event answer ≡ Other
 look-kind (Allocates pool key value ttl) answer h = refl
 look-kind (Inserts client handle) answer h = absurd h
 look-kind (Adds client handle) answer h = absurd h
@@ -110,7 +110,7 @@ look-kind Fills answer h = refl
 look-kind Reclaims answer h = refl
 look-kind (Finishes number result) answer h = refl
 
-look-run : (event : Event) (answer : Answer) (old new : Leased) → IsLook event → IsCall (act event old.logged.cache) answer old.logged new.logged → Become old.stamps new.stamps → IsRun (event ∷ []) old new
+look-run : (event : CacheCall) (answer : Answer) (old new : Leased) → IsLook event → IsCall (act event old.logged.cache) answer old.logged new.logged → Become old.stamps new.stamps → IsRun (event ∷ []) old new
 look-run event answer old new look call stamps = one-run event answer old new call (subst (λ (k : Kind). Become (stamped_by k old.stamps) new.stamps) (sym (look-kind event answer look)) stamps)
 
 put-run : (client : ℕ) (handle : Handle) (done : Inserted) (old new : Leased) → IsCall (insert client handle old.logged.cache) (inserted_answer done) old.logged new.logged → Become (stamps_added handle.key done old.stamps) new.stamps → IsRun (Adds client handle ∷ []) old new
@@ -163,7 +163,7 @@ module _ (pool : ℕ) (key value : List ℕ) (ttl : ℕ) (old new : Leased) wher
   then-call : (f : Handle → Cache → Moved) (handle : Handle) (answer : Answer) → IsCall (then_inserted f (Opened handle) opened) answer old.logged new.logged → IsCall (f handle (mid_of old opened).logged.cache) answer (mid_of old opened).logged new.logged
   then-call f handle answer call = record { cache = call.cache; answer_is = call.answer_is; log = call.log ∙ sym (told-twice old.logged.log opened.part (f handle opened.cache).part) }
 
-  after-opened : (events : List Event) (handle : Handle) → opened.answer ≡ Opened handle → IsRun events (mid_of old opened) new → IsRun (Allocates pool key value ttl ∷ events) old new
+  after-opened : (events : List CacheCall) (handle : Handle) → opened.answer ≡ Opened handle → IsRun events (mid_of old opened) new → IsRun (Allocates pool key value ttl ∷ events) old new
   after-opened events handle e run = run-append (Allocates pool key value ttl ∷ []) events old (mid_of old opened) new (allocated-run (Opened handle) e) run
 
   -- it is, or that is refused
@@ -178,7 +178,7 @@ module _ (pool : ℕ) (key value : List ℕ) (ttl : ℕ) (old new : Leased) wher
   abbrev ThenBy : (Handle → Cache → Moved) → Answer → Answer → Type 0
   ThenBy f answer a = IsCall (then_inserted f a opened) answer old.logged new.logged
 
-  abbrev RunsBy : (Handle → List Event) → Answer → Type 0
+  abbrev RunsBy : (Handle → List CacheCall) → Answer → Type 0
   RunsBy g a = IsRun (Allocates pool key value ttl ∷ with_handle a g) old new
 
   set-run : ThenBy (insert_or_replace 0) (Replied note.Stored) opened.answer → new.stamps ≡ changed key old.stamps → RunsBy (λ handle. Inserts 0 handle ∷ []) opened.answer

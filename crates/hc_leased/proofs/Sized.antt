@@ -19,10 +19,11 @@ use Rattle.hc_proof.proofs.calls.Adds.{and_both}
 use Rattle.hc_state.specs.declared.answers.Inserted.{Inserted}
 use Rattle.hc_state.specs.declared.answers.Inserted.TheVariants as inserted
 use Rattle.hc_core.specs.Answers.{inserted_answer}
-use Rattle.hc_core.specs.Events.{EventFits}
+use Rattle.hc_core.specs.Arguments.{CallFits}
 use Rattle.hc_core.specs.Holds.{is_long, AreShort}
 use Rattle.hc_core.proofs.Short.{stays-short}
-use Rattle.hc_theorem.specs.runs.Events.{Event, EventSized, AllEventSized, Allocates, Inserts, Adds, Discards, act, acts}
+use Rattle.hc_machine.specs.Call.{CacheCall, Allocates, Inserts, Adds, Discards, act, acts}
+use Rattle.hc_theorem.specs.runs.Honesty.{CallSized, AllCallSized}
 use Rattle.hc_theorem.proofs.runs.Running.{short_value, second_by, within}
 use Rattle.hc_leased.specs.Leased.{Leased}
 use Rattle.hc_leased.specs.Runs.{Call, Looks, Stores, Sets, GivesUp, Puts, Tries, Fails, Deletes, Takes, Forgets, Nothing, IsLook, Does, IsKey, Fits, with_handle, events_of}
@@ -82,23 +83,23 @@ key-sized : (key : List ℕ) → IsKey key → IsSized key [] 0
 key-sized key fits = record { some_key = fits.0; short_key = fits.1; short_value = omega arith; second = omega arith }
 
 -- what is done with its handle
-handle-sized : (pool : ℕ) (key value : List ℕ) (ttl : ℕ) (cache : Cache) (f : Handle → List Event) → IsKey key → ((handle : Handle) → IsSized handle.key handle.value handle.expiry → AllEventSized (f handle))
-    → AllEventSized (Allocates pool key value ttl ∷ with_handle (allocate pool key value ttl cache).answer f)
+handle-sized : (pool : ℕ) (key value : List ℕ) (ttl : ℕ) (cache : Cache) (f : Handle → List CacheCall) → IsKey key → ((handle : Handle) → IsSized handle.key handle.value handle.expiry → AllCallSized (f handle))
+    → AllCallSized (Allocates pool key value ttl ∷ with_handle (allocate pool key value ttl cache).answer f)
 handle-sized pool key value ttl cache f fits sized = (key-sized key fits, go (allocate pool key value ttl cache).answer refl)
   where
-    go : (a : Answer) → (allocate pool key value ttl cache).answer ≡ a → AllEventSized (with_handle a f)
+    go : (a : Answer) → (allocate pool key value ttl cache).answer ≡ a → AllCallSized (with_handle a f)
     go (Opened handle) e = sized handle (opened-sized pool key value ttl cache handle fits e)
     go a e = tt
 
 -- ---- calls one after the other
 
-look-sized : (event : Event) → IsLook event → EventFits event → EventSized event
+look-sized : (event : CacheCall) → IsLook event → CallFits event → CallSized event
 look-sized (Allocates pool key value ttl) look fits = fits
 look-sized (Inserts client handle) look fits = absurd look
 look-sized (Adds client handle) look fits = absurd look
 look-sized event look fits = tt
 
-pub call-sized : (call : Call) (old new : Leased) → Does call old new → Fits call → AreShort old.logged.cache.memory.charges → AllEventSized (events_of call old.logged.cache)
+pub call-sized : (call : Call) (old new : Leased) → Does call old new → Fits call → AreShort old.logged.cache.memory.charges → AllCallSized (events_of call old.logged.cache)
 call-sized (Looks event answer) old new does fits short = (look-sized event does.0 fits, tt)
 call-sized (Stores client handle) old new does fits short = (known-sized old.logged.cache handle fits short (stored-known client handle old.logged.cache does.0.answer_is), tt)
 call-sized (Sets pool key value ttl) old new does fits short = handle-sized pool key value ttl old.logged.cache (λ handle. Inserts 0 handle ∷ []) fits (λ handle sized. (sized, tt))
@@ -111,10 +112,10 @@ call-sized (Takes call reply) old new does fits short = (tt, tt)
 call-sized Forgets old new does fits short = tt
 call-sized Nothing old new does fits short = tt
 
-pub acts-short : (events : List Event) (cache : Cache) → AreShort cache.memory.charges → AreShort (acts events cache).cache.memory.charges
+pub acts-short : (events : List CacheCall) (cache : Cache) → AreShort cache.memory.charges → AreShort (acts events cache).cache.memory.charges
 acts-short [] cache short = short
 acts-short (event ∷ events) cache short = acts-short events (act event cache).cache (stays-short event cache short)
 
-pub sized-append : (one two : List Event) → AllEventSized one → AllEventSized two → AllEventSized (one ++ two)
+pub sized-append : (one two : List CacheCall) → AllCallSized one → AllCallSized two → AllCallSized (one ++ two)
 sized-append [] two h k = k
 sized-append (event ∷ one) two h k = (h.0, sized-append one two h.1 k)

@@ -16,8 +16,8 @@ use Rattle.hc_state.specs.declared.answers.Inserted.{Inserted}
 use Rattle.hc_core.specs.Answers.{inserted_answer}
 use Rattle.hc_core.specs.Logged.{IsCall}
 use Rattle.hc_core.specs.Plain.{set_step, add_step, give_up_step}
-use Rattle.hc_core.specs.Events.{EventFits}
-use Rattle.hc_theorem.specs.runs.Events.{Event, Allocates, Inserts, Adds, Discards, Removes, Replies, act, acts}
+use Rattle.hc_core.specs.Arguments.{CallFits}
+use Rattle.hc_machine.specs.Call.{CacheCall, Allocates, Inserts, Adds, Discards, Removes, Replies, act, acts}
 use Rattle.hc_lease.specs.Stamps.{ticket_at, changed, is_fresh, replied}
 use Rattle.hc_lease_log.specs.Log.{changes_of}
 use Rattle.hc_lease_steps.specs.Runs.{stamps_by}
@@ -30,7 +30,7 @@ use Rattle.hc_leased.specs.declared.answers.KeptItem.TheVariants as item
 -- what a call did
 pub data Call : Type 0 where
   -- a find, an allocation, an item that is given up, the clock, or workers: it is answered so, and changes no key
-  Looks : (event : Event) (answer : Answer) → Call
+  Looks : (event : CacheCall) (answer : Answer) → Call
   -- the handle's item is inserted, in place of what its key has
   Stores : (client : ℕ) (handle : Handle) → Call
   -- an item is allocated and inserted so
@@ -52,7 +52,7 @@ pub data Call : Type 0 where
   Nothing : Call
 
 -- it changes no key
-abbrev pub IsLook : Event → Type 0
+abbrev pub IsLook : CacheCall → Type 0
 IsLook (Inserts client handle) = ⊥
 IsLook (Adds client handle) = ⊥
 IsLook (Removes client key) = ⊥
@@ -86,14 +86,14 @@ item_call client handle (item.Stale back) = Nothing
 -- ---- as calls of the machine
 
 -- what is done with the handle of an item that was allocated
-abbrev pub with_handle : Answer → (Handle → List Event) → List Event
+abbrev pub with_handle : Answer → (Handle → List CacheCall) → List CacheCall
 with_handle (Opened handle) f = f handle
 with_handle answer f = []
 
-abbrev pub allocated : ℕ → List ℕ → List ℕ → ℕ → (Handle → List Event) → Cache → List Event
+abbrev pub allocated : ℕ → List ℕ → List ℕ → ℕ → (Handle → List CacheCall) → Cache → List CacheCall
 allocated pool key value ttl f cache = Allocates pool key value ttl ∷ with_handle (allocate pool key value ttl cache).answer f
 
-abbrev pub events_of : Call → Cache → List Event
+abbrev pub events_of : Call → Cache → List CacheCall
 events_of (Looks event answer) cache = event ∷ []
 events_of (Stores client handle) cache = Inserts client handle ∷ []
 events_of (Sets pool key value ttl) cache = allocated pool key value ttl (λ handle. Inserts 0 handle ∷ []) cache
@@ -107,7 +107,7 @@ events_of Forgets cache = []
 events_of Nothing cache = []
 
 -- these calls of the machine lead from the one to the other, and the stamps heard of them
-pub record IsRun (events : List Event) (old new : Leased) : Type 0 where
+pub record IsRun (events : List CacheCall) (old new : Leased) : Type 0 where
   pub cache : new.logged.cache ≡ (acts events old.logged.cache).cache
   -- where the log is kept, it is told what they tell
   pub log : (log : List Note) → old.logged.log ≡ Log log → new.logged.log ≡ Log (log ++ (acts events old.logged.cache).log)
@@ -123,7 +123,7 @@ abbrev pub Chain : List Call → Leased → Leased → Type 0
 Chain [] old new = new ≡ old
 Chain (call ∷ calls) old new = (middle : Leased) × (Does call old middle × Chain calls middle new)
 
-abbrev pub all_events : List Call → Cache → List Event
+abbrev pub all_events : List Call → Cache → List CacheCall
 all_events [] cache = []
 all_events (call ∷ calls) cache = events_of call cache ++ all_events calls (acts (events_of call cache) cache).cache
 
@@ -140,11 +140,11 @@ abbrev pub IsKey : List ℕ → Type 0
 IsKey key = (1 ≤ length key) × (length key ≤ 255)
 
 abbrev pub Fits : Call → Type 0
-Fits (Looks event answer) = EventFits event
-Fits (Stores client handle) = EventFits (Inserts client handle)
+Fits (Looks event answer) = CallFits event
+Fits (Stores client handle) = CallFits (Inserts client handle)
 Fits (Sets pool key value ttl) = IsKey key
 Fits (GivesUp pool key value ttl) = IsKey key
-Fits (Puts client handle inserted) = EventFits (Adds client handle)
+Fits (Puts client handle inserted) = CallFits (Adds client handle)
 Fits (Tries pool key value ttl inserted) = IsKey key
 Fits (Fails pool key value ttl) = IsKey key
 Fits call = Unit {0}

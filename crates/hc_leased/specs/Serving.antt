@@ -6,7 +6,7 @@ use Rattle.hc_history.specs.Note.{Hit}
 use Rattle.hc_history.specs.Honest.{Honest}
 use Rattle.hc_machine.specs.Cache.{Answer, Replied, Waits, new_cache}
 use Rattle.hc_machine.specs.Calls.{find, take_reply}
-use Rattle.hc_theorem.specs.runs.Events.{Finds, acts}
+use Rattle.hc_machine.specs.Call.{Finds, acts}
 use Rattle.hc_lease.specs.Stamps.{ticket_at, is_fresh}
 use Rattle.hc_lease.specs.Service.{Load, IsAmong, at, lent_with}
 use Rattle.hc_leased.specs.Leased.{Leased}

@@ -4,7 +4,7 @@ use Rattle.hc_flash.specs.Operations.{IoResult}
 use Rattle.hc_machine.specs.Cache.{Took}
 use Rattle.hc_machine.specs.Takes.{Take}
 use Rattle.hc_tracked.specs.Reading.{IsOrFails}
-use Rattle.hc_theorem.specs.runs.Events.{Finishes}
+use Rattle.hc_machine.specs.Call.{Finishes}
 use Rattle.hc_leased.specs.Leased.{Leased}
 use Rattle.hc_leased.specs.Runs.{Does, Looks}
 

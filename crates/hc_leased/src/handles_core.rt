@@ -12,7 +12,7 @@ ghost use Rattle.hc_core.specs.Plain.{MayRefuse};
 ghost use Rattle.hc_lease.specs.Stamps.{changed};
 ghost use Rattle.hc_lease.specs.Turns.{without_turn};
 ghost use Rattle.hc_leased.specs.Leased.{Become, SameLeases, stamps_added, KeepsItem};
-ghost use Rattle.hc_theorem.specs.runs.Events.{Allocates, Discards};
+ghost use Rattle.hc_machine.specs.Call.{Allocates, Discards};
 ghost use Rattle.hc_leased.specs.Runs.{Does, Looks, Stores, Puts, item_call};
 
 use crate::answers::KeptItem;
@@ -101,7 +101,7 @@ impl<N: Notes<Note<A>>, A: Allocator + Clone + Copy> Leased<Core<N, A>, A> {
     }
 
     /// As `Core::insert`: where it stores, no ticket of before is fresh for the key any more, and where it waits, none
-    /// is until its reply is taken. Its turn is over. Refused as `Core::insert` is, and for want of memory for an add
+    /// is until its reply is taken. Its turn is over. Refused as `Core::insert` is, and for lack of memory for an add
     /// that waits.
     pub fn insert(&mut self, client: u8, sealed: Sealed<A>) -> Result<Inserted, Unlinked<A>>
         ensures ok { IfOk result (λ inserted. IsCall (insert_step client sealed self.old.logged.cache) (inserted_answer inserted) self.old.logged self.new.logged) }

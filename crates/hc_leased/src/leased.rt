@@ -67,7 +67,7 @@ impl<C: Cache, A: Allocator> Drop for Leased<C, A> {
 
 impl<C: Cache, A: Allocator + Clone + Copy> Leased<C, A> {
     /// Of a cache that no call was made of yet, with so many slots for keys (8 bytes each) and places for turns (24
-    /// bytes each), which are allocated here. Refused for want of memory alone; then the cache comes back.
+    /// bytes each), which are allocated here. Refused when out of memory alone; then the cache comes back.
     pub fn new(alloc: A, cache: C, slots: usize, places: usize) -> Result<Leased<C, A>, C>
         requires new { (C.seen cache).cache.calls ≡ 0 }
         requires slots { 0 < slots }

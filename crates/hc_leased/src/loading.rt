@@ -8,7 +8,7 @@ ghost use Rattle.hc_core.specs.Logged.{IsCall};
 ghost use Rattle.hc_lease.specs.Stamps.{ticket_at, replied};
 ghost use Rattle.hc_lease.specs.Turns.{busy_at, turned, without_turn};
 ghost use Rattle.hc_leased.specs.Leased.{Become, SameLeases, lookup_answer, HasTicket};
-ghost use Rattle.hc_theorem.specs.runs.Events.{Finds};
+ghost use Rattle.hc_machine.specs.Call.{Finds};
 ghost use Rattle.hc_leased.specs.Runs.{Does, Looks, Takes};
 
 use crate::answers::Lookup;

@@ -17,7 +17,7 @@ ghost use Rattle.hc_core.specs.Plain.{set_step, add_step, give_up_step, MayRefus
 ghost use Rattle.hc_lease.specs.Stamps.{changed, is_fresh};
 ghost use Rattle.hc_lease.specs.Turns.{without_turn};
 ghost use Rattle.hc_leased.specs.Leased.{Become, SameLeases, lookup_answer, HasTicket, stamps_added, NothingStored, Keeps};
-ghost use Rattle.hc_theorem.specs.runs.Events.{Finds, Finishes};
+ghost use Rattle.hc_machine.specs.Call.{Finds, Finishes};
 ghost use Rattle.hc_leased.specs.Runs.{Does, Looks, Forgets, Sets, Tries, Deletes, kept_call};
 
 use crate::answers::{Kept, Lookup};
@@ -32,7 +32,7 @@ use hc_state::{Copied, Found, Inserted, Removed};
 use hc_types::{KEY_MAX, Key, Refusal, digest_of};
 use std::alloc::Allocator;
 
-// Why a call by this key is refused for which memory lacks: the key comes first.
+// Why a call by this key is refused for which there is no memory: the key comes first.
 fn lacking(key: &[u8]) -> Refusal
     ensures { (key_refusal key.now ≡ Some result) ⊎ ((key_refusal key.now ≡ None) × (result ≡ Refusal.NoMemory)) }
 {
@@ -173,7 +173,7 @@ impl<N: Notes<Note<A>>, A: Allocator + Clone + Copy> Leased<Core<N, A>, A> {
     }
 
     /// As `Core::add`: where it stores, no ticket of before is fresh for the key any more, and where it waits, none is
-    /// until its reply is taken. Its turn is over. Refused as `Core::add` is, and for want of memory for an add that
+    /// until its reply is taken. Its turn is over. Refused as `Core::add` is, and for lack of memory for an add that
     /// waits.
     ///
     /// There is none with a ticket. An add that waits for flash stores when a worker comes to it, and the machine does

@@ -6,7 +6,7 @@ ghost use Rattle.hc_nvm.specs.Seen.{take_of};
 ghost use Rattle.hc_core.specs.Answers.{is_work};
 ghost use Rattle.hc_core.specs.Logged.{IsCall};
 ghost use Rattle.hc_leased.specs.Leased.{SameLeases};
-ghost use Rattle.hc_theorem.specs.runs.Events.{Writes, Fills, Reclaims};
+ghost use Rattle.hc_machine.specs.Call.{Writes, Fills, Reclaims};
 ghost use Rattle.hc_leased.specs.Runs.{Does, Looks};
 
 use crate::cache::Calls;

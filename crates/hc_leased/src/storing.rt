@@ -7,7 +7,7 @@ ghost use Rattle.hc_core.specs.Logged.{IsCall};
 ghost use Rattle.hc_lease.specs.Stamps.{changed};
 ghost use Rattle.hc_lease.specs.Turns.{without_turn, without_turn_at};
 ghost use Rattle.hc_leased.specs.Leased.{Become, SameLeases, added_at};
-ghost use Rattle.hc_theorem.specs.runs.Events.{Finds, Ticks};
+ghost use Rattle.hc_machine.specs.Call.{Finds, Ticks};
 ghost use Rattle.hc_leased.specs.Runs.{Does, Looks, Deletes};
 
 use crate::cache::{Cache, Calls};

@@ -1,2 +1,3 @@
 -- What judges a log.
 pub mod Judge
+pub mod Replies

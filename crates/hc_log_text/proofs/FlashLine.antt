@@ -7,7 +7,8 @@ use Rattle.hc_types.specs.declared.config.FlashConfig.{FlashConfig}
 use Rattle.hc_trace_text.specs.Lines.{fields_of}
 use Rattle.hc_log_text.specs.Text.{joined, flash_fields, flash_text}
 use Rattle.hc_log_text.specs.Said.{IsFlash}
-use Rattle.hc_log_text.specs.Reading.{number_at, Five, five_at, flash_with, ten_of, flash_of, ended, ◌>>=◌}
+use Rattle.hc_trace_text.specs.Grammar.{Five}
+use Rattle.hc_log_text.specs.Reading.{number_at, five_at, flash_with, ten_of, flash_of, ended, ◌>>=◌}
 use Rattle.hc_log_text.proofs.Inverse.{none-is-not-some, same, bound, chosen, ended-is, number-first}
 use Rattle.hc_log_text.proofs.ReadBack.{whole}
 use Rattle.hc_log_text.proofs.Spaces.{AllLack, fields-joined, number, word}

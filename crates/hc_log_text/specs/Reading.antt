@@ -12,6 +12,7 @@ use Rattle.hc_types.specs.declared.loss.Why.TheVariants.{NoFlash, Tombstone, Not
 use Rattle.hc_history.specs.Note.{Op, Insert, Add, Find, Remove, Reply, Stored, Exists, Hit, Miss, FoundInMemory, NotInMemory, Note, Begin, Did, End, Lose, Charged, Linked, Freed, Queued, Unqueued, Writing, Written, Buried, Raised, Read, Wrote, Opened, Flushed, Cleared, Now}
 use Rattle.hc_trace_text.specs.Numbers.{is_key, number_below, value_of}
 use Rattle.hc_trace_text.specs.Texts.{is_repeated}
+use Rattle.hc_trace_text.specs.Grammar.{Five}
 use Rattle.hc_log_text.specs.Said.{is_short}
 
 infixl 10 ◌>>=◌
@@ -309,9 +310,6 @@ note_of [] = None
 note_of (word ∷ fields) = worded word fields
 
 -- ---- a flash
-
-abbrev pub Five : Type 0
-Five = ℕ × ℕ × ℕ × ℕ × ℕ
 
 -- five numbers
 abbrev pub five_at : List (List ℕ) → Option (Five × List (List ℕ))

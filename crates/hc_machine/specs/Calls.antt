@@ -59,6 +59,16 @@ abbrev pub waiting_at : Option Nvm → List ℕ → Option FlashEntry
 waiting_at None key = None
 waiting_at (Some nvm) key = put_at key nvm.queue
 
+-- all puts that wait, the oldest first
+abbrev pub queue_in : Option Nvm → List FlashEntry
+queue_in None = []
+queue_in (Some nvm) = nvm.queue
+
+-- the key has a tombstone
+abbrev pub buried_at : Option Nvm → List ℕ → Bool
+buried_at None key = false
+buried_at (Some nvm) key = is_buried nvm key
+
 abbrev pub in_memory : Cache → List ℕ → Option FlashEntry
 in_memory cache key = option_map_or (λ item. Some (entry_of_item item)) (linked_at key cache.memory.pools) (waiting_at cache.nvm key)
 

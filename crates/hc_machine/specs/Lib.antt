@@ -8,6 +8,7 @@ pub mod Evicting
 pub mod Waiting
 pub mod Calls
 pub mod Workers
+pub mod Call
 pub mod World
 pub mod Schedule
 pub mod Quiet

@@ -143,13 +143,14 @@ next_fill nvm = find (λ fill. not (is_some fill.job) && not (is_busy_for nvm.pa
 abbrev pub taken_fill : List ℕ → ℕ → List Fill → List Fill
 taken_fill key number fills = map (λ (fill : Fill). if is_fill_of key fill then record fill { job = Some number } else fill) fills
 
-abbrev pub is_brought_by : ℕ → Option ℕ → Bool
-is_brought_by number None = false
-is_brought_by number (Some job) = job == number
+-- this is the number, where there is one
+abbrev pub is_number_in : ℕ → Option ℕ → Bool
+is_number_in number None = false
+is_number_in number (Some other) = other == number
 
 -- the fill that the job brings, unless it is an orphan
 abbrev pub fill_by : ℕ → List Fill → Option Fill
-fill_by number fills = find (λ fill. is_brought_by number fill.job) fills
+fill_by number fills = find (λ fill. is_number_in number fill.job) fills
 
 -- the key may stand on flash, or is on its way there or back
 abbrev pub may_come : Nvm → List ℕ → Bool

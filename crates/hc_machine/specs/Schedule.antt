@@ -4,11 +4,11 @@ use Rattle.hc_types.specs.Config.{Config}
 use Rattle.hc_memory.specs.Item.{Handle}
 use Rattle.hc_history.specs.Note.{Note}
 use Rattle.hc_machine.specs.Cache.{Cache, Moved, Answer, Refused, Opened}
-use Rattle.hc_machine.specs.Evicting.{allocate}
-use Rattle.hc_machine.specs.Calls as calls
-use Rattle.hc_machine.specs.Workers as workers
-use Rattle.hc_machine.specs.World.{World, Said, Stepped, new_world, by_call, io_of, done_of, order_in, result_at}
+use Rattle.hc_machine.specs.Call.{Allocates, Inserts, Adds, Discards, Finds, Removes, Replies, Ticks, Writes, Fills, Reclaims, act}
+use Rattle.hc_machine.specs.World.{World, Said, Stepped, new_world, by_call, called, io_of, done_of, order_in, result_at}
 
+-- What a client or a worker does. It names no other client than the step's own, no handle but by its slot, and no result
+-- but by its job: so it isn't a call of the cache by itself.
 pub data Deed : Type 0 where
   -- an item is allocated and written, for this slot
   Open : (slot pool : ℕ) (key value : List ℕ) (ttl : ℕ) → Deed
@@ -87,11 +87,11 @@ fills number answer scene moved = in_world scene.slots (by_call scene.world move
 
 abbrev pub opens : Option Slot → ℕ → ℕ → List ℕ → List ℕ → ℕ → Scene → Done
 opens (Some slot) number pool key value ttl scene = no_slot scene
-opens None number pool key value ttl scene = let moved = allocate pool key value ttl scene.world.cache in fills number moved.answer scene moved
+opens None number pool key value ttl scene = let moved = act (Allocates pool key value ttl) scene.world.cache in fills number moved.answer scene moved
 
 abbrev pub puts : Option Slot → ℕ → Scene → Done
 puts None client scene = no_slot scene
-puts (Some slot) client scene = in_world (without_slot slot.number scene.slots) (by_call scene.world (calls.insert_or_replace client slot.handle scene.world.cache))
+puts (Some slot) client scene = in_world (without_slot slot.number scene.slots) (called (Inserts client slot.handle) scene.world)
 
 -- what is refused stays in its slot
 abbrev pub left_after : Answer → ℕ → List Slot → List Slot
@@ -100,24 +100,24 @@ left_after answer number slots = without_slot number slots
 
 abbrev pub puts_new : Option Slot → ℕ → Scene → Done
 puts_new None client scene = no_slot scene
-puts_new (Some slot) client scene = let moved = calls.insert client slot.handle scene.world.cache in in_world (left_after moved.answer slot.number scene.slots) (by_call scene.world moved)
+puts_new (Some slot) client scene = let moved = act (Adds client slot.handle) scene.world.cache in in_world (left_after moved.answer slot.number scene.slots) (by_call scene.world moved)
 
 abbrev pub discards : Option Slot → Scene → Done
 discards None scene = no_slot scene
-discards (Some slot) scene = in_world (without_slot slot.number scene.slots) (by_call scene.world (calls.discard slot.handle scene.world.cache))
+discards (Some slot) scene = in_world (without_slot slot.number scene.slots) (called (Discards slot.handle) scene.world)
 
 abbrev pub does : ℕ → Deed → Scene → Done
 does client (Open slot pool key value ttl) scene = opens (slot_at slot scene.slots) slot pool key value ttl scene
 does client (Put slot) scene = puts (slot_at slot scene.slots) client scene
 does client (PutNew slot) scene = puts_new (slot_at slot scene.slots) client scene
 does client (Discard slot) scene = discards (slot_at slot scene.slots) scene
-does client (Find key) scene = in_world scene.slots (by_call scene.world (calls.find client key scene.world.cache))
-does client (Remove key) scene = in_world scene.slots (by_call scene.world (calls.remove client key scene.world.cache))
-does client (Reply call) scene = in_world scene.slots (by_call scene.world (calls.take_reply call scene.world.cache))
-does client (Tick moment) scene = in_world scene.slots (by_call scene.world (calls.tick moment scene.world.cache))
-does client WriterTake scene = in_world scene.slots (by_call scene.world (workers.writer_take scene.world.cache))
-does client FillerTake scene = in_world scene.slots (by_call scene.world (workers.filler_take scene.world.cache))
-does client Reclaim scene = in_world scene.slots (by_call scene.world (workers.reclaim scene.world.cache))
+does client (Find key) scene = in_world scene.slots (called (Finds client key) scene.world)
+does client (Remove key) scene = in_world scene.slots (called (Removes client key) scene.world)
+does client (Reply call) scene = in_world scene.slots (called (Replies call) scene.world)
+does client (Tick moment) scene = in_world scene.slots (called (Ticks moment) scene.world)
+does client WriterTake scene = in_world scene.slots (called Writes scene.world)
+does client FillerTake scene = in_world scene.slots (called Fills scene.world)
+does client Reclaim scene = in_world scene.slots (called Reclaims scene.world)
 does client (Io job fails) scene = in_world scene.slots (io_of scene.world job fails (order_in scene.world.cache.nvm job) (result_at job scene.world.results))
 does client (Finish job) scene = in_world scene.slots (done_of scene.world job (result_at job scene.world.results))
 
@@ -155,7 +155,7 @@ ended_behind f moved = joined moved.part (f moved.cache)
 
 abbrev pub given_up : List Slot → Cache → Ended
 given_up [] cache = record { cache = cache; part = [] }
-given_up (slot ∷ slots) cache = ended_behind (given_up slots) (calls.discard slot.handle cache)
+given_up (slot ∷ slots) cache = ended_behind (given_up slots) (act (Discards slot.handle) cache)
 
 abbrev pub all_of : List (List Note) → List Note
 all_of [] = []

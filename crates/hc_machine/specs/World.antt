@@ -11,7 +11,7 @@ use Rattle.hc_machine.specs.Nvm.{Nvm, Job, job_at}
 use Rattle.hc_machine.specs.Cache.{Cache, new_cache, Answer, Refused, Opened, Moved}
 use Rattle.hc_machine.specs.Evicting.{allocate}
 use Rattle.hc_machine.specs.Calls as calls
-use Rattle.hc_machine.specs.Workers as workers
+use Rattle.hc_machine.specs.Call.{CacheCall, Finds, Removes, Replies, Ticks, Writes, Fills, Reclaims, Finishes, act}
 
 -- the result of a job's operation, until it is handed in
 pub record Result : Type 0 where
@@ -62,6 +62,10 @@ pub record Stepped : Type 0 where
 
 abbrev pub by_call : World → Moved → Stepped
 by_call w moved = record { world = record w { cache = moved.cache }; said = Says moved.answer; part = moved.part }
+
+-- a call of the cache, over its device
+abbrev pub called : CacheCall → World → Stepped
+called call w = by_call w (act call w.cache)
 
 abbrev pub behind : List Note → Moved → Moved
 behind part moved = record moved { part = part ++ moved.part }
@@ -146,22 +150,22 @@ io_of w job fails order result = refused w UnknownJob
 
 abbrev pub done_of : World → ℕ → Option IoResult → Stepped
 done_of w job None = refused w UnknownJob
-done_of w job (Some result) = by_call (record w { results = without_result job w.results }) (workers.finish job result w.cache)
+done_of w job (Some result) = called (Finishes job result) (record w { results = without_result job w.results })
 
 -- ---- runs
 
 abbrev pub step : Line → World → Stepped
 step (Set pool key value ttl) w = by_call w (inserted (calls.insert_or_replace 0) (allocate pool key value ttl w.cache))
 step (Add pool key value ttl) w = by_call w (inserted put_new (allocate pool key value ttl w.cache))
-step (Get key) w = by_call w (calls.find 0 key w.cache)
-step (Del key) w = by_call w (calls.remove 0 key w.cache)
-step (At moment) w = by_call w (calls.tick moment w.cache)
-step Writer w = by_call w (workers.writer_take w.cache)
-step Filler w = by_call w (workers.filler_take w.cache)
-step Reclaim w = by_call w (workers.reclaim w.cache)
+step (Get key) w = called (Finds 0 key) w
+step (Del key) w = called (Removes 0 key) w
+step (At moment) w = called (Ticks moment) w
+step Writer w = called Writes w
+step Filler w = called Fills w
+step Reclaim w = called Reclaims w
 step (Io job fails) w = io_of w job fails (order_in w.cache.nvm job) (result_at job w.results)
 step (Done job) w = done_of w job (result_at job w.results)
-step (Reply call) w = by_call w (calls.take_reply call w.cache)
+step (Reply call) w = called (Replies call) w
 
 pub record Ran : Type 0 where
   pub world : World

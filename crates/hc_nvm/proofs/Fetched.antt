@@ -14,7 +14,7 @@ use Rattle.hc_bighash.specs.Found.{losses_of}
 use Rattle.hc_history.specs.Told.{Heard, told_more}
 use Rattle.hc_machine.specs.Cache.{unmarked_by}
 use Rattle.hc_machine.specs.Leaving.{changed}
-use Rattle.hc_machine.specs.Nvm.{Nvm, Tombstone, Filling, Fill, Job, is_fill_of, fill_at, fill_by, is_brought_by, without_fill, taken_fill, next_fill}
+use Rattle.hc_machine.specs.Nvm.{Nvm, Tombstone, Filling, Fill, Job, is_fill_of, fill_at, fill_by, is_number_in, without_fill, taken_fill, next_fill}
 use Rattle.hc_machine.specs.Takes.{Taken, Take, Filled, Finished, Work, takes, launch, launch_by, launched, finished, fill_out, loss_notes, take_fill, filler_take, found_in}
 use Rattle.hc_nvm.specs.After.{After, after, settled_part, settled_left}
 use Rattle.hc_nvm.specs.Fetching.{AreServed}
@@ -34,7 +34,7 @@ same_number n = grind arith
 
 -- ---- whose job it is
 
-not_of_next : (made : ℕ) (job : Option ℕ) → IsUpTo made job → is_brought_by (made + 1) job ≡ false
+not_of_next : (made : ℕ) (job : Option ℕ) → IsUpTo made job → is_number_in (made + 1) job ≡ false
 not_of_next made None h = refl
 not_of_next made (Some job) h = grind (arith, h)
 

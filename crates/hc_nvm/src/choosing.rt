@@ -39,7 +39,7 @@ impl<A: Allocator + Clone + Copy> Nvm<A> {
         )
     }
 
-    /// The key of the next fill that can be served. Nothing changes. Refused only where memory lacks.
+    /// The key of the next fill that can be served. Nothing changes. Refused only when out of memory.
     pub fn next_fill(&mut self) -> Result<Option<Key<A>>, AllocError>
         ensures same { self.new.nvm ≡ self.old.nvm }
         ensures rooms { KeepsRoom self.old self.new }

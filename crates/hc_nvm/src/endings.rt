@@ -177,7 +177,7 @@ impl<A: Allocator + Clone + Copy> Nvm<A> {
 
     /// How the fill of this key is over if it is taken now, which `next_fill` answered. Nothing where it goes on with a page:
     /// then no fill ends as it is taken, and it is taken with `filler_take`. Nothing changes, and there is room for what
-    /// `end_at_once` tells and for `spare` more notes. Refused only where memory lacks.
+    /// `end_at_once` tells and for `spare` more notes. Refused only when out of memory.
     pub fn ending_at_once<N: Notes<Note<A>>>(
         &self,
         key: &Key<A>,

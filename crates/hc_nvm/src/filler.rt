@@ -104,7 +104,7 @@ pub(crate) fn over_with<A: Allocator>(
 
 impl<A: Allocator + Clone + Copy> Nvm<A> {
     /// The filler takes this key, which `next_fill` answered: the engines are asked for it. A fill that is over at once is
-    /// handed up. Refused only where memory lacks or the numbers of jobs have run out; then nothing changed. There is room
+    /// handed up. Refused only when out of memory or the numbers of jobs have run out; then nothing changed. There is room
     /// for `spare` more notes afterwards.
     pub fn filler_take<N: Notes<Note<A>>>(
         &mut self,

@@ -167,7 +167,7 @@ fn put_order<A: Allocator>(jobs: &mut Vec<Job<A>, A>, at: usize, order: Order<A>
 impl<A: Allocator + Clone + Copy> Nvm<A> {
     /// Hands in what came of the device operation that the job with this number waits for: the job goes on with the next
     /// one, or is over. A fill that ends is handed up. Refused with `UnknownJob` where no job waits for such a result, and
-    /// with `NoMemory` where memory lacks; then nothing changed, and the result is given back. There is room for `spare`
+    /// with `NoMemory` when out of memory; then nothing changed, and the result is given back. There is room for `spare`
     /// more notes afterwards.
     pub fn finish<N: Notes<Note<A>>>(
         &mut self,

@@ -37,7 +37,7 @@ impl<A: Allocator> Model for Nvm<A> {
 
 impl<A: Allocator + Clone + Copy> Nvm<A> {
     /// Both engines are new, and nothing waits, by a configuration whose numbers are within their limits. Refused only
-    /// where memory lacks.
+    /// when out of memory.
     pub fn new(alloc: A, flash: FlashConfig) -> Result<Nvm<A>, AllocError>
         requires { flash_wrong flash ≡ None }
         ensures { IfOk result (λ n. n.nvm ≡ new_nvm flash) }

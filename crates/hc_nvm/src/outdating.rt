@@ -138,7 +138,7 @@ impl<A: Allocator + Clone + Copy> Nvm<A> {
     }
 
     /// What the key needs as things are, so that its copies on flash are stale from then on, with the note where notes are
-    /// kept. Nothing is copied where flash has nothing of the key. Refused only where memory lacks.
+    /// kept. Nothing is copied where flash has nothing of the key. Refused only when out of memory.
     pub fn plan_to_outdate(&self, key: &Key<A>, keeps: bool) -> Result<Outdating<A>, AllocError>
         ensures { IfOk result (λ plan. Serves keeps key.now self.now.nvm plan) }
     {

@@ -137,7 +137,7 @@ impl<A: Allocator + Clone + Copy> Nvm<A> {
         self.queue.contains(key)
     }
 
-    /// The put of the key that waits: a copy that shares its value. Refused only where memory lacks.
+    /// The put of the key that waits: a copy that shares its value. Refused only when out of memory.
     pub fn put(&self, key: &Key<A>) -> Result<Option<Entry<A>>, AllocError>
         ensures { IfOk result (λ put. option_map entry_of put ≡ put_at key.now self.now.nvm.queue) }
     {
@@ -195,6 +195,14 @@ impl<A: Allocator + Clone + Copy> Nvm<A> {
         self.jobs.is_empty()
     }
 
+    /// How many puts wait.
+    #[must_use]
+    pub fn how_many_puts(&self) -> usize
+        ensures { result ≡ length self.now.nvm.queue }
+    {
+        self.queue.len()
+    }
+
     /// How many tombstones stand.
     #[must_use]
     pub fn how_many_tombstones(&self) -> usize
@@ -203,7 +211,7 @@ impl<A: Allocator + Clone + Copy> Nvm<A> {
         self.tombstones.len()
     }
 
-    /// Makes room for so many more puts, tombstones and fills, and takes none away. Refused only where memory lacks.
+    /// Makes room for so many more puts, tombstones and fills, and takes none away. Refused only when out of memory.
     pub fn reserve(&mut self, puts: usize, stones: usize, fills: usize) -> Result<(), AllocError>
         ensures same { self.new.nvm ≡ self.old.nvm }
         ensures puts { OnOk result (puts ≤ self.new.puts) }

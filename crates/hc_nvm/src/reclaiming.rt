@@ -14,7 +14,7 @@ use std::alloc::{AllocError, Allocator};
 
 impl<A: Allocator + Clone + Copy> Nvm<A> {
     /// Gives up the region that was written first, where fewer regions are clean than are wanted: its entries are forgotten.
-    /// Answers its number. Refused only where memory lacks or the numbers of jobs have run out; then nothing changed. There
+    /// Answers its number. Refused only when out of memory or the numbers of jobs have run out; then nothing changed. There
     /// is room for `spare` more notes afterwards.
     pub fn reclaim<N: Notes<Note<A>>>(
         &mut self,

@@ -30,7 +30,7 @@ pub(crate) const NOTES_OF_A_PUT: usize = 6;
 /// The same of a result that is handed in: that it came, and one for what the fill that may end with it brings.
 pub(crate) const NOTES_OF_A_RESULT: usize = 6;
 
-/// So many notes in all. Refused, as if memory lacked, where 64 bits can't count them.
+/// So many notes in all. Refused, as if out of memory, where 64 bits can't count them.
 pub(crate) fn in_all(losses: usize, stones: usize, others: usize) -> Result<usize, AllocError>
     ensures { IfOk result (λ n. n ≡ losses + (stones + others)) }
 {
@@ -44,7 +44,7 @@ pub(crate) fn in_all(losses: usize, stones: usize, others: usize) -> Result<usiz
 }
 
 /// Room is made for one more job and for so many notes beside those of losses, and then an operation is started under the
-/// next number. Refused only where memory lacks or the numbers have run out; nothing changed then.
+/// next number. Refused only when out of memory or the numbers have run out; nothing changed then.
 pub(crate) fn start_in<A: Allocator + Clone + Copy, N: Notes<Note<A>>>(
     pair: &mut Pair<A>,
     jobs: &mut Vec<Job<A>, A>,

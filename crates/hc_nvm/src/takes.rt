@@ -105,7 +105,7 @@ fn tell_put<A: Allocator, N: Notes<Note<A>>>(
 
 impl<A: Allocator + Clone + Copy> Nvm<A> {
     /// The writer takes what is next: a region's page, or else a delete, or else a put. Where the engines go on with a page,
-    /// the job waits for that device operation. Refused only where memory lacks or the numbers of jobs have run out; then
+    /// the job waits for that device operation. Refused only when out of memory or the numbers of jobs have run out; then
     /// nothing changed. There is room for `spare` more notes afterwards.
     pub fn writer_take<N: Notes<Note<A>>>(
         &mut self,

@@ -7,7 +7,7 @@ use hc_types::Key;
 use hc_waiting::Waiter;
 use std::alloc::Allocator;
 
-/// The waiter alone. Where memory lacks it comes back.
+/// The waiter alone. When out of memory it comes back.
 fn alone<A: Allocator>(alloc: A, waiter: Waiter<A>) -> Result<Vec<Waiter<A>, A>, Waiter<A>>
     ensures ok { IfOk result (λ waiters. waiters.items ≡ waiter ∷ []) }
     ensures given_back { IfErr result (λ back. back ≡ waiter) }
@@ -22,7 +22,7 @@ fn alone<A: Allocator>(alloc: A, waiter: Waiter<A>) -> Result<Vec<Waiter<A>, A>,
 }
 
 impl<A: Allocator + Clone + Copy> Nvm<A> {
-    /// One call more waits for the key. Where memory lacks, nothing changed and the call comes back. `copy` is the key once
+    /// One call more waits for the key. When out of memory, nothing changed and the call comes back. `copy` is the key once
     /// more.
     pub fn wait(&mut self, copy: Key<A>, key: Key<A>, waiter: Waiter<A>) -> Result<(), Waiter<A>>
         requires copy { copy ≡ key }

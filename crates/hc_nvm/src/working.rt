@@ -9,7 +9,7 @@ use crate::nvm::Nvm;
 use std::alloc::{AllocError, Allocator};
 
 impl<A: Allocator + Clone + Copy> Nvm<A> {
-    /// Whether the writer finds something to do, if it takes now. Nothing changes. Refused only where memory lacks.
+    /// Whether the writer finds something to do, if it takes now. Nothing changes. Refused only when out of memory.
     pub fn writer_has_work(&mut self) -> Result<bool, AllocError>
         ensures same { self.new.nvm ≡ self.old.nvm }
         ensures rooms { KeepsRoom self.old self.new }
@@ -24,7 +24,7 @@ impl<A: Allocator + Clone + Copy> Nvm<A> {
         self.has_put()
     }
 
-    /// Whether the filler finds something to do, if it takes now. Nothing changes. Refused only where memory lacks.
+    /// Whether the filler finds something to do, if it takes now. Nothing changes. Refused only when out of memory.
     pub fn filler_has_work(&mut self) -> Result<bool, AllocError>
         ensures same { self.new.nvm ≡ self.old.nvm }
         ensures rooms { KeepsRoom self.old self.new }

@@ -17,7 +17,7 @@ use hc_nvm::Take;
 use hc_types::Refusal;
 use std::alloc::AllocError;
 
-/// A refusal is an answer, but not that memory lacks.
+/// A refusal is an answer, but not that it is out of memory.
 pub(crate) fn refused(refusal: Refusal) -> Result<Answer, AllocError>
     ensures { IfOk result (λ answer. (refusal ≢ NoMemory) × (answer_of (machine.Refused refusal) ≡ Some (answer_seen answer))) }
 {

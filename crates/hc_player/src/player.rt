@@ -48,7 +48,7 @@ fn pages_of(flash: FlashConfig) -> u64 {
     flash.buckets.saturating_add(regions)
 }
 
-/// A device for this flash, of whose pages nothing is known. Without flash it has none. An error is want of memory, or that a
+/// A device for this flash, of whose pages nothing is known. Without flash it has none. An error is out of memory, or that a
 /// number of the flash is too large for a device.
 pub fn new_device(alloc: Global, flash: Option<FlashConfig>) -> Result<MemFlash, AllocError>
     ensures { IfOk result (λ device. (page : ℕ) → held_by device page ≡ None) }

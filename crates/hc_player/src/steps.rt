@@ -75,7 +75,7 @@ impl<N: Notes<Note>> Player<N> {
         }
     }
 
-    /// What a client does, or the clock. An error is want of memory.
+    /// What a client does, or the clock. An error is out of memory.
     #[inline(always)] // so that a line's step has its answer where the line is told
     pub fn take_step(&mut self, step: &Step<'_>) -> Result<Answer, AllocError>
         ensures { IfOk result (λ answer. Acts (Do (step_seen step.now)) (answer_seen answer) self.old self.new) }

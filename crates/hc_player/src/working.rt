@@ -96,7 +96,7 @@ impl<N: Notes<Note>> Player<N> {
         }
     }
 
-    /// What a worker does, the device with a job, or a client that waited. An error is want of memory.
+    /// What a worker does, the device with a job, or a client that waited. An error is out of memory.
     pub fn do_work(&mut self, work: &Work) -> Result<Answer, AllocError>
         ensures { IfOk result (λ answer. Acts (Serve (work_seen work.now)) (answer_seen answer) self.old self.new) }
     {

@@ -4,13 +4,11 @@ ghost use Rattle.hc_types.specs.FlashEntry.{entry_of};
 ghost use Rattle.hc_engines.specs.large.Entries.{entry_in as entry_in_seen, made_of as made_of_seen};
 ghost use Rattle.hc_region.specs.Decoding.{made_by};
 
+use crate::entries::HEAD;
 use byteorder::{BigEndian, ByteOrder};
 use bytes::Bytes;
-use hc_types::{Entry, Key};
+use hc_types::{Entry, Key, VALUE_MAX};
 use std::alloc::{AllocError, Allocator};
-
-/// The most bytes of a value.
-const VALUE_MAX: u32 = 1_048_576;
 
 fn key_of<A: Allocator>(bytes: Bytes<A>) -> Result<Key<A>, AllocError>
     requires { (1 ≤ length bytes) × (length bytes ≤ 255) }
@@ -33,7 +31,7 @@ fn made_of<A: Allocator>(
     ensures { IfOk result (λ entry. option_map entry_of entry ≡ made_of_seen key pool value expiry body) }
 {
     let at = usize::from(key);
-    if key == 0 || value > VALUE_MAX || body.len() != at + value as usize {
+    if key == 0 || u64::from(value) > VALUE_MAX || body.len() != at + value as usize {
         return Ok(None);
     }
     let key = key_of(body.split_to(at)?)?;
@@ -53,7 +51,7 @@ pub fn entry_in<A: Allocator>(mut bytes: Bytes<A>) -> Result<Option<Entry<A>>, A
     let Some(head) = head_of(bytes.as_slice()) else {
         return Ok(None);
     };
-    bytes.advance(14);
+    bytes.advance(HEAD);
     made_of(head.key, head.pool, head.value, head.expiry, bytes)
 }
 
@@ -68,8 +66,8 @@ struct Head {
 
 /// The front of these bytes, where they are as many.
 fn head_of(bytes: &[u8]) -> Option<Head>
-    ensures value { entry_in_seen bytes.now ≡ made_by result (drop 14 bytes.now) }
-    ensures long { IsSome result → 14 ≤ length bytes.now }
+    ensures value { entry_in_seen bytes.now ≡ made_by result (drop HEAD bytes.now) }
+    ensures long { IsSome result → HEAD ≤ length bytes.now }
 {
     match bytes {
         [] => None,

@@ -8,6 +8,9 @@ use byteorder::{BigEndian, ByteOrder};
 use hc_types::Entry;
 use std::alloc::{AllocError, Allocator};
 
+/// How many bytes stand before the key of an entry in a region.
+pub const HEAD: usize = 14;
+
 fn put_u32<A: Allocator + Clone>(out: &mut Vec<u8, A>, number: u32) -> Result<(), AllocError>
     ensures { OnOk result (out.new.items ≡ out.old.items ++ to_be_bytes w32 number) }
 {
@@ -33,7 +36,7 @@ pub fn entry_bytes<A: Allocator + Clone>(
     requires { length entry.now.value ≤ 1048576 }
     ensures { IfOk result (λ bytes. bytes.items ≡ bytes_of (entry_of entry.now)) }
 {
-    let mut out = Vec::with_capacity(alloc, 14 + entry.key.len() + entry.value.len())?;
+    let mut out = Vec::with_capacity(alloc, HEAD + entry.key.len() + entry.value.len())?;
     out.push(entry.key.len() as u8)?;
     out.push(entry.pool)?;
     put_u32(&mut out, entry.value.len() as u32)?;

@@ -18,7 +18,7 @@ pub use clean::{
     CleanRegions, add_emptied, all_clean, clean_count, lowest_clean, open_lowest, with_released,
 };
 pub use decoding::entry_in;
-pub use entries::entry_bytes;
+pub use entries::{HEAD, entry_bytes};
 pub use filling::fill;
 pub use numbered::{
     append_at, appended_at, buffered_at, can_go_at, empty_at, filled_at, if_fits, mark_at,

@@ -7,13 +7,13 @@ use Rattle.hc_types.specs.Limits.{first_wrong}
 use Rattle.hc_engines.specs.Engine.{Pages}
 use Rattle.hc_history.specs.Note.{Note}
 use Rattle.hc_history.specs.Told.{Log, told_more}
-use Rattle.hc_machine.specs.Nvm.{Job}
+use Rattle.hc_machine.specs.Nvm.{Job, is_number_in}
 use Rattle.hc_machine.specs.Schedule.{Deed, Step, Scene, Told, Ran, new_scene, run_from, run, given_up, step}
 use Rattle.hc_machine.specs.Quiet.{is_own, is_quiet, AllQuiet, BreaksQuiet}
 use Rattle.hc_run.specs.Steps.{breaking}
 use Rattle.hc_run.specs.Shows.{Stage, Moves, Waits}
 use Rattle.hc_run.specs.Going.{log_length, GoesOn, IsOngoing}
-use Rattle.hc_run.specs.QuietRuns.{is_quiet_in, is_of, StopsQuietly, IsQuiet, IsQuietRunOf}
+use Rattle.hc_run.specs.QuietRuns.{is_quiet_in, StopsQuietly, IsQuiet, IsQuietRunOf}
 use Rattle.hc_run.specs.declared.runs.Stopped.{Stopped}
 use Rattle.hc_run.proofs.Promising.{runs_stand}
 use Rattle.hc_run.proofs.Going.{ongoing-more, ongoing-waits, run_ends}
@@ -32,7 +32,7 @@ none_all [] = refl
 none_all (job ∷ jobs) = grind arith
 
 -- or there is none
-pub quiet-none : (deed : Deed) (jobs : List Job) → ((number : ℕ) → is_own number deed ≡ is_of number None) → (length jobs == 0) ≡ list_all (λ (j : Job). is_own j.number deed) jobs
+pub quiet-none : (deed : Deed) (jobs : List Job) → ((number : ℕ) → is_own number deed ≡ is_number_in number None) → (length jobs == 0) ≡ list_all (λ (j : Job). is_own j.number deed) jobs
 quiet-none deed jobs own = sym (none_all jobs) ∙ same_jobs _ _ jobs (λ j. sym (own j.number))
 
 -- ---- one step more

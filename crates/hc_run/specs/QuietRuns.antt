@@ -1,5 +1,5 @@
 -- Quiet runs over any device.
-use Rattle.std.specs.Prelude.{◌≡◌, ℕ, ◌==◌, Bool, false, List, ◌++◌, Option, Some, None, take, drop, length}
+use Rattle.std.specs.Prelude.{◌≡◌, ℕ, Bool, List, ◌++◌, Option, Some, take, drop, length}
 use Rattle.std.specs.List.{list_all}
 use Rattle.hc_types.specs.Config.{Config}
 use Rattle.hc_engines.specs.Engine.{Pages}
@@ -17,11 +17,6 @@ use Rattle.hc_run.specs.declared.runs.Stopped.TheVariants as stops
 -- each job that is out is the step's
 abbrev pub is_quiet_in : Step → Cache → Bool
 is_quiet_in s cache = list_all (λ (job : Job). is_own job.number s.deed) (jobs_in cache.nvm)
-
--- the job is the one with this number, if there is one
-abbrev pub is_of : ℕ → Option ℕ → Bool
-is_of number None = false
-is_of number (Some job) = job == number
 
 -- where the run stopped by itself, the next step isn't quiet
 abbrev pub StopsQuietly : Option Stopped → List Step → Scene → Type 0

@@ -57,7 +57,7 @@ fn write<A: Allocator, D: Flash<A>>(
     device.write(place, bytes)
 }
 
-/// The cache's page is written: what comes of it. Where memory lacks, it isn't.
+/// The cache's page is written: what comes of it. When out of memory, it isn't.
 fn written<A: Allocator, D: Flash<A>>(
     device: &mut D,
     window: &Window,
@@ -78,7 +78,7 @@ fn written<A: Allocator, D: Flash<A>>(
     }
 }
 
-/// The operation is made on the cache's page. Where memory lacks, it isn't.
+/// The operation is made on the cache's page. When out of memory, it isn't.
 fn perform<A: Allocator, D: Flash<A>>(
     device: &mut D,
     window: &Window,
@@ -101,7 +101,7 @@ fn perform<A: Allocator, D: Flash<A>>(
     }
 }
 
-/// The device does the operation. Where memory lacks, nothing is read or written, or what was read isn't told.
+/// The device does the operation. When out of memory, nothing is read or written, or what was read isn't told.
 fn make<A: Allocator, D: Flash<A>>(
     device: &mut D,
     window: &Window,
@@ -121,7 +121,7 @@ fn make<A: Allocator, D: Flash<A>>(
     }
 }
 
-/// The operation is made. Where the step fails it, it doesn't reach the device. Where memory lacks, none is made. No
+/// The operation is made. Where the step fails it, it doesn't reach the device. When out of memory, none is made. No
 /// page of the device is changed but the cache's own.
 pub(crate) fn operate<A: Allocator, D: Flash<A>>(
     device: &mut D,

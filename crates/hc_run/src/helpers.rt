@@ -7,9 +7,9 @@ ghost use Rattle.hc_machine.specs.Calls.{is_known};
 ghost use Rattle.hc_machine.specs.Quiet.{is_own};
 ghost use Rattle.hc_machine.specs.World.{Says};
 ghost use Rattle.hc_machine.specs.Schedule.{Io, Tells, given_up};
+ghost use Rattle.hc_machine.specs.Nvm.{is_number_in};
 ghost use Rattle.hc_core.specs.Answers.{found_answer, removed_answer};
 ghost use Rattle.hc_run.specs.Asked.{deed_of, told_of, handle_of};
-ghost use Rattle.hc_run.specs.QuietRuns.{is_of};
 ghost use Rattle.hc_run.specs.Ending.{after_give_up, part_of_give_up};
 ghost use Rattle.hc_run.specs.Shows.{AreOwn};
 ghost use Rattle.hc_run.specs.Slots.{filled_from};
@@ -22,7 +22,7 @@ use hc_history::{Kept, Reply};
 use hc_types::{Config, Refusal};
 use std::alloc::{AllocError, Allocator};
 
-/// Why there is no stage of this configuration where memory lacks: a wrong number is named first.
+/// Why there is no stage of this configuration when out of memory: a wrong number is named first.
 pub(crate) fn without_memory<A: Allocator>(config: &Config<A>) -> Refusal
     ensures { (first_wrong config.now ≡ Some result) ⊎ ((first_wrong config.now ≡ None) × (result ≡ Refusal.NoMemory)) }
 {
@@ -34,7 +34,7 @@ pub(crate) fn without_memory<A: Allocator>(config: &Config<A>) -> Refusal
 
 /// The job whose operation the step makes, or whose result it hands in.
 pub(crate) fn job_of<A: Allocator>(request: &Request<A>) -> Option<u64>
-    ensures { (number : ℕ) → is_own number (deed_of request.now) ≡ is_of number result }
+    ensures { (number : ℕ) → is_own number (deed_of request.now) ≡ is_number_in number result }
 {
     match request {
         Request::Io { job, fails: _ } => Some(*job),
@@ -75,7 +75,7 @@ pub(crate) fn operation_of<A: Allocator>(request: &Request<A>) -> Option<(u64, b
     }
 }
 
-/// A step is refused, where it isn't for want of memory.
+/// A step is refused, where it isn't for lack of memory.
 pub(crate) fn refused<A: Allocator>(refusal: Refusal) -> Result<Outcome<A>, AllocError>
     ensures ok { IfOk result (λ outcome. (told_of outcome ≡ Tells (Says (Refused refusal))) × (refusal ≢ Refusal.NoMemory)) }
 {

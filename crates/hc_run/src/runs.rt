@@ -20,10 +20,10 @@ use hc_history::Kept;
 use hc_types::{Config, Refusal};
 use std::alloc::{AllocError, Allocator, Global};
 
-/// Why a run stopped, and before which step, by its place in the list. `run` stops for want of memory alone.
+/// Why a run stopped, and before which step, by its place in the list. `run` stops for lack of memory alone.
 #[derive(Clone, Copy, Debug, PartialEq, Eq)]
 pub enum Stopped {
-    /// Memory lacked for the step.
+    /// There was no memory for the step.
     NoMemory(usize),
     /// The step isn't quiet: a job is out, and the step isn't its own.
     NotQuiet(usize),
@@ -72,10 +72,10 @@ pub fn go_on<D: Flash<A>, A: Allocator + Clone + Copy>(
 
 /// Makes any list of steps on a new cache over the device, of whose pages nothing is known yet. The log is legal,
 /// honest, and follows the steps, and answers and log are those of the machine's run of the steps, up to the one for
-/// which memory lacked; the device may fail whichever of its operations. The device that comes back is the one that
+/// which there was no memory; the device may fail whichever of its operations. The device that comes back is the one that
 /// was handed in, after the operations of the run: it holds each page as the run left it, as far as that is known, and
 /// has failed as often more as the answers tell. Refused for the first number of the configuration that is outside its
-/// limits, and with `NoMemory` where memory lacks for the cache or its slots; then the device is dropped.
+/// limits, and with `NoMemory` where there is no memory for the cache or its slots; then the device is dropped.
 pub fn run<D: Flash<A>, A: Allocator + Clone + Copy>(
     alloc: A,
     config: &Config<A>,
@@ -122,7 +122,7 @@ pub fn run<D: Flash<A>, A: Allocator + Clone + Copy>(
 
 /// The same, where the run also stops before the first step that isn't quiet: while a job is out, each step must be
 /// its own, an `Io` or a `Finish`. Refused for the first number of the configuration that is outside its limits, and
-/// with `NoMemory` where memory lacks for the cache or its slots; then the device is dropped.
+/// with `NoMemory` where there is no memory for the cache or its slots; then the device is dropped.
 pub fn run_quiet<D: Flash<A>, A: Allocator + Clone + Copy>(
     alloc: A,
     config: &Config<A>,

@@ -96,7 +96,7 @@ pub fn take<A: Allocator>(slots: &mut Vec<Slot<A>, A>, slot: u8) -> Content<A>
     old.into_content()
 }
 
-/// Takes the handle out of the slot, if there is one, and seals it. Where memory lacks, it stays there.
+/// Takes the handle out of the slot, if there is one, and seals it. When out of memory, it stays there.
 pub fn take_sealed<A: Allocator + Clone>(
     slots: &mut Vec<Slot<A>, A>,
     slot: u8,

@@ -58,7 +58,7 @@ pub struct RanTracked<D: Device<A>, A: Allocator = Global> {
 }
 
 impl<D: Device<A>, G: Digest + Copy, A: Allocator + Clone + Copy> Scene<D, G, A> {
-    /// An empty cache and empty slots. Refused as `Core::new` is, and where memory lacks for the digests; then the device is
+    /// An empty cache and empty slots. Refused as `Core::new` is, and where there is no memory for the digests; then the device is
     /// dropped.
     fn new(alloc: A, config: &Config<A>, device: D, digest: G) -> Result<Scene<D, G, A>, Refusal>
         ensures fits { OnOk result (first_wrong config.now ≡ None) }
@@ -234,7 +234,7 @@ impl<D: Device<A>, G: Digest + Copy, A: Allocator + Clone + Copy> Scene<D, G, A>
         Ok(())
     }
 
-    /// The steps, one after the other, up to the one for which memory lacks: where it stopped, if it did.
+    /// The steps, one after the other, up to the one for which there is no memory: where it stopped, if it did.
     fn go_through(
         &mut self,
         answers: &mut Vec<Answer<A>, A>,
@@ -280,7 +280,8 @@ impl<D: Device<A>, G: Digest + Copy, A: Allocator + Clone + Copy> Scene<D, G, A>
     }
 }
 
-/// A new cache that keeps its log and digests of its pages. Refused as `Core::new` is, and where memory lacks for the digests.
+/// A new cache that keeps its log and digests of its pages. Refused as `Core::new` is, and where there is no memory for the
+/// digests.
 fn tracked<G: Digest + Copy, A: Allocator + Clone + Copy>(
     alloc: A,
     config: &Config<A>,
@@ -299,8 +300,8 @@ fn tracked<G: Digest + Copy, A: Allocator + Clone + Copy>(
     }
 }
 
-/// The operation is made, and what came of it is for two owners. Where the step fails it, it doesn't reach the device. Where
-/// memory lacks, nothing is written, or what was read isn't told.
+/// The operation is made, and what came of it is for two owners. Where the step fails it, it doesn't reach the device. When
+/// out of memory, nothing is written, or what was read isn't told.
 fn made<A: Allocator, D: Device<A>>(
     device: &mut D,
     order: &Order<A>,

@@ -16,7 +16,7 @@ use std::alloc::Allocator;
 use std::marker::Model;
 
 /// One shard in the midst of a run: its cache, and what its steps so far were answered and where each ends in its log.
-/// Where memory lacked for a step, the shard has stopped before it: `stopped` is how many it made.
+/// Where there was no memory for a step, the shard has stopped before it: `stopped` is how many it made.
 ///
 /// It isn't `Drop`, as no stage is.
 pub(crate) struct Lane<A: Allocator> {
@@ -51,14 +51,14 @@ impl<A: Allocator + Clone + Copy> Lane<A> {
         })
     }
 
-    /// Whether memory lacked for one of its steps.
+    /// Whether one of its steps was out of memory.
     pub(crate) fn has_stopped(&self) -> bool
         ensures { result ≡ is_some self.now.stopped }
     {
         self.stopped.is_some()
     }
 
-    /// The shard's next step, unless it has stopped. Where memory lacks for it, the shard stops. No page of the device
+    /// The shard's next step, unless it has stopped. Where there is no memory for it, the shard stops. No page of the device
     /// is changed but the shard's own.
     pub(crate) fn turn<D: Flash<A>>(&mut self, device: &mut D, step: &Step<A>)
         requires own { AreOwn self.old.stage.slots self.old.stage.cache }

@@ -22,7 +22,7 @@ use std::alloc::{Allocator, Global};
 use std::marker::Model;
 
 /// What one shard leaves: its log, the answers to its own steps, in order, and where each step's part ends in the log.
-/// Where memory lacked for one of them, `stopped` is how many were made before it. At the end of the log, what still
+/// Where there was no memory for one of them, `stopped` is how many were made before it. At the end of the log, what still
 /// fills a slot is given up.
 #[derive(Drop)]
 pub struct RanShard<A: Allocator = Global> {
@@ -83,7 +83,7 @@ fn give_up<A: Allocator + Clone + Copy>(lanes: Vec<Lane<A>, A>)
     left.destroy_empty();
 }
 
-/// A lane more for each shard, each of which has made no step yet. Where memory lacks, those that are there stay.
+/// A lane more for each shard, each of which has made no step yet. When out of memory, those that are there stay.
 fn push_all<A: Allocator + Clone + Copy>(
     alloc: A,
     sharded: &Sharded<A>,
@@ -108,7 +108,7 @@ fn push_all<A: Allocator + Clone + Copy>(
     Ok(())
 }
 
-/// A lane for each shard, each of which has made no step yet. Refused where memory lacks.
+/// A lane for each shard, each of which has made no step yet. Refused when out of memory.
 fn new_lanes<A: Allocator + Clone + Copy>(
     alloc: A,
     sharded: &Sharded<A>,
@@ -184,11 +184,11 @@ fn go_through<D: Flash<A>, A: Allocator + Clone + Copy>(
 
 /// Makes any list of steps of all shards, in order, each by the cache of its shard, over one device of which each
 /// shard has pages of its own, and of which nothing is known yet. A step that names a key of another shard, or is for
-/// a shard that there isn't, is refused with `WrongShard` and changes nothing; a shard for whose step memory lacks
+/// a shard that there isn't, is refused with `WrongShard` and changes nothing; a shard for whose step there is no memory
 /// stops before it, and the others go on. What each shard leaves is what a run of its own steps by themselves leaves:
 /// its log is legal, honest, and follows them, its calls are of its own keys, and its pages of the device are as that
 /// run left them; the device may fail whichever of its operations. Refused as `Sharded::check` refuses, and with
-/// `NoMemory` where memory lacks for the caches or for the refusals of the steps; then the device is dropped.
+/// `NoMemory` where there is no memory for the caches or for the refusals of the steps; then the device is dropped.
 pub fn run_shards<D: Flash<A>, A: Allocator + Clone + Copy>(
     alloc: A,
     sharded: &Sharded<A>,

@@ -20,7 +20,7 @@ pub enum Unclosed<G: Digest + Copy> {
     Mismatch(u8),
     /// A client isn't one of so many shards. The shards come back.
     OtherClients(Shards<Kept, Global, G>),
-    /// Memory lacks for the reports. The shards come back.
+    /// There is no memory for the reports. The shards come back.
     NoMemory(Shards<Kept, Global, G>),
 }
 

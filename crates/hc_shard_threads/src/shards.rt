@@ -142,7 +142,7 @@ impl<N: Listener, A: Allocator, G: Digest + Copy> Shards<N, A, G> {
         lies
     }
 
-    /// Has the workers of each shard try again what memory lacked for, and the calls that wait look again, as
+    /// Has the workers of each shard try again what there was no memory for, and the calls that wait look again, as
     /// `Shared::stir` does.
     pub fn stir<R: Wait>(&self, rt: &R) {
         for lane in &self.lanes {

@@ -10,4 +10,6 @@ pub mod Running
 pub mod Honesty
 pub mod Locked
 pub mod Scheduling
+pub mod LinesAreSteps
+pub mod Traces
 pub mod QuietRunning

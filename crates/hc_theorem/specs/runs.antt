@@ -3,9 +3,10 @@ pub mod Alone
 pub mod Between
 pub mod NoIo
 pub mod Device
-pub mod Events
+pub mod Honesty
 pub mod Lock
 pub mod Runs
 pub mod Schedule
 pub mod QuietRuns
 pub mod Scene
+pub mod Lines

@@ -1,7 +1,8 @@
 // Each kind of step keeps the invariant, and what follows for whole runs. A function here does nothing: its contract is the law.
 ghost use Rattle.hc_invariant.specs.Good.{Good};
 ghost use Rattle.hc_invariant.specs.Laws.{AllocateKeeps, InsertKeeps, AddKeeps, DiscardKeeps, FindKeeps, RemoveKeeps, ReplyKeeps, TickKeeps, WriterKeeps, FillerKeeps, ReclaimKeeps, FinishKeeps, StepKeeps};
-ghost use Rattle.hc_theorem.specs.runs.Events.{FinishIfHonest};
+ghost use Rattle.hc_theorem.specs.runs.Honesty.{FinishIfHonest};
+ghost use Rattle.hc_theorem.specs.runs.Lines.{LinesAreSteps};
 ghost use Rattle.hc_theorem.specs.runs.Between.{RunsAreBetween};
 ghost use Rattle.hc_theorem.specs.runs.Lock.{CallsStayGuarded};
 ghost use Rattle.hc_theorem.specs.headlines.Headline.{Headline, HeadlineOfSchedules, HeadlineOfQuietSchedules, SchedulesStand, HeadlineOfLogs, NewStands};
@@ -64,6 +65,11 @@ pub fn reclaim_keeps()
 /// A result is handed in that came of its job's order.
 pub fn finish_keeps()
     ensures { FinishKeeps Good Good }
+{}
+
+/// Each line of a trace does what one to three steps of a schedule do, and is answered as they are.
+pub fn lines_are_steps()
+    ensures { LinesAreSteps }
 {}
 
 /// Each line of a run keeps what holds of it: log, cache, and device.

@@ -8,6 +8,6 @@ mod laws;
 pub use laws::{
     add_keeps, allocate_keeps, between, calls_stay_guarded, discard_keeps, filler_keeps,
     find_keeps, finish_keeps, headline, headline_of_logs, headline_of_quiet_schedules,
-    headline_of_schedules, honest_finish, insert_keeps, new_stands, reclaim_keeps, remove_keeps,
-    reply_keeps, schedules_stand, step_keeps, tick_keeps, writer_keeps,
+    headline_of_schedules, honest_finish, insert_keeps, lines_are_steps, new_stands, reclaim_keeps,
+    remove_keeps, reply_keeps, schedules_stand, step_keeps, tick_keeps, writer_keeps,
 };

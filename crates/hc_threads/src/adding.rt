@@ -25,7 +25,7 @@ pub enum Added {
 pub enum Unadded<A: Allocator = Global> {
     /// It was refused, and its handle comes back.
     Refused(Unlinked<A>),
-    /// It waited, and then memory lacked for its reply, or for a worker while none could get on. It stays open: the cache
+    /// It waited, and then there was no memory for its reply, or for a worker while none could get on. It stays open: the cache
     /// keeps its item, or has stored it.
     Unanswered,
 }
@@ -38,7 +38,7 @@ pub(crate) enum Unstored<A: Allocator> {
 
 impl<N: Notes<Note<A>>, A: Allocator + Clone + Copy, G: Digest + Copy> Shared<N, A, G> {
     /// Answers the number of the call, and its reply. A call that waits lets the lock go until its reply is there. It gives
-    /// up where the workers are stuck, and where memory lacks for the reply.
+    /// up where the workers are stuck, and where there is no memory for the reply.
     pub(crate) fn insert<R: Wait>(
         &self,
         rt: &R,
@@ -67,7 +67,7 @@ impl<N: Notes<Note<A>>, A: Allocator + Clone + Copy, G: Digest + Copy> Shared<N,
                     held = self.replies.wait(rt, held);
                 }
                 // The call's reply is owed until it is taken, which is done here alone: so this isn't `UnknownCall`. The
-                // workers are stuck, or memory lacks.
+                // workers are stuck, or out of memory.
                 Err(_) => return Err(Unstored::Open(call)),
             }
         }

@@ -217,7 +217,7 @@ impl<A: Allocator + Clone + Copy> Client<A> {
     }
 
     /// Inserts the item where the key has no unexpired value, as `Core::insert` does, waits where one may be on flash, and
-    /// records what came. Where it waits and memory lacks, it stays open, and is recorded so.
+    /// records what came. Where it waits and is out of memory, it stays open, and is recorded so.
     pub fn insert<R: Wait, N: Notes<Note<A>>, G: Digest + Copy>(
         &mut self,
         rt: &R,
@@ -273,7 +273,7 @@ impl<A: Allocator + Clone + Copy> Client<A> {
     }
 
     /// Finds the value under the key, as `Core::find` does, waits for it where it may be on flash, and records what came.
-    /// Where memory lacks for another owner of the value, the call is answered and recorded all the same. Where it lacks
+    /// Where there is no memory for another owner of the value, the call is answered and recorded all the same. Where it lacks
     /// for the reply of a call that waited, or for a worker while none can get on, the call stays open. Refused with
     /// `NoMemory`.
     pub fn find<R: Wait, N: Notes<Note<A>>, G: Digest + Copy>(
@@ -326,7 +326,7 @@ impl<A: Allocator + Clone + Copy> Client<A> {
 
     /// Finds the value under the key, as `find` does. But a call that waits makes the reads itself, by a handle of the
     /// device, as long as there are some which no other is making: its own, or those of calls that have waited longer. So
-    /// it mostly wakes no worker and is woken by none. A read for which memory lacks is left to the fillers.
+    /// it mostly wakes no worker and is woken by none. A read for which there is no memory is left to the fillers.
     pub fn find_filling<R: Wait, N: Notes<Note<A>>, D: Device<A>, G: Digest + Copy>(
         &mut self,
         rt: &R,
@@ -432,7 +432,7 @@ fn add_op<A: Allocator + Clone>(sealed: &Sealed<A>) -> Result<Op<A>, AllocError>
     Ok(Op::Add(sealed.key().clone()?, sealed.to_bytes()?, sealed.expiry()))
 }
 
-/// The refusal of an item for want of memory.
+/// The refusal of an item for lack of memory.
 fn unlinked<A: Allocator>(sealed: Sealed<A>) -> Unlinked<A>
     ensures refusal { result.refusal ≡ Refusal.NoMemory }
     ensures sealed { result.sealed ≡ sealed }

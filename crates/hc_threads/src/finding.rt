@@ -18,19 +18,13 @@ use std::sync::{MutexGuard, Wait};
 /// The number of a find that was answered, and the value, or a ticket.
 type Answer<A> = (u64, Looked<A>);
 
-/// Why a find isn't answered: memory lacked.
+/// Why a find isn't answered: out of memory.
 #[derive(Clone, Copy, Debug, PartialEq, Eq)]
 pub(crate) enum Unfound {
     /// It was refused.
     Refused,
     /// It waited, and stays open, as the call of this number.
     Open(u64),
-}
-
-impl From<Unfound> for Refusal {
-    fn from(_unfound: Unfound) -> Refusal {
-        Refusal::NoMemory
-    }
 }
 
 /// What a find came to at once.
@@ -42,7 +36,7 @@ enum Asked<A: Allocator> {
 
 impl<N: Notes<Note<A>>, A: Allocator + Clone + Copy, G: Digest + Copy> Shared<N, A, G> {
     /// Answers the number of the call, and the value, or a ticket. A find that waits lets the lock go until its reply is there. It gives
-    /// up where the workers are stuck, and where memory lacks for the reply. Where a port is there, it does what a filler
+    /// up where the workers are stuck, and where there is no memory for the reply. Where a port is there, it does what a filler
     /// would do, as long as there is something; it waits where all that there is to fill is under way elsewhere. Where it
     /// misses, and the caller would load the key, who else loads it is asked in the same hold, by the patience that is given.
     pub(crate) fn find<R: Wait, D: Device<A>>(
@@ -107,7 +101,7 @@ impl<N: Notes<Note<A>>, A: Allocator + Clone + Copy, G: Digest + Copy> Shared<N,
                 Ok(held)
             }
             Ok(Take::Idle) => self.await_change(rt, call, held),
-            // Memory lacks: the fillers try it, unless it lacked for them already.
+            // Out of memory: the fillers try it, unless it lacked for them already.
             Err(_) if held.crew.is_stuck() => Err(Unfound::Open(call)),
             Err(_) => {
                 self.call(&mut held, Worker::Filler);
@@ -124,7 +118,7 @@ impl<N: Notes<Note<A>>, A: Allocator + Clone + Copy, G: Digest + Copy> Shared<N,
         held.cache.filler_take()
     }
 
-    /// Does the operations of the job, one after the other, until it is over. Where memory lacks, the job is left to the
+    /// Does the operations of the job, one after the other, until it is over. When out of memory, the job is left to the
     /// fillers. The lock is held again behind it.
     fn fill<'x, R: Wait, D: Device<A>>(
         &'x self,
@@ -210,7 +204,7 @@ fn reply_to<N: Notes<Note<A>>, A: Allocator + Clone + Copy, G: Digest + Copy>(
         Ok((Reply::Hit(value), _)) => Ok(Some((call, Looked::Hit(ReadHandle::new(value))))),
         Ok((_, ticket)) => Ok(Some((call, missed(held, key, ticket, patience)))),
         Err(Refusal::NotReady) => Ok(None),
-        // The call's reply is owed until it is taken, which is done here alone: so this isn't `UnknownCall`. Memory lacks.
+        // The call's reply is owed until it is taken, which is done here alone: so this isn't `UnknownCall`. Out of memory.
         Err(_) => Err(Unfound::Open(call)),
     }
 }

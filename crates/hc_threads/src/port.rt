@@ -87,7 +87,7 @@ impl<D: Device<A>, A: Allocator> Port<D, A> {
 }
 
 impl<D: Device<A>, A: Allocator + Clone> Port<D, A> {
-    /// Adds another handle of the same device. Where memory lacks, and beyond 4,294,967,295, it comes back.
+    /// Adds another handle of the same device. When out of memory, and beyond 4,294,967,295, it comes back.
     pub fn add(&mut self, device: D) -> Result<(), D>
         ensures added { OnOk result (self.new ≡ self.old + 1) }
         ensures kept { OnErr result (self.new ≡ self.old) }

@@ -150,7 +150,7 @@ impl<
     G: Gate,
     H: Digest + Copy,
 > Post<'x, N, A, D, G, H> {
-    /// Does the operations of the job, one after the other, until it is over, or the workers are to end and memory lacks.
+    /// Does the operations of the job, one after the other, until it is over, or the workers are to end and are out of memory.
     fn do_job<R: Wait>(self, rt: &R, worker: Worker, turn: &mut Turn, job: u64, first: Order<A>) {
         let mut next = Some(first);
         for _ in rt.forever() {
@@ -168,7 +168,7 @@ impl<
         }
     }
 
-    /// Makes the operation; where memory lacks, once more when the worker is called. `None` where the workers are to end
+    /// Makes the operation; when out of memory, once more when the worker is called. `None` where the workers are to end
     /// before that.
     fn perform<R: Wait>(self, rt: &R, turn: &mut Turn, order: &Order<A>) -> Option<IoResult<A>> {
         for _ in rt.forever() {
@@ -183,7 +183,7 @@ impl<
         unreachable!()
     }
 
-    /// Hands in what came of the operation, and answers the job's next one if it has one; where memory lacks, once more when
+    /// Hands in what came of the operation, and answers the job's next one if it has one; when out of memory, once more when
     /// the worker is called. `None` where the workers are to end before that.
     fn hand_in<R: Wait>(
         self,

@@ -91,7 +91,7 @@ impl<N: Listener, A: Allocator + Clone + Copy, G: Digest + Copy> Shared<N, A, G>
 
     /// Shares a new core, with so many slots for leases, of 8 bytes each, and a sixteenth as many places for turns, of 24
     /// bytes each; at least one of either. The more slots, the fewer tickets end without need. Pages are told apart by this
-    /// digest. Where memory lacks for these, for the copy of its configuration or for the digests of its pages, which take 8
+    /// digest. Where there is no memory for these, for the copy of its configuration or for the digests of its pages, which take 8
     /// bytes a page, the core comes back, and so does one of which calls were made already.
     pub fn with_slots(
         core: Core<N, A>,
@@ -195,7 +195,7 @@ impl<N: Listener, A: Allocator, G: Digest + Copy> Shared<N, A, G> {
         self.guarded.lock(rt).cache.cache().lies()
     }
 
-    /// Has the workers try again what memory lacked for, and the calls that wait look again. For whoever gave memory back
+    /// Has the workers try again what there was no memory for, and the calls that wait look again. For whoever gave memory back
     /// elsewhere, or stops calling for want of it: else only calls that change something do that.
     pub fn stir<R: Wait>(&self, rt: &R) {
         let mut held = self.guarded.lock(rt);
@@ -238,13 +238,13 @@ impl<N: Listener, A: Allocator, G: Digest + Copy> Shared<N, A, G> {
 }
 
 impl<N: Notes<Note<A>>, A: Allocator + Clone + Copy, G: Digest + Copy> Shared<N, A, G> {
-    /// Calls the workers that find something to do behind a step, or all where memory lacked for one of them. (A region is to be
-    /// given up behind the writer's steps alone.)
+    /// Calls the workers that find something to do behind a step, or all where one of them was out of memory. (A region is to
+    /// be given up behind the writer's steps alone.)
     pub(crate) fn stepped(&self, held: &mut Guarded<N, A, G>) {
         if held.crew.is_starved() {
             return self.call_all(held);
         }
-        // (where memory lacks for the question, they look themselves)
+        // (where there is no memory for the question, they look themselves)
         if held.cache.writer_has_work().unwrap_or(true) {
             self.call(held, Worker::Writer);
         }

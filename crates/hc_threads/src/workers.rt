@@ -31,7 +31,7 @@ impl<N: Listener, A: Allocator, G: Digest + Copy> Shared<N, A, G> {
         let mut held = self.guarded.lock(rt);
         for _ in rt.forever() {
             if held.stage == Stage::Ending {
-                held.crew.leave(*turn);
+                held.crew.leave(turn);
                 self.tell_stuck(&held);
                 return false;
             }
@@ -44,7 +44,7 @@ impl<N: Listener, A: Allocator, G: Digest + Copy> Shared<N, A, G> {
         unreachable!()
     }
 
-    /// The same of a worker with a job that memory lacked for. The job is lost where the workers are to end.
+    /// The same of a worker with a job that there was no memory for. The job is lost where the workers are to end.
     pub(crate) fn tries_again<R: Wait>(&self, rt: &R, turn: &mut Turn) -> bool {
         let goes_on = self.goes_on(rt, turn);
         if !goes_on {
@@ -55,7 +55,7 @@ impl<N: Listener, A: Allocator, G: Digest + Copy> Shared<N, A, G> {
         goes_on
     }
 
-    /// Memory lacked for the operation of the worker's job. Where something has changed since that began, it isn't said: the
+    /// There was no memory for the operation of the worker's job. Where something has changed since that began, it isn't said: the
     /// worker tries again at once.
     pub(crate) fn lacks<R: Wait>(&self, rt: &R, turn: &mut Turn) {
         let mut held = self.guarded.lock(rt);
@@ -64,7 +64,7 @@ impl<N: Listener, A: Allocator, G: Digest + Copy> Shared<N, A, G> {
         }
     }
 
-    /// Memory lacked for what the worker is at.
+    /// There was no memory for what the worker is at.
     fn starve(&self, held: &mut Guarded<N, A, G>, turn: &mut Turn) {
         held.crew.starve(turn);
         self.ring();

@@ -174,7 +174,7 @@ fn obey(
 }
 
 /// A line, after so many others: what it does to the state, and what is printed. Whether the trace goes on. An error is
-/// want of memory.
+/// out of memory.
 #[inline(never)] // within `put_line`, that one's result, which has room for an error of 80 bytes, would be copied at each line
 pub fn turn(
     alloc: Global,

@@ -52,7 +52,7 @@ fn tell(player: &mut Player<Counting>, out: &mut Vec<u8>, answer: &Answer) -> Re
     Ok(())
 }
 
-/// A step, its answer, and then what it forgot. An error is want of memory.
+/// A step, its answer, and then what it forgot. An error is out of memory.
 pub fn take_step(
     player: &mut Player<Counting>,
     out: &mut Vec<u8>,
@@ -65,7 +65,7 @@ pub fn take_step(
     tell(player, out, &answer)
 }
 
-/// Work, its answer, and then what it forgot. An error is want of memory.
+/// Work, its answer, and then what it forgot. An error is out of memory.
 pub fn do_work(
     player: &mut Player<Counting>,
     out: &mut Vec<u8>,

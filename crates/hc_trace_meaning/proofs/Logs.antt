@@ -1,5 +1,5 @@
--- The log of a trace is that of a run of the machine.
-use Rattle.std.proofs.Common.{◌≡◌, ℕ, ◌==◌, nat_lt, Bool, true, false, List, [], ◌∷◌, ◌++◌, length, Option, None, Some, refl, sym, ap, arith, if◌then◌else◌}
+-- The log of a trace is that of a run of the machine, and of a schedule: the steps of its lines.
+use Rattle.std.proofs.Common.{◌≡◌, ℕ, ◌==◌, nat_lt, Bool, true, false, List, [], ◌∷◌, ◌++◌, length, Option, None, Some, refl, sym, ap, ◌∙◌, arith, if◌then◌else◌}
 use Rattle.std.proofs.lemmas.Bool.Decides.{nat_tests}
 use Rattle.hc_types.specs.Limits.{key_refusal}
 use Rattle.hc_types.specs.declared.refusal.Refusal.{Refusal}
@@ -11,19 +11,13 @@ use Rattle.hc_machine.specs.World.{World, Line, step, run_from}
 use Rattle.hc_invariant.specs.Good.{IsSized}
 use Rattle.hc_invariant.specs.Laws.{LineSized}
 use Rattle.hc_theorem.specs.runs.Runs.{AllLineSized}
-use Rattle.hc_theorem.proofs.headlines.WholeRuns.{headline}
+use Rattle.hc_theorem.specs.runs.Lines.{steps_of}
+use Rattle.hc_theorem.proofs.runs.Traces.{log-is, lines_sized}
+use Rattle.hc_theorem.proofs.headlines.WholeRuns.{headline, headline_of_schedules}
 use Rattle.hc_trace_meaning.specs.Actions.{Action, Do, Serve, Deed, Acts, Barred, unless, step_deed, work_line, deed_of, done}
 use Rattle.hc_trace_meaning.specs.Trace.{fresh, notes_of}
 use Rattle.hc_trace_meaning.specs.Promise.{LogsAreRight}
-
--- the machine's lines, without those that are refused for their key
-abbrev acted : Deed → List Line → List Line
-acted (Acts line) lines = line ∷ lines
-acted (Barred refusal) lines = lines
-
-abbrev acted_lines : List Action → List Line
-acted_lines [] = []
-acted_lines (action ∷ actions) = acted (deed_of action) (acted_lines actions)
+use Rattle.hc_trace_meaning.specs.Runs.{acted, acted_lines, TracesAreRuns}
 
 -- ---- one log
 
@@ -37,7 +31,7 @@ same-log (action ∷ actions) w = by-deed (deed_of action) w (acted_lines action
 
 -- ---- keys that aren't refused have 1 to 255 bytes
 
-abbrev pub DeedSized : Deed → Type 0
+abbrev DeedSized : Deed → Type 0
 DeedSized (Acts line) = LineSized line
 DeedSized (Barred refusal) = Unit {0}
 
@@ -68,7 +62,7 @@ work-sized (Io job fails) = tt
 work-sized (Finish job) = tt
 work-sized (Reply call) = tt
 
-pub deed-sized : (action : Action) → DeedSized (deed_of action)
+deed-sized : (action : Action) → DeedSized (deed_of action)
 deed-sized (Do step) = step-sized step
 deed-sized (Serve work) = work-sized work
 
@@ -85,3 +79,9 @@ logs_are_right config actions right =
     let run = headline config [] (acted_lines actions) right (all-sized actions) in
     let same = sym (same-log actions (fresh config)) in
     record { legal = rw same at run.legal; honest = rw same at run.honest }
+
+pub traces_are_runs : TracesAreRuns
+traces_are_runs config actions right = record {
+  log = same-log actions (fresh config) ∙ sym (log-is config [] (acted_lines actions));
+  promised = headline_of_schedules config [] (steps_of (acted_lines actions)) right (lines_sized (acted_lines actions) (all-sized actions));
+}

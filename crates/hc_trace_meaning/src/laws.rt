@@ -1,6 +1,6 @@
 // What is true of every trace. A function here does nothing: its contract is the law.
 ghost use Rattle.hc_trace_meaning.specs.Promise.{EachLineIsAnswered, LogsAreRight};
-ghost use Rattle.hc_trace_meaning.specs.Runs.{LinesAreSteps, TracesAreRuns};
+ghost use Rattle.hc_trace_meaning.specs.Runs.{TracesAreRuns};
 ghost use Rattle.hc_trace_meaning.specs.Turns.{OutputIsByLines};
 
 /// The log of every trace is legal, and honest.
@@ -11,11 +11,6 @@ pub fn logs_are_right()
 /// Each line behind the configuration is answered.
 pub fn each_line_is_answered()
     ensures { EachLineIsAnswered }
-{}
-
-/// Each line does what one to three steps of a schedule do, and is answered as they are.
-pub fn lines_are_steps()
-    ensures { LinesAreSteps }
 {}
 
 /// The log of every trace is that of a schedule, which follows its steps.

@@ -4,6 +4,4 @@
 
 mod laws;
 
-pub use laws::{
-    each_line_is_answered, lines_are_steps, logs_are_right, output_is_by_lines, traces_are_runs,
-};
+pub use laws::{each_line_is_answered, logs_are_right, output_is_by_lines, traces_are_runs};

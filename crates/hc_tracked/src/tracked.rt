@@ -81,7 +81,7 @@ fn pages_of(flash: &Option<FlashConfig>) -> usize {
 }
 
 impl<N: Listener, A: Allocator + Clone + Copy, G: Digest + Copy> TrackedCore<N, A, G> {
-    /// Of this core, whose log is empty. Of no page is anything known. Refused only where memory lacks for the digests; then
+    /// Of this core, whose log is empty. Of no page is anything known. Refused only where there is no memory for the digests; then
     /// the core comes back.
     pub fn new(core: Core<N, A>, digest: G, alloc: A) -> Result<TrackedCore<N, A, G>, Core<N, A>>
         requires log { IfLog core.log (λ log. log ≡ []) }

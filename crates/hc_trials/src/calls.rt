@@ -1,4 +1,4 @@
-// The calls of a client and of the clock, each made once more where memory lacked.
+// The calls of a client and of the clock, each made once more when out of memory.
 use crate::heap::Heap;
 use crate::stage::Stage;
 use hc_core::{Found, Key, Refusal, Removed, Reply};

@@ -40,7 +40,7 @@ impl fmt::Display for Trial {
 /// What came of it.
 #[derive(Clone, Copy, Debug, PartialEq, Eq)]
 pub enum Wrong {
-    /// A call answered want of memory, and no growth was refused in it.
+    /// A call answered out of memory, and no growth was refused in it.
     NoGrowth,
     /// A refused call changed something.
     Changed,

@@ -162,7 +162,7 @@ impl<'a> Stage<'a> {
         };
     }
 
-    /// A call was refused for want of memory: a growth was refused in it, and all is as it was.
+    /// A call was refused for lack of memory: a growth was refused in it, and all is as it was.
     pub(crate) fn was_refused(&mut self, armed: Armed) {
         let is_reason = self.heap.refused() > armed.refused;
         self.want(is_reason, Wrong::NoGrowth);

@@ -1,4 +1,4 @@
-// Items are charged, written and inserted, each call made once more where memory lacked with what it gave back.
+// Items are charged, written and inserted, each call made once more when out of memory with what it gave back.
 use crate::difference::Wrong;
 use crate::heap::Heap;
 use crate::stage::Stage;

@@ -1,4 +1,4 @@
-// The calls of workers, each made once more where memory lacked.
+// The calls of workers, each made once more when out of memory.
 use crate::heap::Heap;
 use crate::log::{finds_answered, is_opened};
 use crate::stage::Stage;

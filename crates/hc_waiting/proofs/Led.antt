@@ -7,7 +7,7 @@ use Rattle.std.proofs.lemmas.Slice.Eq.{bytes_eq-Decides}
 use Rattle.indexmap.specs.IndexMap.{IndexMap, get}
 use Rattle.hc_queue.specs.declared.queue.Piece.{Piece}
 use Rattle.hc_queue.specs.declared.keyed.Named.{Named}
-use Rattle.hc_machine.specs.Nvm.{Fill, Waiter, is_fill_of, fill_at, fill_by, is_brought_by, without_fill, taken_fill, joined_by}
+use Rattle.hc_machine.specs.Nvm.{Fill, Waiter, is_fill_of, fill_at, fill_by, is_number_in, without_fill, taken_fill, joined_by}
 use Rattle.hc_waiting.specs.declared.fills.Bringing.{Bringing}
 use Rattle.hc_queue.specs.Keys.{value_of}
 use Rattle.hc_waiting.specs.Line.{piece_of, piece_by, without_key, with_value, taken_key, AreApart}
@@ -31,9 +31,9 @@ is_key key fill e = grind (arith, bytes_eq-Decides fill.key key, e)
 
 by_end : (n : ℕ) (last : Fill) (fills : List Fill) → last.job ≡ None → fill_by n (fills ++ last ∷ []) ≡ fill_by n fills
 by_end n last [] none = rw none refl
-by_end n last (fill ∷ fills) none = by_test (is_brought_by n fill.job) refl (by_end n last fills none)
+by_end n last (fill ∷ fills) none = by_test (is_number_in n fill.job) refl (by_end n last fills none)
   where
-    by_test : (b : Bool) → is_brought_by n fill.job ≡ b → fill_by n (fills ++ last ∷ []) ≡ fill_by n fills → fill_by n ((fill ∷ fills) ++ last ∷ []) ≡ fill_by n (fill ∷ fills)
+    by_test : (b : Bool) → is_number_in n fill.job ≡ b → fill_by n (fills ++ last ∷ []) ≡ fill_by n fills → fill_by n ((fill ∷ fills) ++ last ∷ []) ≡ fill_by n (fill ∷ fills)
     by_test true t more = rw t refl
     by_test false t more = rw t more
 
@@ -58,14 +58,14 @@ by_joined n key waiter [] = refl
 by_joined n key waiter (fill ∷ fills) = by_key (is_fill_of key fill) refl (by_joined n key waiter fills)
   where
     by_key : (b : Bool) → is_fill_of key fill ≡ b → key_by n (joined_by key waiter fills) ≡ key_by n fills → key_by n (joined_by key waiter (fill ∷ fills)) ≡ key_by n (fill ∷ fills)
-    by_key true t more = rw t (by_test (is_brought_by n fill.job) refl)
+    by_key true t more = rw t (by_test (is_number_in n fill.job) refl)
       where
-        by_test : (b : Bool) → is_brought_by n fill.job ≡ b → key_by n (record fill { waiters = fill.waiters ++ waiter ∷ [] } ∷ fills) ≡ key_by n (fill ∷ fills)
+        by_test : (b : Bool) → is_number_in n fill.job ≡ b → key_by n (record fill { waiters = fill.waiters ++ waiter ∷ [] } ∷ fills) ≡ key_by n (fill ∷ fills)
         by_test true u = rw u refl
         by_test false u = rw u refl
-    by_key false t more = rw t (by_test (is_brought_by n fill.job) refl)
+    by_key false t more = rw t (by_test (is_number_in n fill.job) refl)
       where
-        by_test : (b : Bool) → is_brought_by n fill.job ≡ b → key_by n (fill ∷ joined_by key waiter fills) ≡ key_by n (fill ∷ fills)
+        by_test : (b : Bool) → is_number_in n fill.job ≡ b → key_by n (fill ∷ joined_by key waiter fills) ≡ key_by n (fill ∷ fills)
         by_test true u = rw u refl
         by_test false u = rw u more
 
@@ -125,27 +125,27 @@ by_taken n number key (fill ∷ fills) keyed some free fresh = by_key (is_fill_o
         by_number : (b : Bool) → (number == n) ≡ b → key_by n (record fill { job = Some number } ∷ fills) ≡ (if number == n then Some key else key_by n fills)
         by_number true u = rw u (ap Some (is_key key fill t))
         by_number false u = rw u refl
-    by_key false t more = rw t (by_test (is_brought_by n fill.job) refl (more (rw t at some) (rw t at free) (behind (is_brought_by number fill.job) refl fresh)))
+    by_key false t more = rw t (by_test (is_number_in n fill.job) refl (more (rw t at some) (rw t at free) (behind (is_number_in number fill.job) refl fresh)))
       where
-        behind : (b : Bool) → is_brought_by number fill.job ≡ b → key_by number (fill ∷ fills) ≡ None → key_by number fills ≡ None
+        behind : (b : Bool) → is_number_in number fill.job ≡ b → key_by number (fill ∷ fills) ≡ None → key_by number fills ≡ None
         behind true u e = absurd (cc (rw u at e))
         behind false u e = (rw u at e)
 
-        other : (job : Option ℕ) → is_brought_by n job ≡ true → is_brought_by number job ≡ false → (number == n) ≡ false
+        other : (job : Option ℕ) → is_number_in n job ≡ true → is_number_in number job ≡ false → (number == n) ≡ false
         other None u v = absurd (cc)
         other (Some m) u v = let same : m ≡ n = eqb-true m n u in grind (arith, same, v)
 
-        not_number : (b : Bool) → is_brought_by number fill.job ≡ b → key_by number (fill ∷ fills) ≡ None → is_brought_by number fill.job ≡ false
+        not_number : (b : Bool) → is_number_in number fill.job ≡ b → key_by number (fill ∷ fills) ≡ None → is_number_in number fill.job ≡ false
         not_number true u e = absurd (cc (rw u at e))
         not_number false u e = u
 
-        by_test : (b : Bool) → is_brought_by n fill.job ≡ b → key_by n (taken_fill key number fills) ≡ (if number == n then Some key else key_by n fills)
+        by_test : (b : Bool) → is_number_in n fill.job ≡ b → key_by n (taken_fill key number fills) ≡ (if number == n then Some key else key_by n fills)
             → key_by n (fill ∷ taken_fill key number fills) ≡ (if number == n then Some key else key_by n (fill ∷ fills))
-        by_test true u rest = rw (u, other fill.job u (not_number (is_brought_by number fill.job) refl fresh)) refl
+        by_test true u rest = rw (u, other fill.job u (not_number (is_number_in number fill.job) refl fresh)) refl
         by_test false u rest = rw u rest
 
 -- another job still brings nothing behind
-sole_other : (job : Option ℕ) (number : ℕ) (key : List ℕ) (fills : List Fill) → is_brought_by number job ≡ false → AreKeyed fills → is_some (fill_at key fills) ≡ true → IsFree (fill_at key fills) → key_by number fills ≡ None
+sole_other : (job : Option ℕ) (number : ℕ) (key : List ℕ) (fills : List Fill) → is_number_in number job ≡ false → AreKeyed fills → is_some (fill_at key fills) ≡ true → IsFree (fill_at key fills) → key_by number fills ≡ None
     → IsSole job fills → IsSole job (taken_fill key number fills)
 sole_other None number key fills not keyed some free fresh s = tt
 sole_other (Some m) number key fills not keyed some free fresh s =
@@ -156,16 +156,16 @@ sole_taken : (number : ℕ) (key : List ℕ) (fills : List Fill) → AreKeyed fi
 sole_taken number key [] keyed some free fresh all = absurd (cc)
 sole_taken number key (fill ∷ fills) keyed some free fresh all = by_key (is_fill_of key fill) refl (sole_taken number key fills keyed.1)
   where
-    behind : (b : Bool) → is_brought_by number fill.job ≡ b → key_by number (fill ∷ fills) ≡ None → (is_brought_by number fill.job ≡ false) × (key_by number fills ≡ None)
+    behind : (b : Bool) → is_number_in number fill.job ≡ b → key_by number (fill ∷ fills) ≡ None → (is_number_in number fill.job ≡ false) × (key_by number fills ≡ None)
     behind true u e = absurd (cc (rw u at e))
     behind false u e = (u, rw u at e)
 
     by_key : (b : Bool) → is_fill_of key fill ≡ b
         → (is_some (fill_at key fills) ≡ true → IsFree (fill_at key fills) → key_by number fills ≡ None → AreSole fills → AreSole (taken_fill key number fills))
         → AreSole (taken_fill key number (fill ∷ fills))
-    by_key true t more = rw (t, none_taken key number fills (alone key fill fills t keyed)) (none_by number fills (behind (is_brought_by number fill.job) refl fresh).1, all.1)
+    by_key true t more = rw (t, none_taken key number fills (alone key fill fills t keyed)) (none_by number fills (behind (is_number_in number fill.job) refl fresh).1, all.1)
     by_key false t more =
-        let rest = behind (is_brought_by number fill.job) refl fresh in
+        let rest = behind (is_number_in number fill.job) refl fresh in
         rw t (sole_other fill.job number key fills rest.0 keyed.1 (rw t at some) (rw t at free) rest.1 all.0, more (rw t at some) (rw t at free) rest.1 all.1)
 
 led_taken : {S : Type 0} (keys keys2 : IndexMap ℕ (List ℕ) S) (key copy : List ℕ) (number : ℕ) (fills : List Fill) → copy ≡ key → AreKeyed fills → is_some (fill_at key fills) ≡ true → IsFree (fill_at key fills) → fill_by number fills ≡ None
@@ -181,15 +181,15 @@ abbrev pub job_at : Option Fill → Option ℕ
 job_at None = None
 job_at (Some fill) = fill.job
 
-found_not : (n : ℕ) (key : List ℕ) (fills : List Fill) → fill_by n fills ≡ None → is_brought_by n (job_at (fill_at key fills)) ≡ false
+found_not : (n : ℕ) (key : List ℕ) (fills : List Fill) → fill_by n fills ≡ None → is_number_in n (job_at (fill_at key fills)) ≡ false
 found_not n key [] e = refl
-found_not n key (fill ∷ fills) e = by_test (is_brought_by n fill.job) refl (found_not n key fills)
+found_not n key (fill ∷ fills) e = by_test (is_number_in n fill.job) refl (found_not n key fills)
   where
-    by_test : (b : Bool) → is_brought_by n fill.job ≡ b → (fill_by n fills ≡ None → is_brought_by n (job_at (fill_at key fills)) ≡ false) → is_brought_by n (job_at (fill_at key (fill ∷ fills))) ≡ false
+    by_test : (b : Bool) → is_number_in n fill.job ≡ b → (fill_by n fills ≡ None → is_number_in n (job_at (fill_at key fills)) ≡ false) → is_number_in n (job_at (fill_at key (fill ∷ fills))) ≡ false
     by_test true t more = absurd (cc (rw t at e))
     by_test false t more = by_key (is_fill_of key fill) refl (more (rw t at e))
       where
-        by_key : (b : Bool) → is_fill_of key fill ≡ b → is_brought_by n (job_at (fill_at key fills)) ≡ false → is_brought_by n (job_at (fill_at key (fill ∷ fills))) ≡ false
+        by_key : (b : Bool) → is_fill_of key fill ≡ b → is_number_in n (job_at (fill_at key fills)) ≡ false → is_number_in n (job_at (fill_at key (fill ∷ fills))) ≡ false
         by_key true u rest = rw u t
         by_key false u rest = rw u rest
 
@@ -201,33 +201,33 @@ none_without key (fill ∷ fills) e = by_key (is_fill_of key fill) refl (none_wi
     by_key true t more = absurd (cc (rw t at e))
     by_key false t more = rw t (ap (λ rest. fill ∷ rest) (more (rw t at e)))
 
-sole_none : (n : ℕ) (job : Option ℕ) (fills : List Fill) → is_brought_by n job ≡ true → IsSole job fills → fill_by n fills ≡ None
+sole_none : (n : ℕ) (job : Option ℕ) (fills : List Fill) → is_number_in n job ≡ true → IsSole job fills → fill_by n fills ≡ None
 sole_none n None fills t s = absurd (cc)
 sole_none n (Some m) fills t s = subst (λ k. fill_by k fills ≡ None) (eqb-true m n t) s
 
-by_without : (n : ℕ) (key : List ℕ) (fills : List Fill) → AreKeyed fills → AreSole fills → key_by n (without_fill key fills) ≡ (if is_brought_by n (job_at (fill_at key fills)) then None else key_by n fills)
+by_without : (n : ℕ) (key : List ℕ) (fills : List Fill) → AreKeyed fills → AreSole fills → key_by n (without_fill key fills) ≡ (if is_number_in n (job_at (fill_at key fills)) then None else key_by n fills)
 by_without n key [] keyed sole = refl
 by_without n key (fill ∷ fills) keyed sole = by_key (is_fill_of key fill) refl (by_without n key fills keyed.1 sole.1)
   where
-    by_key : (b : Bool) → is_fill_of key fill ≡ b → key_by n (without_fill key fills) ≡ (if is_brought_by n (job_at (fill_at key fills)) then None else key_by n fills)
-        → key_by n (without_fill key (fill ∷ fills)) ≡ (if is_brought_by n (job_at (fill_at key (fill ∷ fills))) then None else key_by n (fill ∷ fills))
-    by_key true t more = rw (t, none_without key fills (alone key fill fills t keyed)) (by_test (is_brought_by n fill.job) refl)
+    by_key : (b : Bool) → is_fill_of key fill ≡ b → key_by n (without_fill key fills) ≡ (if is_number_in n (job_at (fill_at key fills)) then None else key_by n fills)
+        → key_by n (without_fill key (fill ∷ fills)) ≡ (if is_number_in n (job_at (fill_at key (fill ∷ fills))) then None else key_by n (fill ∷ fills))
+    by_key true t more = rw (t, none_without key fills (alone key fill fills t keyed)) (by_test (is_number_in n fill.job) refl)
       where
-        by_test : (b : Bool) → is_brought_by n fill.job ≡ b → key_by n fills ≡ (if is_brought_by n fill.job then None else key_by n (fill ∷ fills))
+        by_test : (b : Bool) → is_number_in n fill.job ≡ b → key_by n fills ≡ (if is_number_in n fill.job then None else key_by n (fill ∷ fills))
         by_test true u = rw u (ap (option_map (λ (f : Fill). f.key)) (sole_none n fill.job fills u sole.0))
         by_test false u = rw u refl
-    by_key false t more = rw t (by_test (is_brought_by n fill.job) refl more)
+    by_key false t more = rw t (by_test (is_number_in n fill.job) refl more)
       where
-        by_test : (b : Bool) → is_brought_by n fill.job ≡ b → key_by n (without_fill key fills) ≡ (if is_brought_by n (job_at (fill_at key fills)) then None else key_by n fills)
-            → key_by n (fill ∷ without_fill key fills) ≡ (if is_brought_by n (job_at (fill_at key fills)) then None else key_by n (fill ∷ fills))
-        by_test true u rest = let none : is_brought_by n (job_at (fill_at key fills)) ≡ false = found_not n key fills (sole_none n fill.job fills u sole.0) in rw (u, none) refl
+        by_test : (b : Bool) → is_number_in n fill.job ≡ b → key_by n (without_fill key fills) ≡ (if is_number_in n (job_at (fill_at key fills)) then None else key_by n fills)
+            → key_by n (fill ∷ without_fill key fills) ≡ (if is_number_in n (job_at (fill_at key fills)) then None else key_by n (fill ∷ fills))
+        by_test true u rest = let none : is_number_in n (job_at (fill_at key fills)) ≡ false = found_not n key fills (sole_none n fill.job fills u sole.0) in rw (u, none) refl
         by_test false u rest = rw u rest
 
 none_of : (n : ℕ) (test : Fill → Bool) (fills : List Fill) → fill_by n fills ≡ None → fill_by n (filter test fills) ≡ None
 none_of n test [] e = refl
-none_of n test (fill ∷ fills) e = by_test (is_brought_by n fill.job) refl (none_of n test fills)
+none_of n test (fill ∷ fills) e = by_test (is_number_in n fill.job) refl (none_of n test fills)
   where
-    by_test : (b : Bool) → is_brought_by n fill.job ≡ b → (fill_by n fills ≡ None → fill_by n (filter test fills) ≡ None) → fill_by n (filter test (fill ∷ fills)) ≡ None
+    by_test : (b : Bool) → is_number_in n fill.job ≡ b → (fill_by n fills ≡ None → fill_by n (filter test fills) ≡ None) → fill_by n (filter test (fill ∷ fills)) ≡ None
     by_test true t more = absurd (cc (rw t at e))
     by_test false t more = by_kept (test fill) refl (more (rw t at e))
       where
@@ -255,12 +255,12 @@ job_as {A} key pieces = by_piece (piece_of key pieces) ∙ ap job_at (fill_there
     by_piece (Some piece) = refl
 
 pub led_without : {A S : Type 0} (keys keys2 : IndexMap ℕ (List ℕ) S) (key : List ℕ) (went : Option (Piece (Named (Bringing A) A))) (job : Option ℕ) (pieces now : List (Piece (Named (Bringing A) A))) → AreApart pieces → went ≡ piece_of key pieces → job ≡ job_by went
-    → now ≡ without_key key pieces → ((n : ℕ) → get nat_eq keys2 n ≡ (if is_brought_by n job then None else get nat_eq keys n)) → IsLed (fills_in pieces) keys → IsLed (fills_in now) keys2
+    → now ≡ without_key key pieces → ((n : ℕ) → get nat_eq keys2 n ≡ (if is_number_in n job then None else get nat_eq keys n)) → IsLed (fills_in pieces) keys → IsLed (fills_in now) keys2
 led_without keys keys2 key went job pieces now apart is was left leads led =
     let fills = fills_in pieces in
     let j : job ≡ job_at (fill_at key fills) = was ∙ (ap job_by is ∙ job_as key pieces) in
     rw (left, fills_without key pieces) (record {
-      leads = λ n. leads n ∙ ((λ i. if is_brought_by n (j i) then None else led.leads n i) ∙ sym (by_without n key fills (keyed_as pieces apart) led.sole));
+      leads = λ n. leads n ∙ ((λ i. if is_number_in n (j i) then None else led.leads n i) ∙ sym (by_without n key fills (keyed_as pieces apart) led.sole));
       sole = sole_where (λ fill. not (is_fill_of key fill)) fills led.sole;
     })
 

@@ -1,7 +1,7 @@
 // The fills: calls that wait for a key from flash, and the job that brings it.
 ghost use Rattle.std.specs.Prelude.{◌≡◌, ℕ, ◌≤◌, ◌+◌, ◌++◌, ◌∷◌, ◌==◌, ◌<◌, [], Bool, nat_eq, if◌then◌else◌, length, find, is_some, option_map, None, Some, true, IfOk, OnOk, OnErr, IfErr};
 ghost use Rattle.std.specs.Option.{option_copied};
-ghost use Rattle.hc_machine.specs.Nvm.{Fill, fill_at, fill_by, joined_by, taken_fill, without_fill, is_brought_by, adds};
+ghost use Rattle.hc_machine.specs.Nvm.{Fill, fill_at, fill_by, joined_by, taken_fill, without_fill, is_number_in, adds};
 ghost use Rattle.std.specs.List.{list_any};
 ghost use Rattle.indexmap.specs.IndexMap.{get, spare};
 ghost use Rattle.hc_queue.specs.Queue.{Answers};
@@ -117,7 +117,7 @@ fn lead<A: Allocator>(keys: &mut Keys<A>, number: u64, key: Key<A>)
 
 /// The job, where there is one, leads nowhere from here on.
 fn forget<A: Allocator>(keys: &mut Keys<A>, number: Option<u64>)
-    ensures leads { (n : ℕ) → get nat_eq keys.new n ≡ (if is_brought_by n number then None else get nat_eq keys.old n) }
+    ensures leads { (n : ℕ) → get nat_eq keys.new n ≡ (if is_number_in n number then None else get nat_eq keys.old n) }
     ensures room { spare keys.old ≤ spare keys.new }
 {
     if let Some(number) = number {

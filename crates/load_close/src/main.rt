@@ -2,7 +2,7 @@
 //! answered and ends, and of as many reads and writes of 50,000 pages, with the records of the clients; and does this part of
 //! what `close` does: `nothing`, `failures`, `reconcile` or `lie`. How long that takes is for `time` to tell.
 //!
-//! The status is 0 where the log is as it should be, 1 where it isn't, 2 for any other command line, and 4 where memory lacked.
+//! The status is 0 where the log is as it should be, 1 where it isn't, 2 for any other command line, and 4 when out of memory.
 #![tactic(auto)]
 
 mod making;

@@ -2,7 +2,7 @@
 //! has another first byte than the one before, and tells how many digests are other than the one before. How long that takes is
 //! for `time` to tell.
 //!
-//! The status is 0 where each is, 1 where one isn't, 2 for any other command line, and 4 where memory lacked.
+//! The status is 0 where each is, 1 where one isn't, 2 for any other command line, and 4 when out of memory.
 #![tactic(auto)]
 
 use hc_paged::{Digest, Folded};

@@ -44,7 +44,7 @@ pub(crate) struct Sums {
 pub(crate) enum Ended {
     /// A device wasn't opened.
     NotOpened(OpenError),
-    /// Something was refused, as for want of memory.
+    /// Something was refused, as for lack of memory.
     Refused,
 }
 

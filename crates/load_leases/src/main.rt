@@ -8,7 +8,7 @@
 //! `load_leases hit|set core|leased OPERATIONS`: so many finds of keys that are there, or sets of them, by a core or by one
 //! with leases. What that takes is for `valgrind --tool=callgrind` to tell.
 //!
-//! The status is 0, or 2 for any other command line, and 4 where memory lacked.
+//! The status is 0, or 2 for any other command line, and 4 when out of memory.
 #![tactic(auto)]
 
 mod cache;

@@ -1,4 +1,4 @@
-// A run for which memory lacks stops before a step, and what it did before stands.
+// A run for which there is no memory stops before a step, and what it did before stands.
 use crate::steps::{config, device, trip};
 use hc_flash::MemFlash;
 use hc_history::{Note, Said};
@@ -67,7 +67,7 @@ fn assert_cut<'a>(rt: &impl Abort, cut: &Run<'a>, whole: &Run<'a>, place: usize)
     }
 }
 
-// Before which step the run stopped, for want of memory. None where it did all.
+// Before which step the run stopped, for lack of memory. None where it did all.
 fn stop<'a>(rt: &impl Abort, cut: &Run<'a>, whole: &Run<'a>) -> Option<usize> {
     match cut.stopped {
         Some(Stopped::NoMemory(place)) => {

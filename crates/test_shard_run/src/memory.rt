@@ -1,4 +1,4 @@
-// A shard for which memory lacks stops alone.
+// A shard for which there is no memory stops alone.
 use crate::lists::{PAGES, device, list, sharded};
 use hc_flash::MemFlash;
 use hc_shard_run::{RanShards, ShardStep, run_shards};

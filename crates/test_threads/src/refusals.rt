@@ -43,14 +43,14 @@ struct Caller<'a> {
     key: Key<Heap<'a>>,
 }
 
-// None, since the refusal is for want of memory.
+// None, since the refusal is for lack of memory.
 fn without<T>(rt: &impl Abort, refusal: Refusal) -> Option<T> {
     assert!(rt; refusal == Refusal::NoMemory);
     None
 }
 
 impl<'a> Caller<'a> {
-    // Makes the call. Whether it is answered as it is to be, or none where it is refused for want of memory.
+    // Makes the call. Whether it is answered as it is to be, or none where it is refused for lack of memory.
     fn make<R: Abort + Wait>(&mut self, rt: &R, call: Call) -> Option<bool> {
         match call {
             Call::Set => self.set(rt),

@@ -1,4 +1,4 @@
-// Reads for which memory lacks, and finds that make their reads themselves.
+// Reads for which there is no memory, and finds that make their reads themselves.
 
 use crate::calls::{holds, key, set};
 use crate::larder::{Hungry, Larder};
@@ -31,7 +31,7 @@ struct Play<'a, 'l> {
     larder: &'l Larder,
 }
 
-// Whether the value comes back, or none where the find is refused for want of memory.
+// Whether the value comes back, or none where the find is refused for lack of memory.
 fn is_found<R: Abort + Wait>(
     rt: &R,
     play: Play<'_, '_>,
@@ -68,7 +68,7 @@ fn come_back<R: Abort + Wait>(rt: &R, play: Play<'_, '_>, client: &mut Client, w
     assert!(rt; is_filled == (way == Way::Waits));
 }
 
-// Memory lacks for the read, and nobody is there to give some back. Then there is some, and the read is made.
+// There is no memory for the read, and nobody is there to give some back. Then there is some, and the read is made.
 fn starve<R: Abort + Wait>(rt: &R, play: Play<'_, '_>, client: &mut Client, way: Way) {
     spill(rt, play, client);
     play.larder.empty();

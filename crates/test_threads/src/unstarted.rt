@@ -43,7 +43,7 @@ fn take_all(alloc: Global) -> Result<Vec<Vec<u8>>, AllocError> {
     Ok(taken)
 }
 
-// Serves where so many bytes are left for threads. Whether the body was called; if not, the answer is want of memory.
+// Serves where so many bytes are left for threads. Whether the body was called; if not, the answer is out of memory.
 fn is_served<R: Abort + Threads + Wait + Sync>(
     rt: &R,
     alloc: Global,

@@ -6,14 +6,15 @@ use Rattle.hc_types.specs.Tally.{count}
 use Rattle.hc_engines.specs.large.Index.{Place, Indexed, place_at, without, leading, region_in}
 use Rattle.hc_engines.proofs.large.Lists.{place_at-without, place_at-leading, same_num}
 use Rattle.hc_history.specs.Regions.{Filing, unfiled, is_filed}
-use Rattle.hc_invariant.specs.Tells.{is_here, files}
+use Rattle.hc_invariant.specs.Tells.{files}
+use Rattle.hc_machine.specs.Nvm.{is_number_in}
 
 pub none-more : (n m : ℕ) → n ≡ m → 0 + n ≡ m
 none-more n m e = omega arith
 
 -- how often a hash is filed in a region, where the index leads there
 abbrev pub once_if : ℕ → Option ℕ → ℕ
-once_if region o = if is_here region o then 1 else 0
+once_if region o = if is_number_in region o then 1 else 0
 
 -- what is filed is what the index leads to
 abbrev pub FiledAs : List Filing → List Indexed → Type 0

@@ -9,7 +9,8 @@ use Rattle.hc_history.specs.Note.{Note, Op, Reply, Begin, Did, End}
 use Rattle.hc_history.specs.Books.{Call, Answer, begun, open_calls, open_call, owed}
 use Rattle.hc_machine.specs.Nvm.{Waiter, Fill, is_fill_of, joined_by, fill_at, without_fill}
 use Rattle.hc_machine.specs.Cache.{Owed, is_owed, owed_at, owed_anew, owed_with, owed_less}
-use Rattle.hc_invariant.specs.Tells.{CallsTell, waiters_of, op_of, asked_by, asked_in, or_else, reply_in, is_call, is_unanswered, reply_of}
+use Rattle.hc_invariant.specs.Tells.{CallsTell, waiters_of, op_of, asked_by, asked_in, reply_in, is_call, is_unanswered, reply_of}
+use Rattle.hc_invariant.specs.Standing.{first_of}
 use Rattle.hc_proof.specs.calls.Serving.{ghost}
 use Rattle.hc_proof.proofs.frames.ByNumber.{same_number, flipped, find-less, find-gone, count-fewer, none-counted, find-map, count-map, find-append, or_find, found-passes}
 
@@ -54,7 +55,7 @@ pub asked_in-none : (n : ℕ) (fills : List Fill) → count (is_call n) (waiters
 asked_in-none n [] z = refl
 asked_in-none n (fill ∷ fills) z =
     let sum = tally-append (λ (w : Waiter). cond (is_call n w) 1 0) fill.waiters (waiters_of fills) in
-    ap (λ o. or_else o (asked_in n fills)) (asked_by-none n fill.key fill.waiters (omega (arith, z, sum))) ∙ asked_in-none n fills (omega (arith, z, sum))
+    ap (λ o. first_of o (asked_in n fills)) (asked_by-none n fill.key fill.waiters (omega (arith, z, sum))) ∙ asked_in-none n fills (omega (arith, z, sum))
 
 unasked_step : (op : Op) (o : Option Op) (b : Bool) (m : ℕ) → (o ≡ None → m ≡ 0) → cond b (Some op) o ≡ None → cond b 1 0 + m ≡ 0
 unasked_step op o true m h z = absurd cc
@@ -64,7 +65,7 @@ pub unasked_by : (n : ℕ) (key : List ℕ) (waiters : List Waiter) → asked_by
 unasked_by n key [] z = refl
 unasked_by n key (w ∷ ws) z = unasked_step (op_of key w.wish) (asked_by n key ws) (w.call == n) (count (is_call n) ws) (unasked_by n key ws) z
 
-or_none : {A : Type 0} (a b : Option A) → or_else a b ≡ None → (a ≡ None) × (b ≡ None)
+or_none : {A : Type 0} (a b : Option A) → first_of a b ≡ None → (a ≡ None) × (b ≡ None)
 or_none None b h = (refl, h)
 or_none (Some x) b h = absurd cc
 
@@ -137,10 +138,10 @@ served older calls all key w ws fills reply t =
     let one = one_if (c == c) (same_number c) in
     let left : count (is_call c) (ws ++ waiters_of fills) ≡ 0 = omega (arith, t.one_waiter c, one) in
     let none : asked_in c (ghost key ws ∷ fills) ≡ None = asked_in-none c (ghost key ws ∷ fills) left in
-    let had : asked_in c (ghost key (w ∷ ws) ∷ fills) ≡ Some (op_of key w.wish) = ap (λ b. or_else (cond b (Some (op_of key w.wish)) (asked_by c key ws)) (asked_in c fills)) (same_number c) in
+    let had : asked_in c (ghost key (w ∷ ws) ∷ fills) ≡ Some (op_of key w.wish) = ap (λ b. first_of (cond b (Some (op_of key w.wish)) (asked_by c key ws)) (asked_in c fills)) (same_number c) in
     let o = unanswered_is (owed_at c all) (t.owes c ∙ ap is_some had) in
     let now : owed_at c (owed_with c reply all) ≡ Some (record o.0 { reply = Some reply }) = owed_with-own c reply all o.0 o.1.0 in
-    let else_asked : (n : ℕ) → (c == n) ≡ false → asked_in n (ghost key (w ∷ ws) ∷ fills) ≡ asked_in n (ghost key ws ∷ fills) = λ n e. ap (λ b. or_else (cond b (Some (op_of key w.wish)) (asked_by n key ws)) (asked_in n fills)) e in
+    let else_asked : (n : ℕ) → (c == n) ≡ false → asked_in n (ghost key (w ∷ ws) ∷ fills) ≡ asked_in n (ghost key ws ∷ fills) = λ n e. ap (λ b. first_of (cond b (Some (op_of key w.wish)) (asked_by n key ws)) (asked_in n fills)) e in
     let unsaid : count (λ (answer : Answer). answer.number == c) (owed older) ≡ 0 = unreplied c (owed older) (t.replies c ∙ ap reply_of o.1.0 ∙ o.1.1) in
     record {
       number = t.number;
@@ -291,7 +292,7 @@ told older calls c reply all fills t =
 
 -- ---- a fill leaves, and its calls are still to be served
 
-or_swap : {A : Type 0} (a b c : Option A) → (is_some a ≡ true → or_else b c ≡ None) → or_else a (or_else b c) ≡ or_else b (or_else a c)
+or_swap : {A : Type 0} (a b c : Option A) → (is_some a ≡ true → first_of b c ≡ None) → first_of a (first_of b c) ≡ first_of b (first_of a c)
 or_swap None b c h = refl
 or_swap (Some x) None c h = refl
 or_swap (Some x) (Some y) c h = absurd (let e = h refl in cc)
@@ -315,24 +316,24 @@ asked_counts n key (w ∷ ws) h = step (w.call == n) (asked_counts n key ws) h
 
 -- what its calls asked, before the other fills'
 left_asks : (n : ℕ) (key : List ℕ) (fills : List Fill) (fill : Fill) → fill_at key fills ≡ Some fill → count (is_fill_of key) fills ≤ 1 → count (is_call n) (waiters_of fills) ≤ 1
-    → asked_in n fills ≡ or_else (asked_by n key fill.waiters) (asked_in n (without_fill key fills))
+    → asked_in n fills ≡ first_of (asked_by n key fill.waiters) (asked_in n (without_fill key fills))
 left_asks n key [] fill e one once = absurd cc
 left_asks n key (x ∷ fills) fill e one once = step (is_fill_of key x) refl (left_asks n key fills fill) e one
   where
     step : (b : Bool) → is_fill_of key x ≡ b
-        → (fill_at key fills ≡ Some fill → count (is_fill_of key) fills ≤ 1 → count (is_call n) (waiters_of fills) ≤ 1 → asked_in n fills ≡ or_else (asked_by n key fill.waiters) (asked_in n (without_fill key fills)))
+        → (fill_at key fills ≡ Some fill → count (is_fill_of key) fills ≤ 1 → count (is_call n) (waiters_of fills) ≤ 1 → asked_in n fills ≡ first_of (asked_by n key fill.waiters) (asked_in n (without_fill key fills)))
         → cond b (Some x) (fill_at key fills) ≡ Some fill → cond b 1 0 + count (is_fill_of key) fills ≤ 1
-        → asked_in n (x ∷ fills) ≡ or_else (asked_by n key fill.waiters) (asked_in n (cond (not b) (x ∷ without_fill key fills) (without_fill key fills)))
+        → asked_in n (x ∷ fills) ≡ first_of (asked_by n key fill.waiters) (asked_in n (cond (not b) (x ∷ without_fill key fills) (without_fill key fills)))
     step true t h e one =
         let same : x ≡ fill = cc in
         let its_key : x.key ≡ key = same_bytes x.key key t in
         let others = unfound key fills (omega arith) in
-        ap (λ k. or_else (asked_by n k x.waiters) (asked_in n fills)) its_key ∙ ap (λ (f : Fill). or_else (asked_by n key f.waiters) (asked_in n fills)) same ∙ ap (λ fs. or_else (asked_by n key fill.waiters) (asked_in n fs)) (sym others)
+        ap (λ k. first_of (asked_by n k x.waiters) (asked_in n fills)) its_key ∙ ap (λ (f : Fill). first_of (asked_by n key f.waiters) (asked_in n fills)) same ∙ ap (λ fs. first_of (asked_by n key fill.waiters) (asked_in n fs)) (sym others)
     step false t h e one =
         let sum = tally-append (λ (w : Waiter). cond (is_call n w) 1 0) x.waiters (waiters_of fills) in
         let ih = h e (omega arith) (omega (arith, once, sum)) in
-        let alone : is_some (asked_by n x.key x.waiters) ≡ true → or_else (asked_by n key fill.waiters) (asked_in n (without_fill key fills)) ≡ None = λ s. sym ih ∙ asked_in-none n fills (omega (arith, once, sum, asked_counts n x.key x.waiters s)) in
-        ap (or_else (asked_by n x.key x.waiters)) ih ∙ or_swap (asked_by n x.key x.waiters) (asked_by n key fill.waiters) (asked_in n (without_fill key fills)) alone
+        let alone : is_some (asked_by n x.key x.waiters) ≡ true → first_of (asked_by n key fill.waiters) (asked_in n (without_fill key fills)) ≡ None = λ s. sym ih ∙ asked_in-none n fills (omega (arith, once, sum, asked_counts n x.key x.waiters s)) in
+        ap (first_of (asked_by n x.key x.waiters)) ih ∙ or_swap (asked_by n x.key x.waiters) (asked_by n key fill.waiters) (asked_in n (without_fill key fills)) alone
 
 pub asks_anew : (older : List Note) (calls : ℕ) (all : List Owed) (fills other : List Fill) → CallsTell older calls all fills → ((n : ℕ) → asked_in n fills ≡ asked_in n other) → ((n : ℕ) → count (is_call n) (waiters_of other) ≡ count (is_call n) (waiters_of fills)) → CallsTell older calls all other
 asks_anew older calls all fills other t asks counts = record {
@@ -375,12 +376,12 @@ by_push n key [] w o = ap (λ b. cond b (Some (op_of key w.wish)) None) o
 by_push n key (x ∷ ws) w o = ap (cond (x.call == n) (Some (op_of key x.wish))) (by_push n key ws w o)
 
 join_other : (n : ℕ) (key : List ℕ) (w : Waiter) (fills : List Fill) → (w.call == n) ≡ false → asked_in n (joined_by key w fills) ≡ asked_in n fills
-join_other n key w [] o = ap (λ b. or_else (cond b (Some (op_of key w.wish)) None) None) o
+join_other n key w [] o = ap (λ b. first_of (cond b (Some (op_of key w.wish)) None) None) o
 join_other n key w (fill ∷ fills) o = step (is_fill_of key fill) (join_other n key w fills o)
   where
     step : (b : Bool) → asked_in n (joined_by key w fills) ≡ asked_in n fills → asked_in n (cond b (record fill { waiters = fill.waiters ++ w ∷ [] } ∷ fills) (fill ∷ joined_by key w fills)) ≡ asked_in n (fill ∷ fills)
-    step true h = ap (λ o. or_else o (asked_in n fills)) (by_push n fill.key fill.waiters w o)
-    step false h = ap (or_else (asked_by n fill.key fill.waiters)) h
+    step true h = ap (λ o. first_of o (asked_in n fills)) (by_push n fill.key fill.waiters w o)
+    step false h = ap (first_of (asked_by n fill.key fill.waiters)) h
 
 by_own : (key : List ℕ) (ws : List Waiter) (w : Waiter) → count (is_call w.call) ws ≡ 0 → asked_by w.call key (ws ++ w ∷ []) ≡ Some (op_of key w.wish)
 by_own key [] w z = ap (λ b. cond b (Some (op_of key w.wish)) None) (same_number w.call)
@@ -391,15 +392,15 @@ by_own key (x ∷ ws) w z = step (x.call == w.call) (by_own key ws w) z
     step false h z = h (omega arith)
 
 join_own : (key : List ℕ) (w : Waiter) (fills : List Fill) → count (is_call w.call) (waiters_of fills) ≡ 0 → asked_in w.call (joined_by key w fills) ≡ Some (op_of key w.wish)
-join_own key w [] z = ap (λ b. or_else (cond b (Some (op_of key w.wish)) None) None) (same_number w.call)
+join_own key w [] z = ap (λ b. first_of (cond b (Some (op_of key w.wish)) None) None) (same_number w.call)
 join_own key w (fill ∷ fills) z =
     let sum = tally-append (λ (x : Waiter). cond (is_call w.call x) 1 0) fill.waiters (waiters_of fills) in
     step (is_fill_of key fill) refl (join_own key w fills (omega (arith, z, sum))) (omega (arith, z, sum))
   where
     step : (b : Bool) → is_fill_of key fill ≡ b → asked_in w.call (joined_by key w fills) ≡ Some (op_of key w.wish) → count (is_call w.call) fill.waiters ≡ 0
         → asked_in w.call (cond b (record fill { waiters = fill.waiters ++ w ∷ [] } ∷ fills) (fill ∷ joined_by key w fills)) ≡ Some (op_of key w.wish)
-    step true t h z = ap (λ o. or_else o (asked_in w.call fills)) (by_own fill.key fill.waiters w z) ∙ ap (λ k. Some (op_of k w.wish)) (same_bytes fill.key key t)
-    step false t h z = ap (λ o. or_else o (asked_in w.call (joined_by key w fills))) (asked_by-none w.call fill.key fill.waiters z) ∙ h
+    step true t h z = ap (λ o. first_of o (asked_in w.call fills)) (by_own fill.key fill.waiters w z) ∙ ap (λ k. Some (op_of k w.wish)) (same_bytes fill.key key t)
+    step false t h z = ap (λ o. first_of o (asked_in w.call (joined_by key w fills))) (asked_by-none w.call fill.key fill.waiters z) ∙ h
 
 -- how many of the waiters pass
 pub join-counts : (test : Waiter → Bool) (key : List ℕ) (w : Waiter) (fills : List Fill) → count test (waiters_of (joined_by key w fills)) ≡ count test (waiters_of fills) + (if test w then 1 else 0)

@@ -25,8 +25,8 @@ use Rattle.hc_engines.specs.pair.Pair.{is_indexed, hash_in}
 use Rattle.hc_machine.specs.Nvm.{Nvm, Task, Putting, Deleting, Filling, Flushing, Job, job_at, is_job, puts, is_buried, is_written_now, fill_at, may_come}
 use Rattle.hc_machine.specs.Evicting.{entry_of_item}
 use Rattle.hc_machine.specs.Cache.{Cache}
-use Rattle.hc_machine.specs.Calls.{waiting_at, in_memory, must_wait, must_wait_in}
-use Rattle.hc_invariant.specs.Standing.{map_of, Placed, PlacedAt, put_in, written_by, first_of, queued_at, written_at, buried_at, small_at, large_at}
+use Rattle.hc_machine.specs.Calls.{waiting_at, in_memory, must_wait, must_wait_in, buried_at}
+use Rattle.hc_invariant.specs.Standing.{map_of, Placed, PlacedAt, put_in, written_by, first_of, written_at, small_at, large_at}
 use Rattle.hc_invariant.specs.Jobs.{RunsAs, JobsRun, small_job, large_work, IsGet}
 use Rattle.hc_invariant.proofs.Placing.{map_linked, map_queued, map_buried, map_nowhere}
 use Rattle.hc_proof.specs.frames.Midst.{FlashMidst}
@@ -153,7 +153,7 @@ stands_not (Some flash) older memory (Some nvm) moves key f h b =
 
 -- ---- what memory tells of a key
 
-waiting-is : (nvm : Option Nvm) (key : List ℕ) → waiting_at nvm key ≡ queued_at nvm key
+waiting-is : (nvm : Option Nvm) (key : List ℕ) → waiting_at nvm key ≡ waiting_at nvm key
 waiting-is None key = refl
 waiting-is (Some nvm) key = refl
 
@@ -171,17 +171,17 @@ in_memory_by None None w s l m b p h = absent_by w s l m b p (h refl refl)
 pub memory_tells : (config : Config) (older : List Note) (cache : Cache) (moves : List ℕ → Bool) (key : List ℕ) → FlashMidst config.flash older cache.memory cache.nvm moves → PlacedAt config.flash older cache key → must_wait cache key ≡ false
     → entry_at config.flash older key ≡ option_map map_of (in_memory cache key)
 memory_tells config older cache moves key f p h =
-    in_memory_by (linked_at key cache.memory.pools) (queued_at cache.nvm key) (written_at cache.nvm key) (small_at (bytes_at older) cache.nvm key) (large_at (bytes_at older) cache.nvm key) (entry_at config.flash older key) (buried_at cache.nvm key) p
+    in_memory_by (linked_at key cache.memory.pools) (waiting_at cache.nvm key) (written_at cache.nvm key) (small_at (bytes_at older) cache.nvm key) (large_at (bytes_at older) cache.nvm key) (entry_at config.flash older key) (buried_at cache.nvm key) p
     (λ i q b. let n = stands_not config.flash older cache.memory cache.nvm moves key f (sym (waits_by i q) ∙ h) b in (n.written, (n.small_one, n.large_one)))
     ∙ ap (λ (o : Option FlashEntry). option_map map_of (option_map_or (λ (item : Item). Some (entry_of_item item)) (linked_at key cache.memory.pools) o)) (sym (waiting-is cache.nvm key))
   where
-    waits_by : linked_at key cache.memory.pools ≡ None → queued_at cache.nvm key ≡ None → must_wait cache key ≡ must_wait_in cache.nvm key
+    waits_by : linked_at key cache.memory.pools ≡ None → waiting_at cache.nvm key ≡ None → must_wait cache key ≡ must_wait_in cache.nvm key
     waits_by i q = ap (λ (o : Option FlashEntry). not (is_some o) && must_wait_in cache.nvm key) ((λ k. option_map_or (λ (item : Item). Some (entry_of_item item)) (i k) (waiting_at cache.nvm key)) ∙ waiting-is cache.nvm key ∙ q)
 
 -- where a call has to wait, memory has nothing, and the key isn't buried
 pub record MustWait (cache : Cache) (key : List ℕ) : Type 0 where
   pub unlinked : linked_at key cache.memory.pools ≡ None
-  pub unqueued : queued_at cache.nvm key ≡ None
+  pub unqueued : waiting_at cache.nvm key ≡ None
   pub unburied : buried_at cache.nvm key ≡ false
 
 waits_step : (i : Option Item) (q : Option FlashEntry) (b : Bool) → (not (is_some (option_map_or (λ (item : Item). Some (entry_of_item item)) i q)) && b) ≡ true → (i ≡ None) × ((q ≡ None) × (b ≡ true))

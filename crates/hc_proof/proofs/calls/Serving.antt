@@ -22,10 +22,10 @@ use Rattle.hc_history.specs.Lawful.{IsAnswer, changes, past}
 use Rattle.hc_machine.specs.Leaving.{is_over}
 use Rattle.hc_machine.specs.Nvm.{Nvm, Wish, ToFind, ToAdd, Waiter, Fill, fill_at, adds}
 use Rattle.hc_machine.specs.Cache.{Cache, Owed, Told, is_owed, owed_at, owed_with, with_memory, and_then}
-use Rattle.hc_machine.specs.Calls.{is_kept_in}
+use Rattle.hc_machine.specs.Calls.{is_kept_in, waiting_at}
 use Rattle.hc_machine.specs.Waiting.{live, find_reply, answer, serve, serve_all, there_after, free, plant, entry_of_handle}
-use Rattle.hc_invariant.specs.Standing.{map_of, Placed, PlacedAt, queued_at}
-use Rattle.hc_invariant.specs.Tells.{CallsTell, ChargesTell, waiters_of, op_of, asked_by, asked_in, or_else, is_unanswered}
+use Rattle.hc_invariant.specs.Standing.{map_of, Placed, PlacedAt, first_of}
+use Rattle.hc_invariant.specs.Tells.{CallsTell, ChargesTell, waiters_of, op_of, asked_by, asked_in, is_unanswered}
 use Rattle.hc_invariant.specs.Jobs.{AllWish, WishHolds}
 use Rattle.hc_invariant.specs.Good.{IsSized, EntrySized, AllSized, fills_of}
 use Rattle.hc_invariant.specs.Laws.{LawfulIn}
@@ -94,7 +94,7 @@ all_said n (x ∷ all) o z e = step (is_owed n x) (is_unsaid x) refl (all_said n
 
 module _ (older : List Note) (calls : ℕ) (all more : List Owed) (key : List ℕ) (call : ℕ) (wish : Wish) (waiters : List Waiter) (fills : List Fill) (t : CallsTell older calls (all ++ more) (ghost key (record { call = call; wish = wish } ∷ waiters) ∷ fills)) (said : count is_unsaid more ≡ 0) where
   pub asks : asked_in call (ghost key (record { call = call; wish = wish } ∷ waiters) ∷ fills) ≡ Some (op_of key wish)
-  asks = ap (λ b. or_else (cond b (Some (op_of key wish)) (asked_by call key waiters)) (asked_in call fills)) (same_number call)
+  asks = ap (λ b. first_of (cond b (Some (op_of key wish)) (asked_by call key waiters)) (asked_in call fills)) (same_number call)
 
   pub asked : option_map (λ (c : Call). c.op) (open_call call (open_calls older)) ≡ Some (op_of key wish)
   asked = t.open_ones call ∙ asks
@@ -348,7 +348,7 @@ serve_store plants config older cache handle call waiters more s there =
       sized = subst (λ (pools : ℕ). AllSized pools waiters) pools s.sized.1;
       one_add = λ m. rw p.fills (omega (arith, s.one_add m));
       alone = alone;
-      unqueued = linked_alone (linked_at key after.memory.pools) (item_by false handle) (queued_at after.nvm key) _ _ _ _ _ p.linked p.stands;
+      unqueued = linked_alone (linked_at key after.memory.pools) (item_by false handle) (waiting_at after.nvm key) _ _ _ _ _ p.linked p.stands;
       rested = rested_did config.flash mid call Stored key;
     } in
     record {

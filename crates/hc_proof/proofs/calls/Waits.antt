@@ -10,7 +10,7 @@ use Rattle.hc_memory.proofs.Keyed.{same_bytes}
 use Rattle.hc_machine.specs.items.Items.{items_of}
 use Rattle.hc_history.specs.Note.{Note, Begin}
 use Rattle.hc_history.specs.Pages.{bytes_at}
-use Rattle.hc_machine.specs.Nvm.{Nvm, Wish, Waiter, Fill, is_fill_of, is_brought_by, joined_by, put_at, is_buried, adds}
+use Rattle.hc_machine.specs.Nvm.{Nvm, Wish, Waiter, Fill, is_fill_of, is_number_in, joined_by, put_at, is_buried, adds}
 use Rattle.hc_machine.specs.Cache.{Cache, owed_anew}
 use Rattle.hc_machine.specs.Calls.{must_wait, in_memory, wait_in}
 use Rattle.hc_invariant.specs.Tells.{ChargesTell, waiters_of, op_of}
@@ -93,12 +93,12 @@ one_joined k key w fills o = step (bytes_eq key k) refl
     step false t = omega (arith, one_other k key w fills t)
 
 -- a new fill has no job
-pub brought_joined : (n : ℕ) (key : List ℕ) (w : Waiter) (fills : List Fill) → count (λ (fill : Fill). is_brought_by n fill.job) (joined_by key w fills) ≡ count (λ (fill : Fill). is_brought_by n fill.job) fills
+pub brought_joined : (n : ℕ) (key : List ℕ) (w : Waiter) (fills : List Fill) → count (λ (fill : Fill). is_number_in n fill.job) (joined_by key w fills) ≡ count (λ (fill : Fill). is_number_in n fill.job) fills
 brought_joined n key w [] = omega arith
 brought_joined n key w (fill ∷ fills) = step (is_fill_of key fill) (brought_joined n key w fills)
   where
-    step : (b : Bool) → count (λ (fill : Fill). is_brought_by n fill.job) (joined_by key w fills) ≡ count (λ (fill : Fill). is_brought_by n fill.job) fills
-        → count (λ (fill : Fill). is_brought_by n fill.job) (cond b (record fill { waiters = fill.waiters ++ w ∷ [] } ∷ fills) (fill ∷ joined_by key w fills)) ≡ count (λ (fill : Fill). is_brought_by n fill.job) (fill ∷ fills)
+    step : (b : Bool) → count (λ (fill : Fill). is_number_in n fill.job) (joined_by key w fills) ≡ count (λ (fill : Fill). is_number_in n fill.job) fills
+        → count (λ (fill : Fill). is_number_in n fill.job) (cond b (record fill { waiters = fill.waiters ++ w ∷ [] } ∷ fills) (fill ∷ joined_by key w fills)) ≡ count (λ (fill : Fill). is_number_in n fill.job) (fill ∷ fills)
     step true h = refl
     step false h = omega (arith, h)
 

@@ -28,7 +28,6 @@ use Rattle.hc_history.proofs.Appended.{past-append}
 use Rattle.hc_machine.specs.Nvm.{Nvm}
 use Rattle.hc_machine.specs.Cache.{Cache, behind, with_memory}
 use Rattle.hc_machine.specs.Evicting.{all_leave, with_charge, charge, make_charge}
-use Rattle.hc_invariant.specs.Standing.{queued_at}
 use Rattle.hc_machine.specs.items.Items.{item_has, open_has, open_at}
 use Rattle.hc_invariant.specs.Tells.{ChargesTell}
 use Rattle.hc_invariant.proofs.Pieces.{pieces-join}
@@ -40,6 +39,7 @@ use Rattle.hc_proof.proofs.evicting.FlashMemory.{flash_beside, open_more}
 use Rattle.hc_proof.proofs.frames.ItemOrder.{found_same, charges_sorted}
 use Rattle.hc_proof.proofs.evicting.ItemsLeave.{NoCalls, Leaves}
 use Rattle.hc_machine.proofs.items.FullPool.{others_none}
+use Rattle.hc_machine.specs.Calls.{waiting_at}
 use Rattle.hc_proof.proofs.evicting.Room.{Gone, all_gone}
 
 -- ---- one charge more, by the books
@@ -166,7 +166,7 @@ module _ (config : Config) (older : List Note) (cache : Cache) (pool : ℕ) (key
   -- once they left, and the item is charged
   charged : (queue : List FlashEntry) (part : List Note) → ((tail : List Note) → next_charged tail ≡ Some (pool, want) → Lawful config (past older part) tail → Lawful config older (part ++ tail))
       → Leaves config (past older part) (with_queue queue cache.nvm) cache.now cache.memory (left ++ others) → NoCalls older (past older part)
-      → ((k : List ℕ) → linked_at k pools ≡ None → (queued_at (with_queue queue cache.nvm) k ≡ queued_at cache.nvm k) × (entry_at config.flash (past older part) k ≡ entry_at config.flash older k))
+      → ((k : List ℕ) → linked_at k pools ≡ None → (waiting_at (with_queue queue cache.nvm) k ≡ waiting_at cache.nvm k) × (entry_at config.flash (past older part) k ≡ entry_at config.flash older k))
       → Charged config older cache pool key size (behind part (charge pool key size (emptier queue)))
   charged queue part lawful l calls other =
       let note : Note = ChargedNote (cache.memory.made + 1) key pool want in
@@ -217,8 +217,8 @@ module _ (config : Config) (older : List Note) (cache : Cache) (pool : ℕ) (key
       let nvm_is : told.cache.nvm ≡ with_queue g.same.0 cache.nvm = ap (λ (c : Cache). c.nvm) e in
       let now_is : told.cache.now ≡ cache.now = ap (λ (c : Cache). c.now) e in
       let l : Leaves config (past older told.part) (with_queue g.same.0 cache.nvm) cache.now cache.memory (left ++ others) = subst (λ (c : Cache). Leaves config (past older told.part) c.nvm c.now cache.memory (left ++ others)) e g.left in
-      let other : (k : List ℕ) → linked_at k pools ≡ None → (queued_at (with_queue g.same.0 cache.nvm) k ≡ queued_at cache.nvm k) × (entry_at config.flash (past older told.part) k ≡ entry_at config.flash older k) =
-      λ k none. subst (λ (n : Option Nvm). (queued_at n k ≡ queued_at cache.nvm k) × (entry_at config.flash (past older told.part) k ≡ entry_at config.flash older k)) nvm_is (g.other k none) in
+      let other : (k : List ℕ) → linked_at k pools ≡ None → (waiting_at (with_queue g.same.0 cache.nvm) k ≡ waiting_at cache.nvm k) × (entry_at config.flash (past older told.part) k ≡ entry_at config.flash older k) =
+      λ k none. subst (λ (n : Option Nvm). (waiting_at n k ≡ waiting_at cache.nvm k) × (entry_at config.flash (past older told.part) k ≡ entry_at config.flash older k)) nvm_is (g.other k none) in
       let done = charged g.same.0 told.part (λ tail h law. pieces-join config older told.part tail (g.lawful tail h) law) l g.calls other in
       let whole : Charged config older cache pool key size (behind told.part (charge pool key size told.cache)) = subst (λ (c : Cache). Charged config older cache pool key size (behind told.part (charge pool key size c))) (sym e) done in
       subst (λ (vs : List Item). Charged config older cache pool key size (behind (all_leave pool want vs (with_memory roomy cache)).part (charge pool key size (all_leave pool want vs (with_memory roomy cache)).cache))) (sym (known cache.memory pool want there at).victims) whole

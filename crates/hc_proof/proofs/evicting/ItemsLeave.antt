@@ -21,7 +21,7 @@ use Rattle.hc_machine.specs.Nvm.{Nvm}
 use Rattle.hc_machine.specs.Leaving.{is_over}
 use Rattle.hc_machine.specs.Cache.{Cache, Told}
 use Rattle.hc_machine.specs.Evicting.{entry_of_item}
-use Rattle.hc_invariant.specs.Standing.{Placed, first_of, map_of_item, queued_at, written_at, buried_at, small_at, large_at}
+use Rattle.hc_invariant.specs.Standing.{Placed, first_of, map_of_item, written_at, small_at, large_at}
 use Rattle.hc_invariant.specs.Tells.{ChargesTell}
 use Rattle.hc_invariant.specs.Good.{EntrySized}
 use Rattle.hc_invariant.specs.Laws.{LawfulIn}
@@ -30,6 +30,7 @@ use Rattle.hc_invariant.proofs.Ends.{linked_charges}
 use Rattle.hc_proof.specs.frames.Midst.{FlashMidst, none_moves}
 use Rattle.hc_proof.specs.evicting.Bringing.{with_queue}
 use Rattle.hc_machine.proofs.items.Same.{Same-evicted, charge_found, one_if}
+use Rattle.hc_machine.specs.Calls.{waiting_at, buried_at}
 
 -- nothing is told of calls and pages
 pub record NoCalls (older newer : List Note) : Type 0 where
@@ -40,7 +41,7 @@ pub record NoCalls (older newer : List Note) : Type 0 where
 
 -- where the key stands, these being the items that the books still have
 abbrev pub PlacedBy : Option FlashConfig → List Note → Option Nvm → List Item → List ℕ → Type 0
-PlacedBy flash older nvm items key = Placed (item_at key items) (queued_at nvm key) (written_at nvm key) (buried_at nvm key) (small_at (bytes_at older) nvm key) (large_at (bytes_at older) nvm key) (entry_at flash older key)
+PlacedBy flash older nvm items key = Placed (item_at key items) (waiting_at nvm key) (written_at nvm key) (buried_at nvm key) (small_at (bytes_at older) nvm key) (large_at (bytes_at older) nvm key) (entry_at flash older key)
 
 -- The books have these items, some of which left their pool already; `before` is the memory before any left.
 pub record Leaves (config : Config) (older : List Note) (nvm : Option Nvm) (now : ℕ) (before : Memory) (items : List Item) : Type 0 where
@@ -123,7 +124,7 @@ sized_if key false m h = h
 
 module _ (config : Config) (older : List Note) (nvm : Option Nvm) (now : ℕ) (before : Memory) (x : Item) (items : List Item) (l : Leaves config older nvm now before (x ∷ items)) where
   -- where its key stands
-  pub stands : Placed (Some x) (queued_at nvm x.key) (written_at nvm x.key) (buried_at nvm x.key) (small_at (bytes_at older) nvm x.key) (large_at (bytes_at older) nvm x.key) (entry_at config.flash older x.key)
+  pub stands : Placed (Some x) (waiting_at nvm x.key) (written_at nvm x.key) (buried_at nvm x.key) (small_at (bytes_at older) nvm x.key) (large_at (bytes_at older) nvm x.key) (entry_at config.flash older x.key)
   stands = rw (bytes_eq-refl x.key) at (l.placed x.key)
 
   pub mapped : entry_at config.flash older x.key ≡ Some (map_of_item x)
@@ -156,4 +157,4 @@ pub record One (config : Config) (older : List Note) (cache : Cache) (pool want 
   pub left : Leaves config (past (Freed x.number ∷ older) told.part) told.cache.nvm told.cache.now before items
   pub calls : NoCalls (Freed x.number ∷ older) (past (Freed x.number ∷ older) told.part)
   pub same : (queue : List FlashEntry) × (told.cache ≡ record cache { nvm = with_queue queue cache.nvm })
-  pub other : (key : List ℕ) → is_at key x ≡ false → (queued_at told.cache.nvm key ≡ queued_at cache.nvm key) × (entry_at config.flash (past (Freed x.number ∷ older) told.part) key ≡ entry_at config.flash older key)
+  pub other : (key : List ℕ) → is_at key x ≡ false → (waiting_at told.cache.nvm key ≡ waiting_at cache.nvm key) × (entry_at config.flash (past (Freed x.number ∷ older) told.part) key ≡ entry_at config.flash older key)

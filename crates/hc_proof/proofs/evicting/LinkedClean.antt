@@ -28,7 +28,8 @@ use Rattle.hc_machine.specs.Nvm.{Nvm, Fill, fill_at}
 use Rattle.hc_machine.specs.Cache.{Cache, Told, tells, and_then, with_memory}
 use Rattle.hc_machine.specs.Evicting.{make_charge, handle_for}
 use Rattle.hc_machine.specs.Workers.{can_link, link_clean, bring}
-use Rattle.hc_invariant.specs.Standing.{Placed, PlacedAt, queued_at, written_at, buried_at, small_at, large_at}
+use Rattle.hc_machine.specs.Calls.{waiting_at, buried_at}
+use Rattle.hc_invariant.specs.Standing.{Placed, PlacedAt, written_at, small_at, large_at}
 use Rattle.hc_invariant.specs.Tells.{ChargesTell}
 use Rattle.hc_invariant.specs.Good.{fills_of}
 use Rattle.hc_invariant.proofs.Placing.{placed_fill_small, placed_fill_large}
@@ -174,7 +175,7 @@ module _ (config : Config) (older : List Note) (cache : Cache) (e : FlashEntry) 
       p = charged.rest.placed e.key refl
 
       go : (small_at (bytes_at older) cache.nvm e.key ≡ Some e) ⊎ (large_at (bytes_at older) cache.nvm e.key ≡ Some e)
-          → Placed (Some (item_by true handle)) (queued_at one.cache.nvm e.key) (written_at one.cache.nvm e.key) (buried_at one.cache.nvm e.key) (small_at (bytes_at mid) one.cache.nvm e.key) (large_at (bytes_at mid) one.cache.nvm e.key) (entry_at config.flash mid e.key)
+          → Placed (Some (item_by true handle)) (waiting_at one.cache.nvm e.key) (written_at one.cache.nvm e.key) (buried_at one.cache.nvm e.key) (small_at (bytes_at mid) one.cache.nvm e.key) (large_at (bytes_at mid) one.cache.nvm e.key) (entry_at config.flash mid e.key)
       go (inl s) = fill_small e _ _ _ _ _ _ _ handle refl refl refl refl bare unburied (rw (charged.pages, queue_is) (small_still charged.nvm.0 cache.nvm e.key ∙ s)) p
       go (inr s) = fill_large e _ _ _ _ _ _ _ handle refl refl refl refl bare unburied (rw (charged.pages, queue_is) (large_still charged.nvm.0 cache.nvm e.key ∙ s)) p
 

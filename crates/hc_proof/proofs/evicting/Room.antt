@@ -18,13 +18,13 @@ use Rattle.hc_history.proofs.Appended.{past-append}
 use Rattle.hc_machine.specs.Nvm.{Nvm}
 use Rattle.hc_machine.specs.Cache.{Cache, Told, tells}
 use Rattle.hc_machine.specs.Evicting.{leaves, all_leave}
-use Rattle.hc_invariant.specs.Standing.{queued_at}
 use Rattle.hc_invariant.specs.Laws.{LawfulIn}
 use Rattle.hc_invariant.proofs.Pieces.{pieces-both}
 use Rattle.hc_proof.specs.evicting.Bringing.{with_queue}
 use Rattle.hc_proof.proofs.evicting.ItemsLeave.{NoCalls, Leaves, was_live}
 use Rattle.hc_proof.proofs.evicting.Evicted.{same_cache, one_leaves}
 use Rattle.hc_machine.proofs.items.FullPool.{full-same, first_own}
+use Rattle.hc_machine.specs.Calls.{waiting_at}
 
 -- what becomes of all that leave
 pub record Gone (config : Config) (older : List Note) (cache : Cache) (pool want : ℕ) (before : Memory) (items : List Item) (told : Told) : Type 0 where
@@ -33,7 +33,7 @@ pub record Gone (config : Config) (older : List Note) (cache : Cache) (pool want
   pub left : Leaves config (past older told.part) told.cache.nvm told.cache.now before items
   pub calls : NoCalls older (past older told.part)
   pub same : (queue : List FlashEntry) × (told.cache ≡ record cache { nvm = with_queue queue cache.nvm })
-  pub other : (key : List ℕ) → linked_at key before.pools ≡ None → (queued_at told.cache.nvm key ≡ queued_at cache.nvm key) × (entry_at config.flash (past older told.part) key ≡ entry_at config.flash older key)
+  pub other : (key : List ℕ) → linked_at key before.pools ≡ None → (waiting_at told.cache.nvm key ≡ waiting_at cache.nvm key) × (entry_at config.flash (past older told.part) key ≡ entry_at config.flash older key)
 
 next_full : (config : Config) (live : List Charge) (pool want : ℕ) (o : Option (ℕ × ℕ)) → o ≡ Some (pool, want) → lawful.is_full config pool live want ≡ true → IsSomeAnd o (λ next. (next.0 ≡ pool) × (lawful.is_full config pool live next.1 ≡ true))
 next_full config live pool want o e full = rw e (refl, full)

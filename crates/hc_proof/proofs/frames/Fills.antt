@@ -9,7 +9,7 @@ use Rattle.hc_memory.specs.Memory.{Memory}
 use Rattle.hc_memory.proofs.Keyed.{same_bytes}
 use Rattle.hc_history.specs.Note.{Note}
 use Rattle.hc_history.specs.Pages.{bytes_at}
-use Rattle.hc_machine.specs.Nvm.{Nvm, Waiter, Fill, fill_at, is_fill_of, is_brought_by, without_fill, adds}
+use Rattle.hc_machine.specs.Nvm.{Nvm, Waiter, Fill, fill_at, is_fill_of, is_number_in, without_fill, adds}
 use Rattle.hc_machine.specs.Cache.{Cache, Owed}
 use Rattle.hc_invariant.specs.Standing.{PlacedAt}
 use Rattle.hc_invariant.specs.Tells.{waiters_of}
@@ -91,7 +91,7 @@ pub record FillsGo (pages : Pages) (memory : Memory) (nvm : Nvm) (moves : List �
   pub each : AllFill pages memory nvm (still moves fills)
   pub wishes : AllWishes memory fills
   pub one : (key : List ℕ) → count (is_fill_of key) fills ≤ 1
-  pub one_each : (n : ℕ) → count (λ (fill : Fill). is_brought_by n fill.job) fills ≤ 1
+  pub one_each : (n : ℕ) → count (λ (fill : Fill). is_number_in n fill.job) fills ≤ 1
   pub one_add : (n : ℕ) → count (adds n) (waiters_of fills) ≤ 1
 
 -- a fill doesn't look at the others
@@ -120,7 +120,7 @@ fill_leaves flash older memory nvm key f = with_fills flash older memory nvm (on
   each = subst (AllFill (bytes_at older) memory nvm) (sym (still_none (without_fill key nvm.fills))) f.fills.each;
   wishes = fewer_wish memory (λ (fill : Fill). not (is_fill_of key fill)) nvm.fills f.fills.wishes;
   one = λ k. omega (arith, f.fills.one k, count-fewer (is_fill_of k) (λ (fill : Fill). not (is_fill_of key fill)) nvm.fills);
-  one_each = λ n. omega (arith, f.fills.one_each n, count-fewer (λ (fill : Fill). is_brought_by n fill.job) (λ (fill : Fill). not (is_fill_of key fill)) nvm.fills);
+  one_each = λ n. omega (arith, f.fills.one_each n, count-fewer (λ (fill : Fill). is_number_in n fill.job) (λ (fill : Fill). not (is_fill_of key fill)) nvm.fills);
   one_add = λ n. omega (arith, f.fills.one_add n, fewer_wait (adds n) (λ (fill : Fill). not (is_fill_of key fill)) nvm.fills);
 }) (fewer_sized (length memory.pools) (λ (fill : Fill). not (is_fill_of key fill)) nvm.fills f.adds)
 

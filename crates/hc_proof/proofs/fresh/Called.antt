@@ -17,11 +17,12 @@ use Rattle.hc_machine.specs.Waiting.{clear, plant, uproot, entry_of_handle, serv
 use Rattle.hc_machine.specs.Calls as calls
 use Rattle.hc_machine.specs.Calls.{begin, wait_in, wait_for, is_known, add, in_memory, must_wait, used, replies_then}
 use Rattle.hc_invariant.specs.Good.{Agrees, fills_of}
-use Rattle.hc_invariant.specs.Fresh.{did_change, changed_since, IsFresh, AllFresh}
+use Rattle.hc_invariant.specs.Fresh.{changed_since, IsFresh, AllFresh}
 use Rattle.hc_proof.specs.fresh.Answers.{Answers, AllCalls, FreshKeeps}
 use Rattle.hc_proof.proofs.fresh.Speaking.{answers-append, plant_quiet, uproot_quiet, serve_all_speaks}
 use Rattle.hc_proof.proofs.fresh.Calming.{OpCalm, CalmAt, insert_calm, remove_calm, add_calm, calm_begun, calm_own, calls_map, fresh_without, fresh_begun, fresh_by, fill_key, waiters_calm}
 use Rattle.hc_proof.proofs.fresh.Freshness.{waits_of}
+use Rattle.hc_legal.specs.Replies.{is_change_of}
 
 -- ---- no call begins meanwhile
 
@@ -158,7 +159,7 @@ did_find older call client key reply [] h = tt
 did_find older call client key reply (x ∷ fills) h =
     (fresh_by (Begin call client (notes.Find key) ∷ older) (Did call reply ∷ Begin call client (notes.Find key) ∷ older) x.key x.waiters (λ since c. (λ i. nothing i || c i)) h.0, did_find older call client key reply fills h.1)
   where
-    nothing : did_change (open_call call (open_calls (Begin call client (notes.Find key) ∷ older))) reply x.key ≡ false
+    nothing : is_change_of (open_call call (open_calls (Begin call client (notes.Find key) ∷ older))) reply x.key ≡ false
     nothing = rw (eqb-same call) refl
 
 found : (t : Bool) (begun : List Note) (a b : Moved) → AllFresh (past begun a.part) (fills_of a.cache.nvm) → AllFresh (past begun b.part) (fills_of b.cache.nvm) → AllFresh (past begun (if t then a else b).part) (fills_of (if t then a else b).cache.nvm)

@@ -13,18 +13,20 @@ use Rattle.hc_history.specs.Note.{Note, Op, Insert, Add, Find, Remove, Reply, St
 use Rattle.hc_history.specs.Books.{Call, open_call, open_calls}
 use Rattle.hc_history.specs.Lawful.{changes, past}
 use Rattle.hc_machine.specs.Nvm.{Waiter, Wish, ToFind, ToAdd, Fill, is_fill_of, fill_at, without_fill}
-use Rattle.hc_invariant.specs.Tells.{waiters_of, op_of, asked_by, asked_in, or_else, is_call}
+use Rattle.hc_invariant.specs.Tells.{waiters_of, op_of, asked_by, asked_in, is_call}
 use Rattle.hc_invariant.specs.Jobs.{WishHolds, AllWish}
 use Rattle.hc_proof.specs.frames.Midst.{AllWishes}
-use Rattle.hc_invariant.specs.Fresh.{did_change, changed_since, IsFresh, AllFresh}
+use Rattle.hc_invariant.specs.Fresh.{changed_since, IsFresh, AllFresh}
+use Rattle.hc_invariant.specs.Standing.{first_of}
 use Rattle.hc_proof.specs.fresh.Answers.{Answers, AllCalls}
+use Rattle.hc_legal.specs.Replies.{is_change_of}
 
 -- an op that changes this key alone, and a call that, if it is open, is of such a one
 abbrev pub OpCalm : List ℕ → Op → Type 0
 OpCalm key op = (reply : Reply) (k : List ℕ) → bytes_eq key k ≡ false → changes op reply k ≡ false
 
 abbrev pub CalmAt : List ℕ → List Note → ℕ → Type 0
-CalmAt key older n = (reply : Reply) (k : List ℕ) → bytes_eq key k ≡ false → did_change (open_call n (open_calls older)) reply k ≡ false
+CalmAt key older n = (reply : Reply) (k : List ℕ) → bytes_eq key k ≡ false → is_change_of (open_call n (open_calls older)) reply k ≡ false
 
 pub insert_calm : (key value : List ℕ) (expiry : ℕ) → OpCalm key (Insert key value expiry)
 insert_calm key value expiry reply k o = o
@@ -65,15 +67,15 @@ less_open n call (x ∷ calls) = go (x.number == call) refl (x.number == n) refl
 calm_did : (key : List ℕ) (older : List Note) (n call : ℕ) (reply : Reply) → CalmAt key older n → CalmAt key (Did call reply ∷ older) n
 calm_did key older n call reply h r k o = go (less_open n call (open_calls older))
   where
-    go : (open_call n (open_calls (Did call reply ∷ older)) ≡ open_call n (open_calls older)) ⊎ (open_call n (open_calls (Did call reply ∷ older)) ≡ None) → did_change (open_call n (open_calls (Did call reply ∷ older))) r k ≡ false
-    go (inl same) = ap (λ c. did_change c r k) same ∙ h r k o
-    go (inr none) = ap (λ c. did_change c r k) none
+    go : (open_call n (open_calls (Did call reply ∷ older)) ≡ open_call n (open_calls older)) ⊎ (open_call n (open_calls (Did call reply ∷ older)) ≡ None) → is_change_of (open_call n (open_calls (Did call reply ∷ older))) r k ≡ false
+    go (inl same) = ap (λ c. is_change_of c r k) same ∙ h r k o
+    go (inr none) = ap (λ c. is_change_of c r k) none
 
 -- a call that begins, of such an op
 pub calm_begun : (key : List ℕ) (older : List Note) (call client n : ℕ) (op : Op) → OpCalm key op → CalmAt key older n → CalmAt key (Begin call client op ∷ older) n
 calm_begun key older call client n op own h r k o = go (call == n)
   where
-    go : (t : Bool) → did_change (if t then Some (record { number = call; client = client; op = op }) else open_call n (open_calls older)) r k ≡ false
+    go : (t : Bool) → is_change_of (if t then Some (record { number = call; client = client; op = op }) else open_call n (open_calls older)) r k ≡ false
     go true = own r k o
     go false = h r k o
 
@@ -162,7 +164,7 @@ fewer_here n key (x ∷ fills) fill e = go (is_fill_of key x) e (fewer_here n ke
     go true e more = let same : x ≡ fill = cc in subst (λ (y : Fill). count (is_call n) y.waiters ≤ count (is_call n) (x.waiters ++ waiters_of fills)) same (omega (arith, both))
     go false e more = omega (arith, both, more e)
 
-or_some : {A : Type 0} (a b : Option A) → is_some a ≡ true → or_else a b ≡ a
+or_some : {A : Type 0} (a b : Option A) → is_some a ≡ true → first_of a b ≡ a
 or_some None b h = absurd cc
 or_some (Some x) b h = refl
 
@@ -174,12 +176,12 @@ asked_here n key (x ∷ fills) fill e some one = go (is_fill_of key x) e (asked_
     both = tally-append (λ w. if is_call n w then 1 else 0) x.waiters (waiters_of fills)
 
     go : (t : Bool) → (if t then Some x else fill_at key fills) ≡ Some fill → (fill_at key fills ≡ Some fill → 1 ≤ count (is_call n) fill.waiters → count (is_call n) (waiters_of fills) ≤ 1 → asked_in n fills ≡ asked_by n fill.key fill.waiters)
-        → or_else (asked_by n x.key x.waiters) (asked_in n fills) ≡ asked_by n fill.key fill.waiters
-    go true e more = let same : x ≡ fill = cc in subst (λ (y : Fill). or_else (asked_by n y.key y.waiters) (asked_in n fills) ≡ asked_by n fill.key fill.waiters) (sym same) (or_some (asked_by n fill.key fill.waiters) (asked_in n fills) (found_some n fill.key fill.waiters some))
+        → first_of (asked_by n x.key x.waiters) (asked_in n fills) ≡ asked_by n fill.key fill.waiters
+    go true e more = let same : x ≡ fill = cc in subst (λ (y : Fill). first_of (asked_by n y.key y.waiters) (asked_in n fills) ≡ asked_by n fill.key fill.waiters) (sym same) (or_some (asked_by n fill.key fill.waiters) (asked_in n fills) (found_some n fill.key fill.waiters some))
     go false e more =
         let there = fewer_here n key fills fill e in
         let none : count (is_call n) x.waiters ≡ 0 = omega (arith, one, both, there, some) in
-        ap (λ o. or_else o (asked_in n fills)) (found_none n x.key x.waiters none) ∙ more e some (omega (arith, one, both))
+        ap (λ o. first_of o (asked_in n fills)) (found_none n x.key x.waiters none) ∙ more e some (omega (arith, one, both))
 
 -- what they ask changes that key alone
 wish_calm : (memory : Memory) (key : List ℕ) (wish : Wish) → WishHolds memory key wish → OpCalm key (op_of key wish)
@@ -202,7 +204,7 @@ fill_key key (x ∷ fills) fill e = go (is_fill_of key x) refl e (fill_key key f
     go true t e more = let same : x ≡ fill = cc in subst (λ (y : Fill). y.key ≡ key) same (same_bytes x.key key t)
     go false t e more = more e
 
-pub open_calm : (key : List ℕ) (o : Option Call) (op : Op) → option_map (λ (call : Call). call.op) o ≡ Some op → OpCalm key op → (reply : Reply) (k : List ℕ) → bytes_eq key k ≡ false → did_change o reply k ≡ false
+pub open_calm : (key : List ℕ) (o : Option Call) (op : Op) → option_map (λ (call : Call). call.op) o ≡ Some op → OpCalm key op → (reply : Reply) (k : List ℕ) → bytes_eq key k ≡ false → is_change_of o reply k ≡ false
 open_calm key None op e c reply k o = refl
 open_calm key (Some call) op e c reply k o = let same : call.op ≡ op = cc in subst (λ (x : Op). changes x reply k ≡ false) (sym same) (c reply k o)
 

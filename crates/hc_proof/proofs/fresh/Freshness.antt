@@ -22,7 +22,7 @@ use Rattle.hc_history.specs.Books.{Call, open_call, open_calls}
 use Rattle.hc_history.specs.Lawful.{past}
 use Rattle.hc_engines.specs.pair.Pair as pairs
 use Rattle.hc_engines.specs.pair.Pair.{Pair}
-use Rattle.hc_machine.specs.Nvm.{Nvm, Tombstone, Waiter, Fill, Task, Putting, Deleting, Filling, Flushing, Job, is_fill_of, fill_at, without_fill, is_brought_by, fill_by, taken_fill, next_put, next_delete, next_fill, without_put, taken_stone, job_at, ordered, without_job}
+use Rattle.hc_machine.specs.Nvm.{Nvm, Tombstone, Waiter, Fill, Task, Putting, Deleting, Filling, Flushing, Job, is_fill_of, fill_at, without_fill, is_number_in, fill_by, taken_fill, next_put, next_delete, next_fill, without_put, taken_stone, job_at, ordered, without_job}
 use Rattle.hc_machine.specs.Leaving.{Changed}
 use Rattle.hc_machine.specs.Takes as takes
 use Rattle.hc_machine.specs.Takes.{Taken, Filled, fill_out, finished, ends, settled, launched, take_sized, take_put, take_delete, take_flush, take_fill, goes_on, resumed, result_note, reclaimed_by}
@@ -33,9 +33,10 @@ use Rattle.hc_machine.specs.Calls.{is_known}
 use Rattle.hc_machine.specs.Workers as workers
 use Rattle.hc_machine.specs.Workers.{after_take, take_on, fill}
 use Rattle.hc_history.specs.Pages.{bytes_at}
-use Rattle.hc_invariant.specs.Tells.{waiters_of, asked_in, asked_by, is_call, or_else}
+use Rattle.hc_invariant.specs.Tells.{waiters_of, asked_in, asked_by, is_call}
 use Rattle.hc_invariant.specs.Good.{Agrees, FlashPart, fills_of}
 use Rattle.hc_invariant.specs.Fresh.{AllFresh}
+use Rattle.hc_invariant.specs.Standing.{first_of}
 use Rattle.hc_proof.specs.frames.Midst.{AllWishes}
 use Rattle.hc_proof.proofs.frames.BetweenSteps.{wishes_of}
 use Rattle.hc_proof.specs.fresh.Answers.{Answers, AllCalls, FreshKeeps}
@@ -147,11 +148,11 @@ goes_on_end job (Done outcome) nvm = ends_end job.number job.task outcome (recor
 -- the fill that a job brings is the one of its key
 pub brought_at : (number : ℕ) (fills : List Fill) (one : Fill) → ((key : List ℕ) → count (is_fill_of key) fills ≤ 1) → fill_by number fills ≡ Some one → fill_at one.key fills ≡ Some one
 brought_at number [] one h e = absurd cc
-brought_at number (x ∷ fills) one h e = go (is_brought_by number x.job) e (brought_at number fills one (λ key. omega (arith, h key)))
+brought_at number (x ∷ fills) one h e = go (is_number_in number x.job) e (brought_at number fills one (λ key. omega (arith, h key)))
   where
     counts : (rest : List Fill) → fill_by number rest ≡ Some one → 1 ≤ count (is_fill_of one.key) rest
     counts [] e = absurd cc
-    counts (y ∷ ys) e = at (is_brought_by number y.job) e (counts ys)
+    counts (y ∷ ys) e = at (is_number_in number y.job) e (counts ys)
       where
         at : (t : Bool) → (if t then Some y else fill_by number ys) ≡ Some one → (fill_by number ys ≡ Some one → 1 ≤ count (is_fill_of one.key) ys) → 1 ≤ (if is_fill_of one.key y then 1 else 0) + count (is_fill_of one.key) ys
         at true e more = let same : y ≡ one = cc in let own : is_fill_of one.key y ≡ true = ap (λ (f : Fill). bytes_eq f.key one.key) same ∙ bytes_eq-refl one.key in let n : (if is_fill_of one.key y then 1 else 0) ≡ 1 = ap {B = ℕ} (λ b. if b then 1 else 0) own in omega (arith, n)
@@ -188,8 +189,8 @@ taken_asked n key number [] = refl
 taken_asked n key number (x ∷ fills) = go (is_fill_of key x) (taken_asked n key number fills)
   where
     go : (t : Bool) → asked_in n (taken_fill key number fills) ≡ asked_in n fills → asked_in n ((if t then record x { job = Some number } else x) ∷ taken_fill key number fills) ≡ asked_in n (x ∷ fills)
-    go true h = ap (or_else (asked_by n x.key x.waiters)) h
-    go false h = ap (or_else (asked_by n x.key x.waiters)) h
+    go true h = ap (first_of (asked_by n x.key x.waiters)) h
+    go false h = ap (first_of (asked_by n x.key x.waiters)) h
 
 pub taken_waiters : (key : List ℕ) (number : ℕ) (fills : List Fill) → waiters_of (taken_fill key number fills) ≡ waiters_of fills
 taken_waiters key number [] = refl

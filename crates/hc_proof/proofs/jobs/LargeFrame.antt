@@ -15,14 +15,15 @@ use Rattle.hc_history.specs.Note.{Note, Lose, Read, Wrote, Flushed, Cleared}
 use Rattle.hc_history.specs.Books.{entry_at, now_at}
 use Rattle.hc_history.specs.Pages.{bytes_at}
 use Rattle.hc_history.specs.Lawful.{past}
-use Rattle.hc_machine.specs.Nvm.{Nvm, Fill, Job, put_at, is_buried, is_brought_by}
+use Rattle.hc_machine.specs.Nvm.{Nvm, Fill, Job, put_at, is_buried, is_number_in}
 use Rattle.hc_machine.specs.Cache.{Cache, unmarked_by}
 use Rattle.hc_invariant.specs.Standing.{Placed, PlacedAt, written_by}
 use Rattle.hc_invariant.specs.Jobs.{Brings, FillsHold, small_job, large_work}
 use Rattle.hc_invariant.specs.Good.{FlashGood, FlashPart, Agrees, EntrySized, InPools, AllSized, fills_of}
 use Rattle.hc_invariant.specs.Laws.{Steady}
 use Rattle.hc_invariant.specs.Tells.{MemoryTells, CallsTell, waiters_of}
-use Rattle.hc_proof.specs.jobs.Shell.{Holding, Shell, AllOfRegions, less_hash, held_by_part}
+use Rattle.hc_engines.specs.Engine.{Holds}
+use Rattle.hc_proof.specs.jobs.Shell.{Shell, AllOfRegions, less_hash, held_by_part}
 use Rattle.hc_proof.specs.books.RegionBooks.{LargeFits, LargeKeeps, loses, but}
 use Rattle.hc_proof.proofs.jobs.ShellStays.{shell_part}
 use Rattle.hc_proof.proofs.jobs.LargeJobs.{with_large, JobsGo, but_true}
@@ -61,7 +62,7 @@ joined true false more o e = absurd (cc)
 joined false true more o e = absurd (cc)
 
 -- what is held after a part, loss by loss, is what is held but for what it loses
-held_after : (flash : FlashConfig) (part : List Note) (holds : Holding) (key : List ℕ) → AllOfRegions flash part → held_by_part flash part holds key ≡ (if loses (kept_of flash.bits key) part then None else holds key)
+held_after : (flash : FlashConfig) (part : List Note) (holds : Holds) (key : List ℕ) → AllOfRegions flash part → held_by_part flash part holds key ≡ (if loses (kept_of flash.bits key) part then None else holds key)
 held_after flash [] holds key ok = refl
 held_after flash (Lose (loss.Hash hash None) cause ∷ part) holds key ok =
     held_after flash part (less_hash flash hash holds) key ok.1 ∙ joined (kept_of flash.bits key == hash) (hash == kept_of flash.bits key) (loses (kept_of flash.bits key) part) (holds key) (turned (kept_of flash.bits key) hash)
@@ -215,7 +216,7 @@ pub record RegionApart (config : Config) (older part : List Note) (nvm : Nvm) (n
   pub keeps : LargeKeeps config nvm.pair.small.flash older part nvm.pair.large new
   pub works : (n : ℕ) → but number n ≡ true → work_of n new.jobs ≡ work_of n nvm.pair.large.jobs
   pub goes : JobsGo nvm (with_large new jobs made nvm)
-  pub apart : count (λ (fill : Fill). is_brought_by number fill.job) nvm.fills ≡ 0
+  pub apart : count (λ (fill : Fill). is_number_in number fill.job) nvm.fills ≡ 0
 
 pub apart_keeps : (config : Config) (older part : List Note) (cache : Cache) (nvm : Nvm) (new : Block) (jobs : List Job) (made number : ℕ) → cache.nvm ≡ Some nvm → Agrees config older cache → RegionApart config older part nvm new jobs made number
     → Steady config older part (moved_to part (with_large new jobs made nvm) cache)
@@ -230,7 +231,7 @@ apart_keeps config older part cache nvm new jobs made number n g step =
         keeps = step.keeps;
         goes = step.goes;
         fills = record {
-          each = fills_apart nvm new (bytes_at older) (bytes_at (past older part)) (λ hash. loses hash part) l jobs made nvm.fills (but number) step.works cache.memory (unmarked_by part cache.memory) u (is_brought_by number) (λ n e. but_true number n e) nvm.fills step.apart before.good.fills.each;
+          each = fills_apart nvm new (bytes_at older) (bytes_at (past older part)) (λ hash. loses hash part) l jobs made nvm.fills (but number) step.works cache.memory (unmarked_by part cache.memory) u (is_number_in number) (λ n e. but_true number n e) nvm.fills step.apart before.good.fills.each;
           one = before.good.fills.one;
           one_each = before.good.fills.one_each;
           one_add = before.good.fills.one_add;

@@ -24,7 +24,8 @@ use Rattle.hc_invariant.proofs.Placing.{placed_eq, map_lost, unclean, map_linked
 use Rattle.hc_invariant.proofs.Frames.{held-is}
 use Rattle.hc_invariant.proofs.Losses.{covers_item, linked-unmarked, left-by, other-hash}
 use Rattle.hc_invariant.proofs.Lookups.{unmarked_if}
-use Rattle.hc_proof.specs.jobs.Shell.{SameBooks, Holding, Shell, AllOfRegions, less_hash, held_by_part}
+use Rattle.hc_engines.specs.Engine.{Holds}
+use Rattle.hc_proof.specs.jobs.Shell.{SameBooks, Shell, AllOfRegions, less_hash, held_by_part}
 use Rattle.hc_proof.proofs.jobs.SameBooks.{charges_same, waits_same, calls_same}
 use Rattle.hc_proof.proofs.frames.Unmarks.{sizes_unmarked, charges_unmarked}
 use Rattle.hc_proof.proofs.jobs.PageFrames.{small_apart, buckets_apart}
@@ -49,7 +50,7 @@ cleared_books older r = record { charges = refl; waiting = refl; writing = refl;
 
 -- ---- notes that change nothing of it
 
-module _ (config : Config) (flash : FlashConfig) (older : List Note) (memory : Memory) (now asked : ℕ) (all : List Owed) (nvm : Nvm) (holds : Holding) (g : Shell config flash older memory now asked all nvm holds) where
+module _ (config : Config) (flash : FlashConfig) (older : List Note) (memory : Memory) (now asked : ℕ) (all : List Owed) (nvm : Nvm) (holds : Holds) (g : Shell config flash older memory now asked all nvm holds) where
   pub shell_flushed : (r : ℕ) → Shell config flash (Flushed r ∷ older) memory now asked all nvm holds
   shell_flushed r = record {
     sizes = g.sizes;
@@ -218,7 +219,7 @@ module _ (config : Config) (flash : FlashConfig) (older : List Note) (memory : M
 
 -- ---- a whole part
 
-pub shell_part : (config : Config) (flash : FlashConfig) (older part : List Note) (memory : Memory) (now asked : ℕ) (all : List Owed) (nvm : Nvm) (holds : Holding) → config.flash ≡ Some flash → AllOfRegions flash part → Shell config flash older memory now asked all nvm holds
+pub shell_part : (config : Config) (flash : FlashConfig) (older part : List Note) (memory : Memory) (now asked : ℕ) (all : List Owed) (nvm : Nvm) (holds : Holds) → config.flash ≡ Some flash → AllOfRegions flash part → Shell config flash older memory now asked all nvm holds
     → Shell config flash (past older part) (unmarked_by part memory) now asked all nvm (held_by_part flash part holds)
 shell_part config flash older [] memory now asked all nvm holds cf ok g = g
 shell_part config flash older (Lose (loss.Hash hash None) cause ∷ part) memory now asked all nvm holds cf ok g =

@@ -8,7 +8,7 @@ use Rattle.hc_engines.specs.Engine.{Order, Write, IoResult, Page, Written, Faile
 use Rattle.hc_engines.specs.large.Region.{region_at, page_no}
 use Rattle.hc_engines.specs.large.Block as block
 use Rattle.hc_engines.specs.large.Block.{Block, Writing, work_of, finished}
-use Rattle.hc_engines.specs.large.Laws.{IsFree}
+use Rattle.hc_engines.specs.large.Laws.{IsFree, written_page}
 use Rattle.hc_engines.specs.large.Steps as steps
 use Rattle.hc_engines.proofs.large.Jobs.{free_of}
 use Rattle.hc_history.specs.Note.{Note, Wrote}
@@ -25,7 +25,7 @@ use Rattle.hc_machine.specs.Workers.{after_take, after_finish, after_reclaim}
 use Rattle.hc_invariant.specs.Jobs.{Brings, small_job, large_work}
 use Rattle.hc_invariant.specs.Good.{Agrees, fills_of, OneFlush, Good}
 use Rattle.hc_invariant.specs.Laws.{ReclaimKeeps}
-use Rattle.hc_proof.specs.books.RegionBooks.{LargeKeeps, OthersStay, but, each, told, page_of, WritesPage, IsOver, FlushTells, FlushGives, WrittenTells, WrittenGives, FailedWriteTells, FailedWriteGives, ReclaimTells, ReclaimGives}
+use Rattle.hc_proof.specs.books.RegionBooks.{LargeKeeps, OthersStay, but, each, told, WritesPage, IsOver, FlushTells, FlushGives, WrittenTells, WrittenGives, FailedWriteTells, FailedWriteGives, ReclaimTells, ReclaimGives}
 use Rattle.hc_proof.specs.jobs.RegionSteps.{KeptMore, KeepsMore, ReclaimKeepsMore, FinishFlushKeeps, FinishFlushKeepsMore, WriterFlushKeepsMore}
 use Rattle.hc_proof.proofs.jobs.LargeJobs.{with_large, Writes, writes_of, jobs_stay, jobs_over, jobs_on, jobs_come, writes_on}
 use Rattle.hc_proof.proofs.jobs.FillsStand.{writer_idle, nobody_idle}
@@ -100,7 +100,7 @@ module _ (tells : FlushTells) (gives : FlushGives) (config : Config) (older : Li
       let fits = large_fits nvm.pair.small.flash older cache.memory nvm o.good in
       let none_there = o.good.jobs.fresh (nvm.made + 1) (omega arith) in
       let free : IsFree (nvm.made + 1) nvm.pair.large = free_of (nvm.made + 1) nvm.pair.large.jobs (o.good.jobs.large_ones (nvm.made + 1) none_there) in
-      let order = Write (page_of nvm.pair.small.flash w.region moved.state) w.bytes in
+      let order = Write (written_page nvm.pair.small.flash w.region moved.state) w.bytes in
       let others : OthersStay (but (nvm.made + 1)) nvm.pair.large moved.state = subst (λ (m : block.Moved). OthersStay (but (nvm.made + 1)) nvm.pair.large m.state) (sym e) (gives nvm.pair.small.flash older (nvm.made + 1) nvm.pair.large free fits).0 in
       rw (w.order, w.outcome) (take_kept config older [] cache (with_large moved.state (nvm.jobs ++ record { number = nvm.made + 1; task = Flushing; order = order } ∷ []) (nvm.made + 1) nvm) (TheWork (nvm.made + 1) order)
       (kept_by config older [] cache nvm moved.state (nvm.jobs ++ record { number = nvm.made + 1; task = Flushing; order = order } ∷ []) (nvm.made + 1) (but (nvm.made + 1)) n g (record {
@@ -185,11 +185,11 @@ module _ (config : Config) (older : List Note) (cache : Cache) (nvm : Nvm) (n : 
       → KeepsMore config older cache (after_take (takes.resumed job Written nvm (by_large nvm.pair [] moved)) cache)
   on_kept moved others next keeps =
       let o = opened config older cache nvm n g in
-      let order = Write (page_of nvm.pair.small.flash next.region moved.state) next.bytes in
+      let order = Write (written_page nvm.pair.small.flash next.region moved.state) next.bytes in
       let part = Wrote (page_no nvm.pair.small.flash w.region (region_at w.region nvm.pair.large.regions).written) w.bytes true ∷ [] in
       let new = with_large moved.state (ordered number order nvm.jobs) nvm.made nvm in
       let taken : takes.resumed job Written nvm (by_large nvm.pair [] moved) ≡ record { nvm = new; take = TheWork number order; part = part; filled = None } =
-      on_is nvm number job Written moved (page_of nvm.pair.small.flash next.region moved.state) next.bytes w.large.number_is next.order next.outcome
+      on_is nvm number job Written moved (written_page nvm.pair.small.flash next.region moved.state) next.bytes w.large.number_is next.order next.outcome
       ∙ ap (λ (o : Order). record { nvm = new; take = TheWork number order; part = result_note o Written ∷ []; filled = None }) w.order in
       subst (λ (t : Taken). KeepsMore config older cache (after_take t cache)) (sym taken) (take_kept config older part cache new (TheWork number order)
       (kept_by config older part cache nvm moved.state (ordered number order nvm.jobs) nvm.made (but number) n g (record {
@@ -219,7 +219,7 @@ module _ (written : WrittenTells) (goes : WrittenGives) (failed : FailedWriteTel
     where
       ends : OthersStay (but number) nvm.pair.large (steps.resume nvm.pair.small.flash number (Writing w.region w.bytes) Written nvm.pair.large).state
           → (WritesPage nvm.pair.small.flash number (steps.resume nvm.pair.small.flash number (Writing w.region w.bytes) Written nvm.pair.large) ⊎ IsOver number (steps.resume nvm.pair.small.flash number (Writing w.region w.bytes) Written nvm.pair.large))
-          → LargeKeeps config nvm.pair.small.flash older (Wrote (page_of nvm.pair.small.flash w.region nvm.pair.large) w.bytes true ∷ told (steps.resume nvm.pair.small.flash number (Writing w.region w.bytes) Written nvm.pair.large).outcome) nvm.pair.large
+          → LargeKeeps config nvm.pair.small.flash older (Wrote (written_page nvm.pair.small.flash w.region nvm.pair.large) w.bytes true ∷ told (steps.resume nvm.pair.small.flash number (Writing w.region w.bytes) Written nvm.pair.large).outcome) nvm.pair.large
           (steps.resume nvm.pair.small.flash number (Writing w.region w.bytes) Written nvm.pair.large).state
           → KeepsMore config older cache (after_take (takes.resumed job Written nvm (by_large nvm.pair [] (steps.resume nvm.pair.small.flash number (Writing w.region w.bytes) Written nvm.pair.large))) cache)
       ends others (inl next) keeps = on_kept config older cache nvm n g number job at flush w (steps.resume nvm.pair.small.flash number (Writing w.region w.bytes) Written nvm.pair.large) others next keeps

@@ -15,7 +15,8 @@ use Rattle.hc_history.proofs.Appended.{past-append}
 use Rattle.hc_machine.specs.Nvm.{Fill}
 use Rattle.hc_machine.specs.Cache.{Cache, Owed, Told, is_owed, owed_at}
 use Rattle.hc_machine.specs.Waiting.{end_fill}
-use Rattle.hc_invariant.specs.Standing.{PlacedAt, queued_at}
+use Rattle.hc_machine.specs.Calls.{waiting_at}
+use Rattle.hc_invariant.specs.Standing.{PlacedAt}
 use Rattle.hc_invariant.specs.Tells.{CallsTell, reply_in, reply_of}
 use Rattle.hc_invariant.specs.Good.{Agrees, EntrySized, fills_of}
 use Rattle.hc_invariant.specs.Laws.{Steady, LawfulIn}
@@ -128,7 +129,7 @@ end_allowed older calls c reply all fills t =
 
 -- the key's fill ends, and the call
 ends_call : EndFillKeeps → (config : Config) (older : List Note) (cache : Cache) (key : List ℕ) (there : Option FlashEntry) (c : ℕ) (reply : Reply) → Stands config older cache key → CallsTell older cache.calls (cache.owed ++ record { call = c; reply = Some reply } ∷ []) (fills_of cache.nvm)
-    → queued_at cache.nvm key ≡ None → RestsFrom config.flash older key → IsThere config older cache key there
+    → waiting_at cache.nvm key ≡ None → RestsFrom config.flash older key → IsThere config older cache key there
     → Steady config older ((end_fill key there cache).part ++ End c ∷ []) (end_fill key there cache).cache
 ends_call ends config older cache key there c reply stands calls unqueued rested is_there =
     let mine : Owed = record { call = c; reply = Some reply } in
@@ -151,7 +152,7 @@ pub record Piece (config : Config) (older : List Note) (cache : Cache) (client :
   pub fills : fills_of told.cache.nvm ≡ fills_of cache.nvm
   pub answer : IsAnswer config.flash (past (begun_by client op cache older) told.part) (cache.calls + 1) op reply
   pub stands : Stands config (Did (cache.calls + 1) reply ∷ past (begun_by client op cache older) told.part) told.cache key
-  pub unqueued : queued_at told.cache.nvm key ≡ None
+  pub unqueued : waiting_at told.cache.nvm key ≡ None
   pub is_there : IsThere config (Did (cache.calls + 1) reply ∷ past (begun_by client op cache older) told.part) told.cache key there
 
 -- the call's part, with its number as the machine takes it

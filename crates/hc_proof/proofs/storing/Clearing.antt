@@ -26,7 +26,8 @@ use Rattle.hc_machine.specs.Nvm.{Nvm, is_buried, is_due, is_written_now, put_at}
 use Rattle.hc_machine.specs.Leaving.{Changed, changed, and_then as leaving_then, unindex, outdate}
 use Rattle.hc_machine.specs.Cache.{Cache, Told, tells, behind, and_then, on_flash, took_in}
 use Rattle.hc_machine.specs.Waiting.{clear, freed_note}
-use Rattle.hc_invariant.specs.Standing.{Placed, PlacedAt, map_of_item, queued_at, written_at, buried_at, small_at, large_at, written_by}
+use Rattle.hc_machine.specs.Calls.{waiting_at, buried_at}
+use Rattle.hc_invariant.specs.Standing.{Placed, PlacedAt, map_of_item, written_at, small_at, large_at, written_by}
 use Rattle.hc_invariant.specs.Tells.{ChargesTell}
 use Rattle.hc_invariant.specs.Good.{fills_of}
 use Rattle.hc_invariant.specs.Laws.{LawfulIn}
@@ -72,7 +73,7 @@ pub record Cleared (config : Config) (older : List Note) (cache : Cache) (key : 
   pub rest : Rest config (past older told.part) told.cache (items_less key told.cache.memory) (only key)
   pub one : count (is_at key) (items_of told.cache.memory.pools) ≤ 1
   pub linked : linked_at key told.cache.memory.pools ≡ linked_at key cache.memory.pools
-  pub stands : MayStand (queued_at told.cache.nvm key) (written_at told.cache.nvm key) (small_at (bytes_at (past older told.part)) told.cache.nvm key) (large_at (bytes_at (past older told.part)) told.cache.nvm key) (buried_at told.cache.nvm key)
+  pub stands : MayStand (waiting_at told.cache.nvm key) (written_at told.cache.nvm key) (small_at (bytes_at (past older told.part)) told.cache.nvm key) (large_at (bytes_at (past older told.part)) told.cache.nvm key) (buried_at told.cache.nvm key)
   pub calls : SameCalls older (past older told.part) cache told.cache
   pub entry : entry_at config.flash (past older told.part) key ≡ entry_at config.flash older key
   pub same_clock : told.cache.now ≡ cache.now
@@ -291,7 +292,7 @@ plain_go pools older cache key tail (Some x) e r changed =
 
 cleared_by : DueIs → TakeTells → (pools : List PoolSize) (flash : Option FlashConfig) (older : List Note) (cache : Cache) (nvm : Option Nvm) (key : List ℕ) (tail : List Note)
     → Rest (record { pools = pools; flash = flash }) older (record cache { nvm = nvm }) (items_of cache.memory.pools) (only key) → PlacedAt flash older (record cache { nvm = nvm }) key
-    → (is_some (queued_at nvm key) ≡ true → begins older key ≡ true) → RestsFrom flash older key → IsChanged older key tail
+    → (is_some (waiting_at nvm key) ≡ true → begins older key ≡ true) → RestsFrom flash older key → IsChanged older key tail
     → Cleared (record { pools = pools; flash = flash }) older (record cache { nvm = nvm }) key tail (is_some (linked_at key cache.memory.pools)) (clear key (record cache { nvm = nvm }))
 cleared_by due take pools None older cache None key tail r p begun rested changed = plain_go pools older cache key tail (linked_at key cache.memory.pools) refl r changed
 cleared_by due take pools None older cache (Some nvm) key tail r p begun rested changed = absurd r.flash
@@ -304,5 +305,5 @@ cleared_by due take pools (Some flash) older cache (Some nvm) key tail r p begun
 
 -- the piece that both an insert and a remove begin with
 pub clear_keeps : DueIs → TakeTells → (config : Config) (older : List Note) (cache : Cache) (key : List ℕ) (tail : List Note) → Rest config older cache (items_of cache.memory.pools) (only key) → PlacedAt config.flash older cache key
-    → (is_some (queued_at cache.nvm key) ≡ true → begins older key ≡ true) → RestsFrom config.flash older key → IsChanged older key tail → Cleared config older cache key tail (is_some (linked_at key cache.memory.pools)) (clear key cache)
+    → (is_some (waiting_at cache.nvm key) ≡ true → begins older key ≡ true) → RestsFrom config.flash older key → IsChanged older key tail → Cleared config older cache key tail (is_some (linked_at key cache.memory.pools)) (clear key cache)
 clear_keeps due take config older cache key tail r p begun rested changed = cleared_by due take config.pools config.flash older cache cache.nvm key tail r p begun rested changed

@@ -14,9 +14,9 @@ use Rattle.hc_history.specs.Lawful.{freed_since, past}
 use Rattle.hc_history.proofs.Appended.{past-append}
 use Rattle.hc_machine.specs.Nvm.{Nvm, Fill, adds}
 use Rattle.hc_machine.specs.Cache.{Cache, Told, with_memory}
-use Rattle.hc_machine.specs.Calls.{is_kept_in}
+use Rattle.hc_machine.specs.Calls.{is_kept_in, waiting_at, buried_at}
 use Rattle.hc_machine.specs.Waiting.{clear}
-use Rattle.hc_invariant.specs.Standing.{Placed, queued_at, written_at, buried_at, small_at, large_at}
+use Rattle.hc_invariant.specs.Standing.{Placed, written_at, small_at, large_at}
 use Rattle.hc_invariant.specs.Good.{fills_of}
 use Rattle.hc_invariant.proofs.Pieces.{pieces-both}
 use Rattle.hc_proof.specs.losses.Agreements.{DueIs}
@@ -34,7 +34,7 @@ kept-by (Some nvm) number = refl
 
 -- what is said of the key's place, once what is linked under it is known
 placed_as : (m : Option Entry) (newer : List Note) (cache : Cache) (key : List ℕ) (i : Option Item) → linked_at key cache.memory.pools ≡ i
-    → Placed i (queued_at cache.nvm key) (written_at cache.nvm key) (buried_at cache.nvm key) (small_at (bytes_at newer) cache.nvm key) (large_at (bytes_at newer) cache.nvm key) m → PlacedFor m newer cache key
+    → Placed i (waiting_at cache.nvm key) (written_at cache.nvm key) (buried_at cache.nvm key) (small_at (bytes_at newer) cache.nvm key) (large_at (bytes_at newer) cache.nvm key) m → PlacedFor m newer cache key
 placed_as m newer cache key i e p = rw e p
 
 -- ---- an item is linked in the place of the key's own

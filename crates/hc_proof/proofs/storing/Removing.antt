@@ -13,9 +13,9 @@ use Rattle.hc_history.specs.Note.{Note, Op, Remove, Did}
 use Rattle.hc_history.specs.Books.{Entry, entry_at, entry_after, now_at}
 use Rattle.hc_history.specs.Lawful.{IsAnswer, freed_since, past}
 use Rattle.hc_machine.specs.Cache.{Cache}
-use Rattle.hc_machine.specs.Calls.{remove_reply}
+use Rattle.hc_machine.specs.Calls.{remove_reply, waiting_at}
 use Rattle.hc_machine.specs.Waiting.{uproot}
-use Rattle.hc_invariant.specs.Standing.{map_of_item, Placed, queued_at}
+use Rattle.hc_invariant.specs.Standing.{map_of_item, Placed}
 use Rattle.hc_invariant.specs.Good.{Agrees}
 use Rattle.hc_invariant.specs.Laws.{RemoveKeeps}
 use Rattle.hc_invariant.proofs.Placing.{map_linked}
@@ -64,7 +64,7 @@ remove_piece uproots by_map config older cache client key g =
       fills = one.fills;
       answer = answered_by config.flash older mid cache client key (linked_at key cache.memory.pools) (one.freed c) (λ x e. one.entry ∙ map_linked x _ _ _ _ _ _ (rw e at (g.placed key)));
       stands = stands;
-      unqueued = unlinked_alone (linked_at key told.cache.memory.pools) (queued_at told.cache.nvm key) _ _ _ _ one.linked one.stands;
+      unqueued = unlinked_alone (linked_at key told.cache.memory.pools) (waiting_at told.cache.nvm key) _ _ _ _ one.linked one.stands;
       is_there = by_map config (Did c reply ∷ mid) told.cache key None (items_of told.cache.memory.pools) (only key) stands.rest has;
     }
 

@@ -16,9 +16,9 @@ use Rattle.hc_history.specs.Books.{Entry, entry_at, entry_after, value_at, unexp
 use Rattle.hc_history.specs.Regions.{begins}
 use Rattle.hc_history.specs.Lawful.{IsAnswer, changes, past}
 use Rattle.hc_machine.specs.Cache.{Cache, Refused, Replied, and_then, answers, stays}
-use Rattle.hc_machine.specs.Calls.{is_known, is_kept_in, begin, store}
+use Rattle.hc_machine.specs.Calls.{is_known, is_kept_in, begin, store, waiting_at}
 use Rattle.hc_machine.specs.Waiting.{plant, entry_of_handle}
-use Rattle.hc_invariant.specs.Standing.{Placed, queued_at}
+use Rattle.hc_invariant.specs.Standing.{Placed}
 use Rattle.hc_invariant.specs.Good.{Agrees, IsSized}
 use Rattle.hc_invariant.specs.Laws.{Keeps, InsertKeeps}
 use Rattle.hc_proof.specs.losses.Agreements.{DueIs}
@@ -100,7 +100,7 @@ store_piece plants by_map config older cache client handle op g sized known may 
       fills = one.fills;
       answer = store_answer config older mid c handle op may clock one.entry;
       stands = stands;
-      unqueued = linked_alone (linked_at key told.cache.memory.pools) (item_by false handle) (queued_at told.cache.nvm key) _ _ _ _ _ one.linked one.stands;
+      unqueued = linked_alone (linked_at key told.cache.memory.pools) (item_by false handle) (waiting_at told.cache.nvm key) _ _ _ _ _ one.linked one.stands;
       is_there = by_map config (Did c Stored ∷ mid) told.cache key (Some (entry_of_handle handle)) (items_of told.cache.memory.pools) (only key) stands.rest has;
     }
 

@@ -14,7 +14,7 @@ use Rattle.hc_memory.specs.Memory.{Memory}
 use Rattle.hc_memory.proofs.Keyed.{same_bytes}
 use Rattle.hc_machine.proofs.items.Items.{bytes_eq-refl}
 use Rattle.hc_history.specs.Note as note
-use Rattle.hc_machine.specs.Nvm.{Nvm, Tombstone, Task, Putting, Deleting, Filling, Flushing, Waiter, Fill, is_stone_of, is_fill_of, is_brought_by, is_job, fill_by, without_fill, taken_fill, adds}
+use Rattle.hc_machine.specs.Nvm.{Nvm, Tombstone, Task, Putting, Deleting, Filling, Flushing, Waiter, Fill, is_stone_of, is_fill_of, is_number_in, is_job, fill_by, without_fill, taken_fill, adds}
 use Rattle.hc_machine.specs.Takes.{takes, Finished, fill_out, finished, found_in}
 use Rattle.hc_machine.specs.Leaving.{Changed, changed}
 use Rattle.hc_invariant.specs.Jobs.{AllWish, AllWishes}
@@ -57,13 +57,13 @@ wish_found memory p (x ∷ fills) fill e h = step (p x) (λ k. wish_found memory
 
 pub asked_found : (op : Op) (number : ℕ) (fills : List Fill) (fill : Fill) → fill_by number fills ≡ Some fill → AllAsked op number fills → op ≡ Get fill.key
 asked_found op number [] fill e h = absurd cc
-asked_found op number (x ∷ fills) fill e h = step (is_brought_by number x.job) refl (λ k. asked_found op number fills fill k h.1) e
+asked_found op number (x ∷ fills) fill e h = step (is_number_in number x.job) refl (λ k. asked_found op number fills fill k h.1) e
   where
-    own : (job : Option ℕ) → is_brought_by number job ≡ true → AskedIf op number x.key job → op ≡ Get x.key
+    own : (job : Option ℕ) → is_number_in number job ≡ true → AskedIf op number x.key job → op ≡ Get x.key
     own None t a = absurd cc
     own (Some n) t a = a t
 
-    step : (b : Bool) → is_brought_by number x.job ≡ b → (fill_by number fills ≡ Some fill → op ≡ Get fill.key) → cond b (Some x) (fill_by number fills) ≡ Some fill → op ≡ Get fill.key
+    step : (b : Bool) → is_number_in number x.job ≡ b → (fill_by number fills ≡ Some fill → op ≡ Get fill.key) → cond b (Some x) (fill_by number fills) ≡ Some fill → op ≡ Get fill.key
     step true t rest e = let same : x ≡ fill = cc in subst (λ (f : Fill). op ≡ Get f.key) same (own x.job t h.0)
     step false t rest e = rest e
 
@@ -81,7 +81,7 @@ pub asked_none : (op : Op) (number : ℕ) (fills : List Fill) → count (brings 
 asked_none op number [] none = tt
 asked_none op number (fill ∷ fills) none = (one fill.job (omega (arith, none)), asked_none op number fills (omega (arith, none)))
   where
-    one : (job : Option ℕ) → ◌≡◌ {A = ℕ} (cond (is_brought_by number job) 1 0) 0 → AskedIf op number fill.key job
+    one : (job : Option ℕ) → ◌≡◌ {A = ℕ} (cond (is_number_in number job) 1 0) 0 → AskedIf op number fill.key job
     one None z = tt
     one (Some n) z = λ t. absurd (let here : ◌≡◌ {A = ℕ} (cond (n == number) 1 0) 1 = ap {B = ℕ} (λ b. cond b 1 0) t in omega (arith, here, z))
 

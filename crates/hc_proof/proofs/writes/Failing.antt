@@ -31,7 +31,8 @@ use Rattle.hc_types.specs.Places.{is_page_of}
 use Rattle.hc_engines.specs.Engine.{Failed}
 use Rattle.hc_history.specs.Lawful.{Allowed, past, failed_page}
 use Rattle.hc_invariant.specs.Tells.{RegionsTell, files}
-use Rattle.hc_proof.specs.books.RegionBooks.{LargeFits, LargeKeeps, but, told, page_of, loses, FailedWriteTells, FailedWriteGives}
+use Rattle.hc_engines.specs.large.Laws.{written_page}
+use Rattle.hc_proof.specs.books.RegionBooks.{LargeFits, LargeKeeps, but, told, loses, FailedWriteTells, FailedWriteGives}
 use Rattle.hc_proof.proofs.books.Changing.{others_alone, work-without}
 use Rattle.hc_proof.proofs.writes.Written.{other_bucket, other_entries, after-is}
 use Rattle.hc_proof.proofs.books.Ending.{closes, over_pages, held_over, ended_part, EndDoes, ended_does}
@@ -76,7 +77,7 @@ closes_by flash r page (Some x) h = rw (h x) (turn (r == x) (x == r) (grind arit
 
 module _ (config : Config) (flash : FlashConfig) (older : List Note) (number r : ℕ) (bytes : List ℕ) (s : Block) (here : config.flash ≡ Some flash) (at : work_of number s.jobs ≡ Some (Writing r bytes)) (f : LargeFits flash older s) where
   failed : List Note
-  failed = Wrote (page_of flash r s) bytes false ∷ older
+  failed = Wrote (written_page flash r s) bytes false ∷ older
 
   ends : Ending flash r (end_job number s) × ((region_at r s.regions).written < flash.region_pages)
   ends = written_ending flash number r bytes s f.sound at
@@ -87,7 +88,7 @@ module _ (config : Config) (flash : FlashConfig) (older : List Note) (number r :
   same : (q i : ℕ) → i < (region_at q s.regions).written → after_write flash (bytes_at older) r s false (page_no flash q i) ≡ bytes_at older (page_no flash q i)
   same q i l = other_page flash (bytes_at older) r q i s false ends.1 (omega (arith, f.fits.within q)) (λ t e. let eq : q ≡ r = eqb-true q r t in let l2 : i < (region_at r s.regions).written = (rw eq at l) in absurd (omega arith))
 
-  failed_rest : Rest flash (bytes_at (Wrote (page_of flash r s) bytes false ∷ older)) (end_job number s)
+  failed_rest : Rest flash (bytes_at (Wrote (written_page flash r s) bytes false ∷ older)) (end_job number s)
   failed_rest =
       let fits = failed_fits flash (bytes_at older) r s f.fits ends.1 in
       let reads = reads_stay flash (bytes_at older) (after_write flash (bytes_at older) r s false) r (region_at r s.regions) s (end_job number s) (without_job number s.jobs) (record {
@@ -101,38 +102,38 @@ module _ (config : Config) (flash : FlashConfig) (older : List Note) (number r :
         reads = reads;
       })
 
-  failed_held : (key : List ℕ) → held flash (bytes_at (Wrote (page_of flash r s) bytes false ∷ older)) (end_job number s) key ≡ held flash (bytes_at older) s key
+  failed_held : (key : List ℕ) → held flash (bytes_at (Wrote (written_page flash r s) bytes false ∷ older)) (end_job number s) key ≡ held flash (bytes_at older) s key
   failed_held key =
-      held_over flash (after_write flash (bytes_at older) r s false) (bytes_at (Wrote (page_of flash r s) bytes false ∷ older)) (end_job number s) key (sym (after-is flash older r bytes s false own))
+      held_over flash (after_write flash (bytes_at older) r s false) (bytes_at (Wrote (written_page flash r s) bytes false ∷ older)) (end_job number s) key (sym (after-is flash older r bytes s false own))
       ∙ held_same flash (bytes_at older) (after_write flash (bytes_at older) r s false) s (end_job number s) f.fits refl
       (λ h p e. record { more = []; grown = (rw (pages_same flash (bytes_at older) (after_write flash (bytes_at older) r s false) p.region (region_at p.region s.regions).written (λ i l. same p.region i l)) (sym (append-nil (bytes_of flash (bytes_at older) s p.region)))) }) key
 
-  closed_too : RegionsTell flash (Wrote (page_of flash r s) bytes false ∷ older) (closed r (end_job number s))
+  closed_too : RegionsTell flash (Wrote (written_page flash r s) bytes false ∷ older) (closed r (end_job number s))
   closed_too = record {
     number = f.regions.number;
     used = f.regions.used;
     used_number = f.regions.used_number;
     in_order = f.regions.in_order;
     filings = f.regions.filings;
-    current = ap (unless_page_of flash (page_of flash r s)) f.regions.current ∙ closes_by flash r (page_of flash r s) s.current (λ x. page-is flash x r (region_at r s.regions).written ends.1);
+    current = ap (unless_page_of flash (written_page flash r s)) f.regions.current ∙ closes_by flash r (written_page flash r s) s.current (λ x. page-is flash x r (region_at r s.regions).written ends.1);
     filled = λ q c. f.regions.filled q (not-current-is r q s.current c).0;
   }
 
-  in_region : is_page_of flash r (page_of flash r s) ≡ true
+  in_region : is_page_of flash r (written_page flash r s) ≡ true
   in_region = page-is flash r r (region_at r s.regions).written ends.1 ∙ same_num r
 
-  failed_ends : EndDoes config flash (Wrote (page_of flash r s) bytes false ∷ older) Fault r (end_job number s)
-  failed_ends = ended_does config flash here r Fault (λ later h. refl) (λ later. failed_page later ≡ Some (page_of flash r s)) (λ later h e. e)
-      (λ later h rest e there. fault_allowed config flash later rest r (page_of flash r s) h here in_region e there)
-      (Wrote (page_of flash r s) bytes false ∷ older) (end_job number s) ends.0 closed_too failed_rest refl
+  failed_ends : EndDoes config flash (Wrote (written_page flash r s) bytes false ∷ older) Fault r (end_job number s)
+  failed_ends = ended_does config flash here r Fault (λ later h. refl) (λ later. failed_page later ≡ Some (written_page flash r s)) (λ later h e. e)
+      (λ later h rest e there. fault_allowed config flash later rest r (written_page flash r s) h here in_region e there)
+      (Wrote (written_page flash r s) bytes false ∷ older) (end_job number s) ends.0 closed_too failed_rest refl
 
-  failed_keeps : LargeKeeps config flash older (Wrote (page_of flash r s) bytes false ∷ told (resume flash number (Writing r bytes) Failed s).outcome) s (resume flash number (Writing r bytes) Failed s).state
+  failed_keeps : LargeKeeps config flash older (Wrote (written_page flash r s) bytes false ∷ told (resume flash number (Writing r bytes) Failed s).outcome) s (resume flash number (Writing r bytes) Failed s).state
   failed_keeps = record {
-    lawful = (rw here tt, closes config (Wrote (page_of flash r s) bytes false ∷ older) (ended_part Fault r (end_job number s)) (d.lawful_in []));
+    lawful = (rw here tt, closes config (Wrote (written_page flash r s) bytes false ∷ older) (ended_part Fault r (end_job number s)) (d.lawful_in []));
     lawful_in = λ tail. (rw here tt, d.lawful_in tail);
     fit = record { sound = d.sound; fits = rest.fits; reads = rest.reads; regions = d.regions };
     held = λ key.
-        held_over flash (bytes_at (Wrote (page_of flash r s) bytes false ∷ older)) (bytes_at (past older (Wrote (page_of flash r s) bytes false ∷ ended_part Fault r (end_job number s)))) (end_region Fault r (end_job number s)).state key d.pages
+        held_over flash (bytes_at (Wrote (written_page flash r s) bytes false ∷ older)) (bytes_at (past older (Wrote (written_page flash r s) bytes false ∷ ended_part Fault r (end_job number s)))) (end_region Fault r (end_job number s)).state key d.pages
         ∙ d.held key ∙ ap (λ (h : Option FlashEntry). if loses (kept_of flash.bits key) (ended_part Fault r (end_job number s)) then None else h) (failed_held key);
     index = d.index;
     pages = λ page lt. ap (λ (pages : ℕ → Option (List ℕ)). pages page) d.pages ∙ other_bucket flash older r (region_at r s.regions).written page bytes false lt;
@@ -140,11 +141,11 @@ module _ (config : Config) (flash : FlashConfig) (older : List Note) (number r :
     once = d.once;
   }
     where
-      d : EndDoes config flash (Wrote (page_of flash r s) bytes false ∷ older) Fault r (end_job number s)
+      d : EndDoes config flash (Wrote (written_page flash r s) bytes false ∷ older) Fault r (end_job number s)
       d = failed_ends
 
-      rest : Rest flash (bytes_at (past older (Wrote (page_of flash r s) bytes false ∷ ended_part Fault r (end_job number s)))) (end_region Fault r (end_job number s)).state
-      rest = over_pages flash (bytes_at (Wrote (page_of flash r s) bytes false ∷ older)) (bytes_at (past older (Wrote (page_of flash r s) bytes false ∷ ended_part Fault r (end_job number s)))) (end_region Fault r (end_job number s)).state d.pages d.rest
+      rest : Rest flash (bytes_at (past older (Wrote (written_page flash r s) bytes false ∷ ended_part Fault r (end_job number s)))) (end_region Fault r (end_job number s)).state
+      rest = over_pages flash (bytes_at (Wrote (written_page flash r s) bytes false ∷ older)) (bytes_at (past older (Wrote (written_page flash r s) bytes false ∷ ended_part Fault r (end_job number s)))) (end_region Fault r (end_job number s)).state d.pages d.rest
 
 pub failed_write_tells : FailedWriteTells
 failed_write_tells config flash older number r bytes s here at f = failed_keeps config flash older number r bytes s here at f

@@ -24,7 +24,8 @@ use Rattle.hc_types.specs.Places.{last_page}
 use Rattle.hc_engines.specs.Engine.{Written, Over, nothing, outcome_of}
 use Rattle.hc_history.specs.Lawful.{Allowed}
 use Rattle.hc_invariant.specs.Tells.{RegionsTell}
-use Rattle.hc_proof.specs.books.RegionBooks.{LargeFits, LargeKeeps, OthersStay, but, told, page_of, WritesPage, IsOver, WrittenTells, WrittenGives}
+use Rattle.hc_engines.specs.large.Laws.{written_page}
+use Rattle.hc_proof.specs.books.RegionBooks.{LargeFits, LargeKeeps, OthersStay, but, told, WritesPage, IsOver, WrittenTells, WrittenGives}
 use Rattle.hc_invariant.specs.Good.{OneFlush}
 use Rattle.hc_proof.proofs.books.RegionsInUse.{turned, in-reverse}
 use Rattle.hc_engines.proofs.large.Jobs.{work_added, work_ended}
@@ -52,8 +53,8 @@ wrote_allowed config flash older rest page bytes done here = rw here tt
 
 -- the pages after the write
 pub after-is : (flash : FlashConfig) (older : List Note) (r : ℕ) (bytes : List ℕ) (s : Block) (done : Bool) → bytes ≡ next_page flash (region_at r s.regions)
-    → after_write flash (bytes_at older) r s done ≡ bytes_at (Wrote (page_of flash r s) bytes done ∷ older)
-after-is flash older r bytes s done own = ap (λ (b : List ℕ). bytes_at (Wrote (page_of flash r s) b done ∷ older)) (sym own)
+    → after_write flash (bytes_at older) r s done ≡ bytes_at (Wrote (written_page flash r s) bytes done ∷ older)
+after-is flash older r bytes s done own = ap (λ (b : List ℕ). bytes_at (Wrote (written_page flash r s) b done ∷ older)) (sym own)
 
 pub fitted : (flash : FlashConfig) (older : List Note) (s : Block) → LargeFits flash older s → Rest flash (bytes_at older) s
 fitted flash older s f = record { fits = f.fits; reads = f.reads }
@@ -64,7 +65,7 @@ wrote_regions flash older page bytes s t = record { number = t.number; used = t.
 
 -- what the write of a page comes to
 record WroteDoes (config : Config) (flash : FlashConfig) (older : List Note) (number r : ℕ) (bytes : List ℕ) (s : Block) (moved : Moved) : Type 0 where
-  keeps : LargeKeeps config flash older (Wrote (page_of flash r s) bytes true ∷ told moved.outcome) s moved.state
+  keeps : LargeKeeps config flash older (Wrote (written_page flash r s) bytes true ∷ told moved.outcome) s moved.state
   others : OthersStay (but number) s moved.state
   gives : WritesPage flash number moved ⊎ IsOver number moved
 
@@ -86,23 +87,23 @@ module _ (config : Config) (flash : FlashConfig) (older : List Note) (number r :
   there = in_range s.regions r out.0
 
   page_rest : (x : Region) (new : Block) → new.regions ≡ set s.regions r x → new.index ≡ s.index → x.written ≡ (region_at r s.regions).written + 1 → x.buffer ≡ drop flash.page (region_at r s.regions).buffer
-      → Fits flash (bytes_at (Wrote (page_of flash r s) bytes true ∷ older)) new × ReadsHold flash (bytes_at (Wrote (page_of flash r s) bytes true ∷ older)) new (without_job number s.jobs)
+      → Fits flash (bytes_at (Wrote (written_page flash r s) bytes true ∷ older)) new × ReadsHold flash (bytes_at (Wrote (written_page flash r s) bytes true ∷ older)) new (without_job number s.jobs)
   page_rest x new er ei w b =
       subst (λ (pages : ℕ → Option (List ℕ)). Fits flash pages new × ReadsHold flash pages new (without_job number s.jobs)) (after-is flash older r bytes s true one.left.own)
       (written_rest flash (bytes_at older) number r x s new f.sound (fitted flash older s f) (filling_live (region_at r s.regions).status out.1) out.0 room er ei w b)
 
   page_held : (x : Region) (new : Block) → new.regions ≡ set s.regions r x → new.index ≡ s.index → x.written ≡ (region_at r s.regions).written + 1 → x.buffer ≡ drop flash.page (region_at r s.regions).buffer
-      → (key : List ℕ) → held flash (bytes_at (Wrote (page_of flash r s) bytes true ∷ older)) new key ≡ held flash (bytes_at older) s key
+      → (key : List ℕ) → held flash (bytes_at (Wrote (written_page flash r s) bytes true ∷ older)) new key ≡ held flash (bytes_at older) s key
   page_held x new er ei w b key =
       ap (λ (pages : ℕ → Option (List ℕ)). held flash pages new key) (sym (after-is flash older r bytes s true one.left.own))
       ∙ written_holds flash (bytes_at older) r x s new f.fits out.0 room er ei w b key
 
   -- nothing else is told
-  plain_keeps : (new : Block) → LargeFits flash (Wrote (page_of flash r s) bytes true ∷ older) new → ((key : List ℕ) → held flash (bytes_at (Wrote (page_of flash r s) bytes true ∷ older)) new key ≡ held flash (bytes_at older) s key) → new.index ≡ s.index
-      → LargeKeeps config flash older (Wrote (page_of flash r s) bytes true ∷ []) s new
+  plain_keeps : (new : Block) → LargeFits flash (Wrote (written_page flash r s) bytes true ∷ older) new → ((key : List ℕ) → held flash (bytes_at (Wrote (written_page flash r s) bytes true ∷ older)) new key ≡ held flash (bytes_at older) s key) → new.index ≡ s.index
+      → LargeKeeps config flash older (Wrote (written_page flash r s) bytes true ∷ []) s new
   plain_keeps new fit same ei = record {
-    lawful = (wrote_allowed config flash older [] (page_of flash r s) bytes true here, tt);
-    lawful_in = λ tail. (wrote_allowed config flash older tail (page_of flash r s) bytes true here, tt);
+    lawful = (wrote_allowed config flash older [] (written_page flash r s) bytes true here, tt);
+    lawful_in = λ tail. (wrote_allowed config flash older tail (written_page flash r s) bytes true here, tt);
     fit = fit;
     held = same;
     index = λ hash. ap (place_at hash) ei;
@@ -120,8 +121,8 @@ module _ (config : Config) (flash : FlashConfig) (older : List Note) (number r :
         keeps = plain_keeps new (record {
           sound = more_sound flash number r bytes s f.sound one fl lt;
           fits = rest.0;
-          reads = reads_added flash (bytes_at (Wrote (page_of flash r s) bytes true ∷ older)) new number (Writing r (next_page flash x)) (without_job number s.jobs) tt rest.1;
-          regions = changed_regions flash (Wrote (page_of flash r s) bytes true ∷ older) r x s new (wrote_regions flash older (page_of flash r s) bytes s f.regions) there refl refl refl refl refl
+          reads = reads_added flash (bytes_at (Wrote (written_page flash r s) bytes true ∷ older)) new number (Writing r (next_page flash x)) (without_job number s.jobs) tt rest.1;
+          regions = changed_regions flash (Wrote (written_page flash r s) bytes true ∷ older) r x s new (wrote_regions flash older (written_page flash r s) bytes s f.regions) there refl refl refl refl refl
               (λ c. absurd (let o = f.sound.current r c in let e : Open ≡ Flushing = sym o ∙ fl in cc));
         }) (page_held x new refl refl refl refl) refl;
         others = others_alone (but number) r x s new (without_job number s.jobs) there refl one.idle (λ n o. work-without number n s.jobs o) (λ n o. work-added number n (Writing r (next_page flash x)) (without_job number s.jobs) o ∙ work-without number n s.jobs o);
@@ -146,7 +147,7 @@ module _ (config : Config) (flash : FlashConfig) (older : List Note) (number r :
           sound = early_sound flash number r bytes s f.sound one early;
           fits = rest.0;
           reads = rest.1;
-          regions = changed_regions flash (Wrote (page_of flash r s) bytes true ∷ older) r x s new (wrote_regions flash older (page_of flash r s) bytes s f.regions) there refl refl refl refl refl
+          regions = changed_regions flash (Wrote (written_page flash r s) bytes true ∷ older) r x s new (wrote_regions flash older (written_page flash r s) bytes s f.regions) there refl refl refl refl refl
               (λ c. full_same flash (region_at r s.regions) ((f.sound.regions r).early early).full);
         }) (page_held x new refl refl refl refl) refl;
         others = others_alone (but number) r x s new (without_job number s.jobs) there refl one.idle (λ n o. work-without number n s.jobs o) (λ n o. work-without number n s.jobs o);
@@ -154,8 +155,8 @@ module _ (config : Config) (flash : FlashConfig) (older : List Note) (number r :
       }
 
   -- the last page of a flush: the region is on flash
-  is_last : (region_at r s.regions).status ≡ Flushing → flash.region_pages ≤ (region_at r s.regions).written + 1 → (page_of flash r s == last_page flash r) ≡ true
-  is_last fl le = let e : page_of flash r s ≡ last_page flash r = omega (arith, room) in rw e (same_num (last_page flash r))
+  is_last : (region_at r s.regions).status ≡ Flushing → flash.region_pages ≤ (region_at r s.regions).written + 1 → (written_page flash r s == last_page flash r) ≡ true
+  is_last fl le = let e : written_page flash r s ≡ last_page flash r = omega (arith, room) in rw e (same_num (last_page flash r))
 
   flushes : (region_at r s.regions).status ≡ Flushing → flash.region_pages ≤ (region_at r s.regions).written + 1
       → WroteDoes config flash older number r bytes s (finished (record (with_region r (done_region flash (region_at r s.regions)) (end_job number s)) { flushed = s.flushed ++ r ∷ [] }) (record nothing { answer = Over; flushed = Some r }))
@@ -163,12 +164,12 @@ module _ (config : Config) (flash : FlashConfig) (older : List Note) (number r :
       let x = done_region flash (region_at r s.regions) in
       let new = record (with_region r (done_region flash (region_at r s.regions)) (end_job number s)) { flushed = s.flushed ++ r ∷ [] } in
       let rest = page_rest (done_region flash (region_at r s.regions)) (record (with_region r (done_region flash (region_at r s.regions)) (end_job number s)) { flushed = s.flushed ++ r ∷ [] }) refl refl refl refl in
-      let t = changed_regions flash (Wrote (page_of flash r s) bytes true ∷ older) r x s (with_region r x (end_job number s)) (wrote_regions flash older (page_of flash r s) bytes s f.regions) there refl refl refl refl (rw fl refl)
+      let t = changed_regions flash (Wrote (written_page flash r s) bytes true ∷ older) r x s (with_region r x (end_job number s)) (wrote_regions flash older (written_page flash r s) bytes s f.regions) there refl refl refl refl (rw fl refl)
       (λ c. absurd (let o = f.sound.current r c in let e : Open ≡ Flushing = sym o ∙ fl in cc)) in
       record {
         keeps = record {
-          lawful = (wrote_allowed config flash older (Flushed r ∷ []) (page_of flash r s) bytes true here, ((rw here (is_last fl le)), tt));
-          lawful_in = λ tail. (wrote_allowed config flash older (Flushed r ∷ tail) (page_of flash r s) bytes true here, ((rw here (is_last fl le)), tt));
+          lawful = (wrote_allowed config flash older (Flushed r ∷ []) (written_page flash r s) bytes true here, ((rw here (is_last fl le)), tt));
+          lawful_in = λ tail. (wrote_allowed config flash older (Flushed r ∷ tail) (written_page flash r s) bytes true here, ((rw here (is_last fl le)), tt));
           fit = record {
             sound = last_sound flash number r bytes s f.sound one fl;
             fits = rest.0;
@@ -189,7 +190,7 @@ module _ (config : Config) (flash : FlashConfig) (older : List Note) (number r :
       unflushed true i = absurd (let z : is_stored Flushing ≡ true = (rw fl at (f.sound.flushed r i)) in cc)
       unflushed false i = sym (in-reverse r (flushed older)) ∙ ap (is_in r) (sym f.regions.in_order) ∙ i
 
-      once : OneFlush older → OneFlush (Flushed r ∷ Wrote (page_of flash r s) bytes true ∷ older)
+      once : OneFlush older → OneFlush (Flushed r ∷ Wrote (written_page flash r s) bytes true ∷ older)
       once o q = go (r == q) refl
         where
           go : (t : Bool) → (r == q) ≡ t → (if t then 1 else 0) + count (λ (x : ℕ). x == q) (flushed older) ≤ 1

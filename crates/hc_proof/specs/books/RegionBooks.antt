@@ -1,5 +1,4 @@
 -- What each step of the large engine keeps of itself and of the region books, what it tells, and what it
-use Rattle.hc_engines.specs.large.Laws.{read_page}
 -- holds before and after at each key.
 use Rattle.std.specs.Prelude.{◌≡◌, ◌⊎◌, ℕ, ◌<◌, ◌==◌, Bool, true, false, List, [], ◌∷◌, ◌++◌, length, map, Some, None, IsSome, is_some, if◌then◌else◌}
 use Rattle.hc_types.specs.Config.{Config}
@@ -10,13 +9,13 @@ use Rattle.hc_types.specs.declared.config.FlashConfig.{FlashConfig}
 use Rattle.hc_types.specs.FlashEntry.{FlashEntry}
 use Rattle.hc_engines.specs.Engine.{Page, Written, Failed, Read, Write, Absent, Loss, Outcome, nothing}
 use Rattle.hc_engines.specs.large.Entries.{IsLarge}
-use Rattle.hc_engines.specs.large.Region.{region_at, page_no}
+use Rattle.hc_engines.specs.large.Region.{region_at}
 use Rattle.hc_engines.specs.large.Index.{place_at, is_place}
 use Rattle.hc_engines.specs.large.Block.{Writing, Getting, Reading, Block, Moved, finished, work_of}
 use Rattle.hc_engines.specs.large.Held as large
 use Rattle.hc_engines.specs.large.Sound.{Sound}
 use Rattle.hc_engines.specs.large.Fits.{Fits, ReadsHold, answer_by}
-use Rattle.hc_engines.specs.large.Laws.{IsFree, has_room, after_put}
+use Rattle.hc_engines.specs.large.Laws.{IsFree, has_room, after_put, read_page, written_page}
 use Rattle.hc_engines.specs.large.Steps as steps
 use Rattle.hc_history.specs.Note.{Note, Lose, Unqueued, Read as WasRead, Wrote, Opened, Flushed, Cleared}
 use Rattle.hc_history.specs.Books.{waiting, is_among, entry_at}
@@ -71,9 +70,6 @@ each n = true
 -- what an outcome of the large engine tells: for these steps nothing is opened
 abbrev pub told : Outcome → List Note
 told outcome = map (λ (loss : Loss). Lose loss.scope loss.cause) outcome.losses ++ (region_note Flushed outcome.flushed ++ region_note Cleared outcome.cleared)
-
-abbrev pub page_of : FlashConfig → ℕ → Block → ℕ
-page_of flash r s = page_no flash r (region_at r s.regions).written
 
 -- ---- an insert, an add that stores, or a remove takes the index entry
 
@@ -134,7 +130,7 @@ pub record WritesPage (flash : FlashConfig) (number : ℕ) (moved : Moved) : Typ
   pub bytes : List ℕ
   pub there : region < flash.regions
   pub work : work_of number moved.state.jobs ≡ Some (Writing region bytes)
-  pub order : moved.order ≡ Some (Write (page_of flash region moved.state) bytes)
+  pub order : moved.order ≡ Some (Write (written_page flash region moved.state) bytes)
   pub outcome : moved.outcome ≡ nothing
   pub whole : length bytes ≡ flash.page
 
@@ -149,7 +145,7 @@ FlushGives = (flash : FlashConfig) (older : List Note) (number : ℕ) (s : Block
 
 abbrev pub WrittenTells : Type 0
 WrittenTells = (config : Config) (flash : FlashConfig) (older : List Note) (number r : ℕ) (bytes : List ℕ) (s : Block) → config.flash ≡ Some flash → work_of number s.jobs ≡ Some (Writing r bytes) → LargeFits flash older s
-    → LargeKeeps config flash older (Wrote (page_of flash r s) bytes true ∷ told (steps.resume flash number (Writing r bytes) Written s).outcome) s (steps.resume flash number (Writing r bytes) Written s).state
+    → LargeKeeps config flash older (Wrote (written_page flash r s) bytes true ∷ told (steps.resume flash number (Writing r bytes) Written s).outcome) s (steps.resume flash number (Writing r bytes) Written s).state
 
 -- the operation is over
 pub record IsOver (number : ℕ) (moved : Moved) : Type 0 where
@@ -164,7 +160,7 @@ WrittenGives = (flash : FlashConfig) (older : List Note) (number r : ℕ) (bytes
 
 abbrev pub FailedWriteTells : Type 0
 FailedWriteTells = (config : Config) (flash : FlashConfig) (older : List Note) (number r : ℕ) (bytes : List ℕ) (s : Block) → config.flash ≡ Some flash → work_of number s.jobs ≡ Some (Writing r bytes) → LargeFits flash older s
-    → LargeKeeps config flash older (Wrote (page_of flash r s) bytes false ∷ told (steps.resume flash number (Writing r bytes) Failed s).outcome) s (steps.resume flash number (Writing r bytes) Failed s).state
+    → LargeKeeps config flash older (Wrote (written_page flash r s) bytes false ∷ told (steps.resume flash number (Writing r bytes) Failed s).outcome) s (steps.resume flash number (Writing r bytes) Failed s).state
 
 abbrev pub FailedWriteGives : Type 0
 FailedWriteGives = (flash : FlashConfig) (older : List Note) (number r : ℕ) (bytes : List ℕ) (s : Block) → work_of number s.jobs ≡ Some (Writing r bytes) → LargeFits flash older s

@@ -12,9 +12,9 @@ use Rattle.hc_history.specs.Regions.{begins, is_put_of, put_under_way}
 use Rattle.hc_history.specs.Pages.{bytes_at}
 use Rattle.hc_history.specs.Lawful.{IsChanged, freed_since, past}
 use Rattle.hc_machine.specs.Cache.{Cache, Told}
-use Rattle.hc_machine.specs.Calls.{is_kept_in}
+use Rattle.hc_machine.specs.Calls.{is_kept_in, waiting_at, buried_at}
 use Rattle.hc_machine.specs.Waiting.{plant, uproot}
-use Rattle.hc_invariant.specs.Standing.{Placed, PlacedAt, queued_at, written_at, buried_at, small_at, large_at}
+use Rattle.hc_invariant.specs.Standing.{Placed, PlacedAt, written_at, small_at, large_at}
 use Rattle.hc_invariant.specs.Good.{IsSized, fills_of}
 use Rattle.hc_invariant.specs.Laws.{LawfulIn}
 use Rattle.hc_proof.specs.frames.Midst.{only}
@@ -23,7 +23,7 @@ use Rattle.hc_proof.specs.frames.Rest.{Rest, SameCalls}
 -- where the key stands, for a map that has this under it
 abbrev pub PlacedFor : Option Entry → List Note → Cache → List ℕ → Type 0
 PlacedFor m older cache key =
-    Placed (linked_at key cache.memory.pools) (queued_at cache.nvm key) (written_at cache.nvm key) (buried_at cache.nvm key)
+    Placed (linked_at key cache.memory.pools) (waiting_at cache.nvm key) (written_at cache.nvm key) (buried_at cache.nvm key)
     (small_at (bytes_at older) cache.nvm key) (large_at (bytes_at older) cache.nvm key) m
 
 -- the last note tells no large put of the key
@@ -51,7 +51,7 @@ abbrev pub PlantKeeps : Type 0
 PlantKeeps = (config : Config) (older : List Note) (cache : Cache) (handle : Handle) (call : ℕ) (tail : List Note)
     → Rest config older cache (items_of cache.memory.pools) (only handle.key)
     → PlacedAt config.flash older cache handle.key
-    → (is_some (queued_at cache.nvm handle.key) ≡ true → begins older handle.key ≡ true)
+    → (is_some (waiting_at cache.nvm handle.key) ≡ true → begins older handle.key ≡ true)
     → RestsFrom config.flash older handle.key
     → is_open (charge_by handle) cache.memory.charges ≡ true
     → is_kept_in cache.nvm handle.number ≡ false
@@ -79,7 +79,7 @@ abbrev pub UprootKeeps : Type 0
 UprootKeeps = (config : Config) (older : List Note) (cache : Cache) (key : List ℕ) (call : ℕ) (reply : Reply) (tail : List Note)
     → Rest config older cache (items_of cache.memory.pools) (only key)
     → PlacedAt config.flash older cache key
-    → (is_some (queued_at cache.nvm key) ≡ true → begins older key ≡ true)
+    → (is_some (waiting_at cache.nvm key) ≡ true → begins older key ≡ true)
     → RestsFrom config.flash older key
     → IsChanged older key (Did call reply ∷ tail)
     → Uprooted config older key call reply tail cache (uproot key cache)

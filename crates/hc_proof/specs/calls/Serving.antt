@@ -11,7 +11,8 @@ use Rattle.hc_history.specs.Lawful.{past}
 use Rattle.hc_machine.specs.Nvm.{Waiter, Fill, fill_at, adds}
 use Rattle.hc_machine.specs.Cache.{Cache, Owed, Told}
 use Rattle.hc_machine.specs.Waiting.{live, serve_all, end_fill}
-use Rattle.hc_invariant.specs.Standing.{PlacedAt, queued_at, map_of}
+use Rattle.hc_machine.specs.Calls.{waiting_at}
+use Rattle.hc_invariant.specs.Standing.{PlacedAt, map_of}
 use Rattle.hc_invariant.specs.Tells.{CallsTell, waiters_of}
 use Rattle.hc_invariant.specs.Jobs.{AllWish}
 use Rattle.hc_invariant.specs.Good.{AllSized, fills_of}
@@ -43,7 +44,7 @@ pub record Serving (config : Config) (older : List Note) (cache : Cache) (key : 
   pub one_add : (n : ℕ) → count (adds n) (waiters ++ waiters_of (fills_of cache.nvm)) ≤ 1
   -- the key has no other fill, and no put that waits
   pub alone : fill_at key (fills_of cache.nvm) ≡ None
-  pub unqueued : queued_at cache.nvm key ≡ None
+  pub unqueued : waiting_at cache.nvm key ≡ None
   -- nothing at a Did, an End, a Read or a Linked as the last note
   pub rested : RestsFrom config.flash older key
 
@@ -65,7 +66,7 @@ pub record Ending (config : Config) (older : List Note) (cache : Cache) (key : L
   pub placed : PlacedAt config.flash older cache key
   pub calls : CallsTell older cache.calls (cache.owed ++ more) (fills_of cache.nvm)
   pub answered : count is_unsaid more ≡ 0
-  pub unqueued : queued_at cache.nvm key ≡ None
+  pub unqueued : waiting_at cache.nvm key ≡ None
   -- nothing at a Did, an End, a Read or a Linked as the last note
   pub rested : RestsFrom config.flash older key
 

@@ -17,7 +17,8 @@ use Rattle.hc_machine.specs.Nvm.{Nvm, fill_at}
 use Rattle.hc_machine.specs.Cache.{Cache, Told}
 use Rattle.hc_machine.specs.Evicting.{make_charge}
 use Rattle.hc_machine.specs.Workers.{bring}
-use Rattle.hc_invariant.specs.Standing.{map_of, queued_at, buried_at, small_at, large_at}
+use Rattle.hc_machine.specs.Calls.{waiting_at, buried_at}
+use Rattle.hc_invariant.specs.Standing.{map_of, small_at, large_at}
 use Rattle.hc_invariant.specs.Good.{fills_of}
 use Rattle.hc_proof.specs.frames.Midst.{none_moves}
 use Rattle.hc_proof.specs.frames.Rest.{Rest, SameCalls}
@@ -44,7 +45,7 @@ pub record Charged (config : Config) (older : List Note) (cache : Cache) (pool :
   pub pages : bytes_at (past older told.part) ≡ bytes_at older
   -- a key that has no item stands as it stood
   pub unlinked : (k : List ℕ) → linked_at k cache.memory.pools ≡ None → linked_at k told.cache.memory.pools ≡ None
-  pub queued : (k : List ℕ) → linked_at k cache.memory.pools ≡ None → queued_at told.cache.nvm k ≡ queued_at cache.nvm k
+  pub queued : (k : List ℕ) → linked_at k cache.memory.pools ≡ None → waiting_at told.cache.nvm k ≡ waiting_at cache.nvm k
   pub has : (k : List ℕ) → linked_at k cache.memory.pools ≡ None → entry_at config.flash (past older told.part) k ≡ entry_at config.flash older k
 
 abbrev pub MakeChargeKeeps : Type 0
@@ -78,7 +79,7 @@ pub record Brought (config : Config) (older : List Note) (cache : Cache) (key : 
   pub pools : length told.cache.memory.pools ≡ length cache.memory.pools
   pub nvm : (queue : List FlashEntry) × (told.cache.nvm ≡ with_queue queue cache.nvm)
   pub fills : fills_of told.cache.nvm ≡ fills_of cache.nvm
-  pub queued : queued_at told.cache.nvm key ≡ queued_at cache.nvm key
+  pub queued : waiting_at told.cache.nvm key ≡ waiting_at cache.nvm key
   -- where something is told, the last note tells no large put
   pub rested : (flash : FlashConfig) → is_put_of key (put_under_way flash older) ≡ false → is_put_of key (put_under_way flash (past older told.part)) ≡ false
   pub now : told.cache.now ≡ cache.now

@@ -7,7 +7,7 @@ use Rattle.hc_engines.specs.Engine.{Pages}
 use Rattle.hc_memory.specs.Memory.{Memory}
 use Rattle.hc_history.specs.Note.{Note}
 use Rattle.hc_history.specs.Pages.{bytes_at}
-use Rattle.hc_machine.specs.Nvm.{Nvm, Fill, is_fill_of, is_brought_by, adds}
+use Rattle.hc_machine.specs.Nvm.{Nvm, Fill, is_fill_of, is_number_in, adds}
 use Rattle.hc_invariant.specs.Tells.{WaitsTell, waiters_of}
 use Rattle.hc_invariant.specs.Jobs.{JobsRun, AllFill}
 pub use Rattle.hc_invariant.specs.Jobs.{AllWishes}
@@ -22,7 +22,7 @@ pub record FillsInMidst (pages : Pages) (memory : Memory) (nvm : Nvm) (moves : L
   pub each : AllFill pages memory nvm (still moves nvm.fills)
   pub wishes : AllWishes memory nvm.fills
   pub one : (key : List ℕ) → count (is_fill_of key) nvm.fills ≤ 1
-  pub one_each : (n : ℕ) → count (λ (fill : Fill). is_brought_by n fill.job) nvm.fills ≤ 1
+  pub one_each : (n : ℕ) → count (λ (fill : Fill). is_number_in n fill.job) nvm.fills ≤ 1
   pub one_add : (n : ℕ) → count (adds n) (waiters_of nvm.fills) ≤ 1
 
 pub record FlashInMidst (flash : FlashConfig) (older : List Note) (memory : Memory) (nvm : Nvm) (moves : List ℕ → Bool) : Type 0 where

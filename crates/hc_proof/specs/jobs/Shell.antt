@@ -4,6 +4,7 @@ use Rattle.hc_types.specs.Config.{Config}
 use Rattle.hc_types.specs.Loss as loss
 use Rattle.hc_types.specs.Places.{kept_of, is_small_by}
 use Rattle.hc_types.specs.declared.config.FlashConfig.{FlashConfig}
+use Rattle.hc_engines.specs.Engine.{Holds}
 use Rattle.hc_engines.specs.small.Held as small
 use Rattle.hc_engines.specs.small.Held.{StateFits}
 use Rattle.hc_memory.specs.Pool.{Pool}
@@ -31,11 +32,7 @@ pub record SameBooks (older newer : List Note) : Type 0 where
   pub owed : owed newer ≡ owed older
   pub clock : now_at newer ≡ now_at older
 
--- what the large engine holds
-abbrev pub Holding : Type 0
-Holding = List ℕ → Option FlashEntry
-
-pub record Shell (config : Config) (flash : FlashConfig) (older : List Note) (memory : Memory) (now asked : ℕ) (all : List Owed) (nvm : Nvm) (holds : Holding) : Type 0 where
+pub record Shell (config : Config) (flash : FlashConfig) (older : List Note) (memory : Memory) (now asked : ℕ) (all : List Owed) (nvm : Nvm) (holds : Holds) : Type 0 where
   pub sizes : map (λ (pool : Pool). pool.size) memory.pools ≡ config.pools
   pub flash_is : memory.flash ≡ Some flash
   pub sound : Sound memory.pools memory.charges memory.made
@@ -67,10 +64,10 @@ AllOfRegions flash [] = Unit {0}
 AllOfRegions flash (note ∷ part) = IsOfRegions flash note × AllOfRegions flash part
 
 -- what a loss of a kept hash leaves of it
-abbrev pub less_hash : FlashConfig → ℕ → Holding → Holding
+abbrev pub less_hash : FlashConfig → ℕ → Holds → Holds
 less_hash flash hash holds key = if kept_of flash.bits key == hash then None else holds key
 
-abbrev pub held_by_part : FlashConfig → List Note → Holding → Holding
+abbrev pub held_by_part : FlashConfig → List Note → Holds → Holds
 held_by_part flash [] holds = holds
 held_by_part flash (Lose (loss.Hash hash but) cause ∷ part) holds = held_by_part flash part (less_hash flash hash holds)
 held_by_part flash (note ∷ part) holds = held_by_part flash part holds

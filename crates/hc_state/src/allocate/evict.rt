@@ -160,7 +160,7 @@ impl<N: Notes<Note<A>>, A: Allocator + Clone + Copy> State<N, A> {
         }
     }
 
-    /// The item of the pool that was used longest ago goes, for `want` bytes, where notes aren't kept: it waits for flash, or
+    /// The least recently used item of the pool goes, for `want` bytes, where notes aren't kept: it waits for flash, or
     /// its key is forgotten. `copy` is its key once more.
     pub(crate) fn send_oldest(&mut self, pool: u8, want: u64, copy: Key<A>)
         requires quiet { is_log self.old.log ≡ false }
@@ -199,8 +199,8 @@ impl<N: Notes<Note<A>>, A: Allocator + Clone + Copy> State<N, A> {
         }
     }
 
-    /// What the items of the pool that were used longest ago need to leave, so many of them, in that order: nothing where
-    /// there is no flash. Refused only where memory lacks.
+    /// What the least recently used items of the pool need to leave, so many of them, in that order: nothing where
+    /// there is no flash. Refused only when out of memory.
     pub(crate) fn plan_to_leave(
         &self,
         pool: u8,

@@ -81,7 +81,7 @@ impl<N: Notes<Note<A>>, A: Allocator + Clone + Copy> State<N, A> {
     }
 
     /// Makes room in the pools for an entry from flash, charges it and links it, clean, at once: nothing is told yet. The
-    /// items that went for it lose the marks that flash takes with these losses. Refused only where memory lacks, or no number
+    /// items that went for it lose the marks that flash takes with these losses. Refused only when out of memory, or no number
     /// is left; then nothing changed.
     pub(crate) fn link_coming(
         &mut self,

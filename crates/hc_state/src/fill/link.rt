@@ -59,7 +59,7 @@ impl<N: Notes<Note<A>>, A: Allocator + Clone + Copy> State<N, A> {
         }
     }
 
-    /// What the entry needs that is linked, where so many items go for it. Refused only where memory lacks.
+    /// What the entry needs that is linked, where so many items go for it. Refused only when out of memory.
     fn coming_of(&self, entry: &Entry<A>, count: usize) -> Result<Coming<A>, AllocError>
         requires pool { entry.now.pool < length self.now.cache.memory.pools }
         ensures { IfOk result (λ coming. IsComing (entry_of entry.now) count self.now coming) }
@@ -83,7 +83,7 @@ impl<N: Notes<Note<A>>, A: Allocator + Clone + Copy> State<N, A> {
     }
 
     /// Links the entry in the pools, clean, where so many items go for it, with room for what the end of its fill tells while
-    /// so many calls wait: nothing is told yet. Refused only where memory lacks, or no number is left.
+    /// so many calls wait: nothing is told yet. Refused only when out of memory, or no number is left.
     pub(crate) fn link_entry(
         &mut self,
         entry: &Entry<A>,

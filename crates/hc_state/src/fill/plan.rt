@@ -30,7 +30,7 @@ pub(crate) enum Prepared<A: Allocator> {
     Item(Arrived<A>, Vec<Course<A>, A>),
 }
 
-/// What a key has of which this was found: the value is shared. Refused only where memory lacks.
+/// What a key has of which this was found: the value is shared. Refused only when out of memory.
 fn there_by<A: Allocator + Clone>(found: Option<&Entry<A>>) -> Result<Option<There<A>>, AllocError>
     ensures { IfOk result (λ there. IsThere (option_map entry_of (option_copied found.entry)) there) }
 {
@@ -53,7 +53,7 @@ impl<N: Notes<Note<A>>, A: Allocator + Clone + Copy> State<N, A> {
     }
 
     /// Links the last of the items that the calls store by these courses, where one is stored, with room for what the end of
-    /// the key's fill tells: nothing is told yet. Refused only where memory lacks.
+    /// the key's fill tells: nothing is told yet. Refused only when out of memory.
     fn link_last(
         &mut self,
         key: &Key<A>,
@@ -75,7 +75,7 @@ impl<N: Notes<Note<A>>, A: Allocator + Clone + Copy> State<N, A> {
         }
     }
 
-    /// What is made ready where nothing is linked of what was found. Refused only where memory lacks.
+    /// What is made ready where nothing is linked of what was found. Refused only when out of memory.
     fn prepare_bare(&mut self, key: &Key<A>, ending: &Ending<A>) -> Result<Prepared<A>, AllocError>
         requires structured { Structured self.old.cache }
         requires cannot { can_bring self.old.cache (found_by ending.now) ≡ false }
@@ -123,7 +123,7 @@ impl<N: Notes<Note<A>>, A: Allocator + Clone + Copy> State<N, A> {
     }
 
     /// Makes ready what the end of the key's fill needs, and links what it brought, where that can be linked: the pools
-    /// alone change, and nothing is told yet. Refused only where memory lacks; then nothing changed.
+    /// alone change, and nothing is told yet. Refused only when out of memory; then nothing changed.
     pub(crate) fn prepare(
         &mut self,
         key: &Key<A>,

@@ -65,7 +65,7 @@ fn notes_to_end(most: usize, charges: usize, victims: usize, waiting: usize) -> 
 
 impl<N: Notes<Note<A>>, A: Allocator + Clone + Copy> State<N, A> {
     /// Room for what the end of a fill tells, buries and lets wait, where so many items go for what it brought, and so many
-    /// calls wait. Refused only where memory lacks.
+    /// calls wait. Refused only when out of memory.
     pub(crate) fn room_to_end(
         &mut self,
         ending: &Ending<A>,

@@ -67,7 +67,7 @@ impl<N: Notes<Note<A>>, A: Allocator + Clone + Copy> State<N, A> {
     }
 
     /// Takes the key's item out, or links in its place the last of those that the calls store by these courses, and answers
-    /// the charge of the item that the key had. Refused only where memory lacks: then nothing changed.
+    /// the charge of the item that the key had. Refused only when out of memory: then nothing changed.
     fn unlink_by(&mut self, key: &Key<A>, courses: &[Course<A>]) -> Result<Option<u64>, AllocError>
         requires wishes { AllWish self.old.cache.memory key.now (waiters_at self.old.cache.nvm key.now) }
         requires courses { length courses.now ≡ length (waiters_at self.old.cache.nvm key.now) }

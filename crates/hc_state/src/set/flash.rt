@@ -107,7 +107,7 @@ impl<N: Notes<Note<A>>, A: Allocator + Clone + Copy> State<N, A> {
         self.reply_alone(Reply::Stored);
     }
 
-    /// Puts the value of the plan under the key in the pool, which has room for it. Refused only where memory lacks; then the
+    /// Puts the value of the plan under the key in the pool, which has room for it. Refused only when out of memory; then the
     /// number of the charge is gone, and nothing else.
     fn put_over(
         &mut self,

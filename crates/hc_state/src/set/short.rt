@@ -71,7 +71,7 @@ impl<N: Notes<Note<A>>, A: Allocator + Clone + Copy> State<N, A> {
         })
     }
 
-    /// The item of the pool that was used longest ago goes, for `want` bytes, and its key is forgotten. Never inlined, since most
+    /// The least recently used item of the pool goes, for `want` bytes, and its key is forgotten. Never inlined, since most
     /// values are stored where there is room.
     #[inline(never)]
     fn forget_oldest(&mut self, pool: u8, want: u64)

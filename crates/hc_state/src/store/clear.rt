@@ -27,7 +27,7 @@ impl<N: Notes<Note<A>>, A: Allocator + Clone + Copy> State<N, A> {
         }
     }
 
-    /// What the key's copies on flash need to be stale. Refused only where memory lacks.
+    /// What the key's copies on flash need to be stale. Refused only when out of memory.
     pub fn plan_to_outdate(&self, key: &Key<A>) -> Result<Outdating<A>, AllocError>
         ensures serves { IfOk result (λ plan. ServesIn (is_log self.now.log) key.now self.now.cache.nvm plan) }
         ensures silent { OnErr result (IsSome self.now.cache.nvm) }

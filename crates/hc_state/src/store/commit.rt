@@ -59,7 +59,7 @@ impl<N: Notes<Note<A>>, A: Allocator + Clone + Copy> State<N, A> {
     }
 
     /// Links the item of a handle that is known, or in its place the last of those that the calls store by these courses,
-    /// and answers the charge of the item that the key had. Refused only where memory lacks: then nothing changed, and the
+    /// and answers the charge of the item that the key had. Refused only when out of memory: then nothing changed, and the
     /// handle comes back.
     fn link_by(
         &mut self,

@@ -117,7 +117,7 @@ impl<N: Notes<Note<A>>, A: Allocator + Clone + Copy> State<N, A> {
     }
 
     /// An add of the handle's item waits for the key, as the call with this number, and is owed a reply, where there is flash.
-    /// Where memory lacks, nothing changed and the handle comes back.
+    /// When out of memory, nothing changed and the handle comes back.
     fn wait_to_add(&mut self, call: u64, key: &Key<A>, sealed: Sealed<A>) -> Result<(), Sealed<A>>
         requires newest { AreBefore call self.old.cache.owed }
         ensures ok { OnOk result (self.new.cache ≡ record self.old.cache { owed = owed_where self.old.cache.nvm call self.old.cache.owed; nvm = joined_where self.old.cache.nvm key.now (record { call = call; wish = ToAdd sealed }) }) }

@@ -78,7 +78,7 @@ impl<N: Notes<Note<A>>, A: Allocator + Clone + Copy> State<N, A> {
     }
 
     /// Links the item of a handle that is known, over which none is stored, and answers the charge of the item that the key
-    /// had. Refused only for want of memory: then nothing changed, and the handle comes back.
+    /// had. Refused only when out of memory: then nothing changed, and the handle comes back.
     pub(crate) fn link_alone(&mut self, sealed: Sealed<A>) -> Result<Option<u64>, Sealed<A>>
         requires { is_open (charge_by sealed) self.old.cache.memory.charges ≡ true }
         ensures ok { OnOk result (self.new ≡ record self.old { cache = with_memory (early (sealed ∷ []) self.old.cache.memory) self.old.cache }) }
@@ -90,7 +90,7 @@ impl<N: Notes<Note<A>>, A: Allocator + Clone + Copy> State<N, A> {
     }
 
     /// Links the item of a handle that is known, or in its place the last of those that are stored over it, and answers the
-    /// charge of the item that the key had. `earlier` has the handle's charge. Refused only for want of memory: then nothing
+    /// charge of the item that the key had. `earlier` has the handle's charge. Refused only when out of memory: then nothing
     /// changed, and the handle comes back.
     pub(crate) fn link_stored(
         &mut self,
@@ -125,7 +125,7 @@ impl<N: Notes<Note<A>>, A: Allocator + Clone + Copy> State<N, A> {
     }
 
     /// Takes the key's item out, or links in its place the last of those that are stored, and answers the charge of the item
-    /// that the key had. Refused only for want of memory: then nothing changed.
+    /// that the key had. Refused only when out of memory: then nothing changed.
     pub(crate) fn unlink_stored(
         &mut self,
         key: &Key<A>,

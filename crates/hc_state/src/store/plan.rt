@@ -113,7 +113,7 @@ impl<N: Notes<Note<A>>, A: Allocator + Clone + Copy> State<N, A> {
     }
 
     /// What the key needs to leave each place where it stood, and the calls that wait for it, where this is what it has
-    /// then. Refused only where memory lacks.
+    /// then. Refused only when out of memory.
     pub(crate) fn plan_to_clear(
         &self,
         key: &Key<A>,

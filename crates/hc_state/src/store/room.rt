@@ -49,7 +49,7 @@ impl<N: Notes<Note<A>>, A: Allocator + Clone + Copy> State<N, A> {
         }
     }
 
-    /// Room for what a call tells and buries that inserts or removes this key. Refused only where memory lacks.
+    /// Room for what a call tells and buries that inserts or removes this key. Refused only when out of memory.
     pub(crate) fn room_for(&mut self, key: &Key<A>) -> Result<(), AllocError>
         ensures stays { Stays self.old self.new }
         ensures notes { OnOk result (6 * how_many key.now self.old + 8 + length self.old.cache.memory.charges ≤ self.new.notes) }

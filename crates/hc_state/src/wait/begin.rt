@@ -41,7 +41,7 @@ fn keys_for<A: Allocator + Clone + Copy>(
     Ok((copy, own))
 }
 
-/// One call more waits for the key, and a reply is owed to it. Where memory lacks, nothing changed and the call comes back.
+/// One call more waits for the key, and a reply is owed to it. When out of memory, nothing changed and the call comes back.
 #[tactic(auto, using(crate::proofs::wait::Owed::less_anew))]
 fn wait_on<A: Allocator + Clone + Copy>(
     nvm: &mut Nvm<A>,
@@ -79,7 +79,7 @@ fn wait_on<A: Allocator + Clone + Copy>(
     }
 }
 
-/// One call more waits for the key, and a reply is owed to it, where there is flash. Where memory lacks, nothing changed and
+/// One call more waits for the key, and a reply is owed to it, where there is flash. When out of memory, nothing changed and
 /// the call comes back.
 pub(crate) fn wait<A: Allocator + Clone + Copy>(
     nvm: &mut Option<Nvm<A>>,

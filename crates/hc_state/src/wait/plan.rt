@@ -29,7 +29,7 @@ pub struct There<A: Allocator = Global> {
 }
 
 impl<A: Allocator + Clone> There<A> {
-    /// What a key has whose item is the handle's: the value is shared. Refused only where memory lacks.
+    /// What a key has whose item is the handle's: the value is shared. Refused only when out of memory.
     pub fn of_handle(sealed: &Sealed<A>) -> Result<There<A>, AllocError>
         ensures { IfOk result (λ there. IsThere (Some (entry_of_handle sealed.now)) (Some there)) }
     {
@@ -38,7 +38,7 @@ impl<A: Allocator + Clone> There<A> {
         Ok(There { value, expiry })
     }
 
-    /// What a key has of which flash brought this: the value is shared. Refused only where memory lacks.
+    /// What a key has of which flash brought this: the value is shared. Refused only when out of memory.
     pub fn of_entry(entry: &Entry<A>) -> Result<There<A>, AllocError>
         ensures { IfOk result (λ there. IsThere (Some (entry_of entry.now)) (Some there)) }
     {
@@ -65,7 +65,7 @@ fn live<A: Allocator>(there: Option<There<A>>, now: u64) -> Option<There<A>>
     }
 }
 
-/// What a find is answered, where this is what the key has: the value is shared. Refused only where memory lacks.
+/// What a find is answered, where this is what the key has: the value is shared. Refused only when out of memory.
 fn reply_by<A: Allocator>(given: &Option<There<A>>) -> Result<Reply<A>, AllocError>
     ensures { IfOk result (λ reply. (entry : Option FlashEntry) → IsThere entry given.now → reply_of reply ≡ find_reply entry) }
 {
@@ -78,7 +78,7 @@ fn reply_by<A: Allocator>(given: &Option<There<A>>) -> Result<Reply<A>, AllocErr
     }
 }
 
-/// How a find is served, where this is what the key has. Refused only where memory lacks.
+/// How a find is served, where this is what the key has. Refused only when out of memory.
 fn find_course<A: Allocator>(given: &Option<There<A>>) -> Result<Course<A>, AllocError>
     ensures { IfOk result (λ course. (keeps : Bool) (key : List ℕ) (entry : Option FlashEntry) → IsThere entry given.now → IsCourse keeps key ToFind entry course) }
 {
@@ -92,7 +92,7 @@ fn find_course<A: Allocator>(given: &Option<There<A>>) -> Result<Course<A>, Allo
     }
 }
 
-/// How an add is served, where this is what the key has. Refused only where memory lacks.
+/// How an add is served, where this is what the key has. Refused only when out of memory.
 fn add_course<A: Allocator + Copy>(
     alloc: A,
     given: &Option<There<A>>,
@@ -110,7 +110,7 @@ fn add_course<A: Allocator + Copy>(
     }
 }
 
-/// How a call is served that asks for this, where this is what the key has. Refused only where memory lacks.
+/// How a call is served that asks for this, where this is what the key has. Refused only when out of memory.
 fn course_for<A: Allocator + Copy>(
     alloc: A,
     wish: &Wish<A>,
@@ -126,7 +126,7 @@ fn course_for<A: Allocator + Copy>(
     }
 }
 
-/// What a key has once the item of an add is stored: the value is shared. Refused only where memory lacks.
+/// What a key has once the item of an add is stored: the value is shared. Refused only when out of memory.
 fn there_by<A: Allocator + Clone>(parked: &Parked<A>) -> Result<There<A>, AllocError>
     ensures { IfOk result (λ there. IsThere (Some (entry_of_handle parked.now)) (Some there)) }
 {
@@ -136,7 +136,7 @@ fn there_by<A: Allocator + Clone>(parked: &Parked<A>) -> Result<There<A>, AllocE
     there
 }
 
-/// What the key has once a call is served that asks for this, where this is what it had. Refused only where memory lacks.
+/// What the key has once a call is served that asks for this, where this is what it had. Refused only when out of memory.
 fn there_next<A: Allocator + Clone>(
     wish: &Wish<A>,
     given: Option<There<A>>,
@@ -155,8 +155,8 @@ fn there_next<A: Allocator + Clone>(
     }
 }
 
-/// How a call is served that asks for this, where this is what the key has, and what the key has then. Refused only where
-/// memory lacks.
+/// How a call is served that asks for this, where this is what the key has, and what the key has then. Refused only when
+/// out of memory.
 fn plan_wish<A: Allocator + Clone + Copy>(
     alloc: A,
     wish: &Wish<A>,
@@ -227,7 +227,7 @@ fn plan_courses<A: Allocator + Clone + Copy>(
 
 impl<N: Notes<Note<A>>, A: Allocator + Clone + Copy> State<N, A> {
     /// How the calls that wait for the key are served, one after the other, where this is what the key has: what that needs
-    /// is made. Refused only where memory lacks.
+    /// is made. Refused only when out of memory.
     pub fn plan_to_serve(
         &self,
         key: &Key<A>,

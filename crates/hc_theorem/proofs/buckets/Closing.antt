@@ -12,7 +12,7 @@ use Rattle.hc_history.specs.Note.{Note, Written}
 use Rattle.hc_history.specs.Books.{writing, is_among, now_at}
 use Rattle.hc_history.specs.Pages.{bytes_at}
 use Rattle.hc_history.specs.Lawful.{Lawful}
-use Rattle.hc_machine.specs.Nvm.{Nvm, Fill, Task, Putting, Flushing, puts, is_written_now, is_brought_by}
+use Rattle.hc_machine.specs.Nvm.{Nvm, Fill, Task, Putting, Flushing, puts, is_written_now, is_number_in}
 use Rattle.hc_machine.specs.Cache.{Cache}
 use Rattle.hc_invariant.specs.Tells.{CallsTell}
 use Rattle.hc_invariant.specs.Jobs.{small_job, large_work, Brings, BringsIf, AllFill}
@@ -69,7 +69,7 @@ NoPut task = (key : List ℕ) → puts key task ≡ false
 -- the job brings none of these fills
 abbrev pub NoneBrought : ℕ → List Fill → Type 0
 NoneBrought number [] = Unit {0}
-NoneBrought number (fill ∷ fills) = (is_brought_by number fill.job ≡ false) × NoneBrought number fills
+NoneBrought number (fill ∷ fills) = (is_number_in number fill.job ≡ false) × NoneBrought number fills
 
 fills-hold : (pages : Pages) (memory : Memory) (nvm : Nvm) (number : ℕ) (fills : List Fill) → AllStand memory nvm fills → AllBrought pages nvm number fills → NoneBrought number fills → AllFill pages memory nvm fills
 fills-hold pages memory nvm number [] s b n = tt
@@ -105,7 +105,7 @@ good-again config flash older cache memory nvm number task on own calls clock no
 
 -- ---- where the job isn't for a fill, it brings none
 
-none-step : (pages : Pages) (nvm : Nvm) (number : ℕ) (sj : bighash.Job) (key : List ℕ) (o : Option ℕ) (w : Option block.Work) → small_job nvm number ≡ Some sj → large_work nvm number ≡ w → ((k : List ℕ) → sj.op ≡ Get k → ⊥) → BringsIf pages nvm key o → is_brought_by number o ≡ false
+none-step : (pages : Pages) (nvm : Nvm) (number : ℕ) (sj : bighash.Job) (key : List ℕ) (o : Option ℕ) (w : Option block.Work) → small_job nvm number ≡ Some sj → large_work nvm number ≡ w → ((k : List ℕ) → sj.op ≡ Get k → ⊥) → BringsIf pages nvm key o → is_number_in number o ≡ false
 none-step pages nvm number sj key None w at works not h = refl
 none-step pages nvm number sj key (Some n) w at works not h = go (n == number) refl w works
   where

@@ -15,7 +15,7 @@ use Rattle.hc_memory.specs.Memory.{Memory}
 use Rattle.hc_history.specs.Note.{Note}
 use Rattle.hc_history.specs.Books.{Entry, now_at}
 use Rattle.hc_history.specs.Pages.{bytes_at}
-use Rattle.hc_machine.specs.Nvm.{Nvm, Waiter, Fill, Task, Putting, Deleting, Filling, Flushing, Job, is_buried, is_fill_of, without_fill, is_brought_by, adds}
+use Rattle.hc_machine.specs.Nvm.{Nvm, Waiter, Fill, Task, Putting, Deleting, Filling, Flushing, Job, is_buried, is_fill_of, without_fill, is_number_in, adds}
 use Rattle.hc_machine.specs.Cache.{Cache}
 use Rattle.hc_invariant.specs.Standing.{Placed, map_of, first_of, written_by}
 use Rattle.hc_invariant.specs.Tells.{CallsTell, waiters_of}
@@ -100,7 +100,7 @@ module _ (config : Config) (flash : FlashConfig) (older : List Note) (cache : Ca
           each = subst (AllFill (bytes_at older) memory less) (sym (still_none (without_fill fill.key nvm.fills))) moved;
           wishes = wishes_of (bytes_at older) memory less (without_fill fill.key nvm.fills) moved;
           one = λ key. omega (arith, split-count (is_fill_of key) (is_fill_of fill.key) nvm.fills, e.one_fill key);
-          one_each = λ n. omega (arith, split-count (λ (f : Fill). is_brought_by n f.job) (is_fill_of fill.key) nvm.fills, e.one_each n);
+          one_each = λ n. omega (arith, split-count (λ (f : Fill). is_number_in n f.job) (is_fill_of fill.key) nvm.fills, e.one_each n);
           one_add = λ n. omega (arith, left_counts (adds n) fill.key nvm.fills fill (by.at (e.one_fill fill.key)) (e.one_fill fill.key), tally-append (λ (w : Waiter). if adds n w then 1 else 0) fill.waiters (waiters_of (without_fill fill.key nvm.fills)), e.one_add n);
         };
         pools = e.pools;

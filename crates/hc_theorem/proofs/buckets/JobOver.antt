@@ -26,7 +26,7 @@ use Rattle.hc_memory.specs.Memory.{Memory, linked_at}
 use Rattle.hc_history.specs.Note.{Note}
 use Rattle.hc_history.specs.Books.{buried, writing, is_among, entry_at}
 use Rattle.hc_history.specs.Pages.{bytes_at, bucket_entries}
-use Rattle.hc_machine.specs.Nvm.{Nvm, Wish, ToFind, ToAdd, Waiter, Fill, Task, Putting, Deleting, Filling, Flushing, Job, is_job, job_at, without_job, puts, is_brought_by}
+use Rattle.hc_machine.specs.Nvm.{Nvm, Wish, ToFind, ToAdd, Waiter, Fill, Task, Putting, Deleting, Filling, Flushing, Job, is_job, job_at, without_job, puts, is_number_in}
 use Rattle.hc_invariant.specs.Standing.{put_in, written_by}
 use Rattle.hc_invariant.specs.Tells.{MemoryTells}
 use Rattle.hc_invariant.specs.Jobs.{RunsAs, AllRun, JobsRun, small_job, large_work, Brings, BringsIf, WishHolds, AllWish, AllFill}
@@ -187,7 +187,7 @@ module _ (config : Config) (flash : FlashConfig) (older newer : List Note) (memo
   stand_after g [] h = tt
   stand_after g (fill ∷ fills) h = (record { unlinked = g.unlinked fill.key h.0.unlinked; unqueued = h.0.unqueued; unburied = h.0.unburied; wishes = wishes_after fill.key fill.waiters g.charges h.0.wishes }, stand_after g fills h.1)
 
-  brings_after : Gone config flash older newer memory after nvm number s → EnginesFit flash older nvm → small_job nvm number ≡ Some sj → (key : List ℕ) (o : Option ℕ) → is_brought_by number o ≡ false → BringsIf (bytes_at older) nvm key o → BringsIf (bytes_at newer) (job_gone s number nvm) key o
+  brings_after : Gone config flash older newer memory after nvm number s → EnginesFit flash older nvm → small_job nvm number ≡ Some sj → (key : List ℕ) (o : Option ℕ) → is_number_in number o ≡ false → BringsIf (bytes_at older) nvm key o → BringsIf (bytes_at newer) (job_gone s number nvm) key o
   brings_after g e there key None not h = tt
   brings_after g e there key (Some n) not h = rw (left_at n g.left not) (go (small_job nvm n) (large_work nvm n) h)
     where

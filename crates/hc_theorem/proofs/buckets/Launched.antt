@@ -17,7 +17,7 @@ use Rattle.hc_engines.specs.large.Laws.{read_page}
 use Rattle.hc_memory.specs.Memory.{Memory}
 use Rattle.hc_history.specs.Note.{Note}
 use Rattle.hc_history.specs.Pages.{bytes_at}
-use Rattle.hc_machine.specs.Nvm.{Nvm, Fill, Task, Putting, Deleting, Filling, Flushing, Job, is_job, job_at, without_job, ordered, puts, is_brought_by}
+use Rattle.hc_machine.specs.Nvm.{Nvm, Fill, Task, Putting, Deleting, Filling, Flushing, Job, is_job, job_at, without_job, ordered, puts, is_number_in}
 use Rattle.hc_invariant.specs.Standing.{written_by}
 use Rattle.hc_invariant.specs.Jobs.{RunsAs, AllRun, JobsRun, small_job, large_work, Brings, BringsIf, AllFill}
 use Rattle.hc_invariant.specs.Good.{EnginesFit}
@@ -127,7 +127,7 @@ module _ (config : Config) (flash : FlashConfig) (older : List Note) (memory : M
       large_one n true p h = let there = subst (λ (m : ℕ). job_at m jobs ≡ None) (eqb-true n number p) h in let at = l.at in absurd (cc (there, at))
       large_one n false p h = l.others.works n (not-but n number p) ∙ j.large_ones n (ap (job_at n) l.jobs_are ∙ job-out n number jobs ∙ if-none (n == number) (job_at n jobs) h)
 
-  brings_launched : Launch → EnginesFit flash older nvm → (key : List ℕ) (o : Option ℕ) → (is_brought_by number o ≡ true → key ≡ k) → (is_brought_by number o ≡ false → BringsIf (bytes_at older) nvm key o) → BringsIf (bytes_at older) launched key o
+  brings_launched : Launch → EnginesFit flash older nvm → (key : List ℕ) (o : Option ℕ) → (is_number_in number o ≡ true → key ≡ k) → (is_number_in number o ≡ false → BringsIf (bytes_at older) nvm key o) → BringsIf (bytes_at older) launched key o
   brings_launched l e key None same h = tt
   brings_launched l e key (Some n) same h = step (n == number) refl
     where

@@ -9,7 +9,7 @@ use Rattle.hc_engines.specs.large.Block as block
 use Rattle.hc_engines.specs.large.Steps as steps
 use Rattle.hc_engines.specs.pair.Pair as pairs
 use Rattle.hc_engines.specs.pair.Pair.{Pair}
-use Rattle.hc_machine.specs.Nvm.{Nvm, Tombstone, Waiter, Fill, Task, Putting, Deleting, Filling, Flushing, Job, is_fill_of, fill_by, is_brought_by, without_job, ordered, next_put, next_delete, next_fill, without_put, taken_stone, taken_fill}
+use Rattle.hc_machine.specs.Nvm.{Nvm, Tombstone, Waiter, Fill, Task, Putting, Deleting, Filling, Flushing, Job, is_fill_of, fill_by, is_number_in, without_job, ordered, next_put, next_delete, next_fill, without_put, taken_stone, taken_fill}
 use Rattle.hc_machine.specs.Leaving.{Changed}
 use Rattle.hc_machine.specs.Takes as takes
 use Rattle.hc_machine.specs.Takes.{Take, Finished, Filled, Taken, region_note, loss_notes, bucket_lost, raise, raise_all, holds, ends_with, written_note, closing_notes, settled, fill_out, finished, ends, launched, take_sized, take_put, take_delete, take_flush, take_fill, goes_on, reclaimed_by}
@@ -52,7 +52,7 @@ module _ (adds : List Adding) where
     where
       out : (change : Changed) → NoCharges change.part → AllTold adds (waiters_of change.nvm.fills) → (o : Option Fill) → fill_by number change.nvm.fills ≡ o → TakenSo adds (fill_out o outcome.answer change)
       out change none told None e = record { none = none; told = tt }
-      out change none told (Some one) e = record { none = none; told = (refl, fill_told adds (λ (fill : Fill). is_brought_by number fill.job) change.nvm.fills one e told) }
+      out change none told (Some one) e = record { none = none; told = (refl, fill_told adds (λ (fill : Fill). is_number_in number fill.job) change.nvm.fills one e told) }
 
       go : (t : Task) (change : Changed) → NoCharges change.part → AllTold adds (waiters_of change.nvm.fills) → TakenSo adds (finished t number outcome.answer change)
       go (Putting key) change none told = record { none = none; told = tt }

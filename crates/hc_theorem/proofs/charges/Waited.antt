@@ -14,9 +14,10 @@ use Rattle.hc_history.specs.Regions.{key_of}
 use Rattle.hc_machine.specs.Nvm.{Waiter, Wish, ToFind, ToAdd, Fill, is_fill_of}
 use Rattle.hc_machine.specs.Takes.{Filled}
 use Rattle.hc_machine.specs.Cache.{Owed}
-use Rattle.hc_invariant.specs.Tells.{CallsTell, waiters_of, op_of, asked_by, asked_in, or_else, is_call}
+use Rattle.hc_invariant.specs.Tells.{CallsTell, waiters_of, op_of, asked_by, asked_in, is_call}
 use Rattle.hc_invariant.specs.Jobs.{WishHolds, AllWish, AllWishes}
 use Rattle.hc_invariant.specs.Fresh.{IsFresh, AllFresh}
+use Rattle.hc_invariant.specs.Standing.{first_of}
 use Rattle.hc_proof.specs.structure.Takes.{EntryIsOf, FilledSo}
 use Rattle.hc_proof.proofs.calls.CallBooks.{asked_by-none}
 use Rattle.hc_proof.proofs.frames.ByNumber.{same_number}
@@ -55,23 +56,23 @@ module _ (older : List Note) (memory : Memory) (key : List ℕ) where
       both : (n : ℕ) → count (is_call n) (f.waiters ++ waiters_of fills) ≡ count (is_call n) f.waiters + count (is_call n) (waiters_of fills)
       both n = tally-append (λ (w : Waiter). cond (is_call n w) 1 0) f.waiters (waiters_of fills)
 
-      first : (waiters : List Waiter) → IsFresh older f.key waiters → AllWish memory f.key waiters → is_fill_of key f ≡ true → WaitsIn key (λ n. or_else (asked_by n f.key waiters) (asked_in n fills))
+      first : (waiters : List Waiter) → IsFresh older f.key waiters → AllWish memory f.key waiters → is_fill_of key f ≡ true → WaitsIn key (λ n. first_of (asked_by n f.key waiters) (asked_in n fills))
       first [] fresh wishes e = absurd fresh
       first (w ∷ ws) fresh wishes e = record {
         number = w.call;
         op = op_of f.key w.wish;
-        asks = ap (λ b. or_else (if b then Some (op_of f.key w.wish) else asked_by w.call f.key ws) (asked_in w.call fills)) (same_number w.call);
+        asks = ap (λ b. first_of (if b then Some (op_of f.key w.wish) else asked_by w.call f.key ws) (asked_in w.call fills)) (same_number w.call);
         its = wish_key memory f.key w.wish wishes.0 ∙ same_bytes f.key key e;
       }
 
       absent : (n : ℕ) (op : Op) → asked_in n fills ≡ Some op → asked_by n f.key f.waiters ≡ None
       absent n op e = asked_by-none n f.key f.waiters (omega (arith, one n, both n, asked_counts n fills (ap is_some e)))
 
-      go : (t : Bool) → is_fill_of key f ≡ t → 1 ≤ cond t 1 0 + count (is_fill_of key) fills → (1 ≤ count (is_fill_of key) fills → WaitsIn key (λ n. asked_in n fills)) → WaitsIn key (λ n. or_else (asked_by n f.key f.waiters) (asked_in n fills))
+      go : (t : Bool) → is_fill_of key f ≡ t → 1 ≤ cond t 1 0 + count (is_fill_of key) fills → (1 ≤ count (is_fill_of key) fills → WaitsIn key (λ n. asked_in n fills)) → WaitsIn key (λ n. first_of (asked_by n f.key f.waiters) (asked_in n fills))
       go true e some rest = first f.waiters fresh.0 wishes.0 e
       go false e some rest =
           let r = rest (omega (arith, some)) in
-          record { number = r.number; op = r.op; asks = ap (λ (o : Option Op). or_else o (asked_in r.number fills)) (absent r.number r.op r.asks) ∙ r.asks; its = r.its }
+          record { number = r.number; op = r.op; asks = ap (λ (o : Option Op). first_of o (asked_in r.number fills)) (absent r.number r.op r.asks) ∙ r.asks; its = r.its }
 
 -- ---- by the books
 

@@ -10,8 +10,7 @@ use Rattle.hc_history.specs.Books.{charges, waiting, buried, is_among, is_linked
 use Rattle.hc_history.specs.Regions.{key_of}
 use Rattle.hc_machine.specs.Nvm.{Nvm, Wish, joined_by}
 use Rattle.hc_machine.specs.Cache.{Cache}
-use Rattle.hc_machine.specs.Calls.{must_wait, must_wait_in, in_memory, wait_in}
-use Rattle.hc_invariant.specs.Standing.{queued_at, buried_at}
+use Rattle.hc_machine.specs.Calls.{must_wait, must_wait_in, in_memory, wait_in, waiting_at, buried_at}
 use Rattle.hc_invariant.specs.Good.{Agrees, FlashPart, fills_of}
 use Rattle.hc_invariant.proofs.Frames.{waits-is, linked-is}
 use Rattle.hc_proof.proofs.calls.NoWaiting.{waits_alone}
@@ -24,7 +23,7 @@ both_true : (a b : Bool) → (not a && b) ≡ true → b ≡ true
 both_true true b h = absurd cc
 both_true false b h = h
 
-flash_says : (flash : Option FlashConfig) (older : List Note) (memory : Memory) (nvm : Option Nvm) (key : List ℕ) → FlashPart flash older memory nvm → must_wait_in nvm key ≡ true → queued_at nvm key ≡ None → buried_at nvm key ≡ false
+flash_says : (flash : Option FlashConfig) (older : List Note) (memory : Memory) (nvm : Option Nvm) (key : List ℕ) → FlashPart flash older memory nvm → must_wait_in nvm key ≡ true → waiting_at nvm key ≡ None → buried_at nvm key ≡ false
     → IsSome flash × (is_among key (waiting older) ≡ false) × (is_among key (buried older) ≡ false)
 flash_says None older memory None key f h q b = absurd cc
 flash_says None older memory (Some nvm) key f h q b = absurd f

@@ -24,7 +24,7 @@ use Rattle.hc_history.specs.Note.{Note}
 use Rattle.hc_history.specs.Pages.{bytes_at}
 use Rattle.hc_history.specs.Regions.{put_under_way, is_put_of}
 use Rattle.hc_engines.specs.pair.Pair.{is_busy_for}
-use Rattle.hc_machine.specs.Nvm.{Nvm, Fill, Filling, fill_at, is_fill_of, is_brought_by, next_fill, without_fill}
+use Rattle.hc_machine.specs.Nvm.{Nvm, Fill, Filling, fill_at, is_fill_of, is_number_in, next_fill, without_fill}
 use Rattle.hc_machine.specs.Cache.{Cache, with_nvm}
 use Rattle.hc_machine.specs.Takes as takes
 use Rattle.hc_machine.specs.Takes.{Taken, take_fill, found_in}
@@ -89,7 +89,7 @@ module _ (gets : GetTells) (gives : GetGives) (ends : FillEnds) (pools : List Po
   none_large : large_work nvm (nvm.made + 1) ≡ None
   none_large = here.jobs.large_ones (nvm.made + 1) (here.jobs.fresh (nvm.made + 1) (omega arith))
 
-  nobodys : count (λ (f : Fill). is_brought_by (nvm.made + 1) f.job) nvm.fills ≡ 0
+  nobodys : count (λ (f : Fill). is_number_in (nvm.made + 1) f.job) nvm.fills ≡ 0
   nobodys = unbrought (bytes_at older) cache.memory nvm (nvm.made + 1) nvm.fills none_small none_large here.fills.each
 
   unwritten : written_by fill.key nvm.pair.small.jobs ≡ None

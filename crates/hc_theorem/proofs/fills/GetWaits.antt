@@ -13,7 +13,7 @@ use Rattle.hc_engines.specs.large.Block.{Work}
 use Rattle.hc_memory.specs.Memory.{Memory}
 use Rattle.hc_history.specs.Note.{Note}
 use Rattle.hc_history.specs.Pages.{bytes_at}
-use Rattle.hc_machine.specs.Nvm.{Nvm, Fill, Filling, Job, puts, is_fill_of, is_brought_by}
+use Rattle.hc_machine.specs.Nvm.{Nvm, Fill, Filling, Job, puts, is_fill_of, is_number_in}
 use Rattle.hc_machine.specs.Cache.{Cache, with_nvm}
 use Rattle.hc_invariant.specs.Standing.{first_of, written_by}
 use Rattle.hc_invariant.specs.Tells.{WaitsTell}
@@ -31,7 +31,7 @@ use Rattle.hc_theorem.proofs.writer.Deletes.{or_false}
 -- ---- fills and jobs
 
 -- a job that isn't there brings no fill
-pub unbrought : (pages : Pages) (memory : Memory) (nvm : Nvm) (n : ℕ) (fills : List Fill) → small_job nvm n ≡ None → large_work nvm n ≡ None → AllFill pages memory nvm fills → count (λ (f : Fill). is_brought_by n f.job) fills ≡ 0
+pub unbrought : (pages : Pages) (memory : Memory) (nvm : Nvm) (n : ℕ) (fills : List Fill) → small_job nvm n ≡ None → large_work nvm n ≡ None → AllFill pages memory nvm fills → count (λ (f : Fill). is_number_in n f.job) fills ≡ 0
 unbrought pages memory nvm n [] s l h = refl
 unbrought pages memory nvm n (fill ∷ fills) s l h = by fill.job h.0.brought (unbrought pages memory nvm n fills s l h.1)
   where
@@ -39,18 +39,18 @@ unbrought pages memory nvm n (fill ∷ fills) s l h = by fill.job h.0.brought (u
     nobody m true e b = absurd (let same : m ≡ n = eqb-true m n e in let none : Brings pages nvm fill.key None None = subst (λ (w : Option Work). Brings pages nvm fill.key None w) (ap (large_work nvm) same ∙ l) (subst (λ (j : Option bighash.Job). Brings pages nvm fill.key j (large_work nvm m)) (ap (small_job nvm) same ∙ s) b) in none)
     nobody m false e b = refl
 
-    by : (job : Option ℕ) → BringsIf pages nvm fill.key job → count (λ (f : Fill). is_brought_by n f.job) fills ≡ 0 → (if is_brought_by n job then 1 else 0) + count (λ (f : Fill). is_brought_by n f.job) fills ≡ 0
+    by : (job : Option ℕ) → BringsIf pages nvm fill.key job → count (λ (f : Fill). is_number_in n f.job) fills ≡ 0 → (if is_number_in n job then 1 else 0) + count (λ (f : Fill). is_number_in n f.job) fills ≡ 0
     by None b rest = omega (arith, rest)
     by (Some m) b rest = omega (arith, rest, nobody m (m == n) refl b)
 
 -- with the new job for the key's fill no job brings two
-pub one_brought : (n m : ℕ) (key : List ℕ) (fills : List Fill) → count (λ (f : Fill). is_brought_by m f.job) fills ≡ 0 → count (λ (f : Fill). is_brought_by n f.job) fills ≤ 1 → count (is_fill_of key) fills ≤ 1
-    → count (λ (f : Fill). is_brought_by n f.job) (rejob key (Some m) fills) ≤ 1
+pub one_brought : (n m : ℕ) (key : List ℕ) (fills : List Fill) → count (λ (f : Fill). is_number_in m f.job) fills ≡ 0 → count (λ (f : Fill). is_number_in n f.job) fills ≤ 1 → count (is_fill_of key) fills ≤ 1
+    → count (λ (f : Fill). is_number_in n f.job) (rejob key (Some m) fills) ≤ 1
 one_brought n m key fills none one single = by (m == n) refl (more_brought n m key fills)
   where
-    by : (t : Bool) → (m == n) ≡ t → count (λ (f : Fill). is_brought_by n f.job) (rejob key (Some m) fills) ≤ count (λ (f : Fill). is_brought_by n f.job) fills + (if t then count (is_fill_of key) fills else 0)
-        → count (λ (f : Fill). is_brought_by n f.job) (rejob key (Some m) fills) ≤ 1
-    by true e h = let same : m ≡ n = eqb-true m n e in let zero : count (λ (f : Fill). is_brought_by n f.job) fills ≡ 0 = subst (λ (x : ℕ). count (λ (f : Fill). is_brought_by x f.job) fills ≡ 0) same none in omega (arith, h, zero, single)
+    by : (t : Bool) → (m == n) ≡ t → count (λ (f : Fill). is_number_in n f.job) (rejob key (Some m) fills) ≤ count (λ (f : Fill). is_number_in n f.job) fills + (if t then count (is_fill_of key) fills else 0)
+        → count (λ (f : Fill). is_number_in n f.job) (rejob key (Some m) fills) ≤ 1
+    by true e h = let same : m ≡ n = eqb-true m n e in let zero : count (λ (f : Fill). is_number_in n f.job) fills ≡ 0 = subst (λ (x : ℕ). count (λ (f : Fill). is_number_in x f.job) fills ≡ 0) same none in omega (arith, h, zero, single)
     by false e h = omega (arith, h, one)
 
 -- ---- the small engine reads the bucket's page

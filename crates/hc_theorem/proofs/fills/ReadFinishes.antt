@@ -28,7 +28,7 @@ use Rattle.hc_history.specs.Lawful.{Lawful, past}
 use Rattle.hc_history.proofs.Appended.{past-append, Lawful-append}
 use Rattle.hc_engines.specs.pair.Pair as pairs
 use Rattle.hc_engines.specs.pair.Pair.{by_large}
-use Rattle.hc_machine.specs.Nvm.{Nvm, Fill, Filling, Job, job_at, without_job, without_fill, ordered, fill_by, fill_at, is_fill_of, is_brought_by}
+use Rattle.hc_machine.specs.Nvm.{Nvm, Fill, Filling, Job, job_at, without_job, without_fill, ordered, fill_by, fill_at, is_fill_of, is_number_in}
 use Rattle.hc_machine.specs.Leaving.{changed}
 use Rattle.hc_machine.specs.Takes as takes
 use Rattle.hc_machine.specs.Takes.{Take, Work as TheWork, Finished, Taken, found_in, fill_out, result_note}
@@ -70,7 +70,7 @@ found_key flash pages s key found e is some = held_own flash pages s key e (sym 
 
 pub found_by_key : (number : ℕ) (fills : List Fill) (fill : Fill) → fill_by number fills ≡ Some fill → ((key : List ℕ) → count (is_fill_of key) fills ≤ 1) → fill_at fill.key fills ≡ Some fill
 found_by_key number [] fill e one = absurd cc
-found_by_key number (x ∷ fills) fill e one = step (is_brought_by number x.job) e (λ f. found_by_key number fills fill f (λ key. omega (arith, one key)))
+found_by_key number (x ∷ fills) fill e one = step (is_number_in number x.job) e (λ f. found_by_key number fills fill f (λ key. omega (arith, one key)))
   where
     counted : (fs : List Fill) → fill_at fill.key fs ≡ Some fill → 1 ≤ count (is_fill_of fill.key) fs
     counted [] h = absurd cc
@@ -101,7 +101,7 @@ module _ (ends : FillEnds) (config : Config) (older : List Note) (cache : Cache)
   Finds moved part = (key : List ℕ) → Brings (bytes_at older) nvm key None (Some (Getting r.reading))
       → found_in moved.outcome.answer ≡ (large.held nvm.pair.small.flash (bytes_at (past older part)) moved.state key)
 
-  step_over : (cache' : Cache) (nvm' : Nvm) (res : Option (List ℕ)) (moved : block.Moved) → nvm'.pair ≡ nvm.pair → nvm'.jobs ≡ nvm.jobs → nvm'.made ≡ nvm.made → JobsRun nvm' → count (λ (f : Fill). is_brought_by number f.job) nvm'.fills ≡ 0
+  step_over : (cache' : Cache) (nvm' : Nvm) (res : Option (List ℕ)) (moved : block.Moved) → nvm'.pair ≡ nvm.pair → nvm'.jobs ≡ nvm.jobs → nvm'.made ≡ nvm.made → JobsRun nvm' → count (λ (f : Fill). is_number_in number f.job) nvm'.fills ≡ 0
       → Plain moved.outcome → OthersStay (but number) nvm.pair.large moved.state → IsOver number moved → LargeKeeps config nvm.pair.small.flash older (WasRead page res ∷ told moved.outcome) nvm.pair.large moved.state
       → RegionApart config (WasRead page res ∷ older) (told moved.outcome) nvm' moved.state (without_job number nvm'.jobs) nvm'.made number
   step_over cache' nvm' res moved ep ej em runs none plain others over keeps =
@@ -166,7 +166,7 @@ module _ (ends : FillEnds) (config : Config) (older : List Note) (cache : Cache)
       (found_in moved.outcome.answer) fill.waiters) (rejob_without fill.key None nvm.fills) over2 in
       steady_join config older (WasRead page res ∷ told moved.outcome) _ _ keeps.lawful (ends config mid cache3 fill.key found fill.waiters over3)
     where
-      brought_as : (j : Option ℕ) → is_brought_by number j ≡ true → BringsIf (bytes_at older) nvm fill.key j → Brings (bytes_at older) nvm fill.key None (Some (Getting r.reading))
+      brought_as : (j : Option ℕ) → is_number_in number j ≡ true → BringsIf (bytes_at older) nvm fill.key j → Brings (bytes_at older) nvm fill.key None (Some (Getting r.reading))
       brought_as None b h = absurd cc
       brought_as (Some m) b h =
           let same : m ≡ number = eqb-true m number b in

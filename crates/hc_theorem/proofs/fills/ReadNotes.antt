@@ -14,7 +14,7 @@ use Rattle.hc_engines.specs.Engine.{Read, IoResult, Io, nothing}
 use Rattle.hc_history.specs.Note.{Note, Read as WasRead, Flushed, Cleared}
 use Rattle.hc_engines.specs.pair.Pair as pairs
 use Rattle.hc_engines.specs.pair.Pair.{by_large, next_of}
-use Rattle.hc_machine.specs.Nvm.{Nvm, Fill, Filling, Job, job_at, without_job, ordered, fill_by, is_brought_by}
+use Rattle.hc_machine.specs.Nvm.{Nvm, Fill, Filling, Job, job_at, without_job, ordered, fill_by, is_number_in}
 use Rattle.hc_machine.specs.Leaving.{Changed, changed}
 use Rattle.hc_machine.specs.Takes as takes
 use Rattle.hc_machine.specs.Takes.{Work as TheWork, fill_out, result_note, region_note}
@@ -93,20 +93,20 @@ on_is nvm number job result moved page same order none =
 
 -- ---- whose fill it is
 
-pub orphan_none : (number : ℕ) (fills : List Fill) → fill_by number fills ≡ None → count (λ (f : Fill). is_brought_by number f.job) fills ≡ 0
+pub orphan_none : (number : ℕ) (fills : List Fill) → fill_by number fills ≡ None → count (λ (f : Fill). is_number_in number f.job) fills ≡ 0
 orphan_none number [] e = refl
-orphan_none number (fill ∷ fills) e = step (is_brought_by number fill.job) e (orphan_none number fills)
+orphan_none number (fill ∷ fills) e = step (is_number_in number fill.job) e (orphan_none number fills)
   where
-    step : (b : Bool) → (if b then Some fill else fill_by number fills) ≡ None → (fill_by number fills ≡ None → count (λ (f : Fill). is_brought_by number f.job) fills ≡ 0) → (if b then 1 else 0) + count (λ (f : Fill). is_brought_by number f.job) fills ≡ 0
+    step : (b : Bool) → (if b then Some fill else fill_by number fills) ≡ None → (fill_by number fills ≡ None → count (λ (f : Fill). is_number_in number f.job) fills ≡ 0) → (if b then 1 else 0) + count (λ (f : Fill). is_number_in number f.job) fills ≡ 0
     step true e rest = absurd cc
     step false e rest = omega (arith, rest e)
 
-pub brought_it : (number : ℕ) (fills : List Fill) (fill : Fill) → fill_by number fills ≡ Some fill → is_brought_by number fill.job ≡ true
+pub brought_it : (number : ℕ) (fills : List Fill) (fill : Fill) → fill_by number fills ≡ Some fill → is_number_in number fill.job ≡ true
 brought_it number [] fill e = absurd cc
-brought_it number (x ∷ fills) fill e = step (is_brought_by number x.job) refl e (brought_it number fills fill)
+brought_it number (x ∷ fills) fill e = step (is_number_in number x.job) refl e (brought_it number fills fill)
   where
-    step : (b : Bool) → is_brought_by number x.job ≡ b → (if b then Some x else fill_by number fills) ≡ Some fill → (fill_by number fills ≡ Some fill → is_brought_by number fill.job ≡ true) → is_brought_by number fill.job ≡ true
-    step true t e rest = let same : x ≡ fill = cc in ap (λ (f : Fill). is_brought_by number f.job) (sym same) ∙ t
+    step : (b : Bool) → is_number_in number x.job ≡ b → (if b then Some x else fill_by number fills) ≡ Some fill → (fill_by number fills ≡ Some fill → is_number_in number fill.job ≡ true) → is_number_in number fill.job ≡ true
+    step true t e rest = let same : x ≡ fill = cc in ap (λ (f : Fill). is_number_in number f.job) (sym same) ∙ t
     step false t e rest = rest e
 
 -- ---- what is lost

@@ -9,11 +9,12 @@ use Rattle.hc_memory.specs.Memory.{Memory}
 use Rattle.hc_memory.proofs.Keyed.{same_bytes}
 use Rattle.hc_history.specs.Note.{Note}
 use Rattle.hc_history.specs.Pages.{bytes_at}
-use Rattle.hc_machine.specs.Nvm.{Nvm, Waiter, Fill, fill_at, is_fill_of, without_fill, is_brought_by, adds}
+use Rattle.hc_machine.specs.Nvm.{Nvm, Waiter, Fill, fill_at, is_fill_of, without_fill, is_number_in, adds}
 use Rattle.hc_machine.specs.Cache.{Cache}
-use Rattle.hc_invariant.specs.Tells.{waiters_of, asked_in, asked_by, is_call, or_else}
+use Rattle.hc_invariant.specs.Tells.{waiters_of, asked_in, asked_by, is_call}
 use Rattle.hc_invariant.specs.Jobs.{AllFill, BringsIf}
 use Rattle.hc_invariant.specs.Good.{Agrees, AllSized}
+use Rattle.hc_invariant.specs.Standing.{first_of}
 use Rattle.hc_proof.specs.frames.Midst.{FlashMidst, AllWishes, none_moves}
 use Rattle.hc_proof.proofs.calls.CallBooks.{asks_anew}
 use Rattle.hc_proof.proofs.frames.Fills.{with_fills}
@@ -36,9 +37,9 @@ pub rejob_asks : (n : ℕ) (key : List ℕ) (job : Option ℕ) (fills : List Fil
 rejob_asks n key job [] = refl
 rejob_asks n key job (fill ∷ fills) = step (is_fill_of key fill) (rejob_asks n key job fills)
   where
-    step : (b : Bool) → asked_in n (rejob key job fills) ≡ asked_in n fills → asked_in n ((if b then record fill { job = job } else fill) ∷ rejob key job fills) ≡ or_else (asked_by n fill.key fill.waiters) (asked_in n fills)
-    step true h = ap (or_else (asked_by n fill.key fill.waiters)) h
-    step false h = ap (or_else (asked_by n fill.key fill.waiters)) h
+    step : (b : Bool) → asked_in n (rejob key job fills) ≡ asked_in n fills → asked_in n ((if b then record fill { job = job } else fill) ∷ rejob key job fills) ≡ first_of (asked_by n fill.key fill.waiters) (asked_in n fills)
+    step true h = ap (first_of (asked_by n fill.key fill.waiters)) h
+    step false h = ap (first_of (asked_by n fill.key fill.waiters)) h
 
 pub rejob_keys : (k key : List ℕ) (job : Option ℕ) (fills : List Fill) → count (is_fill_of k) (rejob key job fills) ≡ count (is_fill_of k) fills
 rejob_keys k key job [] = refl
@@ -68,55 +69,55 @@ rejob_found key job (x ∷ fills) fill e = step (is_fill_of key x) refl e (λ f.
 
 -- ---- whose job it is
 
-pub fewer_brought : (n : ℕ) (key : List ℕ) (fills : List Fill) → count (λ (f : Fill). is_brought_by n f.job) (rejob key None fills) ≤ count (λ (f : Fill). is_brought_by n f.job) fills
+pub fewer_brought : (n : ℕ) (key : List ℕ) (fills : List Fill) → count (λ (f : Fill). is_number_in n f.job) (rejob key None fills) ≤ count (λ (f : Fill). is_number_in n f.job) fills
 fewer_brought n key [] = omega arith
 fewer_brought n key (fill ∷ fills) = step (is_fill_of key fill) (fewer_brought n key fills)
   where
-    step : (b : Bool) → count (λ (f : Fill). is_brought_by n f.job) (rejob key None fills) ≤ count (λ (f : Fill). is_brought_by n f.job) fills
-        → count (λ (f : Fill). is_brought_by n f.job) ((if b then record fill { job = None } else fill) ∷ rejob key None fills) ≤ count (λ (f : Fill). is_brought_by n f.job) (fill ∷ fills)
+    step : (b : Bool) → count (λ (f : Fill). is_number_in n f.job) (rejob key None fills) ≤ count (λ (f : Fill). is_number_in n f.job) fills
+        → count (λ (f : Fill). is_number_in n f.job) ((if b then record fill { job = None } else fill) ∷ rejob key None fills) ≤ count (λ (f : Fill). is_number_in n f.job) (fill ∷ fills)
     step true h = omega (arith, h)
     step false h = omega (arith, h)
 
-pub more_brought : (n m : ℕ) (key : List ℕ) (fills : List Fill) → count (λ (f : Fill). is_brought_by n f.job) (rejob key (Some m) fills) ≤ count (λ (f : Fill). is_brought_by n f.job) fills + (if m == n then count (is_fill_of key) fills else 0)
+pub more_brought : (n m : ℕ) (key : List ℕ) (fills : List Fill) → count (λ (f : Fill). is_number_in n f.job) (rejob key (Some m) fills) ≤ count (λ (f : Fill). is_number_in n f.job) fills + (if m == n then count (is_fill_of key) fills else 0)
 more_brought n m key [] = omega arith
 more_brought n m key (fill ∷ fills) = step (m == n) refl (is_fill_of key fill) (more_brought n m key fills)
   where
-    step : (c : Bool) → (m == n) ≡ c → (b : Bool) → count (λ (f : Fill). is_brought_by n f.job) (rejob key (Some m) fills) ≤ count (λ (f : Fill). is_brought_by n f.job) fills + (if m == n then count (is_fill_of key) fills else 0)
-        → (if is_brought_by n (if b then record fill { job = Some m } else fill).job then 1 else 0) + count (λ (f : Fill). is_brought_by n f.job) (rejob key (Some m) fills)
-        ≤ (if is_brought_by n fill.job then 1 else 0) + count (λ (f : Fill). is_brought_by n f.job) fills + (if m == n then (if b then 1 else 0) + count (is_fill_of key) fills else 0)
+    step : (c : Bool) → (m == n) ≡ c → (b : Bool) → count (λ (f : Fill). is_number_in n f.job) (rejob key (Some m) fills) ≤ count (λ (f : Fill). is_number_in n f.job) fills + (if m == n then count (is_fill_of key) fills else 0)
+        → (if is_number_in n (if b then record fill { job = Some m } else fill).job then 1 else 0) + count (λ (f : Fill). is_number_in n f.job) (rejob key (Some m) fills)
+        ≤ (if is_number_in n fill.job then 1 else 0) + count (λ (f : Fill). is_number_in n f.job) fills + (if m == n then (if b then 1 else 0) + count (is_fill_of key) fills else 0)
     step true e true h = let h2 = rw e at h in rw e (omega (arith, h2))
     step true e false h = let h2 = rw e at h in rw e (omega (arith, h2))
     step false e true h = let h2 = rw e at h in rw e (omega (arith, h2))
     step false e false h = let h2 = rw e at h in rw e (omega (arith, h2))
 
 -- the key's fill is counted
-found : (n : ℕ) (key : List ℕ) (fills : List Fill) (fill : Fill) → fill_at key fills ≡ Some fill → is_brought_by n fill.job ≡ true → 1 ≤ count (λ (f : Fill). is_brought_by n f.job) fills
+found : (n : ℕ) (key : List ℕ) (fills : List Fill) (fill : Fill) → fill_at key fills ≡ Some fill → is_number_in n fill.job ≡ true → 1 ≤ count (λ (f : Fill). is_number_in n f.job) fills
 found n key [] fill e b = absurd cc
 found n key (x ∷ fills) fill e b = step (is_fill_of key x) e (λ f. found n key fills fill f b)
   where
-    step : (t : Bool) → (if t then Some x else fill_at key fills) ≡ Some fill → (fill_at key fills ≡ Some fill → 1 ≤ count (λ (f : Fill). is_brought_by n f.job) fills) → 1 ≤ (if is_brought_by n x.job then 1 else 0) + count (λ (f : Fill). is_brought_by n f.job) fills
+    step : (t : Bool) → (if t then Some x else fill_at key fills) ≡ Some fill → (fill_at key fills ≡ Some fill → 1 ≤ count (λ (f : Fill). is_number_in n f.job) fills) → 1 ≤ (if is_number_in n x.job then 1 else 0) + count (λ (f : Fill). is_number_in n f.job) fills
     step true e ih =
         let same : x ≡ fill = cc in
-        let own : ◌≡◌ {A = ℕ} (if is_brought_by n x.job then 1 else 0) 1 = ap {B = ℕ} (λ (b : Bool). if b then 1 else 0) (ap (λ (f : Fill). is_brought_by n f.job) same ∙ b) in
+        let own : ◌≡◌ {A = ℕ} (if is_number_in n x.job then 1 else 0) 1 = ap {B = ℕ} (λ (b : Bool). if b then 1 else 0) (ap (λ (f : Fill). is_number_in n f.job) same ∙ b) in
         omega (arith, own)
     step false e ih = omega (arith, ih e)
 
 -- the job of the key's fill brings no other fill
-pub none_brought : (n : ℕ) (key : List ℕ) (fills : List Fill) (fill : Fill) → fill_at key fills ≡ Some fill → is_brought_by n fill.job ≡ true → count (λ (f : Fill). is_brought_by n f.job) fills ≤ 1 → count (λ (f : Fill). is_brought_by n f.job) (rejob key None fills) ≡ 0
+pub none_brought : (n : ℕ) (key : List ℕ) (fills : List Fill) (fill : Fill) → fill_at key fills ≡ Some fill → is_number_in n fill.job ≡ true → count (λ (f : Fill). is_number_in n f.job) fills ≤ 1 → count (λ (f : Fill). is_number_in n f.job) (rejob key None fills) ≡ 0
 none_brought n key [] fill e b one = absurd cc
 none_brought n key (x ∷ fills) fill e b one = step (is_fill_of key x) e one (λ f o. none_brought n key fills fill f b o) (fewer_brought n key fills)
   where
-    step : (t : Bool) → (if t then Some x else fill_at key fills) ≡ Some fill → (if is_brought_by n x.job then 1 else 0) + count (λ (f : Fill). is_brought_by n f.job) fills ≤ 1
-        → (fill_at key fills ≡ Some fill → count (λ (f : Fill). is_brought_by n f.job) fills ≤ 1 → count (λ (f : Fill). is_brought_by n f.job) (rejob key None fills) ≡ 0)
-        → count (λ (f : Fill). is_brought_by n f.job) (rejob key None fills) ≤ count (λ (f : Fill). is_brought_by n f.job) fills
-        → (if is_brought_by n (if t then record x { job = None } else x).job then 1 else 0) + count (λ (f : Fill). is_brought_by n f.job) (rejob key None fills) ≡ 0
+    step : (t : Bool) → (if t then Some x else fill_at key fills) ≡ Some fill → (if is_number_in n x.job then 1 else 0) + count (λ (f : Fill). is_number_in n f.job) fills ≤ 1
+        → (fill_at key fills ≡ Some fill → count (λ (f : Fill). is_number_in n f.job) fills ≤ 1 → count (λ (f : Fill). is_number_in n f.job) (rejob key None fills) ≡ 0)
+        → count (λ (f : Fill). is_number_in n f.job) (rejob key None fills) ≤ count (λ (f : Fill). is_number_in n f.job) fills
+        → (if is_number_in n (if t then record x { job = None } else x).job then 1 else 0) + count (λ (f : Fill). is_number_in n f.job) (rejob key None fills) ≡ 0
     step true e one ih less =
         let same : x ≡ fill = cc in
-        let own : ◌≡◌ {A = ℕ} (if is_brought_by n x.job then 1 else 0) 1 = ap {B = ℕ} (λ (b : Bool). if b then 1 else 0) (ap (λ (f : Fill). is_brought_by n f.job) same ∙ b) in
+        let own : ◌≡◌ {A = ℕ} (if is_number_in n x.job then 1 else 0) 1 = ap {B = ℕ} (λ (b : Bool). if b then 1 else 0) (ap (λ (f : Fill). is_number_in n f.job) same ∙ b) in
         omega (arith, less, one, own)
     step false e one ih less =
-        let there : 1 ≤ count (λ (f : Fill). is_brought_by n f.job) fills = found n key fills fill e b in
-        let none : count (λ (f : Fill). is_brought_by n f.job) (rejob key None fills) ≡ 0 = ih e (omega (arith, one)) in
+        let there : 1 ≤ count (λ (f : Fill). is_number_in n f.job) fills = found n key fills fill e b in
+        let none : count (λ (f : Fill). is_number_in n f.job) (rejob key None fills) ≡ 0 = ih e (omega (arith, one)) in
         omega (arith, one, there, none)
 
 -- ---- with it the cache is good
@@ -150,7 +151,7 @@ wishes_rejob memory key job (fill ∷ fills) h = step (is_fill_of key fill) (wis
 abbrev pub refilled : List Fill → Nvm → Cache → Cache
 refilled fills nvm cache = record cache { nvm = Some (record nvm { fills = fills }) }
 
-flash_rejob : (flash : Option FlashConfig) (older : List Note) (memory : Memory) (nvm : Nvm) (key : List ℕ) (job : Option ℕ) → BringsIf (bytes_at older) nvm key job → ((n : ℕ) → count (λ (f : Fill). is_brought_by n f.job) (rejob key job nvm.fills) ≤ 1)
+flash_rejob : (flash : Option FlashConfig) (older : List Note) (memory : Memory) (nvm : Nvm) (key : List ℕ) (job : Option ℕ) → BringsIf (bytes_at older) nvm key job → ((n : ℕ) → count (λ (f : Fill). is_number_in n f.job) (rejob key job nvm.fills) ≤ 1)
     → FlashMidst flash older memory (Some nvm) none_moves → FlashMidst flash older memory (Some (record nvm { fills = rejob key job nvm.fills })) none_moves
 flash_rejob None older memory nvm key job b one f = absurd f
 flash_rejob (Some flash) older memory nvm key job b one f =
@@ -164,7 +165,7 @@ flash_rejob (Some flash) older memory nvm key job b one f =
       one_add = λ n. subst (λ (ws : List Waiter). count (adds n) ws ≤ 1) (sym waiters) (f.fills.one_add n);
     }) (subst (λ (ws : List Waiter). AllSized (length memory.pools) ws) (sym waiters) f.adds)
 
-pub good_rejob : (config : Config) (older : List Note) (cache : Cache) (nvm : Nvm) (key : List ℕ) (job : Option ℕ) → cache.nvm ≡ Some nvm → BringsIf (bytes_at older) nvm key job → ((n : ℕ) → count (λ (f : Fill). is_brought_by n f.job) (rejob key job nvm.fills) ≤ 1)
+pub good_rejob : (config : Config) (older : List Note) (cache : Cache) (nvm : Nvm) (key : List ℕ) (job : Option ℕ) → cache.nvm ≡ Some nvm → BringsIf (bytes_at older) nvm key job → ((n : ℕ) → count (λ (f : Fill). is_number_in n f.job) (rejob key job nvm.fills) ≤ 1)
     → Agrees config older cache → Agrees config older (refilled (rejob key job nvm.fills) nvm cache)
 good_rejob config older cache nvm key job n b one g =
     let r = good_is_rest config older cache g in

@@ -12,7 +12,7 @@ use Rattle.hc_engines.specs.large.Block.{finished}
 use Rattle.hc_engines.specs.large.Steps as steps
 use Rattle.hc_engines.specs.pair.Pair as pairs
 use Rattle.hc_engines.specs.pair.Pair.{by_small, by_large}
-use Rattle.hc_machine.specs.Nvm.{Nvm, Fill, Filling, fill_at, is_fill_of, is_brought_by, fill_by, without_fill, taken_fill}
+use Rattle.hc_machine.specs.Nvm.{Nvm, Fill, Filling, fill_at, is_fill_of, is_number_in, fill_by, without_fill, taken_fill}
 use Rattle.hc_machine.specs.Leaving.{Changed, changed, and_then}
 use Rattle.hc_machine.specs.Takes.{Work as TheWork, Finished, launch_by, settled, found_in, fill_out, take_fill}
 use Rattle.hc_proof.proofs.frames.ByNumber.{same_number}
@@ -31,18 +31,18 @@ settled_is answer nvm = ap (λ (first : Changed). and_then (changed [] nvm) (λ 
 
 -- ---- the fill that was taken
 
-pub brought_now : (m : ℕ) (key : List ℕ) (fills : List Fill) (fill : Fill) → fill_at key fills ≡ Some fill → count (λ (f : Fill). is_brought_by m f.job) fills ≡ 0 → fill_by m (rejob key (Some m) fills) ≡ Some (record fill { job = Some m })
+pub brought_now : (m : ℕ) (key : List ℕ) (fills : List Fill) (fill : Fill) → fill_at key fills ≡ Some fill → count (λ (f : Fill). is_number_in m f.job) fills ≡ 0 → fill_by m (rejob key (Some m) fills) ≡ Some (record fill { job = Some m })
 brought_now m key [] fill e none = absurd cc
 brought_now m key (x ∷ fills) fill e none = step (is_fill_of key x) e (brought_now m key fills fill)
   where
-    later : (b : Bool) (o p : Option Fill) → cond b 1 0 + count (λ (f : Fill). is_brought_by m f.job) fills ≡ 0 → o ≡ p → (if b then Some x else o) ≡ p
+    later : (b : Bool) (o p : Option Fill) → cond b 1 0 + count (λ (f : Fill). is_number_in m f.job) fills ≡ 0 → o ≡ p → (if b then Some x else o) ≡ p
     later true o p z h = absurd (omega arith)
     later false o p z h = h
 
-    step : (t : Bool) → cond t (Some x) (fill_at key fills) ≡ Some fill → (fill_at key fills ≡ Some fill → count (λ (f : Fill). is_brought_by m f.job) fills ≡ 0 → fill_by m (rejob key (Some m) fills) ≡ Some (record fill { job = Some m }))
+    step : (t : Bool) → cond t (Some x) (fill_at key fills) ≡ Some fill → (fill_at key fills ≡ Some fill → count (λ (f : Fill). is_number_in m f.job) fills ≡ 0 → fill_by m (rejob key (Some m) fills) ≡ Some (record fill { job = Some m }))
         → fill_by m (cond t (record x { job = Some m }) x ∷ rejob key (Some m) fills) ≡ Some (record fill { job = Some m })
     step true e ih = let same : x ≡ fill = cc in ap (λ (b : Bool). if b then Some (record x { job = Some m }) else fill_by m (rejob key (Some m) fills)) (same_number m) ∙ ap (λ (f : Fill). Some (record f { job = Some m })) same
-    step false e ih = later (is_brought_by m x.job) (fill_by m (rejob key (Some m) fills)) (Some (record fill { job = Some m })) none (ih e (omega (arith, none)))
+    step false e ih = later (is_number_in m x.job) (fill_by m (rejob key (Some m) fills)) (Some (record fill { job = Some m })) none (ih e (omega (arith, none)))
 
 -- ---- what the take comes to
 
@@ -79,7 +79,7 @@ module _ (nvm : Nvm) (fill : Fill) where
   -- or it answers at once
   pub over_large : (answer : engine.Answer) → bighash.start nvm.pair.small (nvm.made + 1) (Get fill.key) ≡ ends_so nvm.pair.small Absent
       → steps.get nvm.pair.small.flash (nvm.made + 1) fill.key nvm.pair.large ≡ finished nvm.pair.large (record nothing { answer = answer })
-      → fill_at fill.key nvm.fills ≡ Some fill → count (λ (f : Fill). is_brought_by (nvm.made + 1) f.job) nvm.fills ≡ 0
+      → fill_at fill.key nvm.fills ≡ Some fill → count (λ (f : Fill). is_number_in (nvm.made + 1) f.job) nvm.fills ≡ 0
       → take_fill (Some fill) nvm ≡ record {
         nvm = record nvm { fills = without_fill fill.key nvm.fills };
         take = Finished;

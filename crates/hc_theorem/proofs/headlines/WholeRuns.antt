@@ -1,8 +1,8 @@
 -- The headline, in each of its forms, from the laws of the steps.
 use Rattle.hc_theorem.specs.runs.Lock.{CallsStayGuarded}
-use Rattle.hc_theorem.specs.runs.Events.{FinishIfHonest}
-use Rattle.hc_theorem.proofs.runs.Running.{run_is_right}
-use Rattle.hc_theorem.proofs.runs.Running as running
+use Rattle.hc_theorem.specs.runs.Honesty.{FinishIfHonest}
+use Rattle.hc_theorem.proofs.runs.Traces as traces
+use Rattle.hc_theorem.specs.runs.Lines.{steps_of}
 use Rattle.hc_theorem.proofs.runs.Honesty as honesty
 use Rattle.hc_theorem.proofs.runs.Scheduling.{schedule_is_right}
 use Rattle.hc_theorem.proofs.runs.QuietRunning.{quiet_run_is_right}
@@ -14,14 +14,15 @@ use Rattle.hc_theorem.specs.headlines.Headline.{Headline, HeadlineOfSchedules, H
 use Rattle.hc_theorem.proofs.headlines.Checked.{can_run}
 use Rattle.hc_theorem.proofs.headlines.EachStep.{laws}
 
-pub headline : Headline
-headline config breaks lines right sized = run_is_right laws config breaks lines (can_run config right) sized
-
 pub headline_of_schedules : HeadlineOfSchedules
 headline_of_schedules config breaks steps right sized = record {
   right = schedule_is_right laws config breaks steps (can_run config right) sized;
   follows = schedules_follow laws config breaks steps (can_run config right) sized;
 }
+
+-- the lines of a trace are steps of a schedule
+pub headline : Headline
+headline config breaks lines right sized = traces.run_right config breaks lines (headline_of_schedules config breaks (steps_of lines) right (traces.lines_sized lines sized)).right
 
 pub headline_of_quiet_schedules : HeadlineOfQuietSchedules
 headline_of_quiet_schedules config breaks steps right sized = quiet_run_is_right laws config breaks steps (can_run config right) sized
@@ -34,7 +35,7 @@ headline_of_logs config events right sized honest = honesty.honest_is_legal laws
 
 -- each line of a run keeps what holds of it, with the device
 pub step_keeps : StepKeeps
-step_keeps = running.step_keeps laws
+step_keeps = traces.step_keeps laws
 
 -- whatever result is handed in
 pub honest_finish : FinishIfHonest

@@ -15,13 +15,14 @@ use Rattle.hc_history.specs.Pages.{bytes_at}
 use Rattle.hc_history.specs.Lawful.{past}
 use Rattle.hc_machine.specs.Nvm.{Nvm, Fill, is_fill_of, fill_at, put_at, is_buried}
 use Rattle.hc_machine.specs.World.{Result, order_in}
-use Rattle.hc_invariant.specs.Standing.{queued_at, buried_at}
+use Rattle.hc_machine.specs.Calls.{waiting_at, buried_at}
 use Rattle.hc_invariant.specs.Jobs.{AllFill}
 use Rattle.hc_invariant.specs.Good.{FlashPart, fills_of, pages_by, pages_behind, AllResult}
 use Rattle.hc_invariant.proofs.Frames.{waits-is}
 use Rattle.hc_proof.specs.frames.Midst.{AllWishes}
 use Rattle.hc_proof.proofs.frames.BetweenSteps.{wishes_of}
-use Rattle.hc_theorem.specs.runs.Alone.{page_of, IsWrite, Alone}
+use Rattle.hc_follows.specs.Idle.{page_of}
+use Rattle.hc_theorem.specs.runs.Alone.{IsWrite, Alone}
 use Rattle.hc_theorem.proofs.runs.Devices.{some_order, untouched}
 use Rattle.hc_theorem.proofs.runs.WritesAlone.{orders_alone}
 use Rattle.hc_theorem.proofs.runs.Known.{books_known, unwritten}
@@ -57,10 +58,10 @@ agrees nvm pages base (r ∷ rs) page none h =
 -- ---- all of it
 
 record Parts (older : List Note) (memory : Memory) (nvm : Option Nvm) : Type 0 where
-  waits : (key : List ℕ) → is_among key (waiting older) ≡ is_some (queued_at nvm key)
+  waits : (key : List ℕ) → is_among key (waiting older) ≡ is_some (waiting_at nvm key)
   stones : (key : List ℕ) → is_among key (buried older) ≡ buried_at nvm key
   queue : queued_keys nvm ≡ reverse (waiting older)
-  fills : (key : List ℕ) → is_some (fill_at key (fills_of nvm)) ≡ true → (linked_at key memory.pools ≡ None) × (queued_at nvm key ≡ None) × (buried_at nvm key ≡ false)
+  fills : (key : List ℕ) → is_some (fill_at key (fills_of nvm)) ≡ true → (linked_at key memory.pools ≡ None) × (waiting_at nvm key ≡ None) × (buried_at nvm key ≡ false)
   adds : AllWishes memory (fills_of nvm)
   alone : Alone nvm
   reads : ReadsKeepRegions nvm

@@ -12,7 +12,8 @@ use Rattle.hc_machine.specs.Takes.{result_note}
 use Rattle.hc_machine.specs.World.{Result, order_in, result_at, without_result, read_of, result_of}
 use Rattle.hc_invariant.specs.Good.{pages_by, pages_behind, IsResult, AllResult}
 use Rattle.hc_theorem.specs.runs.NoIo.{NoIo, KeepsOrders}
-use Rattle.hc_theorem.specs.runs.Alone.{page_of, IsWrite, Alone}
+use Rattle.hc_follows.specs.Idle.{page_of}
+use Rattle.hc_theorem.specs.runs.Alone.{IsWrite, Alone}
 use Rattle.hc_theorem.specs.runs.Device.{CallKeepsDevice, IoKeepsDevice, WaitingIsResult, FinishKeepsDevice}
 
 -- ---- the books' pages

@@ -35,7 +35,8 @@ use Rattle.hc_invariant.specs.Good.{Good, FlashPart, EnginesFit, IsResult}
 use Rattle.hc_invariant.proofs.Ends.{good_ends}
 use Rattle.hc_invariant.proofs.Beginning.{new_good}
 use Rattle.hc_invariant.specs.Laws.{Laws, KeptBy}
-use Rattle.hc_theorem.specs.runs.Events.{FinishIfHonest, Event, Allocates, Inserts, Adds, Discards, Finds, Removes, Replies, Ticks, Writes, Fills, Reclaims, Finishes, act, EventSized, AllEventSized, acts, HonestIsLegal}
+use Rattle.hc_machine.specs.Call.{CacheCall, Allocates, Inserts, Adds, Discards, Finds, Removes, Replies, Ticks, Writes, Fills, Reclaims, Finishes, act, acts}
+use Rattle.hc_theorem.specs.runs.Honesty.{FinishIfHonest, CallSized, AllCallSized, HonestIsLegal}
 use Rattle.hc_theorem.proofs.runs.WritesAlone.{Runs, OfSmall, OfLarge, runs_of}
 use Rattle.hc_theorem.proofs.runs.Running.{taken_in}
 use Rattle.hc_proof.proofs.frames.JobLists.{job_number}
@@ -178,7 +179,7 @@ pub honest-split : (older log part : List Note) → HonestAfter older (log ++ pa
 honest-split older [] part h = (tt, h)
 honest-split older (note ∷ log) part h = let rest = honest-split (note ∷ older) log part h.1 in ((h.0, rest.0), rest.1)
 
-pub act_kept : (laws : Laws) (config : Config) (older : List Note) (cache : Cache) (event : Event) → EventSized event → Good config older cache → HonestAfter older (act event cache).part → KeptBy Good config older (act event cache)
+pub act_kept : (laws : Laws) (config : Config) (older : List Note) (cache : Cache) (event : CacheCall) → CallSized event → Good config older cache → HonestAfter older (act event cache).part → KeptBy Good config older (act event cache)
 act_kept laws config older cache (Allocates pool key value ttl) sized g honest = laws.allocates config older cache pool key value ttl g sized
 act_kept laws config older cache (Inserts client handle) sized g honest = laws.inserts config older cache client handle g sized
 act_kept laws config older cache (Adds client handle) sized g honest = laws.adds config older cache client handle g sized
@@ -196,7 +197,7 @@ record Held (config : Config) (older log : List Note) (cache : Cache) : Type 0 w
   lawful : Lawful config older log
   good : Good config (past older log) cache
 
-acts_held : (laws : Laws) (config : Config) (older : List Note) (cache : Cache) (events : List Event) → AllEventSized events → Good config older cache → HonestAfter older (acts events cache).log
+acts_held : (laws : Laws) (config : Config) (older : List Note) (cache : Cache) (events : List CacheCall) → AllCallSized events → Good config older cache → HonestAfter older (acts events cache).log
     → Held config older (acts events cache).log (acts events cache).cache
 acts_held laws config older cache [] sized g honest = record { lawful = tt; good = g }
 acts_held laws config older cache (event ∷ events) sized g honest =

@@ -8,7 +8,7 @@ use Rattle.hc_invariant.specs.Good.{Good}
 use Rattle.hc_invariant.proofs.Beginning.{new_good}
 use Rattle.hc_invariant.proofs.Ends.{good_ends}
 use Rattle.hc_invariant.specs.Laws.{Laws}
-use Rattle.hc_theorem.specs.runs.Events.{act}
+use Rattle.hc_machine.specs.Call.{act}
 use Rattle.hc_theorem.proofs.runs.Honesty.{honest-split, act_kept}
 use Rattle.hc_theorem.specs.runs.Lock.{NewIsGuarded, CallsStayGuarded}
 

@@ -2,7 +2,6 @@
 use Rattle.std.proofs.Common.{◌≡◌, ℕ, ◌==◌, false, List, ◌++◌, Option, Some, None, refl, ap, sym, ◌∙◌, subst}
 use Rattle.std.specs.Prelude.{option_map}
 use Rattle.hc_engines.specs.Engine.{Order, IoResult, Next, Busy, Io, Done}
-use Rattle.hc_memory.specs.Item.{Handle}
 use Rattle.hc_memory.specs.Memory.{linked_at}
 use Rattle.hc_history.specs.Note.{Note, Read, Wrote}
 use Rattle.hc_engines.specs.pair.Pair as pairs
@@ -10,8 +9,8 @@ use Rattle.hc_machine.specs.Nvm.{Nvm, Job, job_at}
 use Rattle.hc_machine.specs.Takes as takes
 use Rattle.hc_machine.specs.Takes.{Take, Idle, Finished, Work, Taken, goes_on, resumed}
 use Rattle.hc_machine.specs.Cache.{Cache, Moved, takes_in}
-use Rattle.hc_machine.specs.Evicting.{allocate}
 use Rattle.hc_machine.specs.Calls as calls
+use Rattle.hc_machine.specs.Call.{CacheCall, Allocates, Inserts, Adds, Discards, Finds, Removes, Replies, Ticks, Writes, Fills, Reclaims, Finishes, act}
 use Rattle.hc_machine.specs.Workers as workers
 use Rattle.hc_machine.specs.Workers.{after_take, take_on, fill}
 use Rattle.hc_machine.specs.World.{order_in}
@@ -20,13 +19,13 @@ use Rattle.hc_laws.proofs.walk.Parts.{none_both, none_less, fill_leaves}
 use Rattle.hc_laws.proofs.walk.Calls.{allocate_leaves, discard_leaves, insert_leaves, new_leaves, find_leaves, remove_leaves, reply_leaves, tick_leaves}
 use Rattle.hc_theorem.specs.idle.Still.{is_of_pages, StillStep}
 use Rattle.hc_theorem.specs.idle.Takings.{is_of_calls, AllMute, JobsTaken, TakenSo, JobsWent, WentSo}
-use Rattle.hc_theorem.specs.runs.NoIo.{is_io, NoIo, NoIoStep, FinishStep}
+use Rattle.hc_theorem.specs.runs.NoIo.{is_io, NoIo, HandsInNothing, NoIoStep, FinishStep}
 use Rattle.hc_theorem.proofs.idle.StillParts.{calm, mute, still_jobs}
 use Rattle.hc_theorem.proofs.idle.TakesStill.{after_mute, after_jobs, writer_so, filler_so, goes_on_so, reclaim_so}
 use Rattle.hc_theorem.proofs.runs.OrdersStay.{order_at, order-is, same_orders, pushed_order, ordered_other, without_other}
 use Rattle.hc_proof.proofs.frames.JobLists.{job_number}
 
--- ---- calls of clients
+-- ---- what of pages is told by a call of clients
 
 of_pages : (note : Note) → is_of_pages note ≡ false → is_io note ≡ false
 of_pages (Read page result) h = h
@@ -35,30 +34,6 @@ of_pages note h = refl
 
 no_io : (cache : Cache) (moved : Moved) → StillStep cache moved → NoIoStep cache moved
 no_io cache moved s = record { silent = none_less is_io is_of_pages of_pages moved.part s.none; orders = same_orders cache.nvm moved.cache.nvm (still_jobs cache.nvm moved.cache.nvm s.flash) }
-
-pub allocate_no_io : (pool : ℕ) (key value : List ℕ) (ttl : ℕ) (cache : Cache) → NoIoStep cache (allocate pool key value ttl cache)
-allocate_no_io pool key value ttl cache = no_io cache _ (allocate_leaves calm pool key value ttl cache)
-
-pub discard_no_io : (handle : Handle) (cache : Cache) → NoIoStep cache (calls.discard handle cache)
-discard_no_io handle cache = no_io cache _ (discard_leaves calm handle cache)
-
-pub insert_no_io : (client : ℕ) (handle : Handle) (cache : Cache) → NoIoStep cache (calls.insert_or_replace client handle cache)
-insert_no_io client handle cache = no_io cache _ (insert_leaves calm client handle cache)
-
-pub new_no_io : (client : ℕ) (handle : Handle) (cache : Cache) → NoIoStep cache (calls.insert client handle cache)
-new_no_io client handle cache = no_io cache _ (new_leaves calm client handle cache)
-
-pub find_no_io : (client : ℕ) (key : List ℕ) (cache : Cache) → NoIoStep cache (calls.find client key cache)
-find_no_io client key cache = no_io cache _ (find_leaves calm client key cache)
-
-pub remove_no_io : (client : ℕ) (key : List ℕ) (cache : Cache) → NoIoStep cache (calls.remove client key cache)
-remove_no_io client key cache = no_io cache _ (remove_leaves calm (calls.remove_reply (linked_at key cache.memory.pools)) client key cache)
-
-pub reply_no_io : (call : ℕ) (cache : Cache) → NoIoStep cache (calls.take_reply call cache)
-reply_no_io call cache = no_io cache _ (reply_leaves calm call cache)
-
-pub tick_no_io : (moment : ℕ) (cache : Cache) → NoIoStep cache (calls.tick moment cache)
-tick_no_io moment cache = record { silent = none_less is_io is_of_pages of_pages (calls.tick moment cache).part (tick_leaves calm moment cache).none; orders = λ n order h. h }
 
 -- ---- takes
 
@@ -90,13 +65,7 @@ taken_no_io cache take q = go cache.nvm refl
           ∙ taken_orders nvm (take nvm) (q nvm) n order (sym (order-is (Some nvm) n) ∙ sym (ap (λ o. order_in o n) e) ∙ h);
     }
 
-pub writer_no_io : (cache : Cache) → NoIoStep cache (workers.writer_take cache)
-writer_no_io cache = taken_no_io cache takes.writer_take writer_so
-
-pub filler_no_io : (cache : Cache) → NoIoStep cache (workers.filler_take cache)
-filler_no_io cache = taken_no_io cache takes.filler_take filler_so
-
-pub reclaim_no_io : (cache : Cache) → NoIoStep cache (workers.reclaim cache)
+reclaim_no_io : (cache : Cache) → NoIoStep cache (workers.reclaim cache)
 reclaim_no_io cache = go cache.nvm refl
   where
     go : (nvm : Option Nvm) → cache.nvm ≡ nvm → NoIoStep cache (workers.reclaim_on nvm cache)
@@ -105,6 +74,22 @@ reclaim_no_io cache = go cache.nvm refl
         let r = reclaim_so nvm in
         let change = (takes.reclaim nvm).change in
         record { silent = silent change.part r.mute; orders = same_orders cache.nvm (Some change.nvm) (r.jobs ∙ sym (ap jobs_in e)) }
+
+-- ---- each call that hands in no result
+
+pub act_no_io : (call : CacheCall) → HandsInNothing call → (cache : Cache) → NoIoStep cache (act call cache)
+act_no_io (Allocates pool key value ttl) h cache = no_io cache _ (allocate_leaves calm pool key value ttl cache)
+act_no_io (Inserts client handle) h cache = no_io cache _ (insert_leaves calm client handle cache)
+act_no_io (Adds client handle) h cache = no_io cache _ (new_leaves calm client handle cache)
+act_no_io (Discards handle) h cache = no_io cache _ (discard_leaves calm handle cache)
+act_no_io (Finds client key) h cache = no_io cache _ (find_leaves calm client key cache)
+act_no_io (Removes client key) h cache = no_io cache _ (remove_leaves calm (calls.remove_reply (linked_at key cache.memory.pools)) client key cache)
+act_no_io (Replies call) h cache = no_io cache _ (reply_leaves calm call cache)
+act_no_io (Ticks moment) h cache = record { silent = none_less is_io is_of_pages of_pages (calls.tick moment cache).part (tick_leaves calm moment cache).none; orders = λ n order h. h }
+act_no_io Writes h cache = taken_no_io cache takes.writer_take writer_so
+act_no_io Fills h cache = taken_no_io cache takes.filler_take filler_so
+act_no_io Reclaims h cache = reclaim_no_io cache
+act_no_io (Finishes number result) h cache = absurd h
 
 -- ---- a result is handed in
 

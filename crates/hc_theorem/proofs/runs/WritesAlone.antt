@@ -27,7 +27,8 @@ use Rattle.hc_machine.specs.Nvm.{Nvm, Task, Putting, Deleting, Filling, Flushing
 use Rattle.hc_machine.specs.World.{order_in}
 use Rattle.hc_invariant.specs.Jobs.{RunsAs, AllRun, JobsRun, small_job, large_work, small_order, large_order}
 use Rattle.hc_invariant.specs.Good.{EnginesFit}
-use Rattle.hc_theorem.specs.runs.Alone.{page_of, IsWrite, OrdersAlone}
+use Rattle.hc_follows.specs.Idle.{page_of}
+use Rattle.hc_theorem.specs.runs.Alone.{IsWrite, OrdersAlone}
 use Rattle.hc_theorem.proofs.runs.OrdersStay.{order_at, order-is}
 
 -- ---- a job's order is that of one engine's operation

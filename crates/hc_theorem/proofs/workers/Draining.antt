@@ -18,9 +18,9 @@ use Rattle.hc_engines.specs.large.Steps as steps
 use Rattle.hc_engines.proofs.large.Jobs.{work_holds}
 use Rattle.hc_memory.specs.Memory.{Memory}
 use Rattle.hc_history.specs.Regions.{Filing, filed, flushed, is_one_of, clean_count}
-use Rattle.hc_machine.specs.Nvm.{Nvm}
+use Rattle.hc_machine.specs.Nvm.{Nvm, is_number_in}
 use Rattle.hc_machine.specs.World.{Result}
-use Rattle.hc_invariant.specs.Tells.{files, is_here}
+use Rattle.hc_invariant.specs.Tells.{files}
 use Rattle.hc_invariant.specs.Good.{FlashGood}
 use Rattle.hc_proof.proofs.books.RegionsInUse.{used-clean, in-reverse}
 use Rattle.hc_proof.proofs.writes.Failing.{page-is}
@@ -89,7 +89,7 @@ module _ (flash : FlashConfig) (desk : Desk) (memory : Memory) (nvm : Nvm) (f : 
   nothing_filed : (r : ℕ) → is_draining (region_at r nvm.pair.large.regions).status ≡ true → count (λ (filing : Filing). filing.region == r) (filed flash desk.older) ≡ 0
   nothing_filed r d = none_filed r (filed flash desk.older) (λ hash. f.engines.regions.filings hash r ∙ ap {B = ℕ} (λ b. if b then 1 else 0) (none hash (place_at hash nvm.pair.large.index) refl))
     where
-      none : (hash : ℕ) (o : Option Place) → place_at hash nvm.pair.large.index ≡ o → is_here r (region_in (place_at hash nvm.pair.large.index)) ≡ false
+      none : (hash : ℕ) (o : Option Place) → place_at hash nvm.pair.large.index ≡ o → is_number_in r (region_in (place_at hash nvm.pair.large.index)) ≡ false
       none hash None e = rw e refl
       none hash (Some place) e = rw e (by (place.region == r) refl)
         where

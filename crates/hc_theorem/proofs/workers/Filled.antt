@@ -12,7 +12,7 @@ use Rattle.hc_engines.specs.large.Block as block
 use Rattle.hc_engines.specs.large.Steps as steps
 use Rattle.hc_engines.specs.pair.Pair as pairs
 use Rattle.hc_engines.specs.pair.Pair.{Pair}
-use Rattle.hc_machine.specs.Nvm.{Nvm, Tombstone, Waiter, Fill, Task, Putting, Deleting, Filling, Flushing, Job, adds, is_fill_of, fill_by, is_brought_by, without_fill, taken_fill, without_job, ordered, next_put, next_delete, next_fill, without_put, taken_stone}
+use Rattle.hc_machine.specs.Nvm.{Nvm, Tombstone, Waiter, Fill, Task, Putting, Deleting, Filling, Flushing, Job, adds, is_fill_of, fill_by, is_number_in, without_fill, taken_fill, without_job, ordered, next_put, next_delete, next_fill, without_put, taken_stone}
 use Rattle.hc_machine.specs.Leaving.{Changed}
 use Rattle.hc_machine.specs.Takes as takes
 use Rattle.hc_machine.specs.Takes.{Filled, bucket_lost, raise_all, holds, settled, fill_out, finished, ends, launched, take_sized, take_put, take_delete, take_flush, take_fill, goes_on, reclaimed_by}
@@ -54,7 +54,7 @@ ends_so number task outcome nvm one = go task (settled task outcome nvm) (settle
     out change same (Some fill) e =
         let fills = change.nvm.fills in
         let each : OneEach fills = subst OneEach (sym same) one in
-        let at = found-only (λ (f : Fill). is_brought_by number f.job) (is_fill_of fill.key) fills fill e (bytes_eq-refl fill.key) (each fill.key) in
+        let at = found-only (λ (f : Fill). is_number_in number f.job) (is_fill_of fill.key) fills fill e (bytes_eq-refl fill.key) (each fill.key) in
         let counts : (n : ℕ) → count (adds n) (waiters_of fills) ≡ count (adds n) fill.waiters + count (adds n) (waiters_of (without_fill fill.key fills)) =
         λ n. omega (arith, left_counts (adds n) fill.key fills fill at (each fill.key), tally-append (λ (w : Waiter). cond (adds n w) 1 0) fill.waiters (waiters_of (without_fill fill.key fills))) in (
           λ n. ap (λ (fs : List Fill). count (adds n) (waiters_of fs)) (sym same) ∙ counts n,

@@ -27,8 +27,9 @@ use Rattle.hc_engines.specs.pair.Pair.{is_busy_for}
 use Rattle.hc_machine.specs.Nvm.{Nvm, Tombstone, Fill, Waiter, Wish, ToFind, ToAdd, Task, Putting, Deleting, Filling, Flushing, Job, is_job, is_stone_of, is_put_of, put_at, is_fill_of, fill_at}
 use Rattle.hc_machine.specs.Cache.{Cache}
 use Rattle.hc_machine.specs.World.{Result}
-use Rattle.hc_invariant.specs.Standing.{map_of, Placed, queued_at, written_at, buried_at, small_at, large_at}
-use Rattle.hc_invariant.specs.Tells.{CallsTell, op_of, asked_by, asked_in, or_else}
+use Rattle.hc_machine.specs.Calls.{waiting_at, buried_at}
+use Rattle.hc_invariant.specs.Standing.{map_of, Placed, written_at, small_at, large_at, first_of}
+use Rattle.hc_invariant.specs.Tells.{CallsTell, op_of, asked_by, asked_in}
 use Rattle.hc_invariant.specs.Jobs.{RunsAs, small_job, large_work, Brings, BringsIf, WishHolds, AllWish, AllFill, FillHolds}
 use Rattle.hc_invariant.specs.Good.{Agrees, FlashGood}
 use Rattle.hc_invariant.proofs.Frames.{waits-is}
@@ -94,7 +95,7 @@ module _ (flash : FlashConfig) (config : Config) (is : config.flash ≡ Some fla
     (rs : List Result) (pages : Pages) (m : JobsMatch desk.jobs desk.pages nvm.jobs rs pages) where
   queued_entry : (key : List ℕ) (put : FlashEntry) → put_at key nvm.queue ≡ Some put → entry_at (Some flash) desk.older key ≡ Some (map_of put)
   queued_entry key put at =
-      let there : queued_at cache.nvm key ≡ Some put = ap (λ (o : Option Nvm). queued_at o key) e ∙ at in
+      let there : waiting_at cache.nvm key ≡ Some put = ap (λ (o : Option Nvm). waiting_at o key) e ∙ at in
       let own : entry_at config.flash desk.older key ≡ Some (map_of put) =
       map_queued (linked_at key cache.memory.pools) put (written_at cache.nvm key) (small_at (bytes_at desk.older) cache.nvm key) (large_at (bytes_at desk.older) cache.nvm key) (entry_at config.flash desk.older key) (buried_at cache.nvm key)
       (subst (λ (q : Option FlashEntry). Placed (linked_at key cache.memory.pools) q (written_at cache.nvm key) (buried_at cache.nvm key) (small_at (bytes_at desk.older) cache.nvm key) (large_at (bytes_at desk.older) cache.nvm key) (entry_at config.flash desk.older key)) there (g.placed key)) in
@@ -178,7 +179,7 @@ module _ (flash : FlashConfig) (config : Config) (is : config.flash ≡ Some fla
       head true e more = (x, refl)
       head false e more = more refl
 
-      go : (o : Option Op) → asked_by n x.key x.waiters ≡ o → or_else o (asked_in n fills) ≡ Some op → (asked_in n fills ≡ Some op → (fill : Fill) × (fill_at (key_of op) fills ≡ Some fill)) → (fill : Fill) × (fill_at (key_of op) (x ∷ fills) ≡ Some fill)
+      go : (o : Option Op) → asked_by n x.key x.waiters ≡ o → first_of o (asked_in n fills) ≡ Some op → (asked_in n fills ≡ Some op → (fill : Fill) × (fill_at (key_of op) fills ≡ Some fill)) → (fill : Fill) × (fill_at (key_of op) (x ∷ fills) ≡ Some fill)
       go (Some asked) e h more =
           let same : asked ≡ op = cc in
           let key : key_of op ≡ x.key = asked_key n x.key x.waiters op all.0.wishes (e ∙ ap Some same) in

@@ -14,12 +14,12 @@ use Rattle.hc_engines.specs.large.Sound.{is_out, is_flushing, is_filling, writes
 use Rattle.hc_engines.specs.large.Steps.{flush}
 use Rattle.hc_memory.specs.Memory.{Memory}
 use Rattle.hc_history.specs.Regions.{in_use, is_one_of, open_region}
-use Rattle.hc_machine.specs.Nvm.{Nvm}
+use Rattle.hc_machine.specs.Nvm.{Nvm, is_number_in}
 use Rattle.hc_machine.specs.World.{Result}
 use Rattle.hc_invariant.specs.Good.{FlashGood}
 use Rattle.hc_proof.proofs.writes.Failing.{page-is}
 use Rattle.hc_follows.specs.Desk.{Desk}
-use Rattle.hc_follows.specs.Idle.{page_of, is_read, is_being_written, has_failed, is_the_open_one, needs_no_write}
+use Rattle.hc_follows.specs.Idle.{page_of, is_read, is_being_written, has_failed, needs_no_write}
 use Rattle.hc_theorem.specs.clients.Matches.{JobsMatch}
 use Rattle.hc_theorem.specs.idle.Accounted.{Accounted}
 use Rattle.hc_theorem.specs.idle.Idling.{NothingToWrite}
@@ -84,8 +84,8 @@ module _ (flash : FlashConfig) (desk : Desk) (memory : Memory) (nvm : Nvm) (f : 
   is_open : (r : ℕ) → nvm.pair.large.current ≡ Some r → can_go flash (region r) ≡ false → needs_no_write flash desk r ≡ true
   is_open r current h = go (region r).early refl
     where
-      its : is_the_open_one r (open_region flash desk.older) ≡ true
-      its = ap (is_the_open_one r) (f.engines.regions.current ∙ current) ∙ eq-eqb r r refl
+      its : is_number_in r (open_region flash desk.older) ≡ true
+      its = ap (is_number_in r) (f.engines.regions.current ∙ current) ∙ eq-eqb r r refl
 
       go : (t : Bool) → (region r).early ≡ t → needs_no_write flash desk r ≡ true
       go true e = is_going r (or_right _ _ e)

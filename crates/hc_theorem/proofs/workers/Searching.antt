@@ -9,7 +9,7 @@ use Rattle.hc_machine.proofs.items.Items.{bytes_eq-refl}
 use Rattle.hc_memory.proofs.Keyed.{same_bytes}
 use Rattle.hc_history.specs.Books.{Call, is_among, open_calls}
 use Rattle.hc_history.specs.Regions.{key_of}
-use Rattle.hc_machine.specs.Nvm.{Fill, is_fill_of, fill_at, is_brought_by}
+use Rattle.hc_machine.specs.Nvm.{Fill, is_fill_of, fill_at, is_number_in}
 use Rattle.hc_follows.specs.Desk.{Out, Desk, job_out, without_out}
 use Rattle.hc_follows.specs.Idle.{page_of, is_read, is_busy, each_once, reads_behind, keys_free}
 use Rattle.hc_proof.proofs.frames.ByNumber.{found-passes}
@@ -95,20 +95,20 @@ gone_counts test n (x ∷ outs) out at h = go (x.job == n) at (fewer outs) (gone
     go true at less more = let same : x ≡ out = cc in let its : test x ≡ true = ap test same ∙ h in let one : ◌≡◌ {A = ℕ} (if test x then 1 else 0) 1 = ap {B = ℕ} (λ b. if b then 1 else 0) its in omega (arith, less, one)
     go false at less more = omega (arith, more at h)
 
-brought_is : (number : ℕ) (job : Option ℕ) → job ≡ Some number → is_brought_by number job ≡ true
+brought_is : (number : ℕ) (job : Option ℕ) → job ≡ Some number → is_number_in number job ≡ true
 brought_is number None e = absurd cc
 brought_is number (Some n) e = let same : n ≡ number = cc in eq-eqb n number same
 
 -- two keys whose fills have one job are one key
-one_key : (fills : List Fill) (test : Out → Bool) (outs others : List Out) (a b : List ℕ) (p : ReadsFor test fills outs a) (q : ReadsFor test fills others b) → ((n : ℕ) → count (λ (fill : Fill). is_brought_by n fill.job) fills ≤ 1) → p.number ≡ q.number → a ≡ b
+one_key : (fills : List Fill) (test : Out → Bool) (outs others : List Out) (a b : List ℕ) (p : ReadsFor test fills outs a) (q : ReadsFor test fills others b) → ((n : ℕ) → count (λ (fill : Fill). is_number_in n fill.job) fills ≤ 1) → p.number ≡ q.number → a ≡ b
 one_key fills test outs others a b p q one same =
-    let brings : Fill → Bool = λ (fill : Fill). is_brought_by p.number fill.job in
+    let brings : Fill → Bool = λ (fill : Fill). is_number_in p.number fill.job in
     let here = found-only (is_fill_of a) brings fills p.fill p.at (brought_is p.number p.fill.job p.job) (one p.number) in
     let there = found-only (is_fill_of b) brings fills q.fill q.at (brought_is p.number q.fill.job (q.job ∙ ap Some (sym same))) (one p.number) in
     let fill : p.fill ≡ q.fill = let both : Some p.fill ≡ Some q.fill = sym here ∙ there in cc in
     sym (same_bytes p.fill.key a (found-passes (is_fill_of a) fills p.fill p.at)) ∙ ap (λ (f : Fill). f.key) fill ∙ same_bytes q.fill.key b (found-passes (is_fill_of b) fills q.fill q.at)
 
-few_keys : (test : Out → Bool) (fills : List Fill) → ((n : ℕ) → count (λ (fill : Fill). is_brought_by n fill.job) fills ≤ 1) → (keys : List (List ℕ)) (outs : List Out) → Once keys → ((key : List ℕ) → is_among key keys ≡ true → ReadsFor test fills outs key) → length keys ≤ count test outs
+few_keys : (test : Out → Bool) (fills : List Fill) → ((n : ℕ) → count (λ (fill : Fill). is_number_in n fill.job) fills ≤ 1) → (keys : List (List ℕ)) (outs : List Out) → Once keys → ((key : List ℕ) → is_among key keys ≡ true → ReadsFor test fills outs key) → length keys ≤ count test outs
 few_keys test fills one [] outs once each = omega arith
 few_keys test fills one (key ∷ keys) outs once each =
     let own : is_among key (key ∷ keys) ≡ true = or_left (bytes_eq key key) (is_among key keys) (bytes_eq-refl key) in
@@ -127,7 +127,7 @@ few_keys test fills one (key ∷ keys) outs once each =
         by false e = record { fill = r.fill; number = r.number; at = r.at; job = r.job; out = r.out; there = out_less first.number r.number outs ∙ ap (λ b. if b then None else job_out r.number outs) e ∙ r.there; passes = r.passes }
 
 -- the keys that are free are no more than the reads behind the buckets, where each has one
-pub few_free : (flash : FlashConfig) (desk : Desk) (fills : List Fill) → ((n : ℕ) → count (λ (fill : Fill). is_brought_by n fill.job) fills ≤ 1)
+pub few_free : (flash : FlashConfig) (desk : Desk) (fills : List Fill) → ((n : ℕ) → count (λ (fill : Fill). is_number_in n fill.job) fills ≤ 1)
     → ((key : List ℕ) → is_among key (map (λ (call : Call). key_of call.op) (open_calls desk.older)) ≡ true → is_busy flash desk.jobs key ≡ false → ReadsFor (λ (out : Out). is_read out.order && nat_le flash.buckets (page_of out.order)) fills desk.jobs key)
     → length (keys_free flash desk) ≤ reads_behind flash desk.jobs
 few_free flash desk fills one each =

@@ -17,8 +17,9 @@ use Rattle.hc_history.specs.Regions.{key_of, begins}
 use Rattle.hc_machine.specs.Nvm.{Nvm, Wish, ToFind, ToAdd, Waiter, Fill, put_at, is_put_of}
 use Rattle.hc_machine.specs.Leaving.{is_too_large}
 use Rattle.hc_machine.specs.Cache.{Owed}
-use Rattle.hc_invariant.specs.Tells.{CallsTell, op_of, asked_by, asked_in, or_else}
+use Rattle.hc_invariant.specs.Tells.{CallsTell, op_of, asked_by, asked_in}
 use Rattle.hc_invariant.specs.Jobs.{WishHolds, AllWish, AllFill}
+use Rattle.hc_invariant.specs.Standing.{first_of}
 use Rattle.hc_proof.proofs.frames.Lists.{found-counts}
 
 -- ---- what a call that waits asked
@@ -39,7 +40,7 @@ asked_unqueued : (pages : Pages) (memory : Memory) (nvm : Nvm) (n : ℕ) (fills 
 asked_unqueued pages memory nvm n [] op h e = absurd cc
 asked_unqueued pages memory nvm n (fill ∷ fills) op h e = step (asked_by n fill.key fill.waiters) refl (asked_unqueued pages memory nvm n fills op h.1) e
   where
-    step : (o : Option Op) → asked_by n fill.key fill.waiters ≡ o → (asked_in n fills ≡ Some op → put_at (key_of op) nvm.queue ≡ None) → or_else o (asked_in n fills) ≡ Some op → put_at (key_of op) nvm.queue ≡ None
+    step : (o : Option Op) → asked_by n fill.key fill.waiters ≡ o → (asked_in n fills ≡ Some op → put_at (key_of op) nvm.queue ≡ None) → first_of o (asked_in n fills) ≡ Some op → put_at (key_of op) nvm.queue ≡ None
     step (Some x) a more e =
         let same : x ≡ op = cc in
         let key : key_of op ≡ fill.key = asked_key memory fill.key n fill.waiters op h.0.wishes (a ∙ ap Some same) in

@@ -26,7 +26,7 @@ use Rattle.hc_machine.specs.Leaving.{changed}
 use Rattle.hc_machine.specs.Takes.{Finished, takes, launch_by, take_delete}
 use Rattle.hc_machine.specs.Cache.{Cache, with_nvm}
 use Rattle.hc_machine.specs.Workers.{after_take}
-use Rattle.hc_invariant.specs.Standing.{Placed, PlacedAt, queued_at, written_at, small_at, large_at, written_by}
+use Rattle.hc_invariant.specs.Standing.{Placed, PlacedAt, written_at, small_at, large_at, written_by}
 use Rattle.hc_invariant.specs.Tells.{WaitsTell}
 use Rattle.hc_invariant.specs.Jobs.{is_taken}
 use Rattle.hc_invariant.specs.Good.{Agrees, FlashGood, EnginesFit, Orderly}
@@ -35,6 +35,7 @@ use Rattle.hc_invariant.proofs.Placing.{placed_raised}
 use Rattle.hc_invariant.proofs.Lookups.{at_key, stands_in}
 use Rattle.hc_invariant.proofs.Frames.{placed_still}
 use Rattle.hc_machine.proofs.items.Items.{bytes_eq-refl}
+use Rattle.hc_machine.specs.Calls.{waiting_at}
 use Rattle.hc_proof.proofs.frames.Lists.{first-none, found-only, fewer, any-push}
 use Rattle.hc_theorem.specs.writer.Parts.{conf, DeleteKeeps}
 use Rattle.hc_theorem.proofs.writer.SmallStarts.{waits_so, ends_so, delete_starts, waits_fit, job_for}
@@ -161,7 +162,7 @@ module _ (pools : List PoolSize) (flash : FlashConfig) (older : List Note) (cach
           own = g.own;
           memory = record { sizes = g.memory.sizes; flash = g.memory.flash; sound = g.memory.sound; charges = record { one_key = g.memory.charges.one_key; one_number = g.memory.charges.one_number; fresh = g.memory.charges.fresh; same = g.memory.charges.same } };
           placed = at_key (λ k. PlacedAt (Some flash) (Raised key ∷ older) (with_nvm raised cache) k) key
-              (raised_there (linked_at key cache.memory.pools) (queued_at (Some nvm) key) (written_at (Some nvm) key) (small_at (bytes_at older) (Some nvm) key) (large_at (bytes_at older) (Some nvm) key) (entry_at (Some flash) older key)
+              (raised_there (linked_at key cache.memory.pools) (waiting_at (Some nvm) key) (written_at (Some nvm) key) (small_at (bytes_at older) (Some nvm) key) (large_at (bytes_at older) (Some nvm) key) (entry_at (Some flash) older key)
               (is_buried nvm key) (stands_in key (without_stone key nvm.tombstones)) stands
               (not-written nvm.pair.small.flash (word_at nvm.pair.small) (bytes_at older) key nvm.pair.small.jobs f.engines.small_fits.jobs_fit free) (fresh_holds nvm older key fresh)
               (stands-without key key nvm.tombstones ∙ ap (λ (b : Bool). if b then false else stands_in key nvm.tombstones) (bytes_eq-refl key)) (g.placed key))

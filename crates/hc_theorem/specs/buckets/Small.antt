@@ -13,7 +13,7 @@ use Rattle.hc_history.specs.Note.{Note, Lose, Written, Raised, Read, Wrote}
 use Rattle.hc_history.specs.Books.{charges, waiting, writing, buried, begun, open_calls, owed, is_among, entry_at, now_at}
 use Rattle.hc_history.specs.Pages.{bytes_at}
 use Rattle.hc_history.specs.Regions.{in_use, flushed, open_region, filed, filling}
-use Rattle.hc_machine.specs.Nvm.{Nvm, Fill, Task, Job, put_at, is_put_of, is_buried, is_stone_of, puts, is_written_now, is_fill_of, is_brought_by, adds}
+use Rattle.hc_machine.specs.Nvm.{Nvm, Fill, Task, Job, put_at, is_put_of, is_buried, is_stone_of, puts, is_written_now, is_fill_of, is_number_in, adds}
 use Rattle.hc_machine.specs.Leaving.{is_too_large}
 use Rattle.hc_invariant.specs.Standing.{Placed, written_by}
 use Rattle.hc_invariant.specs.Tells.{keys_of, MemoryTells, waiters_of}
@@ -73,7 +73,7 @@ AllStand memory nvm (fill ∷ fills) = FillStands memory nvm fill × AllStand me
 -- each fill is brought, but the one that this job brought
 abbrev pub AllBrought : Pages → Nvm → ℕ → List Fill → Type 0
 AllBrought pages nvm number [] = Unit {0}
-AllBrought pages nvm number (fill ∷ fills) = (is_brought_by number fill.job ≡ false → BringsIf pages nvm fill.key fill.job) × AllBrought pages nvm number fills
+AllBrought pages nvm number (fill ∷ fills) = (is_number_in number fill.job ≡ false → BringsIf pages nvm fill.key fill.job) × AllBrought pages nvm number fills
 
 -- The job with this number is over, and its end is still to be told: a put of this task is being written, by the books.
 pub record Ending (config : Config) (flash : FlashConfig) (older : List Note) (memory : Memory) (nvm : Nvm) (number : ℕ) (task : Task) : Type 0 where
@@ -94,7 +94,7 @@ pub record Ending (config : Config) (flash : FlashConfig) (older : List Note) (m
   pub stand : AllStand memory nvm nvm.fills
   pub brought : AllBrought (bytes_at older) nvm number nvm.fills
   pub one_fill : (key : List ℕ) → count (is_fill_of key) nvm.fills ≤ 1
-  pub one_each : (n : ℕ) → count (λ (fill : Fill). is_brought_by n fill.job) nvm.fills ≤ 1
+  pub one_each : (n : ℕ) → count (λ (fill : Fill). is_number_in n fill.job) nvm.fills ≤ 1
   pub one_add : (n : ℕ) → count (adds n) (waiters_of nvm.fills) ≤ 1
   pub pools : InPools (length memory.pools) nvm.queue
   pub sized_adds : AllSized (length memory.pools) (waiters_of nvm.fills)

@@ -7,7 +7,7 @@ use Rattle.hc_history.specs.Note.{Note}
 use Rattle.hc_machine.specs.Nvm.{Waiter, adds}
 use Rattle.hc_machine.specs.Cache.{Cache}
 use Rattle.hc_machine.specs.Workers.{fill}
-use Rattle.hc_invariant.specs.Standing.{queued_at}
+use Rattle.hc_machine.specs.Calls.{waiting_at}
 use Rattle.hc_invariant.specs.Tells.{CallsTell, waiters_of}
 use Rattle.hc_invariant.specs.Jobs.{AllWish}
 use Rattle.hc_invariant.specs.Good.{AllSized, fills_of}
@@ -23,7 +23,7 @@ pub record Ends (config : Config) (older : List Note) (cache : Cache) (key : Lis
   pub wishes : AllWish cache.memory key waiters
   pub sized : AllSized (length cache.memory.pools) waiters
   pub one_add : (n : ℕ) → count (adds n) (waiters ++ waiters_of (fills_of cache.nvm)) ≤ 1
-  pub unqueued : queued_at cache.nvm key ≡ None
+  pub unqueued : waiting_at cache.nvm key ≡ None
   pub rested : RestsFrom config.flash older key
 
 -- After: it is linked where it can be, the calls are served, and the cache is good.

@@ -7,7 +7,8 @@ use Rattle.hc_history.specs.Honest.{Honest}
 use Rattle.hc_machine.specs.Cache.{new_cache}
 use Rattle.hc_machine.specs.World.{Line}
 use Rattle.hc_theorem.specs.runs.Runs.{AllLineSized, RunRight}
-use Rattle.hc_theorem.specs.runs.Events.{Event, AllEventSized, acts}
+use Rattle.hc_machine.specs.Call.{CacheCall, acts}
+use Rattle.hc_theorem.specs.runs.Honesty.{AllCallSized}
 use Rattle.hc_theorem.specs.runs.Schedule.{AllStepSized, ScheduleRight}
 use Rattle.hc_machine.specs.Schedule.{Step, run, ended, all_of}
 use Rattle.hc_machine.specs.Quiet.{run_quiet}
@@ -40,7 +41,7 @@ SchedulesStand = (config : Config) (breaks : List Bool) (steps : List Step) → 
 
 -- every list of calls with any results at all, and no device: where the log is honest it is legal
 abbrev pub HeadlineOfLogs : Type 0
-HeadlineOfLogs = (config : Config) (events : List Event) → first_wrong config ≡ None → AllEventSized events → Honest (acts events (new_cache config)).log → Legal config (acts events (new_cache config)).log
+HeadlineOfLogs = (config : Config) (calls : List CacheCall) → first_wrong config ≡ None → AllCallSized calls → Honest (acts calls (new_cache config)).log → Legal config (acts calls (new_cache config)).log
 
 -- a new cache is what a lock wants it to be
 abbrev pub NewStands : Type 0

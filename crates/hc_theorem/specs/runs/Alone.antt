@@ -5,12 +5,9 @@ use Rattle.hc_engines.specs.Engine.{Order, Read, Write}
 use Rattle.hc_history.specs.Note.{Note}
 use Rattle.hc_machine.specs.Nvm.{Nvm}
 use Rattle.hc_machine.specs.World.{order_in}
+use Rattle.hc_follows.specs.Idle.{page_of}
 use Rattle.hc_invariant.specs.Jobs.{JobsRun}
 use Rattle.hc_invariant.specs.Good.{EnginesFit}
-
-abbrev pub page_of : Order → ℕ
-page_of (Read page) = page
-page_of (Write page bytes) = page
 
 abbrev pub IsWrite : Order → Type 0
 IsWrite (Read page) = ⊥

@@ -11,8 +11,9 @@ use Rattle.hc_history.specs.Pages.{bytes_at}
 use Rattle.hc_history.specs.Lawful.{past}
 use Rattle.hc_machine.specs.Nvm.{Nvm, fill_at}
 use Rattle.hc_machine.specs.World.{World, order_in}
-use Rattle.hc_invariant.specs.Standing.{PlacedAt, queued_at, buried_at}
+use Rattle.hc_invariant.specs.Standing.{PlacedAt}
 use Rattle.hc_machine.specs.items.Items.{items_of}
+use Rattle.hc_machine.specs.Calls.{waiting_at, buried_at}
 use Rattle.hc_invariant.specs.Tells.{ChargesTell, keys_of}
 use Rattle.hc_invariant.specs.Fresh.{AllFresh}
 use Rattle.hc_invariant.specs.Good.{GoodRun, fills_of}
@@ -37,7 +38,7 @@ pub record Between (config : Config) (log : List Note) (world : World) : Type 0 
   -- each key stands in one place, with the map's value
   pub placed : (key : List ℕ) → PlacedAt config.flash (past [] log) world.cache key
   -- what waits and what is buried, by the log and by the cache
-  pub waits : (key : List ℕ) → is_among key (waiting (past [] log)) ≡ is_some (queued_at world.cache.nvm key)
+  pub waits : (key : List ℕ) → is_among key (waiting (past [] log)) ≡ is_some (waiting_at world.cache.nvm key)
   pub stones : (key : List ℕ) → is_among key (buried (past [] log)) ≡ buried_at world.cache.nvm key
   -- the waiting puts stand in the order of the log, the oldest first
   pub queue : queued_keys world.cache.nvm ≡ reverse (waiting (past [] log))
@@ -45,7 +46,7 @@ pub record Between (config : Config) (log : List Note) (world : World) : Type 0 
   pub charges : ChargesTell (past [] log) (items_of world.cache.memory.pools) world.cache.memory.charges world.cache.memory.made
   -- the key of a fill that isn't an orphan is neither linked nor waiting nor buried
   pub fills : (key : List ℕ) → is_some (fill_at key (fills_of world.cache.nvm)) ≡ true
-      → (linked_at key world.cache.memory.pools ≡ None) × (queued_at world.cache.nvm key ≡ None) × (buried_at world.cache.nvm key ≡ false)
+      → (linked_at key world.cache.memory.pools ≡ None) × (waiting_at world.cache.nvm key ≡ None) × (buried_at world.cache.nvm key ≡ false)
   -- and no call that inserted or removed it was answered since the fill was opened
   pub fresh : AllFresh (past [] log) (fills_of world.cache.nvm)
   -- an add that waits is of its fill's key, and its charge is open

@@ -7,7 +7,8 @@ use Rattle.hc_history.specs.Lawful.{Legal, past}
 use Rattle.hc_history.specs.Honest.{Honest}
 use Rattle.hc_machine.specs.Cache.{Cache, new_cache}
 use Rattle.hc_invariant.specs.Good.{Good, CanRun}
-use Rattle.hc_theorem.specs.runs.Events.{Event, EventSized, act}
+use Rattle.hc_machine.specs.Call.{CacheCall, act}
+use Rattle.hc_theorem.specs.runs.Honesty.{CallSized}
 
 pub record Stands (config : Config) (log : List Note) (cache : Cache) : Type 0 where
   pub legal : Legal config log
@@ -21,4 +22,4 @@ abbrev pub NewIsGuarded : Type 0
 NewIsGuarded = (config : Config) → CanRun config → Guarded config [] (new_cache config)
 
 abbrev pub CallsStayGuarded : Type 0
-CallsStayGuarded = (config : Config) (log : List Note) (cache : Cache) (event : Event) → EventSized event → Guarded config log cache → Guarded config (log ++ (act event cache).part) (act event cache).cache
+CallsStayGuarded = (config : Config) (log : List Note) (cache : Cache) (call : CacheCall) → CallSized call → Guarded config log cache → Guarded config (log ++ (act call cache).part) (act call cache).cache

@@ -5,6 +5,7 @@ use Rattle.hc_history.specs.Note.{Note, Read, Wrote}
 use Rattle.hc_machine.specs.Nvm.{Nvm}
 use Rattle.hc_machine.specs.Takes.{result_note}
 use Rattle.hc_machine.specs.Cache.{Cache, Moved}
+use Rattle.hc_machine.specs.Call.{CacheCall, Finishes}
 use Rattle.hc_machine.specs.World.{order_in}
 use Rattle.hc_laws.specs.First.{NonePasses}
 
@@ -23,6 +24,11 @@ abbrev pub KeepsOrders : Option Nvm → Option Nvm → Type 0
 KeepsOrders old new = (n : ℕ) (order : Order) → order_in old n ≡ Some order → order_in new n ≡ Some order
 
 -- a call that hands in no result
+abbrev pub HandsInNothing : CacheCall → Type 0
+HandsInNothing (Finishes number result) = ⊥
+HandsInNothing call = Unit {0}
+
+-- and what such a call leaves
 pub record NoIoStep (cache : Cache) (moved : Moved) : Type 0 where
   pub silent : NoIo moved.part
   pub orders : KeepsOrders cache.nvm moved.cache.nvm

@@ -1,5 +1,6 @@
 use Rattle.std.proofs.Common.{◌≡◌, drop}
-use Rattle.hc_clients.specs.Closing.{counts_with, no_counts}
+use Rattle.hc_clients.specs.Closing.{counts_with}
+use Rattle.hc_history.specs.Told.{no_counts}
 use Rattle.hc_clients.proofs.closing.counts_of.Given as goal
 
 -- with the rest, they come to all

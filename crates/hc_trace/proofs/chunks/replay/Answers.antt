@@ -1,5 +1,4 @@
-use Rattle.hc_trace_meaning.proofs.Logs.{logs_are_right}
-use Rattle.hc_trace_meaning.proofs.Traces.{traces_are_runs}
+use Rattle.hc_trace_meaning.proofs.Logs.{logs_are_right, traces_are_runs}
 use Rattle.hc_trace.proofs.chunks.replay.Goals as goal
 
 pub returns-in-Ok-write_out-clause-log : goal.returns-in-Ok-write_out-clause-log

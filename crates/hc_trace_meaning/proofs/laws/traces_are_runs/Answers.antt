@@ -1,4 +1,4 @@
-use Rattle.hc_trace_meaning.proofs.Traces as by
+use Rattle.hc_trace_meaning.proofs.Logs as by
 use Rattle.hc_trace_meaning.proofs.laws.traces_are_runs.Goals as goal
 
 pub returns : goal.returns

@@ -3,7 +3,7 @@ use Rattle.std.proofs.lemmas.Result.{IfErr-weaker}
 use Rattle.hc_memory.specs.Seen.{filled}
 use Rattle.hc_machine.specs.Cache.{Opened}
 use Rattle.hc_machine.specs.Evicting.{allocate}
-use Rattle.hc_theorem.specs.runs.Events.{Allocates}
+use Rattle.hc_machine.specs.Call.{Allocates}
 use Rattle.hc_core.proofs.Keeping.{calm-holds}
 use Rattle.hc_core.proofs.Opening.{opened-known}
 use Rattle.hc_core.proofs.Calling.{called, calm, opened-steps, reason}

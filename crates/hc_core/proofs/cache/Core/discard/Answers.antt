@@ -1,5 +1,5 @@
 use Rattle.hc_machine.specs.Cache.{Discarded}
-use Rattle.hc_theorem.specs.runs.Events.{Discards}
+use Rattle.hc_machine.specs.Call.{Discards}
 use Rattle.hc_core.proofs.Keeping.{done-holds}
 use Rattle.hc_core.proofs.Calling.{called-so, calm}
 use Rattle.hc_core.proofs.cache.Core.discard.Goals as goal

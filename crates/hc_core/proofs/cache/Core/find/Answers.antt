@@ -1,5 +1,5 @@
 use Rattle.hc_state.specs.find.Answer.{found_answer}
-use Rattle.hc_theorem.specs.runs.Events.{Finds}
+use Rattle.hc_machine.specs.Call.{Finds}
 use Rattle.hc_core.proofs.Keeping.{call-holds}
 use Rattle.hc_core.proofs.Calling.{called, unchanged}
 use Rattle.hc_core.proofs.cache.Core.find.Goals as goal

@@ -1,4 +1,4 @@
-use Rattle.hc_theorem.specs.runs.Events.{Finds}
+use Rattle.hc_machine.specs.Call.{Finds}
 use Rattle.hc_machine.specs.Calls.{find}
 use Rattle.hc_core.proofs.Keeping.{call-holds}
 use Rattle.hc_core.proofs.Calling.{called, unchanged}

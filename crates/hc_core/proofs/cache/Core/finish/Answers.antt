@@ -1,7 +1,7 @@
 use Rattle.hc_flash.specs.Seen.{result_of}
 use Rattle.hc_machine.specs.Cache.{Took}
 use Rattle.hc_nvm.specs.Seen.{take_of}
-use Rattle.hc_theorem.specs.runs.Events.{Finishes}
+use Rattle.hc_machine.specs.Call.{Finishes}
 use Rattle.hc_core.proofs.Keeping.{calm-holds}
 use Rattle.hc_core.proofs.Calling.{called, calm}
 use Rattle.hc_core.proofs.cache.Core.finish.Goals as goal

@@ -1,6 +1,6 @@
 use Rattle.std.proofs.Common.{length, ap, arith}
 use Rattle.hc_state.specs.store.Insert.{inserted_answer}
-use Rattle.hc_theorem.specs.runs.Events.{Adds}
+use Rattle.hc_machine.specs.Call.{Adds}
 use Rattle.hc_core.proofs.Keeping.{call-holds}
 use Rattle.hc_core.proofs.Calling.{called, unchanged}
 use Rattle.hc_core.proofs.cache.Core.insert.Goals as goal

@@ -1,7 +1,7 @@
 use Rattle.std.proofs.Common.{length, ap, arith}
 use Rattle.hc_history.specs.Note.{Stored}
 use Rattle.hc_machine.specs.Cache.{Replied}
-use Rattle.hc_theorem.specs.runs.Events.{Inserts}
+use Rattle.hc_machine.specs.Call.{Inserts}
 use Rattle.hc_core.proofs.Keeping.{done-holds}
 use Rattle.hc_core.proofs.Calling.{called-so, calm}
 use Rattle.hc_core.proofs.cache.Core.insert_or_replace.Goals as goal

@@ -1,5 +1,5 @@
 use Rattle.hc_machine.specs.Cache.{Reclaimed}
-use Rattle.hc_theorem.specs.runs.Events.{Reclaims}
+use Rattle.hc_machine.specs.Call.{Reclaims}
 use Rattle.hc_core.proofs.Keeping.{calm-holds}
 use Rattle.hc_core.proofs.Calling.{called, calm}
 use Rattle.hc_core.proofs.cache.Core.reclaim.Goals as goal

@@ -1,5 +1,5 @@
 use Rattle.hc_state.specs.remove.Answer.{removed_answer}
-use Rattle.hc_theorem.specs.runs.Events.{Removes}
+use Rattle.hc_machine.specs.Call.{Removes}
 use Rattle.hc_core.proofs.Keeping.{calm-holds}
 use Rattle.hc_core.proofs.Calling.{called, calm}
 use Rattle.hc_core.proofs.cache.Core.remove.Goals as goal

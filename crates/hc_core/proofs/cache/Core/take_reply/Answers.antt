@@ -1,6 +1,6 @@
 use Rattle.hc_history.specs.Seen.{reply_of}
 use Rattle.hc_machine.specs.Cache.{Replied}
-use Rattle.hc_theorem.specs.runs.Events.{Replies}
+use Rattle.hc_machine.specs.Call.{Replies}
 use Rattle.hc_core.proofs.Keeping.{calm-holds}
 use Rattle.hc_core.proofs.Calling.{called, calm}
 use Rattle.hc_core.proofs.cache.Core.take_reply.Goals as goal

@@ -1,5 +1,5 @@
 use Rattle.hc_machine.specs.Cache.{Moment}
-use Rattle.hc_theorem.specs.runs.Events.{Ticks}
+use Rattle.hc_machine.specs.Call.{Ticks}
 use Rattle.hc_core.proofs.Keeping.{calm-holds}
 use Rattle.hc_core.proofs.Calling.{called, calm}
 use Rattle.hc_core.proofs.cache.Core.tick.Goals as goal

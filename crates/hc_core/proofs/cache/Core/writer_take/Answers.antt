@@ -1,6 +1,6 @@
 use Rattle.hc_machine.specs.Cache.{Took}
 use Rattle.hc_nvm.specs.Seen.{take_of}
-use Rattle.hc_theorem.specs.runs.Events.{Writes}
+use Rattle.hc_machine.specs.Call.{Writes}
 use Rattle.hc_core.proofs.Keeping.{calm-holds}
 use Rattle.hc_core.proofs.Calling.{called, calm}
 use Rattle.hc_core.proofs.cache.Core.writer_take.Goals as goal

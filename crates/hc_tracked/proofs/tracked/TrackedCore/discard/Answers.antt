@@ -1,6 +1,7 @@
-use Rattle.hc_theorem.proofs.runs.SilentSteps.{discard_no_io}
+use Rattle.hc_machine.specs.Call.{Discards}
+use Rattle.hc_theorem.proofs.runs.SilentSteps.{act_no_io}
 use Rattle.hc_tracked.proofs.Tracking.{calmly-so}
 use Rattle.hc_tracked.proofs.tracked.TrackedCore.discard.Goals as goal
 
 pub invariant_of-self : goal.invariant_of-self
-invariant_of-self g c = calmly-so _ _ _ _ _ _ _ (discard_no_io c.args.sealed c.self.inside.core.cache).silent c.discard.ensures.ok c.discard.ensures.err c.self.invariant
+invariant_of-self g c = calmly-so _ _ _ _ _ _ _ (act_no_io (Discards c.args.sealed) tt c.self.inside.core.cache).silent c.discard.ensures.ok c.discard.ensures.err c.self.invariant

@@ -5,26 +5,19 @@ use Rattle.hc_machine.specs.items.Allocating.{refusal_of, expiry_of}
 use Rattle.hc_memory.specs.Item.{Handle}
 use Rattle.hc_history.specs.Note.{Note}
 use Rattle.hc_machine.specs.Cache as machine
-use Rattle.hc_machine.specs.Cache.{Cache, Moved, Refused, Opened, Discarded, Replied, Waits, Moment, Took, Reclaimed}
+use Rattle.hc_machine.specs.Cache.{Cache, Moved, Refused}
 use Rattle.hc_machine.specs.Evicting.{allocate_by, handle_for}
 use Rattle.hc_machine.specs.Calls as calls
 use Rattle.hc_machine.specs.World as world
-use Rattle.hc_machine.specs.World.{World, Line, Stepped, by_call, inserted, given_up, put_new}
+use Rattle.hc_machine.specs.World.{World, Stepped, by_call, inserted, given_up, put_new}
 use Rattle.hc_machine.specs.Schedule as schedule
-use Rattle.hc_machine.specs.Schedule.{Step, Scene, Done, Ran, Told, fills, opens, puts, puts_new, discards, in_world, step, run_from, run, ran_on, all_of, log_of}
-use Rattle.hc_trace_meaning.specs.Actions.{said_answer}
-use Rattle.hc_trace_meaning.specs.Runs.{by, line_steps, line_answer, at_rest, LinesAreSteps}
-
--- these steps come to this: the scene at rest, the answer, the part
-record Comes (ran : Ran) (stepped : Stepped) : Type 0 where
-  scene : ran.scene ≡ at_rest stepped.world
-  answered : line_answer ran.answers ≡ said_answer stepped.said
-  told : all_of ran.parts ≡ stepped.part
+use Rattle.hc_machine.specs.Schedule.{Step, Done, fills, in_world, step, run_from, ran_on}
+use Rattle.hc_theorem.specs.runs.Lines.{by, line_said, at_rest, Comes, LinesAreSteps}
 
 alone : (w : World) (s : Step) (stepped : Stepped) → step s (at_rest w) ≡ in_world [] stepped → Comes (run_from (s ∷ []) (at_rest w)) stepped
 alone w s stepped e = record {
   scene = ap (λ (d : Done). d.scene) e;
-  answered = ap (λ (d : Done). line_answer (d.told ∷ [])) e;
+  answered = ap (λ (d : Done). line_said (d.told ∷ [])) e;
   told = ap (λ (d : Done). d.part ++ []) e ∙ append-nil stepped.part;
 }
 
@@ -67,18 +60,15 @@ add_by w pool key value ttl None =
 
 -- ---- each line
 
-by_line : (w : World) (line : Line) → Comes (run_from (line_steps line) (at_rest w)) (world.step line w)
-by_line w (world.Set pool key value ttl) = set_by w pool key value ttl (refusal_of w.cache.memory pool key (length value))
-by_line w (world.Add pool key value ttl) = add_by w pool key value ttl (refusal_of w.cache.memory pool key (length value))
-by_line w (world.Get key) = alone w (by (schedule.Find key)) _ refl
-by_line w (world.Del key) = alone w (by (schedule.Remove key)) _ refl
-by_line w (world.At moment) = alone w (by (schedule.Tick moment)) _ refl
-by_line w world.Writer = alone w (by schedule.WriterTake) _ refl
-by_line w world.Filler = alone w (by schedule.FillerTake) _ refl
-by_line w world.Reclaim = alone w (by schedule.Reclaim) _ refl
-by_line w (world.Io job fails) = alone w (by (schedule.Io job fails)) _ refl
-by_line w (world.Done job) = alone w (by (schedule.Finish job)) _ refl
-by_line w (world.Reply call) = alone w (by (schedule.Reply call)) _ refl
-
 pub lines_are_steps : LinesAreSteps
-lines_are_steps w line = let c = by_line w line in record { scene = c.scene; answered = c.answered; told = c.told }
+lines_are_steps w (world.Set pool key value ttl) = set_by w pool key value ttl (refusal_of w.cache.memory pool key (length value))
+lines_are_steps w (world.Add pool key value ttl) = add_by w pool key value ttl (refusal_of w.cache.memory pool key (length value))
+lines_are_steps w (world.Get key) = alone w (by (schedule.Find key)) _ refl
+lines_are_steps w (world.Del key) = alone w (by (schedule.Remove key)) _ refl
+lines_are_steps w (world.At moment) = alone w (by (schedule.Tick moment)) _ refl
+lines_are_steps w world.Writer = alone w (by schedule.WriterTake) _ refl
+lines_are_steps w world.Filler = alone w (by schedule.FillerTake) _ refl
+lines_are_steps w world.Reclaim = alone w (by schedule.Reclaim) _ refl
+lines_are_steps w (world.Io job fails) = alone w (by (schedule.Io job fails)) _ refl
+lines_are_steps w (world.Done job) = alone w (by (schedule.Finish job)) _ refl
+lines_are_steps w (world.Reply call) = alone w (by (schedule.Reply call)) _ refl
