@@ -1,7 +1,8 @@
 #!/bin/sh
 # Builds the static library, and tests it from C and from Cargo.
 #
-#   bindings/build.sh            library, C checks (under valgrind where there is one), cargo test, the server
+#   bindings/build.sh            library, C checks and examples (under valgrind too, where there is one), cargo test, the server; with rt
+#                                also the example in Rattle
 #   bindings/build.sh --c        library and C checks alone
 #   bindings/build.sh --speed    also the comparison with other caches, where Debian's crate `lru` (librust-lru-dev) is installed
 #   bindings/build.sh --trial    also a service before a slow database, with leases and without, where that crate is installed
@@ -15,6 +16,13 @@ here=$(cd "$(dirname "$0")" && pwd)
 crate=$here/../crates/hc_c
 out=$here/out
 has() { command -v "$1" >/dev/null 2>&1; }
+# Runs a command on an empty folder, which goes afterwards.
+on_folder() {
+    rm -rf "$out/files"
+    mkdir "$out/files"
+    "$@" "$out/files"
+    rm -r "$out/files"
+}
 
 # The static library anew, over what the checker kept.
 library() {
@@ -113,10 +121,14 @@ else
         echo "skipped: no thread sanitizer"
     fi
     if makes "#include <sqlite3.h>" -lsqlite3; then
-        mkdir -p "$out/profiles.files"
         service profiles "$here/examples/c/profiles.c" "$here/examples/c/database.c" -lsqlite3
-        "$out/profiles" "$out/profiles.files"
-        rm -r "$out/profiles.files"
+        on_folder "$out/profiles"
+        if has valgrind; then
+            on_folder valgrind -q --leak-check=full --show-leak-kinds=all --errors-for-leak-kinds=all --error-exitcode=1 "$out/profiles"
+            echo "valgrind: no error, nothing lost"
+        else
+            echo "skipped: no valgrind"
+        fi
     else
         echo "skipped: no SQLite for the example (Debian's libsqlite3-dev)"
     fi
@@ -128,6 +140,8 @@ echo "== Cargo"
 export KILAMBOSETRY_LIB="$out/lib" # (and not the one of dist/)
 if has cargo; then
     (cd "$here/rust" && CARGO_TARGET_DIR="$out/target" cargo test --offline --quiet)
+    (cd "$here/rust" && CARGO_TARGET_DIR="$out/target" RUSTDOCFLAGS="-D warnings" cargo doc --offline --quiet --no-deps)
+    echo "the crate's pages: no warning"
     # the code of README.md: it is the example's, word for word, and does what it says
     sed -n '/^```rust$/,/^```$/{/^```/!p;}' "$here/../README.md" >"$out/readme.txt"
     sed -n '/^fn open/,/^fn main/p' "$here/rust/examples/readme.rs" | sed '/^fn main/d' | sed '$d' | cmp - "$out/readme.txt"
@@ -136,6 +150,22 @@ if has cargo; then
     echo "the README's code: does what it says"
     example service
     echo "the service: no row was older than it may be"
+    if has valgrind; then
+        for name in readme service; do
+            valgrind -q --fair-sched=yes --leak-check=full --show-leak-kinds=definite --errors-for-leak-kinds=definite \
+                --error-exitcode=1 "$out/target/release/examples/$name" >/dev/null
+        done
+        echo "valgrind: no error, nothing lost"
+    else
+        echo "skipped: no valgrind"
+    fi
+    if makes "" -lsqlite3; then
+        (cd "$here/examples/rust" && CARGO_TARGET_DIR="$out/target" cargo build --offline --quiet --release)
+        on_folder "$out/target/release/profiles"
+    else
+        echo "skipped: no SQLite for the example (Debian's libsqlite3-dev)"
+    fi
+    rm -f "$out"/tried*
     if [ "${1-}" = --speed ]; then
         if ls -d /usr/share/cargo/registry/lru-0.7* >/dev/null 2>&1; then
             speed() { (cd "$here/speed" && CARGO_TARGET_DIR="$out/target" cargo run --offline --quiet --release -- "$@"); }
@@ -169,4 +199,16 @@ elif missing=$("$here/server/tests/has-crates"); then
     CARGO_TARGET_DIR="$out/target" "$here/server/tests/run" "$@"
 else
     echo "skipped: no crate $missing"
+fi
+
+echo "== the example in Rattle"
+if [ -n "${kit-}" ]; then
+    program=$here/../crates/example_service
+    (cd "$program" && rt run </dev/null >"$out/rt.log" 2>&1) || { tail -20 "$out/rt.log"; exit 1; }
+    # (run again by itself, since rt has lines of its own)
+    (cd "$out" && "$program/out/example_service" >"$out/example.txt")
+    cmp "$out/example.txt" "$program/stdout"
+    echo "it prints what it must"
+else
+    echo "skipped: no rt"
 fi

@@ -21,6 +21,13 @@ static void check(bool holds, int line, const char *what) {
 static const kilambosetry_pool wrong[] = {{1, 1}};
 static const kilambosetry_pool pools[] = {{200, 4}, {4096, 2}};
 
+/* How many values wait to be written to flash. */
+static uint64_t queued(kilambosetry_cache *cache) {
+    uint64_t length = UINT64_MAX;
+    CHECK(kilambosetry_queue_length(cache, &length) == KILAMBOSETRY_DONE);
+    return length;
+}
+
 /* Every call on a handle that has nothing. */
 static void check_empty(void) {
     kilambosetry_cache cache = KILAMBOSETRY_NONE;
@@ -53,9 +60,14 @@ static void check_empty(void) {
     CHECK(kilambosetry_finish_page(&cache, 1, &value) == KILAMBOSETRY_EMPTY && !value.full);
     CHECK(kilambosetry_page_new(&value, BYTES("page")) == KILAMBOSETRY_DONE && value.full);
     CHECK(kilambosetry_finish_page(&cache, 1, &value) == KILAMBOSETRY_EMPTY && value.full); /* it keeps its page */
+    CHECK(kilambosetry_order_page(&cache, 1, &operation, &value) == KILAMBOSETRY_EMPTY && value.full);
+    CHECK(kilambosetry_read(&cache, BYTES("a"), &value) == KILAMBOSETRY_EMPTY && value.full);
+    CHECK(kilambosetry_take_reply(&cache, 1, &value) == KILAMBOSETRY_EMPTY && value.full);
     CHECK(kilambosetry_finish_write(&cache, 1) == KILAMBOSETRY_EMPTY);
     CHECK(kilambosetry_finish_failed(&cache, 1) == KILAMBOSETRY_EMPTY);
     CHECK(kilambosetry_reclaim(&cache) == KILAMBOSETRY_EMPTY);
+    CHECK(kilambosetry_queue_length(&cache, &calls) == KILAMBOSETRY_EMPTY);
+    CHECK(kilambosetry_is_expired(&cache, BYTES("a")) == KILAMBOSETRY_EMPTY);
     CHECK(kilambosetry_ticket(&cache, &job) == KILAMBOSETRY_EMPTY);
     CHECK(kilambosetry_set_leased(&cache, 0, 0, BYTES("a"), BYTES("b"), 0) == KILAMBOSETRY_EMPTY);
     CHECK(kilambosetry_ask_turn(&cache, BYTES("a"), 10, &job) == KILAMBOSETRY_EMPTY);
@@ -103,9 +115,14 @@ static void check_items(void) {
     CHECK(kilambosetry_set(&cache, 0, BYTES("k"), long_value, 1000, 0) == KILAMBOSETRY_NO_ROOM);
     CHECK(kilambosetry_tick(&cache, 1700000029) == KILAMBOSETRY_DONE);
     CHECK(kilambosetry_get(&cache, BYTES("user:1"), out, sizeof out, &len) == KILAMBOSETRY_DONE);
+    CHECK(kilambosetry_is_expired(&cache, BYTES("user:1")) == KILAMBOSETRY_MISS);
     CHECK(kilambosetry_tick(&cache, 1700000030) == KILAMBOSETRY_DONE);
     CHECK(kilambosetry_get(&cache, BYTES("user:1"), out, sizeof out, &len) == KILAMBOSETRY_MISS);
+    CHECK(kilambosetry_is_expired(&cache, BYTES("user:1")) == KILAMBOSETRY_DONE);
+    CHECK(kilambosetry_is_expired(&cache, BYTES("user:2")) == KILAMBOSETRY_MISS);
+    CHECK(kilambosetry_is_expired(&cache, BYTES("")) == KILAMBOSETRY_KEY_EMPTY);
     CHECK(kilambosetry_delete(&cache, BYTES("user:1")) == KILAMBOSETRY_DONE); /* expired, and there */
+    CHECK(kilambosetry_is_expired(&cache, BYTES("user:1")) == KILAMBOSETRY_MISS);
     CHECK(kilambosetry_delete(&cache, BYTES("user:1")) == KILAMBOSETRY_MISS);
     CHECK(kilambosetry_add(&cache, 1, BYTES("user:1"), BYTES(""), 0) == KILAMBOSETRY_DONE);
     CHECK(kilambosetry_get(&cache, BYTES("user:1"), out, 0, &len) == KILAMBOSETRY_DONE && len == 0);
@@ -118,7 +135,7 @@ static uint64_t all(const kilambosetry_losses_t *losses) {
            + losses->bucket_full + losses->reclaimed + losses->no_clean_region + losses->collision + losses->fault;
 }
 
-/* Five items in a pool for four: the one that was used longest ago goes, and each count is told. */
+/* Five items in a pool for four: the least recently used one goes, and each count is told. */
 static void check_counts(void) {
     kilambosetry_cache cache = KILAMBOSETRY_NONE;
     kilambosetry_counts_t counts;
@@ -139,7 +156,7 @@ static void check_counts(void) {
     CHECK(counts.stored == 5 && counts.hits == 1 && counts.misses == 1 && counts.removes == 1);
     CHECK(counts.losses == 1 && counts.reads == 0 && counts.writes == 0);
     CHECK(kilambosetry_losses(&cache, &losses) == KILAMBOSETRY_DONE);
-    CHECK(losses.no_flash == 1 && all(&losses) == 1);
+    CHECK(losses.no_flash == 1 && all(&losses) == 1 && queued(&cache) == 0);
     CHECK(kilambosetry_usage(&cache, 0, &usage) == KILAMBOSETRY_DONE);
     CHECK(usage.limit_bytes == 200 && usage.limit_items == 4 && usage.bytes == 3 * 34 && usage.items == 3);
     CHECK(usage.open_bytes == 0 && usage.open_items == 0);
@@ -351,11 +368,12 @@ static void check_work_and_replies(void) {
     CHECK(kilambosetry_new_with_flash(&cache, one_item, 1, &flash) == KILAMBOSETRY_DONE);
     CHECK(kilambosetry_writer_has_work(&cache) == KILAMBOSETRY_IDLE && kilambosetry_filler_has_work(&cache) == KILAMBOSETRY_IDLE);
     CHECK(kilambosetry_set(&cache, 0, BYTES("a"), BYTES("one"), 0) == KILAMBOSETRY_DONE);
-    CHECK(kilambosetry_writer_has_work(&cache) == KILAMBOSETRY_IDLE);
+    CHECK(kilambosetry_writer_has_work(&cache) == KILAMBOSETRY_IDLE && queued(&cache) == 0);
     CHECK(kilambosetry_set(&cache, 0, BYTES("b"), BYTES("two"), 0) == KILAMBOSETRY_DONE);
     CHECK(kilambosetry_writer_has_work(&cache) == KILAMBOSETRY_DONE && kilambosetry_filler_has_work(&cache) == KILAMBOSETRY_IDLE);
+    CHECK(queued(&cache) == 1);
     CHECK(kilambosetry_writer_take(&cache, &job) == KILAMBOSETRY_DONE);
-    CHECK(kilambosetry_writer_has_work(&cache) == KILAMBOSETRY_IDLE); /* it is out */
+    CHECK(kilambosetry_writer_has_work(&cache) == KILAMBOSETRY_IDLE && queued(&cache) == 0); /* it is out */
     CHECK(complete(&cache, KILAMBOSETRY_DONE, job));
     CHECK(kilambosetry_next_reply(&cache, &call) == KILAMBOSETRY_IDLE && call == 0);
     for (int i = 0; i < 2; i++) {
@@ -389,7 +407,9 @@ static void check_full_queue(void) {
     CHECK(kilambosetry_new_with_flash(&cache, one_item, 1, &short_queue) == KILAMBOSETRY_DONE);
     for (int i = 0; i < 4; i++) CHECK(kilambosetry_set(&cache, 0, BYTES(keys[i]), BYTES("v"), 0) == KILAMBOSETRY_DONE);
     CHECK(kilambosetry_losses(&cache, &losses) == KILAMBOSETRY_DONE);
-    CHECK(losses.queue_full == 2 && all(&losses) == 2);
+    CHECK(losses.queue_full == 2 && all(&losses) == 2 && queued(&cache) == 1);
+    work(&cache);
+    CHECK(queued(&cache) == 0);
     kilambosetry_free(&cache);
 }
 

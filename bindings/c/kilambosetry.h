@@ -2,9 +2,9 @@
  *
  * `kilambosetry_service.h` is one for the threads of a service, over these calls.
  *
- * Each call answers a status: 0 (done), the number of a refusal (1 to 25), or one of the other numbers below.
- * `kilambosetry_strerror` has a word for each. A call that is refused leaves the cache as it was, but for what
- * `kilambosetry_set` and `kilambosetry_add` say.
+ * Each call answers a status, but for `kilambosetry_shard_of`. A status is 0 (done), the number of a refusal (1 to 25), or one
+ * of the other numbers below; `kilambosetry_strerror` has a word for each. A call that is refused leaves the cache as it was,
+ * but for what `kilambosetry_set` and `kilambosetry_add` say.
  *
  * What the caller owes, since nothing can check it:
  *  - Each pointer is valid for its length, and not null, also where the length is 0.
@@ -90,7 +90,7 @@ typedef struct {
     uint64_t bucket_full;     /* pushed out of a bucket's page by a newer item */
     uint64_t reclaimed;       /* lost with a region that was given up to be written anew */
     uint64_t no_clean_region; /* not written: no region was clean */
-    uint64_t collision;       /* another key of the same kept hash was written or deleted */
+    uint64_t collision;       /* this key or another of the same kept hash was written or deleted: the index has no keys */
     uint64_t fault;           /* the device failed */
 } kilambosetry_losses_t;
 
@@ -166,8 +166,8 @@ void kilambosetry_free(kilambosetry_cache *cache);
 uint8_t kilambosetry_tick(kilambosetry_cache *cache, uint64_t moment);
 
 /* Stores a copy of the value under the key, in place of what the key has in whichever pool, for `ttl` seconds from now (0:
- * for good). The items of the pool that were used longest ago go to make room. Where memory is wanted once room was made,
- * what went to make it is gone, and the call is refused with NO_MEMORY. */
+ * for good). The least recently used items of the pool go to make room. Where the allocator is out of memory once room was
+ * made, what went to make it is gone, and the call is refused with NO_MEMORY. */
 uint8_t kilambosetry_set(kilambosetry_cache *cache, uint8_t pool, const uint8_t *key, size_t key_len,
                          const uint8_t *value, size_t value_len, uint32_t ttl);
 
@@ -178,11 +178,13 @@ uint8_t kilambosetry_add(kilambosetry_cache *cache, uint8_t pool, const uint8_t 
 
 /* Copies the value under the key to the head of `out`, and tells its length. Where `out` is shorter than the value it is
  * left as it is, `len` tells how long it would have to be, and the status is SHORT. Where flash alone may have the value, the
- * call waits: its number is what `kilambosetry_calls` tells next, and its reply is taken by `kilambosetry_take_reply`. */
+ * call waits: its number is what `kilambosetry_calls` tells next, if one lock is held over both calls, and its reply is taken
+ * by `kilambosetry_take_reply`. */
 uint8_t kilambosetry_get(kilambosetry_cache *cache, const uint8_t *key, size_t key_len, uint8_t *out, size_t out_len,
                          size_t *len);
 
-/* Takes the key's item out of the cache. The status is MISS where there was none. */
+/* Takes the key out of the cache, from memory and flash. The status is MISS where memory had no item; it is out of flash with
+ * that too. */
 uint8_t kilambosetry_delete(kilambosetry_cache *cache, const uint8_t *key, size_t key_len);
 
 /* Leases: what was loaded before a change of its key isn't stored after it. Who misses a key asks for a ticket, and only then
@@ -208,14 +210,14 @@ uint8_t kilambosetry_ask_turn(kilambosetry_cache *cache, const uint8_t *key, siz
 uint8_t kilambosetry_end_turn(kilambosetry_cache *cache, const uint8_t *key, size_t key_len);
 
 /* Finds the value under the key and holds it, without copying it: it stays as it is until it is freed, whatever becomes of
- * the cache. A value that the handle has is freed first, so that it has one after DONE alone. Where flash alone may have the
- * value, the call waits, as a get does. */
+ * the cache. A value that the handle has is freed first, so that it has one after DONE alone; but where the cache's handle is
+ * EMPTY, the value's keeps what it has. Where flash alone may have the value, the call waits, as a get does. */
 uint8_t kilambosetry_read(kilambosetry_cache *cache, const uint8_t *key, size_t key_len, kilambosetry_value *value);
 
 /* Takes the reply of a call that waited, once: of a get or a read, the value is handed out, or the status is MISS; an add is
  * done, or refused with EXISTS. Refused with NOT_READY while the call waits, and with UNKNOWN_CALL where no reply is owed to
- * it. A value that the handle has is freed first, whatever comes. A reply is owed until it is taken, and takes memory until
- * then. */
+ * it. A value that the handle has is freed first, whatever comes; but where the cache's handle is EMPTY, the value's keeps
+ * what it has. A reply is owed until it is taken, and takes memory until then. */
 uint8_t kilambosetry_take_reply(kilambosetry_cache *cache, uint64_t call, kilambosetry_value *value);
 
 /* Tells how many bytes the value has. */
@@ -246,7 +248,8 @@ uint8_t kilambosetry_finish_failed(kilambosetry_cache *cache, uint64_t job);
  * a copy of these bytes, and asks no cache. `kilambosetry_finish_page` hands the page in: the handle has none afterwards, and
  * keeps it where it is refused; EMPTY, where the handle has no page. `kilambosetry_order_page` tells the operation, and where
  * the page is to be written hands out a handle to it, which `kilambosetry_value_copy` reads once the lock is free. A page that
- * a handle has is freed first by the first and the last. `kilambosetry_value_free` frees one. */
+ * a handle has is freed first by the first and the last, but by that not where the cache's handle is EMPTY.
+ * `kilambosetry_value_free` frees one. */
 uint8_t kilambosetry_page_new(kilambosetry_value *page, const uint8_t *bytes, size_t bytes_len);
 uint8_t kilambosetry_order_page(kilambosetry_cache *cache, uint64_t job, kilambosetry_operation *operation,
                                 kilambosetry_value *page);
@@ -264,6 +267,14 @@ uint8_t kilambosetry_next_reply(kilambosetry_cache *cache, uint64_t *call);
 /* Gives up the region that was written first, where fewer are clean than are wanted: DONE; else IDLE. To be called before each
  * `kilambosetry_writer_take`. */
 uint8_t kilambosetry_reclaim(kilambosetry_cache *cache);
+
+/* Tells how many values wait to be written to flash, at most the flash's `queue`; one that a writer has taken waits no more. 0
+ * without flash. */
+uint8_t kilambosetry_queue_length(kilambosetry_cache *cache, uint64_t *length);
+
+/* Whether memory has an item under the key whose time is over: DONE, and this is why a get of the key misses; else MISS. The item
+ * isn't used, and stays until it is evicted, replaced or deleted. */
+uint8_t kilambosetry_is_expired(kilambosetry_cache *cache, const uint8_t *key, size_t key_len);
 
 /* Tells how many calls were begun: sets, adds, gets, reads and deletes that weren't refused. */
 uint8_t kilambosetry_calls(kilambosetry_cache *cache, uint64_t *calls);

@@ -22,7 +22,7 @@
 #define MOST_PAGE 4096 /* the bytes of the longest page, and of what a direct operation's buffer is aligned to */
 #define ROWS 64        /* rows of a shard's table of calls that wait */
 #define SLOTS 256      /* slots of a shard's keys, in each of which changes are counted */
-#define PAUSE 5        /* milliseconds, after which one tries again where memory lacks */
+#define PAUSE 5        /* milliseconds, after which what was out of memory is tried again */
 #define TRIES 200      /* how often one does, for a page */
 #define LONGEST INT64_C(1000000000000) /* milliseconds: a longer limit is cut to it */
 
@@ -315,7 +315,7 @@ struct load_wait {
 };
 
 struct counters {
-    uint64_t from_flash, given_up, lock_waits, leases, stale, load_waits;
+    uint64_t from_flash, misses_expired, misses_by_fault, given_up, lock_waits, leases, stale, load_waits;
     uint64_t reads, writes, read_failures, write_failures, lies, known_pages;
 };
 
@@ -332,7 +332,8 @@ struct shard {
     uint64_t inside;  /* threads that sleep or work in a call of this shard */
     uint64_t writing; /* jobs of writers that are under way */
     bool closed;
-    bool unswept;    /* a reply couldn't be taken, since memory lacked */
+    bool is_faulty;  /* an operation had failed of the job whose replies are swept next */
+    bool unswept;    /* a reply couldn't be taken: the cache was out of memory */
     bool writes_due; /* the writers' bell is rung for it, and none came yet */
     bool fills_due;
     struct counters counters;
@@ -443,10 +444,12 @@ static void give_call_up(struct shard *shard, struct call *call) {
     shard->counters.given_up++;
 }
 
-/* Hands out the replies that are there. One that can't be taken, since memory lacks, is told so to its call, and dropped once
+/* Hands out the replies that are there. One for which the cache is out of memory is told so to its call, and dropped once
  * there is memory: until then the others behind it can't be seen. */
 static void sweep(struct shard *shard) {
     uint64_t number = 0;
+    bool is_faulty = shard->is_faulty;
+    shard->is_faulty = false;
     shard->unswept = false;
     while (shard->owed > 0 && kilambosetry_next_reply(&shard->cache, &number) == KILAMBOSETRY_DONE) {
         struct call **place = place_of_call(shard, number);
@@ -456,6 +459,7 @@ static void sweep(struct shard *shard) {
         if (status == KILAMBOSETRY_NO_MEMORY) shard->unswept = true;
         else shard->owed--;
         shard->counters.from_flash += value->full;
+        shard->counters.misses_by_fault += is_faulty && status == KILAMBOSETRY_MISS;
         if (*place != NULL) answer(shard, place, status);
         kilambosetry_value_free(&dropped);
         if (shard->unswept) return;
@@ -548,8 +552,8 @@ static uint8_t finish(struct shard *shard, uint64_t job, struct result *result) 
     return kilambosetry_finish_failed(&shard->cache, job);
 }
 
-/* Hands a result in, as often as memory lacks for it, and answers whether the job waits for its next operation. What can't be
- * handed in for a second has failed, which takes less memory. The shard is locked afterwards. */
+/* Hands a result in, again as long as the cache is out of memory, and answers whether the job waits for its next operation. What
+ * can't be handed in for a second has failed, which takes less memory. The shard is locked afterwards. */
 static bool hand_in(struct shard *shard, uint64_t job, struct result *result) {
     lock_shard(shard);
     count_result(&shard->counters, result);
@@ -565,7 +569,7 @@ static bool hand_in(struct shard *shard, uint64_t job, struct result *result) {
     return status == KILAMBOSETRY_DONE && !shard->closed;
 }
 
-/* Tells the job's operation. Where memory lacks for that, the operation is left out, and has failed. */
+/* Tells the job's operation. Where the cache is out of memory for that, the operation is left out, and has failed. */
 static bool ask_order(struct shard *shard, uint64_t job, kilambosetry_operation *operation, struct result *result) {
     uint8_t status = kilambosetry_order_page(&shard->cache, job, operation, &result->page);
     for (int i = 0; i < TRIES && status == KILAMBOSETRY_NO_MEMORY && !shard->closed; i++) {
@@ -581,7 +585,7 @@ static bool ask_order(struct shard *shard, uint64_t job, kilambosetry_operation 
 /* Does a job to its end, where one was taken, and lets the shard go. */
 static void complete(kilambosetry_service *service, unsigned index, uint8_t taken, uint64_t job) {
     struct shard *shard = &service->shards[index];
-    bool goes_on = taken == KILAMBOSETRY_DONE;
+    bool goes_on = taken == KILAMBOSETRY_DONE, has_failed = false;
     while (goes_on) {
         struct result result = {false, false, false, false, 0, KILAMBOSETRY_NONE};
         kilambosetry_operation operation = {0, false};
@@ -589,7 +593,9 @@ static void complete(kilambosetry_service *service, unsigned index, uint8_t take
         leave(service, index);
         if (is_told) operate(service, index, &operation, &result);
         goes_on = hand_in(shard, job, &result);
+        has_failed = has_failed || !(result.is_read || result.is_written);
     }
+    shard->is_faulty = has_failed; /* (what the job answers is swept now) */
     leave(service, index);
 }
 
@@ -599,7 +605,7 @@ static bool is_taken(uint8_t status) {
     return status == KILAMBOSETRY_DONE || status == KILAMBOSETRY_FINISHED || status == KILAMBOSETRY_IDLE;
 }
 
-/* Comes back to a shard for which memory lacks. */
+/* Comes back to a shard that was out of memory. */
 static void try_later(struct shard *shard, struct bell *bell, unsigned index, bool *is_due) {
     *is_due = true;
     pthread_mutex_unlock(&shard->lock);
@@ -724,6 +730,12 @@ static uint8_t look(struct shard *shard, const struct wanted *wanted) {
     return kilambosetry_get(&shard->cache, wanted->key, wanted->key_len, wanted->out, wanted->out_len, wanted->len);
 }
 
+/* Counts a miss of memory, where its item is there and expired. */
+static void count_miss(struct shard *shard, uint8_t status, const uint8_t *key, size_t key_len) {
+    if (status != KILAMBOSETRY_MISS) return;
+    shard->counters.misses_expired += kilambosetry_is_expired(&shard->cache, key, key_len) == KILAMBOSETRY_DONE;
+}
+
 /* Hands out a value that came from flash. */
 static uint8_t hand_out(const struct wanted *wanted, kilambosetry_value *value) {
     size_t copied = 0;
@@ -742,6 +754,7 @@ static uint8_t hand_out(const struct wanted *wanted, kilambosetry_value *value) 
 static uint8_t find(kilambosetry_service *service, unsigned index, const struct wanted *wanted, const struct limit *limit) {
     kilambosetry_value value = KILAMBOSETRY_NONE;
     uint8_t status = look(&service->shards[index], wanted);
+    count_miss(&service->shards[index], status, wanted->key, wanted->key_len);
     if (status == KILAMBOSETRY_WAITS) {
         status = await(service, index, limit, &value);
         if (value.full) status = hand_out(wanted, &value);
@@ -824,7 +837,7 @@ uint8_t kilambosetry_service_delete(kilambosetry_service *service, const uint8_t
     return status;
 }
 
-/* Waits until nothing of the shard is to be written. It is looked at again after a while too, since memory may lack. */
+/* Waits until nothing of the shard is to be written. It is looked at again after a while too, since it may be out of memory. */
 static uint8_t flush_shard(kilambosetry_service *service, unsigned index) {
     struct shard *shard = &service->shards[index];
     uint8_t status = enter(service, index);
@@ -994,6 +1007,7 @@ uint8_t kilambosetry_service_begin(kilambosetry_service *service, const uint8_t 
         return status;
     }
     status = kilambosetry_read(&shard->cache, key, key_len, value);
+    count_miss(shard, status, key, key_len);
     if (status == KILAMBOSETRY_WAITS) {
         list_call(shard, call);
         begun->waits = call;
@@ -1110,7 +1124,7 @@ static uint8_t open_file(kilambosetry_service *service, const char *path, bool d
 
 /* ---- opening and closing ---- */
 
-/* A service with these numbers, without caches yet; null, where memory lacks. */
+/* A service with these numbers, without caches yet; null, where there is no memory. */
 static kilambosetry_service *make(const kilambosetry_service_options *options, const kilambosetry_service_numbers *numbers,
                                   bool has_flash) {
     size_t shards = (size_t)numbers->shards;
@@ -1297,6 +1311,9 @@ static void add_cache(kilambosetry_service_stats *stats, kilambosetry_service *s
         stats->memory_bytes += usage.bytes;
         stats->memory_limit_bytes += usage.limit_bytes;
     }
+    uint64_t queued = 0;
+    kilambosetry_queue_length(&shard->cache, &queued);
+    stats->queue_length += queued;
     stats->shards_behind += service->has_flash && kilambosetry_writer_has_work(&shard->cache) != KILAMBOSETRY_IDLE;
 }
 
@@ -1304,6 +1321,8 @@ static void add_cache(kilambosetry_service_stats *stats, kilambosetry_service *s
 static void add_counters(kilambosetry_service_stats *stats, const struct shard *shard, uint64_t page) {
     const struct counters *it = &shard->counters;
     stats->hits_from_flash += it->from_flash;
+    stats->misses_expired += it->misses_expired;
+    stats->misses_by_fault += it->misses_by_fault;
     stats->given_up += it->given_up;
     stats->lock_waits += it->lock_waits;
     stats->leases += it->leases;

@@ -381,7 +381,9 @@ static void check_one_thread(void) {
     kilambosetry_service_tell(service, &stats);
     CHECK(stats.hits_from_flash > 0 && stats.hits_from_memory > 0 && stats.misses > 0 && stats.device_writes > 0);
     CHECK(stats.lies == 0 && stats.read_failures == 0 && stats.write_failures == 0 && stats.losses.fault == 0);
-    CHECK(stats.losses.no_flash == 0 && stats.waiting == 0 && stats.shards_behind == 0 && stats.memory_items <= 64);
+    CHECK(stats.misses_expired == 0 && stats.misses_by_fault == 0);
+    CHECK(stats.losses.no_flash == 0 && stats.waiting == 0 && stats.memory_items <= 64);
+    CHECK(stats.queue_length == 0 && stats.shards_behind == 0);
     CHECK(stats.flash_bytes > 0 && stats.flash_bytes <= stats.flash_limit_bytes);
     kilambosetry_service_close(service);
 }
@@ -389,6 +391,7 @@ static void check_one_thread(void) {
 static void check_calls(void) {
     kilambosetry_service *service = open_small();
     kilambosetry_value value = KILAMBOSETRY_NONE;
+    kilambosetry_service_stats stats;
     uint8_t out[16] = {0}, long_key[256] = {0};
     size_t len = 0;
     CHECK(kilambosetry_service_set(service, BYTES("a"), BYTES("one"), 30) == KILAMBOSETRY_DONE);
@@ -400,6 +403,9 @@ static void check_calls(void) {
     CHECK(kilambosetry_service_get(service, BYTES("a"), out, 16, &len, FOREVER) == KILAMBOSETRY_MISS);
     CHECK(kilambosetry_value_length(&value, &len) == KILAMBOSETRY_DONE && len == 3);
     CHECK(kilambosetry_service_read(service, BYTES("a"), &value, FOREVER) == KILAMBOSETRY_MISS && !value.full);
+    CHECK(kilambosetry_service_read(service, BYTES("none"), &value, FOREVER) == KILAMBOSETRY_MISS && !value.full);
+    kilambosetry_service_tell(service, &stats);
+    CHECK(stats.misses == 3 && stats.misses_expired == 2 && stats.misses_by_fault == 0);
     CHECK(kilambosetry_service_set(service, BYTES(""), BYTES("v"), 0) == KILAMBOSETRY_KEY_EMPTY);
     CHECK(kilambosetry_service_get(service, long_key, 256, out, 16, &len, FOREVER) == KILAMBOSETRY_KEY_TOO_LONG);
     kilambosetry_service_shut(service);
@@ -427,7 +433,7 @@ static void check_in_memory(void) {
     CHECK(kilambosetry_service_flush(service) == KILAMBOSETRY_DONE);
     kilambosetry_service_tell(service, &stats);
     CHECK(stats.losses.no_flash == 200 - stats.memory_items && all(&stats.losses) == stats.losses.no_flash);
-    CHECK(stats.flash_limit_bytes == 0 && stats.hits_from_memory == 200 && stats.device_reads == 0);
+    CHECK(stats.flash_limit_bytes == 0 && stats.hits_from_memory == 200 && stats.device_reads == 0 && stats.queue_length == 0);
     kilambosetry_service_close(service);
 }
 
@@ -442,6 +448,25 @@ static void fill_up(kilambosetry_service *service, unsigned keys) {
     CHECK(kilambosetry_service_flush(service) == KILAMBOSETRY_DONE);
 }
 
+/* What waits to be written is counted, while the device keeps the writers. */
+static void check_queue(void) {
+    kilambosetry_service *service = open_small();
+    kilambosetry_service_stats stats;
+    uint8_t key[32], row[1024];
+    pthread_mutex_lock(&device.lock);
+    for (unsigned i = 0; i < 200; i++) {
+        size_t key_len = key_of(i, key), row_len = row_of(i, 1, row);
+        CHECK(kilambosetry_service_set(service, key, key_len, row, row_len, 0) == KILAMBOSETRY_DONE);
+    }
+    kilambosetry_service_tell(service, &stats);
+    pthread_mutex_unlock(&device.lock);
+    CHECK(stats.queue_length > 0 && stats.queue_length <= 200 - stats.memory_items && stats.shards_behind > 0);
+    CHECK(kilambosetry_service_flush(service) == KILAMBOSETRY_DONE);
+    kilambosetry_service_tell(service, &stats);
+    CHECK(stats.queue_length == 0 && stats.shards_behind == 0);
+    kilambosetry_service_close(service);
+}
+
 /* ---- faults ---- */
 
 static void check_faults(void) {
@@ -452,12 +477,13 @@ static void check_faults(void) {
     check_against_model(service, steps, true);
     kilambosetry_service_tell(service, &stats);
     CHECK(stats.read_failures > 0 && stats.write_failures > 0 && stats.lies == 0 && stats.losses.fault > 0);
+    CHECK(stats.misses_by_fault > 0 && stats.misses_by_fault <= stats.misses);
     kilambosetry_service_close(service);
     service = open_small();
     set_device(false, 0, 5);
     check_against_model(service, steps, true);
     kilambosetry_service_tell(service, &stats);
-    CHECK(stats.lies > 0 && stats.write_failures == 0);
+    CHECK(stats.lies > 0 && stats.write_failures == 0 && stats.misses_by_fault > 0);
     kilambosetry_service_close(service);
     set_device(false, 0, 0);
 }
@@ -639,7 +665,7 @@ static void *stampede(void *of) {
     return NULL;
 }
 
-/* A key that memory and flash lack, and one whose bucket must be read to know it. */
+/* A key that is neither in memory nor on flash, and one whose bucket must be read to know it. */
 static void check_stampede(void) {
     kilambosetry_service *service = open_small();
     struct stampede threads[MOST_THREADS];
@@ -962,6 +988,7 @@ int main(int len, char **words) {
     check_opening();
     check_calls();
     check_in_memory();
+    check_queue();
     check_one_thread();
     check_faults();
     check_file(false);

@@ -30,8 +30,8 @@ typedef struct {
 
 #define KILAMBOSETRY_NONE_FORGOTTEN {NULL, 0, 0}
 
-/* Drops the replies that came for calls that were given up. One for which memory lacks is tried again by the next call. It
- * asks for each that still waits. */
+/* Drops the replies that came for calls that were given up. One for which the cache is out of memory is tried again by
+ * the next call. It asks for each that still waits. */
 static inline void kilambosetry_drop_replies(kilambosetry_cache *cache, kilambosetry_forgotten *forgotten) {
     size_t kept = 0;
     for (size_t at = 0; at < forgotten->len; at++) {

@@ -230,7 +230,9 @@ void kilambosetry_service_forget(kilambosetry_service *service, kilambosetry_beg
 typedef struct {
     uint64_t hits_from_memory; /* gets that found a value in memory, or in what waits for flash */
     uint64_t hits_from_flash;  /* gets that waited for flash, and found a value */
-    uint64_t misses;           /* gets that found none */
+    uint64_t misses;           /* gets that found none; of these: */
+    uint64_t misses_expired;   /* .. those of whose key memory has an item that is expired */
+    uint64_t misses_by_fault;  /* .. those for which a page couldn't be read, or came back otherwise than written */
     uint64_t stored;           /* values that were stored */
     uint64_t deletes;          /* deletes, whether or not there was an item */
     uint64_t leases;           /* leases that were handed out */
@@ -247,7 +249,8 @@ typedef struct {
     uint64_t read_failures; /* reads that failed, or whose page wasn't the one that was written */
     uint64_t write_failures;
     uint64_t lies;          /* pages that came back otherwise than they were last written */
-    uint64_t shards_behind; /* shards for whose flash something waits to be written */
+    uint64_t queue_length;  /* values that wait to be written to flash; one that is being written waits no more */
+    uint64_t shards_behind; /* shards for whose flash something waits to be written: a value, a delete or a region's page */
     uint64_t waiting;       /* calls that wait for flash now */
     uint64_t given_up;      /* calls that were given up while they waited */
     uint64_t lock_waits;    /* how often a shard's lock was waited for */

@@ -8,7 +8,7 @@ thread_local! {
     static SPARE: Cell<Vec<u8>> = const { Cell::new(Vec::new()) };
 }
 
-/// Lends a page's buffer, which the thread keeps for the next time; none, where memory lacks.
+/// Lends a page's buffer, which the thread keeps for the next time; none, where there is no memory for it.
 pub(crate) fn with_page<T>(bytes: usize, work: impl FnOnce(&mut [u8]) -> T) -> Option<T> {
     let mut spare = SPARE.try_with(Cell::take).unwrap_or_default();
     if spare.len() < bytes + ALIGNED {

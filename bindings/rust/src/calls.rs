@@ -26,12 +26,17 @@ pub(crate) struct Calls {
     waiting: HashMap<u64, Call>,
     // replies that the engine owes, also to calls that were given up
     owed: usize,
+    // jobs of which an operation failed, and whether that whose replies come now is one
+    failed: Vec<u64>,
+    is_faulty: bool,
     // tasks to be woken, once the shard's lock is free: they may do anything
     woken: Vec<Waker>,
-    /// Memory lacks for a reply, which holds those behind it up: a filler tries again.
+    /// The cache is out of memory for a reply, which holds those behind it up: a filler tries again.
     pub is_held_up: bool,
     /// Gets that waited and found a value.
     pub from_flash: u64,
+    /// Gets that waited and found none, for whose key an operation had failed.
+    pub misses_by_fault: u64,
     /// Calls that were given up while they waited.
     pub given_up: u64,
 }
@@ -99,8 +104,22 @@ impl Calls {
         Some(given_up)
     }
 
+    /// Notes a result that was handed in for this job: whether its operation failed, and whether the job is over. Its replies are
+    /// to be swept next.
+    pub fn note_result(&mut self, job: u64, has_failed: bool, is_over: bool) {
+        // (out of memory, such a miss isn't told from others)
+        if has_failed && !self.failed.contains(&job) && self.failed.try_reserve(1).is_ok() {
+            self.failed.push(job);
+        }
+        if is_over {
+            let place = self.failed.iter().position(|failed| *failed == job);
+            self.is_faulty = place.map(|place| self.failed.swap_remove(place)).is_some();
+        }
+    }
+
     /// Hands out the replies that are there.
     pub fn sweep(&mut self, engine: &mut Engine) {
+        let is_faulty = std::mem::take(&mut self.is_faulty);
         self.is_held_up = false;
         while self.owed > 0 {
             let Some(call) = engine.next_reply() else { return };
@@ -112,12 +131,13 @@ impl Calls {
             }
             self.owed -= 1;
             self.from_flash += u64::from(matches!(reply, Ok(Reply::Hit(_))));
+            self.misses_by_fault += u64::from(is_faulty && matches!(reply, Ok(Reply::Miss)));
             self.answer(call, reply.map_err(Error::Refused));
         }
     }
 
     fn answer(&mut self, number: u64, answer: Answer) {
-        // (what it is told first holds: that memory lacks, or that the cache is closed)
+        // (what it is told first holds: that the cache is out of memory, or closed)
         if let Some(call) = self.waiting.get_mut(&number).filter(|call| call.answer.is_none()) {
             call.answer = Some(answer);
             match call.waits.take() {

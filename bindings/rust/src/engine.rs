@@ -121,7 +121,7 @@ pub enum Take {
     Finished,
     /// The job with this number waits for this operation.
     Work(u64, Operation),
-    /// The job with this number waits for an operation, and memory lacks to tell which. Hand in [`Came::Failed`] for it.
+    /// The job with this number waits for an operation, and there was no memory to tell which. Hand in [`Came::Failed`] for it.
     Untold(u64),
 }
 
@@ -176,7 +176,7 @@ pub enum Take {
 pub struct Engine {
     cache: Cache,
     page: usize,
-    // what is to be handed in first: what couldn't be for want of memory, or a failure of the operation that is under way
+    // what is to be handed in first: a result for which the cache was out of memory, or a failure of the operation under way
     owed: Option<(u64, Came)>,
     // calls that were given up while they waited, whose replies are dropped once they are there
     forgotten: VecDeque<u64>,
@@ -256,6 +256,11 @@ impl Engine {
             SHORT => Ok(Copied::Hit(len)),
             status => Ok(if found(status)? { Copied::Hit(len) } else { Copied::Miss }),
         }
+    }
+
+    /// As [`Cache::is_expired`]: whether memory has such an item.
+    pub fn is_expired(&mut self, key: &[u8]) -> Result<bool, Refused> {
+        self.cache.is_expired(key)
     }
 
     /// Takes the reply of the call with this number, which waited, once. Refused with [`Refused::NOT_READY`] while it waits,
@@ -389,6 +394,14 @@ impl Engine {
         has_work(unsafe { library::kilambosetry_reclaim(&mut self.cache.handle) })
     }
 
+    /// How many values wait to be written to flash, at most [`Flash::queue`]. One that a writer has taken waits no more.
+    pub fn queue_length(&mut self) -> u64 {
+        let mut length = 0;
+        // SAFETY: the handle is this cache's own. It has a cache, so that the number is told.
+        unsafe { library::kilambosetry_queue_length(&mut self.cache.handle, &mut length) };
+        length
+    }
+
     /// Hands in what came of the operation for which the job waits, and answers what is next of it. Refused with
     /// [`Refused::UNKNOWN_JOB`] where no job with this number waits for such a result, and with [`Refused::NO_MEMORY`]; then
     /// it must be handed in again, since the job waits for it. A page isn't copied: it is the cache's afterwards, and its value
@@ -411,7 +424,7 @@ impl Engine {
     }
 
     /// Does all that there is to do on this device: regions are made clean, what left memory is written, and what calls wait
-    /// for is read. What couldn't be handed in for want of memory is kept, and is handed in by the next call of this. So is an
+    /// for is read. A result for which the cache is out of memory is kept, and is handed in by the next call of this. So is an
     /// operation in which the device panicked: as one that failed.
     pub fn work(&mut self, device: &mut impl Device) -> Result<(), Refused> {
         if let Some((job, came)) = self.owed.take() {
@@ -460,7 +473,7 @@ impl Engine {
         })
     }
 
-    // Hands a result in, and keeps it where memory lacks.
+    // Hands a result in, and keeps it where the cache is out of memory.
     fn hand_in(&mut self, job: u64, mut came: Came) -> Result<Take, Refused> {
         let next = self.finish(job, &mut came);
         if matches!(next, Err(Refused::NO_MEMORY)) {
@@ -496,7 +509,7 @@ fn has_work(status: u8) -> Result<bool, Refused> {
     }
 }
 
-// The device does one operation: none, where it failed, or memory lacks for the page.
+// The device does one operation: none, where it failed, or there is no memory for the page.
 fn operate(device: &mut impl Device, operation: Operation, page_bytes: usize) -> Option<Came> {
     match operation {
         Operation::Read(page) => {

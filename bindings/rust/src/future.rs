@@ -30,7 +30,7 @@ impl<'a> GetAsync<'a> {
         let shard = shards.of(self.key);
         let waker = context.waker().clone();
         let mut state = shards.enter(shard)?;
-        match state.engine.get(self.key)? {
+        match state.get(self.key)? {
             Found::Hit(held) => {
                 drop(state);
                 Poll::Ready(Ok(Some(Value::of(held)?)))
@@ -121,7 +121,7 @@ impl<'a> LeaseAsync<'a> {
         let Begun { shards, shard, key, .. } = self.begun;
         let waker = context.waker().clone();
         let mut state = shards.enter(shard)?;
-        match state.engine.get(key)? {
+        match state.get(key)? {
             Found::Hit(held) => {
                 drop(state);
                 Poll::Ready(hit(held))

@@ -115,7 +115,7 @@ impl HybridCache {
     ) -> Result<Option<Value>, Error> {
         let (shards, shard) = self.locate(key);
         let mut state = shards.enter(shard)?;
-        let held = match state.engine.get(key)? {
+        let held = match state.get(key)? {
             Found::Hit(held) => {
                 drop(state);
                 Some(held)
@@ -131,7 +131,7 @@ impl HybridCache {
     pub fn get_into(&self, key: &[u8], out: &mut [u8]) -> Result<Option<usize>, Error> {
         let (shards, shard) = self.locate(key);
         let mut state = shards.enter(shard)?;
-        match state.engine.get_into(key, out)? {
+        match state.get_into(key, out)? {
             Copied::Hit(length) => Ok(Some(length)),
             Copied::Miss => Ok(None),
             Copied::Waits(call) => {
@@ -141,8 +141,8 @@ impl HybridCache {
         }
     }
 
-    /// Stores a copy of the value under the key, in place of what the key has, for `ttl` seconds from now (0: for good). What
-    /// was used longest ago is evicted to make room, and goes to flash.
+    /// Stores a copy of the value under the key, in place of what the key has, for `ttl` seconds from now (0: for good). The
+    /// least recently used items are evicted to make room, and go to flash.
     pub fn set(&self, key: &[u8], value: &[u8], ttl: u32) -> Result<(), Error> {
         self.change(key, |engine, pool| engine.set(pool, key, value, ttl))
     }
@@ -266,7 +266,10 @@ fn add_shard(stats: &mut Stats, state: &mut Locked<'_>, shards: &Shards) {
     let from_flash = state.calls.from_flash;
     stats.hits_from_memory += counts.hits.saturating_sub(from_flash);
     stats.hits_from_flash += from_flash;
-    stats.misses += counts.misses;
+    let (expired, fault) = (state.misses_expired, state.calls.misses_by_fault);
+    stats.misses_absent += counts.misses.saturating_sub(expired + fault);
+    stats.misses_expired += expired;
+    stats.misses_by_fault += fault;
     stats.stored += counts.stored;
     stats.deletes += counts.removes;
     stats.losses += state.engine.losses();
@@ -276,6 +279,7 @@ fn add_shard(stats: &mut Stats, state: &mut Locked<'_>, shards: &Shards) {
     stats.refused_stores += state.loads.refused;
     stats.waiting += state.calls.len() as u64;
     stats.given_up += state.calls.given_up;
+    stats.queue_length += state.engine.queue_length();
     stats.shards_behind += u64::from(shards.device.is_some() && state.engine.writer_has_work() != Ok(false));
     for pool in 0..shards.pools() {
         let usage = state.engine.usage(pool).unwrap_or_default();

@@ -123,7 +123,7 @@ impl HybridCache {
         let mut limit = None;
         loop {
             let mut state = shards.enter(shard)?;
-            let is_ours = match state.engine.get(key)? {
+            let is_ours = match state.get(key)? {
                 Found::Hit(held) => {
                     drop(state);
                     return hit(held);

@@ -38,9 +38,7 @@
 //! # Ok::<(), kilambosetry::Refused>(())
 //! ```
 //!
-//! There is no trait of calls over these layers. A get of an [`Engine`] may wait for a worker of the caller's, which that of a
-//! [`Cache`] never does; both are one caller's at a time (`&mut self`) and name a pool, and a [`HybridCache`] is shared and
-//! names none. Code that is to run with flash and without takes a [`HybridCache`]: [`HybridCache::in_memory`] makes one without.
+//! [`KeyValue`] has the calls that all of them have, for code that is to run over any.
 #![warn(missing_docs)]
 
 mod bell;
@@ -54,6 +52,7 @@ mod file;
 mod future;
 mod held;
 mod hybrid;
+mod key_value;
 mod lease;
 mod leases;
 mod library;
@@ -74,6 +73,7 @@ pub use file::PageFile;
 pub use future::{GetAsync, LeaseAsync};
 pub use held::Held;
 pub use hybrid::HybridCache;
+pub use key_value::{EngineWithDevice, KeyValue};
 pub use lease::{Lease, Lookup};
 pub use leases::{Kept, Ticket, Turn};
 pub use numbers::Numbers;
@@ -146,7 +146,7 @@ pub struct Losses {
     pub reclaimed: u64,
     /// Not written: no region was clean.
     pub no_clean_region: u64,
-    /// Another key of the same kept hash was written or deleted.
+    /// This key or another of the same kept hash was written or deleted: the index of flash has no keys.
     pub collision: u64,
     /// The device failed.
     pub fault: u64,
@@ -253,8 +253,8 @@ impl Cache {
     }
 
     /// Stores a copy of the value under the key, in place of what the key has in whichever pool, for `ttl` seconds from now
-    /// (0: for good). The items of the pool that were used longest ago go to make room. Where memory is wanted once room was
-    /// made, what went to make it is gone.
+    /// (0: for good). The least recently used items of the pool go to make room. Where the allocator is out of memory once
+    /// room was made, what went to make it is gone.
     #[inline]
     pub fn set(&mut self, pool: u8, key: &[u8], value: &[u8], ttl: u32) -> Result<(), Refused> {
         // SAFETY: both slices are valid for their lengths, and the handle overlaps neither.
@@ -347,6 +347,24 @@ impl Cache {
     pub fn delete(&mut self, key: &[u8]) -> Result<bool, Refused> {
         // SAFETY: the key is valid for its length.
         found(unsafe { library::kilambosetry_delete(&mut self.handle, key.as_ptr(), key.len()) })
+    }
+
+    /// Whether the cache has an item under the key whose time is over: then this is why a get of the key misses. It isn't used,
+    /// and stays until it is evicted, replaced or deleted.
+    ///
+    /// ```
+    /// # use kilambosetry::{Cache, Pool, Refused};
+    /// # let mut cache = Cache::new(&[Pool { bytes: 1000, items: 10 }])?;
+    /// cache.set(0, b"key", b"value", 10)?;
+    /// assert!(!cache.is_expired(b"key")?);
+    /// cache.tick(10)?;
+    /// assert_eq!(cache.get(b"key")?, None);
+    /// assert!(cache.is_expired(b"key")? && !cache.is_expired(b"another")?);
+    /// # Ok::<(), Refused>(())
+    /// ```
+    pub fn is_expired(&mut self, key: &[u8]) -> Result<bool, Refused> {
+        // SAFETY: the key is valid for its length.
+        found(unsafe { library::kilambosetry_is_expired(&mut self.handle, key.as_ptr(), key.len()) })
     }
 
     /// The ticket of now, for who has missed a key and is about to load it. It is good for every key of this cache. None once

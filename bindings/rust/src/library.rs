@@ -41,6 +41,8 @@ extern "C" {
     pub fn kilambosetry_filler_has_work(cache: *mut Handle) -> u8;
     pub fn kilambosetry_next_reply(cache: *mut Handle, call: *mut u64) -> u8;
     pub fn kilambosetry_reclaim(cache: *mut Handle) -> u8;
+    pub fn kilambosetry_queue_length(cache: *mut Handle, length: *mut u64) -> u8;
+    pub fn kilambosetry_is_expired(cache: *mut Handle, key: *const u8, key_len: usize) -> u8;
     pub fn kilambosetry_page_new(page: *mut Handle, bytes: *const u8, bytes_len: usize) -> u8;
     pub fn kilambosetry_order_page(cache: *mut Handle, job: u64, operation: *mut Operation, page: *mut Handle) -> u8;
     pub fn kilambosetry_finish_page(cache: *mut Handle, job: u64, page: *mut Handle) -> u8;

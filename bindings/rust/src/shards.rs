@@ -4,7 +4,7 @@ use crate::calls::{wake, Answer, Call, Calls};
 use crate::checked::{digest_of, Checked};
 use crate::loads::{after, Loads};
 use crate::numbers::Numbers;
-use crate::{Came, Clock, Engine, Error, Held, Operation, Refused, Take};
+use crate::{Came, Clock, Copied, Engine, Error, Found, Held, Operation, Refused, Take};
 use std::collections::VecDeque;
 use std::sync::atomic::{AtomicU64, Ordering::Relaxed};
 use std::sync::{Condvar, Mutex, MutexGuard, PoisonError, TryLockError};
@@ -20,6 +20,8 @@ pub(crate) struct State {
     pub engine: Engine,
     pub calls: Calls,
     pub loads: Loads,
+    /// Gets that missed, of whose key memory had an item that was expired.
+    pub misses_expired: u64,
     // the last second that the engine was told
     now: u64,
     // jobs of writers that are under way
@@ -33,6 +35,34 @@ pub(crate) struct State {
 enum Left {
     Operation(u64, Operation),
     Result(u64, Came),
+}
+
+impl State {
+    /// The value under the key. A miss of memory is counted by its reason.
+    pub fn get(&mut self, key: &[u8]) -> Result<Found, Refused> {
+        let found = self.engine.get(key)?;
+        self.count_expired(key, matches!(found, Found::Miss));
+        Ok(found)
+    }
+
+    /// The same, copied to the head of `out`.
+    pub fn get_into(&mut self, key: &[u8], out: &mut [u8]) -> Result<Copied, Refused> {
+        let copied = self.engine.get_into(key, out)?;
+        self.count_expired(key, copied == Copied::Miss);
+        Ok(copied)
+    }
+
+    fn count_expired(&mut self, key: &[u8], is_miss: bool) {
+        self.misses_expired += u64::from(is_miss && self.engine.is_expired(key) == Ok(true));
+    }
+
+    // Hands in what came of an operation. What it answers is known by `leave`, before the lock is free.
+    fn finish(&mut self, job: u64, came: &mut Came) -> Result<Take, Refused> {
+        let has_failed = matches!(came, Came::Failed);
+        let next = self.engine.finish(job, came);
+        self.calls.note_result(job, has_failed, matches!(next, Ok(Take::Finished)));
+        next
+    }
 }
 
 /// A shard, on lines of the processor's memory of its own.
@@ -72,7 +102,7 @@ impl Shards {
             };
             engine.tick(now)?;
             let (calls, loads, left) = (Calls::default(), Loads::default(), VecDeque::new());
-            let state = State { engine, calls, loads, now, writing: 0, left, closed: false };
+            let state = State { engine, calls, loads, misses_expired: 0, now, writing: 0, left, closed: false };
             Ok(Shard { state: Mutex::new(state), quiet: Condvar::new(), lock_waits: AtomicU64::new(0) })
         });
         let (page, pages) = numbers.flash.map_or((0, 0), |flash| (flash.page as usize, flash.pages() as u32));
@@ -307,7 +337,7 @@ impl Shards {
             state = self.lock(shard);
             let left = match came {
                 Err(operation) => Left::Operation(job, operation),
-                Ok(mut came) => match state.engine.finish(job, &mut came) {
+                Ok(mut came) => match state.finish(job, &mut came) {
                     Err(Refused::NO_MEMORY) => Left::Result(job, came),
                     next => {
                         take = next.unwrap_or(Take::Finished);
@@ -333,11 +363,11 @@ impl Shards {
         }
     }
 
-    // Hands a result in, as often as memory lacks for it, and answers what is next of the job.
+    // Hands a result in, again as long as the cache is out of memory, and answers what is next of the job.
     fn hand_in(&self, shard: usize, job: u64, came: &mut Came) -> (Take, Locked<'_>) {
         loop {
             let mut state = self.lock(shard);
-            match state.engine.finish(job, came) {
+            match state.finish(job, came) {
                 Err(Refused::NO_MEMORY) if !state.closed => {
                     drop(state);
                     thread::sleep(PAUSE);
@@ -427,7 +457,7 @@ impl Shards {
         }
     }
 
-    // Comes back to a shard for which memory lacks.
+    // Comes back to a shard that was out of memory.
     fn try_later(&self, shard: usize, state: Locked<'_>, bell: &Bell) {
         drop(state);
         thread::sleep(PAUSE);
@@ -442,7 +472,7 @@ impl Shards {
                 return Ok(());
             }
             self.writers.ring(shard);
-            // (looked at again after a while too, since memory may lack)
+            // (looked at again after a while too, since the shard may be out of memory)
             let wait = self.shards[shard].quiet.wait_timeout(state, PAUSE);
             state = wait.unwrap_or_else(PoisonError::into_inner).0;
         }

@@ -9,8 +9,13 @@ pub struct Stats {
     pub hits_from_memory: u64,
     /// Gets that waited for flash, and found a value.
     pub hits_from_flash: u64,
-    /// Gets that found none.
-    pub misses: u64,
+    /// Gets that found none, and no reason: the key was never stored, or it was deleted or forgotten, or flash had it, expired. A
+    /// cache whose memory is bounded can't tell a key that it forgot from one that never was.
+    pub misses_absent: u64,
+    /// Gets that found none, since the item that memory has is expired.
+    pub misses_expired: u64,
+    /// Gets that found none, since a page that may have had the value couldn't be read, or came back otherwise than written.
+    pub misses_by_fault: u64,
     /// Values that were stored.
     pub stored: u64,
     /// Deletes, whether or not there was an item.
@@ -37,7 +42,9 @@ pub struct Stats {
     pub flash_limit_bytes: u64,
     /// Operations of the device.
     pub device: DeviceCounts,
-    /// Shards for whose flash something waits to be written. How much can't be told.
+    /// Values that wait to be written to flash. One that is being written waits no more.
+    pub queue_length: u64,
+    /// Shards for whose flash something waits to be written: a value, a delete or a region's page.
     pub shards_behind: u64,
     /// Calls that wait for flash now.
     pub waiting: u64,
@@ -52,6 +59,17 @@ impl Stats {
     #[must_use]
     pub fn hits(&self) -> u64 {
         self.hits_from_memory + self.hits_from_flash
+    }
+
+    /// Gets that found none.
+    #[must_use]
+    pub fn misses(&self) -> u64 {
+        self.misses_absent + self.misses_expired + self.misses_by_fault
+    }
+
+    // The misses, each with its reason.
+    fn misses_by_reason(&self) -> [(&'static str, u64); 3] {
+        [("absent", self.misses_absent), ("expired", self.misses_expired), ("fault", self.misses_by_fault)]
     }
 
     // The losses, each with its reason.
@@ -77,8 +95,8 @@ impl Stats {
     /// ```
     /// use kilambosetry::Stats;
     ///
-    /// let text = Stats { misses: 3, ..Stats::default() }.to_prometheus();
-    /// assert!(text.contains("# TYPE kilambosetry_misses_total counter\nkilambosetry_misses_total 3\n"));
+    /// let text = Stats { stored: 3, ..Stats::default() }.to_prometheus();
+    /// assert!(text.contains("# TYPE kilambosetry_stored_total counter\nkilambosetry_stored_total 3\n"));
     /// ```
     #[must_use]
     pub fn to_prometheus(&self) -> String {
@@ -87,7 +105,7 @@ impl Stats {
         let operations = [("read", self.device.reads), ("write", self.device.writes)];
         let failures = [("read", self.device.read_failures), ("write", self.device.write_failures)];
         counters(&mut text, "hits", "Gets that found a value.", "from", &hits);
-        counter(&mut text, "misses", "Gets that found none.", self.misses);
+        counters(&mut text, "misses", "Gets that found none.", "reason", &self.misses_by_reason());
         counter(&mut text, "stored", "Values that were stored.", self.stored);
         counter(&mut text, "deletes", "Deletes.", self.deletes);
         counter(&mut text, "loads", "Values that were to be loaded.", self.loads);
@@ -105,6 +123,7 @@ impl Stats {
         gauge(&mut text, "memory_limit_bytes", "The most bytes charged.", self.memory_limit_bytes);
         gauge(&mut text, "flash_bytes", "Bytes of written pages.", self.flash_bytes);
         gauge(&mut text, "flash_limit_bytes", "Bytes of flash.", self.flash_limit_bytes);
+        gauge(&mut text, "queue_length", "Values that wait to be written to flash.", self.queue_length);
         gauge(&mut text, "shards_behind", "Shards with something to be written.", self.shards_behind);
         gauge(&mut text, "waiting_calls", "Calls that wait for flash.", self.waiting);
         text
@@ -137,8 +156,12 @@ impl fmt::Display for Stats {
         let device = &self.device;
         writeln!(
             f,
-            "gets     {} from memory, {} from flash, {} missed",
-            self.hits_from_memory, self.hits_from_flash, self.misses
+            "gets     {} from memory, {} from flash, {} missed ({} expired, {} by a fault)",
+            self.hits_from_memory,
+            self.hits_from_flash,
+            self.misses(),
+            self.misses_expired,
+            self.misses_by_fault
         )?;
         writeln!(f, "changes  {} stored, {} deletes", self.stored, self.deletes)?;
         writeln!(
@@ -153,8 +176,8 @@ impl fmt::Display for Stats {
         )?;
         writeln!(
             f,
-            "flash    {} of {} bytes, {} shards behind",
-            self.flash_bytes, self.flash_limit_bytes, self.shards_behind
+            "flash    {} of {} bytes, {} values wait to be written, {} shards behind",
+            self.flash_bytes, self.flash_limit_bytes, self.queue_length, self.shards_behind
         )?;
         writeln!(
             f,

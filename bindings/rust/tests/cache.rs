@@ -26,7 +26,7 @@ fn items_expire() {
 }
 
 #[test]
-fn items_that_were_used_longest_ago_go() {
+fn the_least_recently_used_items_go() {
     let mut cache = small();
     for key in [b"a", b"b", b"c", b"d"] {
         cache.set(0, key, b"v", 0).unwrap();
@@ -262,6 +262,22 @@ fn workers_are_woken_where_there_is_work_and_callers_where_they_are_answered() {
     calls.sort_unstable();
     answered.sort_unstable();
     assert_eq!((calls, cache.next_reply()), (answered, None));
+}
+
+#[test]
+fn values_that_wait_to_be_written_are_counted() {
+    let (mut cache, mut device) = hybrid();
+    for number in 0..5 {
+        cache.set(0, &[number], b"value", 0).unwrap();
+        assert_eq!(cache.queue_length(), u64::from(number)); // all but this one
+    }
+    let Take::Work(job, _) = cache.writer_take().unwrap() else { panic!("the first is to be written") };
+    assert_eq!(cache.queue_length(), 3);
+    cache.delete(&[3]).unwrap();
+    assert_eq!(cache.queue_length(), 2);
+    assert!(matches!(cache.finish(job, &mut Came::Failed), Ok(Take::Finished)));
+    cache.work(&mut device).unwrap();
+    assert_eq!(cache.queue_length(), 0);
 }
 
 // How many bytes the page has.

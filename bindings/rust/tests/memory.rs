@@ -144,7 +144,7 @@ fn player(cache: &HybridCache, number: u64, rounds: u64) -> u64 {
 }
 
 #[test]
-fn where_memory_lacks_calls_are_refused_and_jobs_go_on() {
+fn out_of_memory_calls_are_refused_and_jobs_go_on() {
     let _alone = ALONE.lock();
     let flash = Flash {
         page: 512,
@@ -250,7 +250,7 @@ fn are_answered(refused: u64) -> bool {
 }
 
 #[test]
-fn a_reply_that_memory_lacks_for_holds_no_other_up() {
+fn a_reply_that_is_out_of_memory_holds_no_other_up() {
     let _alone = ALONE.lock();
     let stuck: Vec<u64> = (1..32).filter(|refused| !are_answered(*refused)).collect();
     assert!(stuck.is_empty(), "calls wait for good where these allocations are refused: {stuck:?}");

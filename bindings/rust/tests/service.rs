@@ -206,7 +206,7 @@ fn play(cache: &HybridCache, threads: u64, rounds: u64) -> (u64, u64) {
 }
 
 fn assert_adds_up(stats: &Stats, gets: u64, hits: u64) {
-    assert_eq!((stats.hits(), stats.misses), (hits, gets - hits));
+    assert_eq!((stats.hits(), stats.misses()), (hits, gets - hits));
     assert_eq!((stats.waiting, stats.given_up), (0, 0));
     assert_eq!(stats.flash_bytes, stats.device.pages * 512);
 }
@@ -717,6 +717,56 @@ fn items_expire_by_the_clock() {
     assert!(cache.get(b"long").unwrap().is_none());
 }
 
+// The misses by reason: absent, expired, fault.
+fn misses(cache: &HybridCache) -> (u64, u64, u64) {
+    let stats = cache.stats();
+    assert_eq!(stats.misses(), stats.misses_absent + stats.misses_expired + stats.misses_by_fault);
+    (stats.misses_absent, stats.misses_expired, stats.misses_by_fault)
+}
+
+#[test]
+fn misses_are_counted_by_their_reason() {
+    let second = Arc::new(AtomicU64::new(1000));
+    let hand = Arc::clone(&second);
+    let (cache, ram) = over_ram(&Options { clock: Clock::new(move || hand.load(SeqCst)), ..small() });
+    filled(&cache, 400);
+    assert!(cache.get(b"never stored").unwrap().is_none());
+    assert_eq!(misses(&cache), (1, 0, 0));
+    cache.set(b"deleted", b"value", 10).unwrap();
+    cache.delete(b"deleted").unwrap();
+    assert!(cache.get(b"deleted").unwrap().is_none());
+    assert_eq!(misses(&cache), (2, 0, 0));
+    cache.set(b"short", b"value", 10).unwrap();
+    second.store(1010, SeqCst);
+    assert!(cache.get(b"short").unwrap().is_none());
+    assert_eq!(cache.get_into(b"short", &mut [0; 9]), Ok(None));
+    assert!(matches!(cache.get_or_lease(b"short"), Ok(Lookup::Miss(_))));
+    assert!(block_on(cache.get_async(b"short")).unwrap().is_none());
+    assert_eq!(misses(&cache), (2, 4, 0));
+    assert!(cache.stats().to_string().contains(" 6 missed (4 expired, 0 by a fault)"));
+    // pages that are gone are faults of the gets that asked for them, and what was there is forgotten then
+    ram.pages.lock().unwrap().clear();
+    let lost: Vec<_> = (0..400).filter(|number| cache.get(&key(*number)).unwrap().is_none()).collect();
+    let (absent, expired, faults) = misses(&cache);
+    assert!(expired == 4 && faults > 0 && absent + faults == 2 + lost.len() as u64, "{absent} {expired} {faults}");
+    assert!(lost.iter().all(|number| cache.get(&key(*number)).unwrap().is_none()));
+    assert_eq!(misses(&cache), (absent + lost.len() as u64, 4, faults));
+}
+
+#[test]
+fn a_get_that_may_not_wait_and_fails_is_a_fault() {
+    let (cache, ram) = over_ram(&small());
+    filled(&cache, 400);
+    ram.one_of.store(1, SeqCst); // each read is made at once
+    let stored = ram.pages.lock().unwrap().len();
+    assert!(stored > 0);
+    ram.pages.lock().unwrap().clear();
+    let limit = Duration::from_secs(60);
+    let lost = (0..400).filter(|number| cache.get_timeout(&key(*number), limit).unwrap().is_none()).count() as u64;
+    let (absent, expired, faults) = misses(&cache);
+    assert!(lost > 0 && faults > 0 && (absent + faults, expired) == (lost, 0), "{absent} {expired} {faults} {lost}");
+}
+
 #[test]
 fn memory_alone_has_no_threads() {
     let cache = HybridCache::in_memory(&Options { memory: 1_000_000, ..Options::default() }).unwrap();
@@ -728,8 +778,9 @@ fn memory_alone_has_no_threads() {
     assert!(cache.get(&key(0)).unwrap().is_none());
     assert_eq!(cache.add(&key(9_999), b"", 0), Ok(false));
     let stats = cache.close();
-    assert_eq!((stats.hits_from_memory, stats.misses, stats.stored), (1, 1, 10_000));
+    assert_eq!((stats.hits_from_memory, stats.misses_absent, stats.stored), (1, 1, 10_000));
     assert!(stats.losses.no_flash > 0 && stats.device == Default::default());
+    assert_eq!((stats.queue_length, stats.shards_behind), (0, 0));
 }
 
 #[test]
@@ -836,19 +887,42 @@ fn the_text_for_prometheus_has_its_form() {
             value.parse::<u64>().unwrap();
         }
     }
-    assert_eq!(names.len(), 21);
+    assert_eq!(names.len(), 22);
     for line in [
         "kilambosetry_hits_total{from=\"memory\"} 0\nkilambosetry_hits_total{from=\"flash\"} 1\n",
-        "kilambosetry_misses_total 1\n",
+        "kilambosetry_misses_total{reason=\"absent\"} 1\nkilambosetry_misses_total{reason=\"expired\"} 0\n",
+        "kilambosetry_misses_total{reason=\"fault\"} 0\n",
         "kilambosetry_stored_total 400\n",
         "kilambosetry_loads_total 0\n",
         "kilambosetry_stale_stores_total 0\n",
+        "kilambosetry_queue_length ", // (the item from flash has evicted another)
         "kilambosetry_shards_behind ",
         "kilambosetry_losses_total{reason=\"fault\"} 0\n",
     ] {
         assert!(text.contains(line), "{line}{text}");
     }
-    assert!(stats.to_string().starts_with("gets     0 from memory, 1 from flash, 1 missed\n"), "{stats}");
+    assert!(
+        stats.to_string().starts_with("gets     0 from memory, 1 from flash, 1 missed (0 expired, 0 by a fault)\n"),
+        "{stats}"
+    );
+}
+
+#[test]
+fn values_that_wait_to_be_written_are_counted() {
+    let (cache, ram) = over_ram(&Options { writers: 1, ..small() });
+    let held = ram.pages.lock().unwrap(); // the writer comes no further than to its first operation
+    for number in 0..300 {
+        cache.set(&key(number), b"short", 0).unwrap();
+    }
+    let stats = cache.stats();
+    let evicted = 300 - stats.memory_items;
+    assert!(stats.queue_length == evicted || stats.queue_length == evicted - 1, "{stats}");
+    assert!(stats.shards_behind > 0);
+    assert!(stats.to_prometheus().contains(&format!("\nkilambosetry_queue_length {}\n", stats.queue_length)));
+    assert!(stats.to_string().contains(&format!(" {} values wait to be written, ", stats.queue_length)));
+    drop(held);
+    cache.flush().unwrap();
+    assert_eq!((cache.stats().queue_length, cache.stats().shards_behind), (0, 0));
 }
 
 #[test]

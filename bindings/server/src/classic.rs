@@ -124,7 +124,7 @@ async fn touched(worker: &Worker, key: &[u8], time: i32) -> Option<Item> {
     counters.touch_hits.one_or(found.is_some(), &counters.touch_misses);
     let mut item = found?;
     item.head.expiry = Expiry::of(time, moments::now());
-    // (where memory lacks for it, the item is gone: that may be so at any time)
+    // (where the cache is out of memory, the item is gone: that may be so at any time)
     let _ = change.store(&mut item).await;
     Some(item)
 }

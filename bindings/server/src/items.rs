@@ -8,7 +8,7 @@ use std::sync::atomic::{AtomicU32, AtomicU64, Ordering::SeqCst};
 use std::sync::{Mutex, PoisonError};
 use std::time::{Duration, SystemTime, UNIX_EPOCH};
 
-// How often what frees a key is tried again where memory lacks for it, and after how long.
+// How often what frees a key is tried again where the cache is out of memory, and after how long.
 const TRIES: usize = 100;
 const PAUSE: Duration = Duration::from_millis(5);
 
@@ -66,7 +66,7 @@ impl Items {
         Change { items: self, key, _lock: self.locks.lock(key).await }
     }
 
-    /// The item under the key. What the cache can't tell, in time or for want of memory, is a miss.
+    /// The item under the key. What the cache can't tell in time, or since it is out of memory, is a miss.
     pub async fn find(&self, key: &[u8]) -> Option<Item> {
         let found = within(self.patience, self.cache.get_async(key)).await.ok()?;
         let item = Item::read(found.ok()??.into_vec())?;
@@ -143,8 +143,8 @@ impl Change<'_> {
         })
     }
 
-    /// Takes the key out of the cache, from memory and flash. Where memory lacks even for that, it is tried for half a second, and
-    /// then refused.
+    /// Takes the key out of the cache, from memory and flash. Where the cache is out of memory even for that, it is tried for
+    /// half a second, and then refused.
     pub async fn remove(&self) -> Result<(), NotKept> {
         for _ in 0..TRIES {
             if self.items.cache.delete(self.key).is_ok() {

@@ -21,7 +21,7 @@ use tokio::runtime::Builder;
 use tokio::sync::{mpsc, oneshot, watch, OwnedSemaphorePermit};
 use tokio::task::JoinSet;
 
-// After an accept that failed, say for want of file handles.
+// After an accept that failed, say since the process is out of file handles.
 const PAUSE: Duration = Duration::from_millis(100);
 
 /// The sockets of a server, open.

@@ -61,6 +61,8 @@ fn of_cache(stats: &Stats) -> Vec<(&'static str, u64)> {
         ("items_limit_bytes", stats.memory_limit_bytes),
         ("hits_from_memory", stats.hits_from_memory),
         ("hits_from_flash", stats.hits_from_flash),
+        ("misses_expired", stats.misses_expired),
+        ("misses_by_fault", stats.misses_by_fault),
         ("lock_waits", stats.lock_waits),
         ("flash_bytes", stats.flash_bytes),
         ("flash_limit_bytes", stats.flash_limit_bytes),
@@ -71,6 +73,7 @@ fn of_cache(stats: &Stats) -> Vec<(&'static str, u64)> {
         ("flash_lies", device.lies),
         ("flash_waiting", stats.waiting),
         ("flash_given_up", stats.given_up),
+        ("flash_queue_length", stats.queue_length),
         ("flash_shards_behind", stats.shards_behind),
     ];
     all.extend(losses(&stats.losses));

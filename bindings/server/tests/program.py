@@ -130,6 +130,22 @@ def has_a_page():
             assert error.code == 404
 
 
+def stats_of(client):
+    """What the command `stats` tells."""
+    client.send(b"stats\r\n")
+    stats = {}
+    while (line := client.line()) != b"END":
+        stats[line.split()[1]] = line.split()[2]
+    return stats
+
+
+def written(client):
+    """What `stats` tells, once nothing waits to be written to flash."""
+    while (stats := stats_of(client))[b"flash_shards_behind"] != b"0":
+        time.sleep(0.001)
+    return stats
+
+
 def has_flash():
     """Its flash is a file that is locked, and what leaves memory is found there."""
     folder = tempfile.mkdtemp()
@@ -143,13 +159,11 @@ def has_flash():
         for at in range(0, len(keys), 100):
             client.send(b"".join(b"ms %s 1000 q\r\n%s\r\n" % (key, key.ljust(1000)) for key in keys[at : at + 100]) + b"mn\r\n")
             assert client.line() == b"MN"
-            time.sleep(0.002)
+            written(client)
         found = sum(client.ask(b"mg %s v" % key)[1] == key.ljust(1000) for key in keys)
-        client.send(b"stats\r\n")
-        stats = {}
-        while (line := client.line()) != b"END":
-            stats[line.split()[1]] = line.split()[2]
+        stats = written(client)
         assert found > 7000 and int(stats[b"hits_from_flash"]) > 4000, (found, stats)
+        assert stats[b"flash_queue_length"] == b"0", stats
         assert server.end() == 0
     shutil.rmtree(folder)
 
