@@ -9,7 +9,7 @@ use Rattle.hc_memory.specs.declared.usage.PoolUsage.{PoolUsage}
 use Rattle.hc_memory.specs.declared.pool.Glance.{Glance}
 use Rattle.hc_memory.specs.Memory.{Memory, pool_usage, linked_at}
 use Rattle.hc_memory.specs.Seen.{glance_of}
-use Rattle.hc_machine.specs.Calls.{queue_in}
+use Rattle.hc_machine.specs.Calls.{queue_of}
 use Rattle.hc_leased.specs.Leased.{Leased}
 use Rattle.hc_c.specs.Calls.{WhyKey}
 use Rattle.hc_c.specs.declared.telling.Counts.{Counts}
@@ -67,7 +67,7 @@ Called calls Done old new = (new ≡ old) × (calls ≡ old.logged.cache.calls)
 Called calls status old new = ⊥
 
 abbrev pub Queued : ℕ → Status → Leased → Leased → Type 0
-Queued waiting Done old new = (new ≡ old) × (waiting ≡ length (queue_in old.logged.cache.nvm))
+Queued waiting Done old new = (new ≡ old) × (waiting ≡ length (queue_of old.logged.cache.nvm))
 Queued waiting status old new = ⊥
 
 -- what is seen of an item, if there is one, is that it is expired

@@ -3,7 +3,7 @@ ghost use Rattle.std.specs.Prelude.{◌≡◌, ◌==◌, length, option_map};
 ghost use Rattle.std.specs.List.{list_all};
 ghost use Rattle.std.specs.Option.{option_copied};
 ghost use Rattle.hc_history.specs.Told.{Log, IfLog, losses_taken};
-ghost use Rattle.hc_machine.specs.Calls.{queue_in};
+ghost use Rattle.hc_machine.specs.Calls.{queue_of};
 ghost use Rattle.hc_machine.specs.Nvm.{is_job};
 ghost use Rattle.hc_machine.specs.Quiet.{jobs_in};
 ghost use Rattle.hc_machine.specs.World.{order_in};
@@ -89,7 +89,7 @@ impl<N: Listener, A: Allocator + Clone + Copy> Core<N, A> {
     /// How many values wait to be written to flash.
     #[must_use]
     pub fn queue_len(&self) -> usize
-        ensures { result ≡ length (queue_in self.now.cache.nvm) }
+        ensures { result ≡ length (queue_of self.now.cache.nvm) }
     {
         self.state.queue_len()
     }

@@ -14,14 +14,11 @@ use Rattle.hc_memory.specs.Memory.{Memory}
 use Rattle.hc_machine.specs.items.Items.{items_of, item_has, open_has}
 use Rattle.hc_machine.specs.Nvm.{Nvm, Tombstone, Fill, Job, is_put_of, is_stone_of, is_job, is_fill_of, is_number_in, adds}
 use Rattle.hc_machine.specs.Cache.{Cache}
+use Rattle.hc_machine.specs.Calls.{queue_of}
 use Rattle.hc_invariant.specs.Tells.{waiters_of}
 use Rattle.hc_invariant.specs.Jobs.{AllWishes}
 use Rattle.hc_invariant.specs.LargeAlone.{LargeAlone}
 use Rattle.hc_invariant.specs.Good.{fills_of}
-
-abbrev pub queue_of : Option Nvm → List FlashEntry
-queue_of None = []
-queue_of (Some nvm) = nvm.queue
 
 abbrev pub stones_of : Option Nvm → List Tombstone
 stones_of None = []

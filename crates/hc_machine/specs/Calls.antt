@@ -60,9 +60,9 @@ waiting_at None key = None
 waiting_at (Some nvm) key = put_at key nvm.queue
 
 -- all puts that wait, the oldest first
-abbrev pub queue_in : Option Nvm → List FlashEntry
-queue_in None = []
-queue_in (Some nvm) = nvm.queue
+abbrev pub queue_of : Option Nvm → List FlashEntry
+queue_of None = []
+queue_of (Some nvm) = nvm.queue
 
 -- the key has a tombstone
 abbrev pub buried_at : Option Nvm → List ℕ → Bool

@@ -9,10 +9,10 @@ use Rattle.hc_machine.specs.items.Items.{items_of}
 use Rattle.hc_machine.specs.Nvm.{Nvm, Wish, ToFind, ToAdd, Waiter, Fill, adds}
 use Rattle.hc_machine.specs.Cache.{Cache}
 use Rattle.hc_machine.specs.Evicting.{make_charge}
-use Rattle.hc_machine.specs.Calls.{is_kept_in}
+use Rattle.hc_machine.specs.Calls.{is_kept_in, queue_of}
 use Rattle.hc_invariant.specs.Jobs.{WishHolds, AllWish, AllWishes}
 use Rattle.hc_invariant.specs.Good.{fills_of}
-use Rattle.hc_invariant.specs.Structure.{Structured, queue_of}
+use Rattle.hc_invariant.specs.Structure.{Structured}
 use Rattle.hc_proof.proofs.evicting.LinkedClean.{not_it}
 use Rattle.hc_proof.specs.structure.Parts.{all_of}
 use Rattle.hc_proof.proofs.structure.Parts.{parts_of, next_open}

@@ -3,7 +3,7 @@ ghost use Rattle.std.specs.Prelude.{◌≡◌, ◌≤◌, ◌==◌, length, opti
 ghost use Rattle.std.specs.List.{list_all};
 ghost use Rattle.std.specs.Option.{option_copied};
 ghost use Rattle.hc_history.specs.Told.{Log, losses_taken};
-ghost use Rattle.hc_machine.specs.Calls.{queue_in};
+ghost use Rattle.hc_machine.specs.Calls.{queue_of};
 ghost use Rattle.hc_machine.specs.Nvm.{is_job};
 ghost use Rattle.hc_machine.specs.Quiet.{jobs_in};
 ghost use Rattle.hc_machine.specs.World.{order_in};
@@ -95,7 +95,7 @@ impl<N: Listener, A: Allocator + Clone + Copy> State<N, A> {
     /// How many values wait to be written to flash.
     #[must_use]
     pub fn queue_len(&self) -> usize
-        ensures { result ≡ length (queue_in self.now.cache.nvm) }
+        ensures { result ≡ length (queue_of self.now.cache.nvm) }
     {
         match &self.nvm {
             Some(nvm) => nvm.how_many_puts(),

@@ -21,11 +21,11 @@ use Rattle.hc_machine.specs.Nvm.{Nvm, Wish, ToFind, ToAdd, Waiter, Fill, is_put_
 use Rattle.hc_machine.specs.Cache.{Owed, Cache, and_then, Refused, Discarded, Replied, Waits, answers, stays, owed_at}
 use Rattle.hc_machine.specs.Evicting.{allocate_by}
 use Rattle.hc_machine.specs.Waiting.{live, uproot, plant, entry_of_handle, find_reply, free, end_fill}
-use Rattle.hc_machine.specs.Calls.{begin, wait_in, wait_for, is_known, is_kept_in, store, in_memory, must_wait, add, used, find_now, take_of}
+use Rattle.hc_machine.specs.Calls.{begin, wait_in, wait_for, is_known, is_kept_in, store, in_memory, must_wait, add, used, find_now, take_of, queue_of}
 use Rattle.hc_invariant.specs.Tells.{waiters_of}
 use Rattle.hc_invariant.specs.Jobs.{WishHolds}
 use Rattle.hc_invariant.specs.Good.{fills_of}
-use Rattle.hc_invariant.specs.Structure.{Structured, AllAsk, OnePlace, queue_of}
+use Rattle.hc_invariant.specs.Structure.{Structured, AllAsk, OnePlace}
 use Rattle.hc_proof.proofs.frames.ByNumber.{none-counted, count-fewer}
 use Rattle.hc_proof.proofs.calls.Adds.{unkept_none, and_both}
 use Rattle.hc_proof.proofs.calls.CallBooks.{join-counts}

@@ -24,9 +24,10 @@ use Rattle.hc_machine.specs.Nvm.{Nvm, Fill, is_put_of, put_at, without_put, is_s
 use Rattle.hc_machine.specs.Leaving.{Changed, changed, unqueue, bury, unindex, outdate}
 use Rattle.hc_machine.specs.Cache.{Cache, on_flash_of, on_flash, unmarked_by, with_memory}
 use Rattle.hc_machine.specs.Waiting.{clear, uproot, plant, free}
+use Rattle.hc_machine.specs.Calls.{queue_of}
 use Rattle.hc_invariant.specs.Tells.{waiters_of}
 use Rattle.hc_invariant.specs.Good.{fills_of}
-use Rattle.hc_invariant.specs.Structure.{Asks, AsksIf, AllAsk, queue_of}
+use Rattle.hc_invariant.specs.Structure.{Asks, AsksIf, AllAsk}
 use Rattle.hc_proof.proofs.frames.ByNumber.{none-counted, count-fewer}
 use Rattle.hc_proof.proofs.frames.Charges.{without-less}
 use Rattle.hc_proof.proofs.frames.Lists.{any-counts}

@@ -19,8 +19,8 @@ use Rattle.hc_machine.specs.Nvm.{Nvm, Fill, is_put_of}
 use Rattle.hc_machine.specs.Leaving.{cause_for, waits_unless}
 use Rattle.hc_machine.specs.Cache.{Cache, tells, with_memory}
 use Rattle.hc_machine.specs.Evicting.{entry_of_item, left_in, leaves_for, leaves, all_leave, make_room, with_charge, make_charge}
+use Rattle.hc_machine.specs.Calls.{queue_of}
 use Rattle.hc_invariant.specs.Good.{fills_of}
-use Rattle.hc_invariant.specs.Structure.{queue_of}
 use Rattle.hc_proof.specs.structure.Parts.{Midst, Stands, all_of, FewerItems}
 use Rattle.hc_proof.specs.structure.Steps.{EvictedNeverWaits}
 use Rattle.hc_proof.proofs.structure.Parts.{parts_of, same_puts, same_fills, same_wait, held_less, held_charged, held_gone, held_waits}

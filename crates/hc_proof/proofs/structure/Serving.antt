@@ -9,10 +9,11 @@ use Rattle.hc_machine.specs.items.Items.{items_of}
 use Rattle.hc_machine.specs.Nvm.{Nvm, Wish, ToFind, ToAdd, Waiter, Fill, is_fill_of, fill_at, without_fill, adds}
 use Rattle.hc_machine.specs.Cache.{Cache, with_nvm}
 use Rattle.hc_machine.specs.Waiting.{live, serve, there_after, serve_all, serve_fill, end_fill_of, end_fill}
+use Rattle.hc_machine.specs.Calls.{queue_of}
 use Rattle.hc_invariant.specs.Tells.{waiters_of}
 use Rattle.hc_invariant.specs.Jobs.{AllWish}
 use Rattle.hc_invariant.specs.Good.{fills_of}
-use Rattle.hc_invariant.specs.Structure.{AllAsk, brings, queue_of}
+use Rattle.hc_invariant.specs.Structure.{AllAsk, brings}
 use Rattle.hc_proof.proofs.frames.ByNumber.{same_number, found-passes, count-fewer}
 use Rattle.hc_proof.proofs.frames.Fills.{all_still, wishes_at, fewer_wish}
 use Rattle.hc_proof.proofs.frames.OpenCharges.{fewer_wait}

@@ -19,10 +19,11 @@ use Rattle.hc_machine.specs.Evicting.{make_charge, handle_for}
 use Rattle.hc_machine.specs.Takes as flash
 use Rattle.hc_machine.specs.Takes.{Filled, Taken}
 use Rattle.hc_machine.specs.Workers.{can_link, link_clean, bring, fill, after_take, take_on, reclaim_on, after_finish, finish_on}
+use Rattle.hc_machine.specs.Calls.{queue_of}
 use Rattle.hc_invariant.specs.Tells.{waiters_of}
 use Rattle.hc_invariant.specs.Jobs.{WishHolds, AllWish, AllWishes}
 use Rattle.hc_invariant.specs.Good.{fills_of}
-use Rattle.hc_invariant.specs.Structure.{Structured, queue_of}
+use Rattle.hc_invariant.specs.Structure.{Structured}
 use Rattle.hc_proof.specs.calls.Serving.{ghost}
 use Rattle.hc_proof.proofs.evicting.LinkedClean.{last_open, not_it}
 use Rattle.hc_proof.specs.structure.Parts.{Held, Stands, all_of}

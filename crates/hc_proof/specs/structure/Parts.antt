@@ -7,10 +7,11 @@ use Rattle.hc_memory.specs.Memory.{Memory}
 use Rattle.hc_machine.specs.items.Items.{items_of, item_has, open_has}
 use Rattle.hc_machine.specs.Nvm.{Nvm, Fill, is_put_of, is_stone_of, is_fill_of, adds}
 use Rattle.hc_machine.specs.Cache.{Cache}
+use Rattle.hc_machine.specs.Calls.{queue_of}
 use Rattle.hc_invariant.specs.Tells.{waiters_of}
 use Rattle.hc_invariant.specs.Jobs.{AllWishes}
 use Rattle.hc_invariant.specs.Good.{fills_of}
-use Rattle.hc_invariant.specs.Structure.{OnePlace, JobsPart, flash_of, queue_of, stones_of}
+use Rattle.hc_invariant.specs.Structure.{OnePlace, JobsPart, flash_of, stones_of}
 
 -- with these items and this queue; `seen` are the fills whose keys stand nowhere else, `all` those whose calls wait
 pub record Held (memory : Memory) (items : List Item) (queue : List FlashEntry) (seen all : List Fill) : Type 0 where

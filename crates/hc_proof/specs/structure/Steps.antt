@@ -9,9 +9,10 @@ use Rattle.hc_machine.specs.Cache.{Cache, new_cache, with_memory}
 use Rattle.hc_machine.specs.Evicting.{allocate, all_leave}
 use Rattle.hc_machine.specs.Calls as calls
 use Rattle.hc_machine.specs.Workers as workers
+use Rattle.hc_machine.specs.Calls.{queue_of}
 use Rattle.hc_invariant.specs.Jobs.{AllWish}
 use Rattle.hc_invariant.specs.Good.{fills_of}
-use Rattle.hc_invariant.specs.Structure.{Structured, queue_of}
+use Rattle.hc_invariant.specs.Structure.{Structured}
 
 abbrev pub NewIsStructured : Type 0
 NewIsStructured = (config : Config) → Structured (new_cache config)

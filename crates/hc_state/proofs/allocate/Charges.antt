@@ -23,7 +23,8 @@ use Rattle.hc_memory.proofs.Making.{take-dropped}
 use Rattle.hc_machine.specs.Nvm.{put_at}
 use Rattle.hc_machine.specs.Cache.{Cache, Told, with_memory, and_then}
 use Rattle.hc_machine.specs.Evicting.{all_leave, charge, make_charge}
-use Rattle.hc_invariant.specs.Structure.{Structured, queue_of}
+use Rattle.hc_machine.specs.Calls.{queue_of}
+use Rattle.hc_invariant.specs.Structure.{Structured}
 use Rattle.hc_proof.specs.structure.Steps.{EvictedNeverWaits}
 use Rattle.hc_state.specs.Whole.{Whole, HasRoom, Stays, Does, costs}
 use Rattle.hc_state.specs.allocate.Evict.{leave_of, AreFor, keys_of, NoneWaits}

@@ -10,7 +10,7 @@ use Rattle.hc_history.proofs.Telling.{told-twice, told-nothing}
 use Rattle.hc_machine.specs.Nvm.{Nvm, put_at}
 use Rattle.hc_machine.specs.Cache.{Cache, Told, tells, with_memory}
 use Rattle.hc_machine.specs.Evicting.{leaves, leaves_for, all_leave}
-use Rattle.hc_invariant.specs.Structure.{queue_of}
+use Rattle.hc_machine.specs.Calls.{queue_of}
 use Rattle.hc_state.specs.Whole.{Whole, HasRoom, Does, costs, for_notes}
 use Rattle.hc_state.specs.allocate.Evict.{leave_of, AreFor, keys_of, NoneWaits, one_leaves}
 use Rattle.hc_state.proofs.Joining.{does-both}

@@ -12,8 +12,9 @@ use Rattle.hc_machine.proofs.items.Flat.{linked-flat}
 use Rattle.hc_machine.specs.Nvm.{Nvm, Waiter, Fill, is_put_of, is_fill_of, fill_at, put_at, adds}
 use Rattle.hc_machine.specs.Takes.{Filled, Taken, loss_notes}
 use Rattle.hc_machine.specs.Cache.{Cache, Told, with_memory, unmarked_by, takes_in}
+use Rattle.hc_machine.specs.Calls.{queue_of}
 use Rattle.hc_invariant.specs.Tells.{waiters_of}
-use Rattle.hc_invariant.specs.Structure.{Structured, queue_of}
+use Rattle.hc_invariant.specs.Structure.{Structured}
 use Rattle.hc_proof.specs.structure.Parts.{Held, FewerFills, FewerWait}
 use Rattle.hc_proof.specs.structure.Takes.{FilledSo, Leaves}
 use Rattle.hc_proof.proofs.structure.Parts.{parts_of, whole_of, same_items, same_puts, held_less}

@@ -25,9 +25,9 @@ use Rattle.hc_machine.specs.Leaving.{Changed, waits_unless, cause_for, unqueue, 
 use Rattle.hc_machine.specs.Cache.{Cache, Told, Moved, Replied, Discarded, Refused, tells, behind, and_then, answers, stays, with_memory, with_nvm, on_flash, on_flash_of}
 use Rattle.hc_machine.specs.Evicting.{entry_of_item, leaves_for, leaves, all_leave, make_room, with_charge, allocate, allocate_by}
 use Rattle.hc_machine.specs.Waiting.{entry_of_handle, free}
-use Rattle.hc_machine.specs.Calls.{replies_then, store, insert_or_replace, discard, is_known, is_kept_in}
+use Rattle.hc_machine.specs.Calls.{replies_then, store, insert_or_replace, discard, is_known, is_kept_in, queue_of}
 use Rattle.hc_machine.specs.World.{inserted, behind as moved_behind}
-use Rattle.hc_invariant.specs.Structure.{Structured, queue_of}
+use Rattle.hc_invariant.specs.Structure.{Structured}
 use Rattle.hc_proof.proofs.storing.Counted.{told-charged, told-begun, told-freed-one, past, more-quiet, given-after}
 use Rattle.hc_proof.specs.structure.Steps.{EvictedNeverWaits}
 use Rattle.hc_nvm.specs.Outdating.{Serves}

@@ -6,7 +6,7 @@ use Rattle.hc_history.specs.Told.{Heard, where_kept}
 use Rattle.hc_machine.specs.Nvm.{put_at}
 use Rattle.hc_machine.specs.Cache.{Cache, Told, tells, and_then}
 use Rattle.hc_machine.specs.Evicting.{leaves, all_leave}
-use Rattle.hc_invariant.specs.Structure.{queue_of}
+use Rattle.hc_machine.specs.Calls.{queue_of}
 use Rattle.hc_state.specs.Whole.{Whole}
 use Rattle.hc_state.specs.declared.allocate.evict.Leave.{Leave}
 

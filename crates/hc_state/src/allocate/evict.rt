@@ -11,7 +11,7 @@ ghost use Rattle.hc_history.specs.Told.{told_more, where_kept, is_log};
 ghost use Rattle.hc_machine.specs.Cache.{with_memory};
 ghost use Rattle.hc_machine.specs.Nvm.{put_at};
 ghost use Rattle.hc_machine.specs.Evicting.{entry_of_item, leaves_for, all_leave};
-ghost use Rattle.hc_invariant.specs.Structure.{queue_of};
+ghost use Rattle.hc_machine.specs.Calls.{queue_of};
 ghost use Rattle.hc_state.specs.Whole.{HasRoom, Does, costs};
 ghost use Rattle.hc_state.specs.allocate.Evict.{leave_of, AreFor, keys_of, NoneWaits, one_leaves};
 

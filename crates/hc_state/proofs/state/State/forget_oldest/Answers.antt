@@ -4,7 +4,7 @@ use Rattle.hc_memory.specs.Item.{Item}
 use Rattle.hc_memory.specs.Memory.{Memory, oldest_of, after_evict}
 use Rattle.hc_machine.specs.Nvm.{Nvm, put_at}
 use Rattle.hc_machine.specs.Cache.{Cache, with_memory}
-use Rattle.hc_invariant.specs.Structure.{queue_of}
+use Rattle.hc_machine.specs.Calls.{queue_of}
 use Rattle.hc_state.specs.Whole.{Whole, spare_of, nvm_of}
 use Rattle.hc_state.proofs.set.Sets.{oldest-left}
 use Rattle.hc_state.proofs.state.State.forget_oldest.Goals as goal

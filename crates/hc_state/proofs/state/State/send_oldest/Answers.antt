@@ -2,7 +2,7 @@ use Rattle.std.proofs.Common.{◌≡◌, List, ℕ, sym, ap, ◌∙◌}
 use Rattle.hc_memory.specs.Memory.{oldest_of, after_evict}
 use Rattle.hc_machine.specs.Nvm.{put_at}
 use Rattle.hc_machine.specs.Cache.{with_memory}
-use Rattle.hc_invariant.specs.Structure.{queue_of}
+use Rattle.hc_machine.specs.Calls.{queue_of}
 use Rattle.hc_state.specs.Whole.{Whole, spare_of, nvm_of}
 use Rattle.hc_state.proofs.set.Sets.{oldest-left}
 use Rattle.hc_state.proofs.set.Supersedes.{key-first, quiet-leave}
