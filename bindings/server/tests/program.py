@@ -122,7 +122,8 @@ def has_a_page():
         page = urllib.request.urlopen(f"http://127.0.0.1:{port}/metrics").read().decode()
         lines = dict(line.split() for line in page.splitlines() if not line.startswith("#"))
         assert lines["kilambosetryd_get_misses_total"] == "1", page
-        assert lines["kilambosetry_misses_total"] == "1", page
+        misses = {reason: lines[f'kilambosetry_misses_total{{reason="{reason}"}}'] for reason in ("absent", "expired", "fault")}
+        assert misses == {"absent": "1", "expired": "0", "fault": "0"}, page
         try:
             urllib.request.urlopen(f"http://127.0.0.1:{port}/other")
             raise AssertionError("it has another page")
