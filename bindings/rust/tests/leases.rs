@@ -280,7 +280,7 @@ fn what_is_on_flash_is_not_loaded() {
 
 #[test]
 fn a_load_that_never_comes_back_is_taken_over() {
-    let patience = Duration::from_secs(2);
+    let patience = Duration::from_secs(4);
     for cache in [in_memory(patience), with_flash(patience)] {
         let hangs = lease(&cache, b"key");
         let begin = Instant::now();
@@ -290,8 +290,8 @@ fn a_load_that_never_comes_back_is_taken_over() {
                 .collect();
             all.into_iter().for_each(|one| assert_eq!(*one.join().unwrap(), *b"row"));
         });
-        // (one after another they would take eight times as long)
-        assert!(begin.elapsed() >= patience && begin.elapsed() < 4 * patience, "{:?}", begin.elapsed());
+        // (and not once each has waited twice as long)
+        assert!(begin.elapsed() >= patience && begin.elapsed() < 2 * patience, "{:?}", begin.elapsed());
         // (three, where the machine is slow)
         assert!((2..=3).contains(&cache.stats().loads), "{}", cache.stats());
         // (and where it comes back after all, what it has is no longer good)
