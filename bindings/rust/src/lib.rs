@@ -50,6 +50,7 @@ mod engine;
 mod errors;
 mod file;
 mod future;
+mod heap;
 mod held;
 mod hybrid;
 mod key_value;
@@ -71,6 +72,7 @@ pub use engine::{Added, Came, Copied, Device, Engine, Flash, Found, Operation, R
 pub use errors::{Error, LoadError, OpenError};
 pub use file::PageFile;
 pub use future::{GetAsync, LeaseAsync};
+pub use heap::share_one_heap;
 pub use held::Held;
 pub use hybrid::HybridCache;
 pub use key_value::{EngineWithDevice, KeyValue};

@@ -20,6 +20,8 @@
 //! wrong where its bytes aren't those of the row. With `harm` the cache's file is cut, and its pages are spoiled or get back what
 //! they had before, all the time.
 //!
+//! All threads share one heap, as a service has it by `share_one_heap`.
+//!
 //! The status is 1 where a read was wrong, or one with `leases` stale.
 mod caches;
 mod database;
@@ -134,6 +136,7 @@ fn main() -> ExitCode {
     let [of, cache, ..] = &words[..] else { usage() };
     let (percent, seconds) = (number(&words, 2), number(&words, 3));
     let threads = if words.len() > 4 { number(&words, 4) } else { 8 };
+    kilambosetry::share_one_heap();
     let is_harmed = match words.get(5).map(String::as_str) {
         None => false,
         Some("harm") => true,
@@ -167,9 +170,10 @@ fn main() -> ExitCode {
     println!("{:.0} reads a second, {reads} in all, {changes} changes", reads as f64 / took);
     println!("{:.1} % of the reads asked the database", 100.0 * loads as f64 / reads.max(1) as f64);
     println!("p50 {:?}, p99 {:?}", times.quantile(0.5), times.quantile(0.99));
-    println!("resident {after:.0} MB, of which {before:.0} before the cache was opened");
+    println!("resident {after:.1} MB, of which {before:.1} before the cache was opened");
     if let Some(told) = trial.caches.memory_bytes() {
-        println!("{:.1} MB are told by its options, once all is full", told as f64 / 1e6);
+        let told = told as f64 / 1e6;
+        println!("that is {:.2} times the {told:.1} MB that its options tell, once all is full", (after - before) / told);
     }
     if let Some(times) = harmed {
         println!("{times} pages of the file were spoiled under it");
