@@ -9,7 +9,7 @@ pub record Meter (Inner : Type 0) : Type 0 where
   pub reads : ℕ
   pub writes : ℕ
 
--- an operation counts where it was made, and where it failed; for want of memory it is neither
+-- an operation counts where it was made, and where it failed; when out of memory it is neither
 abbrev pub made_in : {T : Type 0} → Result T FlashError → ℕ
 made_in (Ok answer) = 1
 made_in (Err Device) = 1

@@ -66,7 +66,7 @@ impl<A: Allocator> BigHash<A> {
 
 impl<A: Allocator + Copy> BigHash<A> {
     /// Fresh buckets, by a configuration whose numbers are within their limits. They take 16 bytes of memory each.
-    /// Refused only where memory lacks.
+    /// Refused only when out of memory.
     #[tactic(auto, using(hc_engines::proofs::small::Limited::limits_from, crate::proofs::Fresh::fresh_sound))]
     pub fn new(alloc: A, flash: FlashConfig) -> Result<BigHash<A>, AllocError>
         requires { flash_wrong flash ≡ None }
@@ -85,7 +85,7 @@ impl<A: Allocator + Copy> BigHash<A> {
 
     /// Starts an operation under this number, which no job has. It answers `Busy` where a job is on the bucket of its key,
     /// and `Done` with `Nothing` for what is the other engine's: a large entry, a flush, a reclaim. A get whose key the
-    /// bucket's word rules out is absent at once. Refused only where memory lacks; then nothing changed.
+    /// bucket's word rules out is absent at once. Refused only when out of memory; then nothing changed.
     pub fn start(&mut self, number: u64, op: &Op<A>) -> Result<Next<A>, AllocError>
         requires { job_at number self.old.jobs ≡ None }
         ensures ok { IfOk result (λ next. start_step self.old number (op_of op.now) ≡ record { state = self.new; next = next_seen next }) }

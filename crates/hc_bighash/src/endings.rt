@@ -53,7 +53,7 @@ fn ending_at<A: Allocator>(turn: Turn<A>) -> Option<Ending<A>>
 impl<A: Allocator + Copy> BigHash<A> {
     /// How the get with this number is over if this result is handed in. Nothing is told of what isn't a get, of a number
     /// that nothing under way has, of a result that isn't waited for, and of a get that goes on. Nothing changes: `leave`
-    /// ends the get, and what is lost with it `lost_with` tells. Refused only where memory lacks.
+    /// ends the get, and what is lost with it `lost_with` tells. Refused only when out of memory.
     pub fn ending(&self, number: u64, came: &IoResult<A>) -> Result<Option<Ending<A>>, AllocError>
         ensures { IfOk result (λ ending. IsEnding self.now number (resume_step self.now number (result_of came.now)) ending) }
     {

@@ -22,7 +22,7 @@ pub struct Unresumed<A: Allocator = Global> {
 
 impl<A: Allocator + Copy> BigHash<A> {
     /// Hands in what came of the device operation that the job with this number waits for. Refused with `UnknownJob`
-    /// where there is no such job or it waits for something else, and with `NoMemory` where memory lacks; then nothing
+    /// where there is no such job or it waits for something else, and with `NoMemory` when out of memory; then nothing
     /// changed, and the result is given back. A page may have any bytes: those that are no bucket's page give the bucket
     /// up, with all that it holds (scope `Bucket`, cause `Fault`), as a failure does.
     pub fn resume(&mut self, number: u64, came: IoResult<A>) -> Result<Next<A>, Unresumed<A>>

@@ -24,7 +24,7 @@ impl<A: Allocator> Model for SharedPage<A> {
 }
 
 impl<A: Allocator> SharedPage<A> {
-    /// The page of these bytes. Refused only where memory lacks.
+    /// The page of these bytes. Refused only when out of memory.
     pub fn new(bytes: Bytes<A>) -> Result<SharedPage<A>, AllocError>
         ensures { IfOk result (λ page. page ≡ bytes) }
     {

@@ -95,7 +95,7 @@ fn leave_index<A: Allocator>(index: &mut Index<A>, lost: Option<u64>)
 }
 
 impl<A: Allocator + Clone + Copy> BlockCache<A> {
-    /// How a read is over that came to this. Refused only where memory lacks.
+    /// How a read is over that came to this. Refused only when out of memory.
     pub(crate) fn read_ending(
         &self,
         number: u64,
@@ -117,7 +117,7 @@ impl<A: Allocator + Clone + Copy> BlockCache<A> {
         })
     }
 
-    /// How a read is over at once that needs no page and came to this. Refused only where memory lacks.
+    /// How a read is over at once that needs no page and came to this. Refused only when out of memory.
     pub(crate) fn ending_now(
         &self,
         hash: u64,
@@ -160,7 +160,7 @@ impl<A: Allocator + Clone + Copy> BlockCache<A> {
 
     /// How the get with this number is over if this result is handed in: nothing for what isn't a get, a number that nothing
     /// under way has, a result that isn't waited for, and a get that goes on. Nothing changes: `end` ends the get. Refused
-    /// only where memory lacks.
+    /// only when out of memory.
     pub fn ending(&self, number: u64, came: &IoResult<A>) -> Result<Option<Ending<A>>, AllocError>
         ensures { IfOk result (λ ending. IsEnding number self.now.block (resume_by self.now.flash number (result_of came.now) self.now.block) ending) }
     {
@@ -193,7 +193,7 @@ impl<A: Allocator + Clone + Copy> BlockCache<A> {
     }
 
     /// How a get of this key is over that is started now: nothing where a page is to be read. Nothing changes: `end_at_once`
-    /// ends the get. Refused only where memory lacks.
+    /// ends the get. Refused only when out of memory.
     pub fn ending_at_once(&self, key: &Key<A>) -> Result<Option<Ending<A>>, AllocError>
         ensures { IfOk result (λ ending. IsEndingAtOnce self.now.flash key.now self.now.block ending) }
     {

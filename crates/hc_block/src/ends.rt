@@ -185,7 +185,7 @@ impl<A: Allocator + Clone + Copy> BlockCache<A> {
         oldest_if(&self.regions, &self.clean, &self.flushed, &self.flash)
     }
 
-    /// Reclaims the region flushed first, where fewer regions are clean than are to be. Refused only where memory lacks.
+    /// Reclaims the region flushed first, where fewer regions are clean than are to be. Refused only when out of memory.
     pub(crate) fn reclaim(&mut self) -> Result<Outcome<A>, AllocError>
         ensures ok { IfOk result (λ outcome. reclaim_seen self.old.flash self.old.block ≡ finished self.new.block outcome) }
         ensures flash { self.new.flash ≡ self.old.flash }
@@ -200,7 +200,7 @@ impl<A: Allocator + Clone + Copy> BlockCache<A> {
         }
     }
 
-    /// The write of a page of this region failed, under this number: the region ends. Refused only where memory lacks.
+    /// The write of a page of this region failed, under this number: the region ends. Refused only when out of memory.
     pub(crate) fn write_failed(&mut self, number: u64, r: u32) -> Result<Outcome<A>, AllocError>
         requires { IsWriting number r self.old.block }
         ensures ok { IfOk result (λ outcome. (bytes : List ℕ) → resume self.old.flash number (Writing r bytes) Failed self.old.block ≡ finished self.new.block outcome) }

@@ -138,8 +138,8 @@ impl<A: Allocator + Clone + Copy> BlockCache<A> {
         next_of(&self.regions, &self.sealed, self.current, &self.flash)
     }
 
-    /// The next page of the region sealed first goes out, or else a full page of the region in use. Refused only where
-    /// memory lacks.
+    /// The next page of the region sealed first goes out, or else a full page of the region in use. Refused only when
+    /// out of memory.
     pub(crate) fn flush(&mut self, number: u64) -> Result<Option<SharedOrder<A>>, AllocError>
         requires { IsFree number self.old.block }
         ensures ok { IfOk result (λ order. flush_seen self.old.flash number self.old.block ≡ record { state = self.new.block; outcome = nothing; order = option_map order_of order }) }

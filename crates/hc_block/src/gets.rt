@@ -139,7 +139,7 @@ impl<A: Allocator + Clone + Copy> BlockCache<A> {
         Ok(Step::Done(outcome))
     }
 
-    /// Gets the entry of this key under a number that no operation has. Refused only where memory lacks.
+    /// Gets the entry of this key under a number that no operation has. Refused only when out of memory.
     pub(crate) fn get(&mut self, number: u64, key: &Key<A>) -> Result<Step<A>, AllocError>
         requires { IsFree number self.old.block }
         ensures ok { IfOk result (λ step. get_seen self.old.flash number key.now self.old.block ≡ moved_with self.new.block step) }

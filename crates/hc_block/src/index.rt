@@ -58,7 +58,7 @@ fn remove_at<A: Allocator>(segments: &mut Vec<Segment<A>, A>, at: usize, hash: u
     segment.remove(hash);
 }
 
-/// The hash leads to this place by the segment with this number. Refused only where memory lacks.
+/// The hash leads to this place by the segment with this number. Refused only when out of memory.
 fn insert_at<A: Allocator + Clone>(
     segments: &mut Vec<Segment<A>, A>,
     at: usize,
@@ -115,7 +115,7 @@ impl<A: Allocator> Index<A> {
 }
 
 impl<A: Allocator + Clone> Index<A> {
-    /// The hash leads to this place from here on, and to no other. Refused only where memory lacks.
+    /// The hash leads to this place from here on, and to no other. Refused only when out of memory.
     pub(crate) fn insert(&mut self, hash: u64, place: Place) -> Result<(), AllocError>
         ensures ok { OnOk result (self.new ≡ leading hash place self.old) }
         ensures err { OnErr result (self.new ≡ self.old) }
@@ -131,7 +131,7 @@ impl<A: Allocator + Clone> Index<A> {
 }
 
 impl<A: Allocator + Clone + Copy> Index<A> {
-    /// It leads nowhere, by hashes of so many bits. Refused only where memory lacks.
+    /// It leads nowhere, by hashes of so many bits. Refused only when out of memory.
     pub(crate) fn new(alloc: A, bits: u64) -> Result<Index<A>, AllocError>
         requires { bits ≤ 64 }
         ensures { IfOk result (λ index. index ≡ []) }

@@ -87,7 +87,7 @@ impl<A: Allocator> Jobs<A> {
         }
     }
 
-    /// A page of the read with this number was read. Refused only where memory lacks.
+    /// A page of the read with this number was read. Refused only when out of memory.
     pub(crate) fn take_page(&mut self, number: u64, page: &Bytes<A>) -> Result<(), AllocError>
         requires reading { IsReading number self.old }
         requires small { (reading_at number self.old).next < 65536 }
@@ -121,7 +121,7 @@ impl<A: Allocator> Jobs<A> {
 }
 
 impl<A: Allocator + Clone> Jobs<A> {
-    /// An operation begins under a number that no other has. Refused only where memory lacks.
+    /// An operation begins under a number that no other has. Refused only when out of memory.
     pub(crate) fn insert(&mut self, number: u64, work: Work<A>) -> Result<(), AllocError>
         requires { IsFreeIn number self.old }
         ensures ok { OnOk result (self.new ≡ job_added number (work_seen work) self.old) }

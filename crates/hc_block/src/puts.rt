@@ -188,7 +188,7 @@ impl<A: Allocator + Clone + Copy> BlockCache<A> {
         lowest_clean(&self.regions, &self.clean)
     }
 
-    /// Puts an entry of at most a region's bytes. Refused only where memory lacks.
+    /// Puts an entry of at most a region's bytes. Refused only when out of memory.
     pub(crate) fn put(&mut self, entry: &Entry<A>) -> Result<Outcome<A>, AllocError>
         requires value { length entry.now.value ≤ 1048576 }
         requires fits { length (bytes_of (entry_of entry.now)) ≤ region_len self.old.flash }

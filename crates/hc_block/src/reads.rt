@@ -73,7 +73,7 @@ impl<A: Allocator + Clone + Copy> BlockCache<A> {
         Ok(outcome)
     }
 
-    /// A page of a read was read. Refused only where memory lacks.
+    /// A page of a read was read. Refused only when out of memory.
     pub(crate) fn page_read(&mut self, number: u64, page: &Bytes<A>) -> Result<Step<A>, AllocError>
         requires { IsReading number self.old.block.jobs }
         ensures ok { IfOk result (λ step. got_page self.old.flash number (reading_at number self.old.block.jobs) page.now (end_job number self.old.block) ≡ moved_with self.new.block step) }
@@ -93,7 +93,7 @@ impl<A: Allocator + Clone + Copy> BlockCache<A> {
         }
     }
 
-    /// A page of a read wasn't read. Refused only where memory lacks.
+    /// A page of a read wasn't read. Refused only when out of memory.
     pub(crate) fn read_failed(&mut self, number: u64) -> Result<Outcome<A>, AllocError>
         requires { IsReading number self.old.block.jobs }
         ensures ok { IfOk result (λ outcome. let_go (reading_at number self.old.block.jobs).place.region (failed_read self.old.flash (reading_at number self.old.block.jobs) (end_job number self.old.block)) ≡ finished self.new.block outcome) }

@@ -71,7 +71,7 @@ impl<A: Allocator + Clone + Copy> BlockCache<A> {
 
     /// Hands in what came of the device operation that the operation with this number waits for, a result that the caller
     /// keeps. Refused with `UnknownJob` where there is no such operation, or it waits for something else, and else only
-    /// where memory lacks; then nothing changed.
+    /// when out of memory; then nothing changed.
     pub fn hand_in(&mut self, number: u64, came: &IoResult<A>) -> Result<Next<A>, Refusal>
         ensures ok { IfOk result (λ next. option_map stepped (resume_by self.old.flash number (result_of came.now) self.old.block) ≡ Some (record { state = self.new.block; next = next_seen next })) }
         ensures flash { self.new.flash ≡ self.old.flash }

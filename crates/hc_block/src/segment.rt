@@ -50,7 +50,7 @@ impl<A: Allocator> Segment<A> {
 }
 
 impl<A: Allocator + Clone> Segment<A> {
-    /// The hash leads to this place from here on, and to no other. Refused only where memory lacks.
+    /// The hash leads to this place from here on, and to no other. Refused only when out of memory.
     pub(crate) fn insert(&mut self, hash: u64, place: Place) -> Result<(), AllocError>
         ensures ok { OnOk result (self.new ≡ leading hash place self.old) }
         ensures err { OnErr result (self.new ≡ self.old) }

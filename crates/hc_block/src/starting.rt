@@ -49,7 +49,7 @@ impl<A: Allocator + Clone + Copy> BlockCache<A> {
     /// region in use, or the next clean one. A get is answered from the buffer, or reads the entry's pages one after the
     /// other. A flush writes the pages of the region sealed first, or one full page of the region in use. A reclaim gives up
     /// the region flushed first, where fewer regions are clean than are to be. A delete does nothing: it is for BigHash.
-    /// Refused only where memory lacks, and then nothing changed.
+    /// Refused only when out of memory, and then nothing changed.
     pub fn start(&mut self, number: u64, op: &Op<A>) -> Result<Next<A>, AllocError>
         requires free { IsFree number self.old.block }
         requires can { CanStart self.old.flash (op_of op.now) }

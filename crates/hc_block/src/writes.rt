@@ -111,7 +111,7 @@ impl<A: Allocator + Clone + Copy> BlockCache<A> {
         Ok(())
     }
 
-    /// The page of this region that the operation wrote is written. Refused only where memory lacks.
+    /// The page of this region that the operation wrote is written. Refused only when out of memory.
     pub(crate) fn page_written(&mut self, number: u64, r: u32) -> Result<Step<A>, AllocError>
         requires { IsWriting number r self.old.block }
         ensures ok { IfOk result (λ step. (bytes : List ℕ) → resume self.old.flash number (Writing r bytes) Written self.old.block ≡ moved_with self.new.block step) }

@@ -51,7 +51,7 @@ abbrev pub IsMade : Config → ℕ → Option Cache → Type 0
 IsMade config shards None = ⊥
 IsMade config shards (Some cache) = IsFresh config shards cache
 
--- why none is made: for the first number that is wrong, or for want of memory
+-- why none is made: for the first number that is wrong, or out of memory
 abbrev pub MayNotMake : Config → Refusal → Type 0
 MayNotMake config refusal = (first_wrong config ≡ Some refusal) ⊎ (refusal ≡ NoMemory)
 
@@ -67,7 +67,7 @@ Makes config status old new = ⊥
 abbrev pub sharded_of : List Pool → Option FlashConfig → ℕ → Sharded
 sharded_of pools flash shards = record { config = config_of pools flash; shards = shards }
 
--- why no shard is made: for the first number that is wrong, or for want of memory
+-- why no shard is made: for the first number that is wrong, or out of memory
 abbrev pub MayNotMakeShard : Sharded → Refusal → Type 0
 MayNotMakeShard sharded refusal = (sharded_wrong sharded ≡ Some refusal) ⊎ (refusal ≡ NoMemory)
 

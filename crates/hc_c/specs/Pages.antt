@@ -11,7 +11,7 @@ use Rattle.hc_c.specs.declared.status.Status.TheVariants.{Done, Refused, Empty}
 use Rattle.hc_c.specs.Jobs.{Finishes}
 use Rattle.hc_c.specs.Values.{holding}
 
--- the handle has a page of these bytes, or none where memory lacks
+-- the handle has a page of these bytes, or none when out of memory
 abbrev pub Holds : List ℕ → Option Reading → Status → Type 0
 Holds bytes is Done = is ≡ holding bytes
 Holds bytes is (Refused refusal) = (refusal ≡ NoMemory) × (is ≡ None)

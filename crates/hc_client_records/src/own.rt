@@ -17,7 +17,7 @@ use std::alloc::Global;
 use std::collections::{BTreeMap, BTreeSet};
 
 /// Whether each call and each move of the clock is some client's own, by one walk over the records and one over the log. The
-/// calls and ticks of the records are kept in ordered maps; what memory lacks for is searched for among the records.
+/// calls and ticks of the records are kept in ordered maps; what there is no memory for is searched for among the records.
 pub(crate) fn are_own<T: Recorded>(log: &[Note], records: &[T], alloc: Global) -> bool
     ensures { result ≡ list_all (judge.is_own (map T.recorded records.now)) log.now }
 {

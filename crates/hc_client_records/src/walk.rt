@@ -87,7 +87,7 @@ impl<'a> Calls<'a> {
     }
 }
 
-/// The finished calls of each client. Refused only where memory lacks.
+/// The finished calls of each client. Refused only when out of memory.
 pub(crate) fn finished_calls<'a>(
     alloc: Global,
     log: &'a [Note],

@@ -143,7 +143,7 @@ beyond_is_wrong f xs beyond clients asks =
 pub refused_is_wrong : (words : List Text) → fault_of app words ≢ [] → (clients : Option ℕ) → AsksFor words clients → ⊥
 refused_is_wrong words refused clients asks = refused (finds words clients asks).faults
 
--- an error that isn't want of memory says that clap refuses them
+-- an error other than out of memory says that clap refuses them
 pub only_memory : (e : Error) (kinds : Kinds) → HasKind kinds e → kind_of e ≢ OutOfMemory → kinds ≢ []
 only_memory e kinds (inl is) other none = other is
 only_memory e kinds (inr is) other none = subst (IsAmong (kind_of e)) none is

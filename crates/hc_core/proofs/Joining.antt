@@ -42,7 +42,7 @@ discarded-so handle back old mid new b m call =
 
 -- ---- an item of this cache that isn't inserted
 
--- a known handle is refused for want of memory alone
+-- a known handle is refused only when out of memory
 pub known-stores : (handle : Handle) (cache : Cache) (refusal : Refusal) → is_known cache handle ≡ true → IsReason (insert_or_replace 0 handle cache).answer refusal → refusal ≡ NoMemory
 known-stores handle cache refusal known why =
     by (is_known cache handle) known why

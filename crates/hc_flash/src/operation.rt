@@ -41,7 +41,7 @@ impl<A: Allocator> Order<A> {
     }
 }
 
-/// The page that the order is for is read or written. Where memory lacks, neither is done.
+/// The page that the order is for is read or written. When out of memory, neither is done.
 pub fn perform<A: Allocator, F: Flash<A>>(
     device: &mut F,
     order: &Order<A>,
@@ -62,7 +62,7 @@ pub fn perform<A: Allocator, F: Flash<A>>(
     }
 }
 
-/// The page is written. Where memory lacks, it isn't.
+/// The page is written. When out of memory, it isn't.
 fn write<A: Allocator, F: Flash<A>>(
     device: &mut F,
     page: u32,

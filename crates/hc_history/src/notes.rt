@@ -164,7 +164,7 @@ impl<A: Allocator> Notes<Note<A>> for Silent<A> {
 }
 
 /// Counts the notes, and keeps the losses until they are taken. Its memory doesn't grow with the log. Where 64 bits
-/// can't count more, it refuses room as if memory lacked.
+/// can't count more, it refuses room as when out of memory.
 #[derive(Drop)]
 pub struct Counting<A: Allocator = Global> {
     /// The counts of the log.

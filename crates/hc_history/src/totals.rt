@@ -12,7 +12,7 @@ use std::fmt;
 use std::marker::Model;
 
 /// Counts the notes, and the losses by what they came of. It keeps neither notes nor losses, and takes no memory. Where 64
-/// bits can't count more, it refuses room as if memory lacked.
+/// bits can't count more, it refuses room as when out of memory.
 #[derive(Drop)]
 pub struct Totals {
     counts: Stats,

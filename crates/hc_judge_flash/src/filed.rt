@@ -23,7 +23,7 @@ pub struct RegionBooks<A: Allocator = Global> {
     pub filings: Vec<Filing, A>,
 }
 
-/// What is filed after these notes. Refused only where memory lacks.
+/// What is filed after these notes. Refused only when out of memory.
 pub fn region_books<A: Allocator + Clone>(
     flash: &FlashConfig,
     notes: &[Note<A>],

@@ -16,7 +16,7 @@ use hc_judge_device::{clean_count, in_use, last, open_region};
 use hc_types::{Cause, FlashConfig, Key, Scope};
 use std::alloc::{AllocError, Allocator};
 
-/// Whether no region is open, or so many bytes pass what the open one has left. Refused only where memory lacks.
+/// Whether no region is open, or so many bytes pass what the open one has left. Refused only when out of memory.
 fn is_passed<A: Allocator + Clone>(
     flash: &FlashConfig,
     notes: &[Note<A>],
@@ -31,7 +31,7 @@ fn is_passed<A: Allocator + Clone>(
 }
 
 /// Whether a key that leaves the queue is no large put that the open region has no room for, or what comes right after
-/// is its region's opening or its loss. Refused only where memory lacks.
+/// is its region's opening or its loss. Refused only when out of memory.
 pub fn is_placed<A: Allocator + Clone>(
     flash: &FlashConfig,
     notes: &[Note<A>],
@@ -71,7 +71,7 @@ fn is_next<A: Allocator>(key: &Key<A>, note: &Note<A>) -> bool
     }
 }
 
-/// Whether the region is the clean one with the lowest number. Refused only where memory lacks.
+/// Whether the region is the clean one with the lowest number. Refused only when out of memory.
 pub fn is_lowest_clean<A: Allocator + Clone>(
     flash: &FlashConfig,
     notes: &[Note<A>],
@@ -101,7 +101,7 @@ fn are_used_below(region: u32, regions: &[u32]) -> bool
 }
 
 /// Whether the region may be opened: it is the lowest clean one, and the last note tells a large put that the open one
-/// has no room for. Refused only where memory lacks.
+/// has no room for. Refused only when out of memory.
 pub fn may_open<A: Allocator + Clone>(
     flash: &FlashConfig,
     notes: &[Note<A>],
@@ -154,7 +154,7 @@ fn needs_region<A: Allocator + Clone>(
 }
 
 /// Whether the last note tells a large put of the key, which the open region has no room for, and no region is clean.
-/// Refused only where memory lacks.
+/// Refused only when out of memory.
 pub fn is_unplaced<A: Allocator + Clone>(
     flash: &FlashConfig,
     notes: &[Note<A>],

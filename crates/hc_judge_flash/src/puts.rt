@@ -114,7 +114,7 @@ fn is_of<A: Allocator>(op: &Op<A>, key: &Key<A>) -> bool
     }
 }
 
-/// The large put that the last note tells. Refused only where memory lacks.
+/// The large put that the last note tells. Refused only when out of memory.
 pub fn put_told<'a, A: Allocator + Clone>(
     flash: &FlashConfig,
     notes: &'a [Note<A>],
@@ -162,7 +162,7 @@ fn is_opening<A: Allocator>(note: &Note<A>) -> bool
 }
 
 /// The large put that is under way: the last note tells it, or the one before the opening of its region. Refused only
-/// where memory lacks.
+/// when out of memory.
 pub fn put_under_way<'a, A: Allocator + Clone>(
     flash: &FlashConfig,
     notes: &'a [Note<A>],

@@ -24,7 +24,7 @@ use hc_types::{Config, FlashConfig, Key, is_small};
 use std::alloc::{AllocError, Allocator};
 
 /// Whether the note, which is one of flash, is lawful after these notes and before the rest. Any other note isn't.
-/// Refused only where memory lacks.
+/// Refused only when out of memory.
 pub fn is_allowed_on_flash<A: Allocator + Clone>(
     config: &Config<A>,
     flash: &FlashConfig,

@@ -14,7 +14,7 @@ use hc_history::{Note, Op, Reply, Said};
 use hc_types::{FlashConfig, Key};
 use std::alloc::{AllocError, Allocator};
 
-/// Whether a linked charge of the key was freed since the call began. Refused only where memory lacks.
+/// Whether a linked charge of the key was freed since the call began. Refused only when out of memory.
 pub fn freed_since<A: Allocator + Clone>(
     notes: &[Note<A>],
     call: u64,
@@ -49,7 +49,7 @@ fn freed_since_after<A: Allocator>(
     }
 }
 
-/// Whether the reply is the one that the map gives to a call that asks for this. Refused only where memory lacks.
+/// Whether the reply is the one that the map gives to a call that asks for this. Refused only when out of memory.
 pub fn is_answer<A: Allocator + Clone>(
     flash: &Option<FlashConfig>,
     notes: &[Note<A>],

@@ -17,7 +17,7 @@ use hc_types::{Config, FlashConfig, Key};
 use std::alloc::{AllocError, Allocator};
 
 /// Whether the log may end here: each linked charge is that of an entry of the map, and no key has two; each key that
-/// waits has an entry, and no linked charge. Refused only where memory lacks.
+/// waits has an entry, and no linked charge. Refused only when out of memory.
 pub fn is_at_end<A: Allocator + Clone>(
     config: &Config<A>,
     notes: &[Note<A>],

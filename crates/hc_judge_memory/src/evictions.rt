@@ -39,7 +39,7 @@ fn freed<A: Allocator>(note: &Note<A>) -> Option<u64>
 }
 
 /// Whether the last note freed a linked charge of the key in the pool, which was full for so many bytes, and the next
-/// charge has these. Refused only where memory lacks.
+/// charge has these. Refused only when out of memory.
 pub fn is_evicted<A: Allocator + Clone>(
     config: &Config<A>,
     notes: &[Note<A>],
@@ -73,7 +73,7 @@ fn is_charge(next: Option<(u8, u64)>, pool: u8, want: u64) -> bool
     }
 }
 
-/// Whether the last note freed a linked charge of the key. Refused only where memory lacks.
+/// Whether the last note freed a linked charge of the key. Refused only when out of memory.
 pub fn is_freed<A: Allocator + Clone>(
     notes: &[Note<A>],
     key: &Key<A>,
@@ -91,7 +91,7 @@ pub fn is_freed<A: Allocator + Clone>(
 }
 
 /// Why an evicted item of the key that isn't expired is forgotten: `None`, where it is to wait for flash. Refused only
-/// where memory lacks.
+/// when out of memory.
 pub fn forgotten_by<A: Allocator + Clone>(
     flash: &Option<FlashConfig>,
     notes: &[Note<A>],

@@ -43,7 +43,7 @@ pub fn first_lie<A: Allocator>(log: &[Note<A>]) -> Option<usize>
 }
 
 /// The same as `first_lie`, by one walk over the log, which keeps in an ordered map, in the allocator's memory, what each page
-/// was last written with. Where that memory lacks, it is found as `first_lie` finds it.
+/// was last written with. Where there is no memory for that, it is found as `first_lie` finds it.
 #[must_use]
 pub fn first_lie_in<A: Allocator + Clone>(log: &[Note<A>], alloc: &A) -> Option<usize>
     ensures { spec.IsFirstLie [] log.now result }
@@ -54,7 +54,7 @@ pub fn first_lie_in<A: Allocator + Clone>(log: &[Note<A>], alloc: &A) -> Option<
     }
 }
 
-/// The first lie, by one walk. Refused only where memory lacks.
+/// The first lie, by one walk. Refused only when out of memory.
 fn first_in_one_walk<A: Allocator + Clone>(
     log: &[Note<A>],
     alloc: &A,
@@ -89,7 +89,7 @@ fn is_lie_of<'a, A: Allocator>(pages: &BTreeMap<u32, Known<'a, A>, A>, note: &No
     }
 }
 
-/// Keeps what the note writes. Refused only where memory lacks.
+/// Keeps what the note writes. Refused only when out of memory.
 fn keep_page<'a, A: Allocator + Clone>(
     pages: &mut BTreeMap<u32, Known<'a, A>, A>,
     note: &'a Note<A>,

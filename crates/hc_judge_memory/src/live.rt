@@ -91,7 +91,7 @@ impl<A: Allocator> Charge<A> {
     }
 }
 
-/// The charges that are live after these notes, the last one first. Refused only where memory lacks.
+/// The charges that are live after these notes, the last one first. Refused only when out of memory.
 pub fn charges<A: Allocator + Clone>(
     notes: &[Note<A>],
     alloc: &A,

@@ -52,7 +52,7 @@ impl<A: Allocator> Entry<'_, A> {
     }
 }
 
-/// What the map has under the key after these notes. Refused only where memory lacks.
+/// What the map has under the key after these notes. Refused only when out of memory.
 pub fn entry_at<'a, A: Allocator + Clone>(
     flash: &Option<FlashConfig>,
     notes: &'a [Note<A>],
@@ -185,7 +185,7 @@ fn is_covered<A: Allocator>(
     }
 }
 
-/// Whether the map has an entry of the key, and it is expired. Refused only where memory lacks.
+/// Whether the map has an entry of the key, and it is expired. Refused only when out of memory.
 pub fn expired_at<A: Allocator + Clone>(
     flash: &Option<FlashConfig>,
     notes: &[Note<A>],
@@ -202,7 +202,7 @@ pub fn expired_at<A: Allocator + Clone>(
     }
 }
 
-/// What a find of the key answers. Refused only where memory lacks.
+/// What a find of the key answers. Refused only when out of memory.
 pub fn value_at<'a, A: Allocator + Clone>(
     flash: &Option<FlashConfig>,
     notes: &'a [Note<A>],

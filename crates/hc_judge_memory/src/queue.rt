@@ -10,7 +10,7 @@ use hc_history::{Note, Said};
 use hc_types::Key;
 use std::alloc::{AllocError, Allocator};
 
-/// The keys that wait for flash, the last one first. Refused only where memory lacks.
+/// The keys that wait for flash, the last one first. Refused only when out of memory.
 pub fn waiting<A: Allocator + Clone>(
     notes: &[Note<A>],
     alloc: &A,

@@ -31,7 +31,7 @@ pub fn may_begin<A: Allocator>(notes: &[Note<A>], call: u64) -> bool
     call != 0 && call - 1 == begun(notes)
 }
 
-/// Whether the call is open, and this is the answer that the map gives. Refused only where memory lacks.
+/// Whether the call is open, and this is the answer that the map gives. Refused only when out of memory.
 pub fn may_answer<A: Allocator + Clone>(
     config: &Config<A>,
     notes: &[Note<A>],
@@ -57,7 +57,7 @@ pub fn may_end<A: Allocator>(notes: &[Note<A>], call: u64) -> bool
     is_owed(notes, call)
 }
 
-/// Whether the key may be forgotten as expired: its item was when it went. Refused only where memory lacks.
+/// Whether the key may be forgotten as expired: its item was when it went. Refused only when out of memory.
 pub fn may_expire<A: Allocator + Clone>(
     config: &Config<A>,
     notes: &[Note<A>],
@@ -81,7 +81,7 @@ pub struct Eviction {
 }
 
 /// Whether the key may be forgotten as so evicted: its item wasn't expired, it was evicted, and this is why it can't wait
-/// for flash. Refused only where memory lacks.
+/// for flash. Refused only when out of memory.
 pub fn may_forget<A: Allocator + Clone>(
     config: &Config<A>,
     notes: &[Note<A>],
@@ -108,7 +108,7 @@ fn is_why(found: Option<Why>, why: Why) -> bool
     found == Some(why)
 }
 
-/// Whether no live charge has the number of a new one. Refused only where memory lacks.
+/// Whether no live charge has the number of a new one. Refused only when out of memory.
 pub fn may_charge<A: Allocator + Clone>(
     notes: &[Note<A>],
     number: u64,
@@ -120,7 +120,7 @@ pub fn may_charge<A: Allocator + Clone>(
     Ok(is_free(&live, number))
 }
 
-/// Whether an open charge has the number. Refused only where memory lacks.
+/// Whether an open charge has the number. Refused only when out of memory.
 pub fn may_link<A: Allocator + Clone>(
     notes: &[Note<A>],
     number: u64,
@@ -132,7 +132,7 @@ pub fn may_link<A: Allocator + Clone>(
     Ok(has_open(&live, number))
 }
 
-/// Whether an open charge has the number, or a linked one that may be freed. Refused only where memory lacks.
+/// Whether an open charge has the number, or a linked one that may be freed. Refused only when out of memory.
 pub fn may_end_charge<A: Allocator + Clone>(
     config: &Config<A>,
     notes: &[Note<A>],

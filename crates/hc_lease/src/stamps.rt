@@ -42,7 +42,7 @@ impl<A: Allocator> Model for Stamps<A> {
 
 impl<A: Allocator + Copy> Stamps<A> {
     /// Of a cache that nobody has used yet. The slots, 8 bytes each, are allocated here; later `reserve` alone allocates.
-    /// Refused for want of memory alone. The more slots, the fewer tickets end without need: of n slots about one in n for
+    /// Refused only when out of memory. The more slots, the fewer tickets end without need: of n slots about one in n for
     /// each change during a load.
     pub fn new(alloc: A, slots: usize) -> Result<Stamps<A>, AllocError>
         requires { 0 < slots }
@@ -120,7 +120,7 @@ impl<A: Allocator> Stamps<A> {
         self.slots[slot] <= ticket.number() && !has_add_in(self.adds.as_slice(), slot)
     }
 
-    /// Makes room for one more add that waits, to be called before the add is. Refused for want of memory alone.
+    /// Makes room for one more add that waits, to be called before the add is. Refused only when out of memory.
     pub fn reserve(&mut self) -> Result<(), AllocError>
         ensures same { (self.new.count ≡ self.old.count) × (self.new.slots ≡ self.old.slots) × (self.new.adds ≡ self.old.adds) }
         ensures ok { OnOk result (0 < self.new.room) }

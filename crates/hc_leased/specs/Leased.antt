@@ -67,7 +67,7 @@ stamps_added key inserted stamps = added_at (slot_of key (length stamps.slots)) 
 abbrev pub Changes : List ℕ → Leased → Leased → Type 0
 Changes key old new = (new.stamps ≡ changed key old.stamps) × (new.turns ≡ without_turn key old.turns)
 
--- A store that is refused leaves the cache as it was, or has made room and given the new item up for want of memory: no
+-- A store that is refused leaves the cache as it was, or has made room and given the new item up when out of memory: no
 -- key is changed.
 abbrev pub NothingStored : ℕ → List ℕ → List ℕ → ℕ → Refusal → Logged → Logged → Type 0
 NothingStored pool key value ttl refusal old new = (new ≡ old) ⊎ (IsCall (give_up_step pool key value ttl old.cache) Discarded old new × (refusal ≡ NoMemory))

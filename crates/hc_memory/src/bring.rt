@@ -16,7 +16,7 @@ impl<A: Allocator + Clone> Pools<A> {
     /// Makes room in the pool for an item that comes from flash, where a copy of it stays, and links it at once, as the
     /// one that was used last: the `count` items that were used longest ago go, as `victims` says how many. Its key has
     /// no item, its value is copied where it is short beside the pages that it was read with (`SHARED_PAGES`), and it
-    /// expires at `expiry` (seconds; 0: never). Refused only where memory lacks, or no number is left; then nothing
+    /// expires at `expiry` (seconds; 0: never). Refused only when out of memory, or no number is left; then nothing
     /// changed, and the key and the value are dropped.
     pub fn bring(
         &mut self,

@@ -103,8 +103,8 @@ impl<A: Allocator> CleanIndex<A> {
 }
 
 impl<A: Allocator + Clone> CleanIndex<A> {
-    /// An item of this key, with a value of so many bytes, is listed from here on, where it is a large one. Refused only where
-    /// memory lacks.
+    /// An item of this key, with a value of so many bytes, is listed from here on, where it is a large one. Refused only when
+    /// out of memory.
     pub(crate) fn list(
         &mut self,
         alloc: &A,

@@ -92,7 +92,7 @@ impl<A: Allocator> KeyGroups<A> {
 }
 
 impl<A: Allocator + Clone> KeyGroups<A> {
-    /// The key is one of the place's from here on. Refused only where memory lacks; then nothing changes.
+    /// The key is one of the place's from here on. Refused only when out of memory; then nothing changes.
     pub(crate) fn add(&mut self, alloc: &A, place: u64, key: &Key<A>) -> Result<(), AllocError>
         ensures ok { OnOk result ((p : ℕ) → keys_at p self.new ≡ (if p == place then with_key key.now (keys_at p self.old) else keys_at p self.old)) }
         ensures err { OnErr result ((p : ℕ) → keys_at p self.new ≡ keys_at p self.old) }
@@ -107,7 +107,7 @@ impl<A: Allocator + Clone> KeyGroups<A> {
         }
     }
 
-    /// The key is the place's first. Refused only where memory lacks; then nothing changes.
+    /// The key is the place's first. Refused only when out of memory; then nothing changes.
     fn add_first(&mut self, alloc: &A, place: u64, key: Key<A>) -> Result<(), AllocError>
         ensures ok { OnOk result ((p : ℕ) → keys_at p self.new ≡ (if p == place then key ∷ [] else keys_at p self.old)) }
         ensures err { OnErr result (self.new ≡ self.old) }
@@ -216,7 +216,7 @@ fn take_out_under<A: Allocator>(
     }
 }
 
-/// Puts the key behind those of the list, whose room grows by this one alone. Refused only where memory lacks; then nothing
+/// Puts the key behind those of the list, whose room grows by this one alone. Refused only when out of memory; then nothing
 /// changes.
 fn push_key<A: Allocator + Clone>(keys: &mut Vec<Key<A>, A>, key: Key<A>) -> Result<(), AllocError>
     ensures ok { OnOk result (keys.new.items ≡ keys.old.items ++ key ∷ []) }

@@ -160,7 +160,7 @@ impl<A: Allocator> Blank<A> {
 }
 
 impl<A: Allocator + Clone> Blank<A> {
-    /// Ends the writing, and copies no byte. Where memory lacks, the handle itself comes back.
+    /// Ends the writing, and copies no byte. When out of memory, the handle itself comes back.
     pub fn seal(self) -> Result<Sealed<A>, Blank<A>>
         ensures ok { IfOk result (λ sealed. sealed ≡ self) }
         ensures err { IfErr result (λ blank. blank ≡ self) }

@@ -92,7 +92,7 @@ impl<A: Allocator + Clone> Pools<A> {
     /// Ends the open charges with the numbers of `earlier`, in that order, and then links the item of the handle, of
     /// which no copy stands on flash: it is linked under its key, as the one that was used last in its pool, in place of the
     /// key's item in whichever pool, whose charge number is answered. A number whose charge isn't open ends nothing. Refused
-    /// only where memory lacks, and then nothing changed, and the handle comes back.
+    /// only when out of memory, and then nothing changed, and the handle comes back.
     pub fn link_after(
         &mut self,
         earlier: &[u64],
@@ -122,7 +122,7 @@ impl<A: Allocator + Clone> Pools<A> {
 }
 
 /// Links an item in its own pool, in place of the key's item in whichever pool, whose number is answered. On an error,
-/// for want of memory, nothing changed, and the item comes back.
+/// out of memory, nothing changed, and the item comes back.
 fn link_over<A: Allocator + Clone>(
     pools: &mut Vec<Pool<A>, A>,
     own: usize,
@@ -161,7 +161,7 @@ pub(crate) fn home_beside<A: Allocator>(
 }
 
 /// Links an item in its own pool, and takes the key's item out of another one, whose number is answered. On an error,
-/// for want of memory, nothing changed, and the item comes back.
+/// out of memory, nothing changed, and the item comes back.
 pub(crate) fn move_over<A: Allocator + Clone>(
     pools: &mut Vec<Pool<A>, A>,
     own: usize,

@@ -31,7 +31,7 @@ impl<A: Allocator> Model for Marks<A> {
 }
 
 impl<A: Allocator> Marks<A> {
-    /// No bucket was lost. Refused only where memory lacks.
+    /// No bucket was lost. Refused only when out of memory.
     pub(crate) fn new(alloc: A, flash: &Option<FlashConfig>) -> Result<Marks<A>, AllocError>
         ensures none { IfOk result (λ marks. marks ≡ replicate (length marks) 0) }
         ensures wide { OnOk result (IfSome flash.now (λ f. IfOk result (λ marks. f.buckets ≤ length marks))) }

@@ -88,7 +88,7 @@ impl<A: Allocator> OpenCharges<A> {
         }
     }
 
-    /// Opens a charge under a number of its own. Where memory lacks, nothing changes.
+    /// Opens a charge under a number of its own. When out of memory, nothing changes.
     pub fn begin(&mut self, number: u64, pool: u8, key: Key<A>, size: u64) -> Result<(), AllocError>
         requires pool { pool < self.old.pools }
         requires free { charge_at number self.old.charges ≡ None }

@@ -54,7 +54,7 @@ impl<A: Allocator> Parked<A> {
 
 impl<A: Allocator + Clone> Parked<A> {
     /// The handle beside this one, which stays: its key is a copy, and its value shared. At most one of both may be
-    /// spent, since they have one charge. Refused only where memory lacks.
+    /// spent, since they have one charge. Refused only when out of memory.
     pub fn twin(&self) -> Result<Sealed<A>, AllocError>
         ensures { IfOk result (λ sealed. sealed ≡ self.now) }
     {

@@ -296,7 +296,7 @@ impl<A: Allocator + Clone> Pool<A> {
     }
 
     /// Links an item under its key, as the one that was used last, and answers the number of the item that it
-    /// replaces. On an error, for want of memory, nothing changed, and the item comes back. Where it replaces one there
+    /// replaces. On an error, out of memory, nothing changed, and the item comes back. Where it replaces one there
     /// is none.
     pub fn link(
         &mut self,
@@ -324,7 +324,7 @@ impl<A: Allocator + Clone> Pool<A> {
         Ok(number)
     }
 
-    /// Links an item under a key that has none, as the one that was used last. On an error, for want of memory, nothing
+    /// Links an item under a key that has none, as the one that was used last. On an error, out of memory, nothing
     /// changed, and the item is dropped.
     pub fn add(&mut self, key: Key<A>, held: Held<A>) -> Result<(), AllocError>
         requires absent { item_at key self.old.items ≡ None }
@@ -371,7 +371,7 @@ impl<A: Allocator + Clone> Pool<A> {
     }
 
     /// Links an item under its key, which has none, as the one that was used last, and takes out so many of those that
-    /// were there, as `evict` does. On an error, for want of memory, nothing changed, and the item is dropped.
+    /// were there, as `evict` does. On an error, out of memory, nothing changed, and the item is dropped.
     pub fn bring(
         &mut self,
         key: Key<A>,
@@ -412,7 +412,7 @@ fn put_over<A: Allocator>(
     }
 }
 
-/// Puts what is held under a key that has nothing, as the entry that was used last. On an error, for want of memory, nothing
+/// Puts what is held under a key that has nothing, as the entry that was used last. On an error, out of memory, nothing
 /// changed.
 fn put_new<A: Allocator + Clone>(
     cache: &mut LruCache<Key<A>, Held<A>, DefaultHasher, A>,

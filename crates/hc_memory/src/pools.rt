@@ -115,7 +115,7 @@ impl<A: Allocator> Pools<A> {
     }
 
     /// Another owner of the value under this key, where its item isn't expired at `now` (seconds). The item isn't used.
-    /// Refused only where memory lacks.
+    /// Refused only when out of memory.
     pub fn value(&self, key: &Key<A>, now: u64) -> Result<Option<Bytes<A>>, AllocError>
         ensures { IfOk result (λ found. found ≡ value_at now key.now self.now.pools) }
     {
@@ -137,7 +137,7 @@ impl<A: Allocator> Pools<A> {
     }
 
     /// Finds the value under this key, where its item isn't expired at `now` (seconds). That item is now the one that
-    /// was used last in its pool; an expired one stays where it is. Refused only where memory lacks.
+    /// was used last in its pool; an expired one stays where it is. Refused only when out of memory.
     pub fn find(&mut self, key: &Key<A>, now: u64) -> Result<Option<ReadHandle<A>>, AllocError>
         ensures value { IfOk result (λ found. found ≡ value_at now key.now self.old.pools) }
         ensures pools { OnOk result (self.new ≡ after_find self.old now key.now) }
@@ -327,7 +327,7 @@ impl<A: Allocator> Pools<A> {
 
 impl<A: Allocator + Clone> Pools<A> {
     /// Copies of the keys of the pool's items that were used longest ago, so many of them, in that order: those that go are
-    /// the first. Refused only where memory lacks. It costs what it answers.
+    /// the first. Refused only when out of memory. It costs what it answers.
     pub fn oldest_keys(&self, pool: u8, count: usize) -> Result<Vec<Key<A>, A>, AllocError>
         requires { pool < length self.now.pools }
         ensures { IfOk result (λ keys. keys.items ≡ oldest_keys self.now pool count) }
@@ -415,7 +415,7 @@ impl<A: Allocator + Clone> Pools<A> {
     }
 }
 
-/// Why an item of this key isn't charged, where memory lacks.
+/// Why an item of this key isn't charged, when out of memory.
 fn no_memory_for<A: Allocator>(key: Key<A>) -> Uncharged<A>
     ensures refusal { result.refusal ≡ Refusal.NoMemory }
     ensures key { result.key ≡ key }

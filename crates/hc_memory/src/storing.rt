@@ -18,7 +18,7 @@ use hc_types::{Key, VALUE_MAX};
 use std::alloc::{AllocError, Allocator};
 
 impl<A: Allocator + Clone> Pools<A> {
-    /// The value of an item that begins as `fill`. Refused only where memory lacks.
+    /// The value of an item that begins as `fill`. Refused only when out of memory.
     pub fn value_by(&self, fill: Fill<'_>) -> Result<ItemValue<A>, AllocError>
         requires { length (filled fill) ≤ VALUE_MAX }
         ensures { IfOk result (λ value. value ≡ filled fill.entry) }
@@ -41,7 +41,7 @@ impl<A: Allocator + Clone> Pools<A> {
     }
 
     /// Stores a value under the key in the pool, which has room for it, as the item that was used last, in place of what the
-    /// key has in whichever pool. Its charge, the next one, is never open. Refused only where memory lacks: then its number
+    /// key has in whichever pool. Its charge, the next one, is never open. Refused only when out of memory: then its number
     /// alone is gone.
     pub fn put(
         &mut self,
@@ -74,8 +74,8 @@ impl<A: Allocator + Clone> Pools<A> {
     }
 }
 
-/// Puts an item into its own pool, as the one that was used last, in place of the key's in whichever pool. On an error, for
-/// want of memory, nothing changed.
+/// Puts an item into its own pool, as the one that was used last, in place of the key's in whichever pool. On an error,
+/// out of memory, nothing changed.
 fn store_in<A: Allocator + Clone>(
     pools: &mut Vec<Pool<A>, A>,
     own: usize,

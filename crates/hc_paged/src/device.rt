@@ -17,13 +17,13 @@ pub trait Device<A: Allocator>: Drop {
     /// that says nothing may answer anything.
     ghost gives: { Self → Order → IoResult → Self → Type 0 } = { λ _ _ _ _. ⊤ };
 
-    /// Reads the page of this number. Where memory lacks (`FlashError::NoMemory`), nothing is counted.
+    /// Reads the page of this number. When out of memory (`FlashError::NoMemory`), nothing is counted.
     fn read(&mut self, page: u32) -> Result<Bytes<A>, FlashError>
         ensures gives { IfOk result (λ bytes. gives self.old (Read page) (Page bytes) self.new) }
         ensures fails { IsErrOf result FlashError.Device → gives self.old (Read page) Failed self.new }
         ensures counted { failed self.new ≡ failed self.old + failures_in result };
 
-    /// Writes these bytes as the page of this number. Where memory lacks (`FlashError::NoMemory`), nothing is counted.
+    /// Writes these bytes as the page of this number. When out of memory (`FlashError::NoMemory`), nothing is counted.
     fn write(&mut self, page: u32, bytes: &[u8]) -> Result<(), FlashError>
         ensures gives { OnOk result (gives self.old (Write page bytes.now) Written self.new) }
         ensures fails { IsErrOf result FlashError.Device → gives self.old (Write page bytes.now) Failed self.new }

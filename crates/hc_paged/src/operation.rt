@@ -9,7 +9,7 @@ use std::alloc::{AllocError, Allocator};
 
 /// The page that the order is for is read or written, as `perform` does it on a `Flash`. Of the bytes no more is
 /// promised than the device says (`gives`): what comes of a read is a page or a failure, of a write that it was made or a
-/// failure, and each failure is one that the device counted. Where memory lacks, neither is done, and none is counted.
+/// failure, and each failure is one that the device counted. When out of memory, neither is done, and none is counted.
 pub fn operate<A: Allocator, D: Device<A>>(
     device: &mut D,
     order: &Order<A>,

@@ -79,7 +79,7 @@ impl<A: Allocator + Clone + Copy> Pair<A> {
 
     /// How the get with this number is over if this result is handed in. Nothing for what isn't a get, for a number that
     /// nothing under way has, for a result that isn't waited for, and for a get that goes on with a page: those are handed in
-    /// with `hand_in`. Nothing changes: `end` ends the get. Refused only where memory lacks.
+    /// with `hand_in`. Nothing changes: `end` ends the get. Refused only when out of memory.
     pub fn ending(&self, number: u64, came: &IoResult<A>) -> Result<Option<Ending<A>>, AllocError>
         ensures { IfOk result (λ ending. IsEnding number (result_of came.now) self.now ending) }
     {
@@ -231,7 +231,7 @@ impl<A: Allocator + Clone + Copy> Pair<A> {
 
     /// How a get of this key is over that is started now: where its entry lies in a region's buffer, or can't be read from
     /// there, and where no engine has one. Nothing where a page is to be read, or the key's bucket is busy: such a get is
-    /// started with `start`. Nothing changes: `end_at_once` ends the get. Refused only where memory lacks.
+    /// started with `start`. Nothing changes: `end_at_once` ends the get. Refused only when out of memory.
     pub fn ending_at_once(&self, key: &Key<A>) -> Result<Option<Ending<A>>, AllocError>
         ensures { IfOk result (λ ending. IsEndingAtOnce key.now self.now ending) }
     {

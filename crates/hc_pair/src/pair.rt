@@ -40,7 +40,7 @@ impl<A: Allocator> Model for Pair<A> {
 
 impl<A: Allocator + Clone + Copy> Pair<A> {
     /// Fresh buckets and clean regions, by a configuration whose numbers are within their limits. A bucket takes 16 bytes of
-    /// memory, and a region and an index entry what its engine says. Refused only where memory lacks.
+    /// memory, and a region and an index entry what its engine says. Refused only when out of memory.
     pub fn new(alloc: A, flash: FlashConfig) -> Result<Pair<A>, AllocError>
         requires { flash_wrong flash ≡ None }
         ensures { IfOk result (λ pair. pair ≡ new_pair flash) }

@@ -71,7 +71,7 @@ impl<A: Allocator + Clone + Copy> Pair<A> {
     }
 
     /// Whether the operation with this number waits for such a result. Where it does, `resume` and `hand_in` are refused only
-    /// where memory lacks.
+    /// when out of memory.
     #[must_use]
     pub fn awaits(&self, number: u64, came: &IoResult<A>) -> bool
         ensures { result ≡ is_some (resume_step number (result_of came.now) self.now) }

@@ -22,7 +22,7 @@ use std::alloc::{AllocError, Allocator};
 
 impl<A: Allocator + Clone + Copy> Pair<A> {
     /// Hands in what came of the device operation that the operation with this number waits for. Refused with `UnknownJob`
-    /// where there is no such operation or it waits for something else, and with `NoMemory` where memory lacks; then nothing
+    /// where there is no such operation or it waits for something else, and with `NoMemory` when out of memory; then nothing
     /// changed, and the result is given back.
     pub fn resume(&mut self, number: u64, came: IoResult<A>) -> Result<Next<A>, Unresumed<A>>
         ensures ok { IfOk result (λ next. resume_step number (result_of came) self.old ≡ Some (record { pair = self.new; next = next_seen next })) }

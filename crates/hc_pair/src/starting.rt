@@ -25,7 +25,7 @@ fn is_miss<A: Allocator>(op: &Op<A>, next: &Next<A>) -> bool
 
 impl<A: Allocator + Clone + Copy> Pair<A> {
     /// Starts an operation under a number that no operation under way has. It answers `Busy` where a job of the small engine
-    /// is on the bucket of its key. A large entry that is put has to fit a region. Refused only where memory lacks; then
+    /// is on the bucket of its key. A large entry that is put has to fit a region. Refused only when out of memory; then
     /// nothing changed.
     pub fn start(&mut self, number: u64, op: &Op<A>) -> Result<Next<A>, AllocError>
         requires free { under_way self.old number ≡ None }

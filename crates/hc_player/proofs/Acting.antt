@@ -75,7 +75,7 @@ calls-refused {answer} {old} {new} moved refusal stay why same seen =
       results = refl;
     }
 
--- the refusal of a call, where it isn't want of memory
+-- the refusal of a call, unless it is out of memory
 abbrev pub IsTold : Refusal → Answer → Type 0
 IsTold refusal answer = (refusal ≢ NoMemory) × (answer_of (machine.Refused refusal) ≡ Some answer)
 

@@ -117,7 +117,7 @@ fn is_of_lane<V>(slot: &Option<Piece<V>>, lane: u32) -> bool
     }
 }
 
-/// All pieces stand in order, and all lanes have caught up. Refused only where memory lacks; then the rest stays as it was.
+/// All pieces stand in order, and all lanes have caught up. Refused only when out of memory; then the rest stays as it was.
 pub(crate) fn settle<V: Drop, A: Allocator + Copy>(
     order: &mut Order<V, A>,
     inbox: &mut Inbox<V, A>,
@@ -137,7 +137,7 @@ pub(crate) fn settle<V: Drop, A: Allocator + Copy>(
     Ok(())
 }
 
-/// The first place of the inbox goes, and its piece stands in order. Refused only where memory lacks; then nothing changes.
+/// The first place of the inbox goes, and its piece stands in order. Refused only when out of memory; then nothing changes.
 fn settle_one<V: Drop, A: Allocator + Copy>(
     order: &mut Order<V, A>,
     inbox: &mut Inbox<V, A>,

@@ -180,7 +180,7 @@ impl<V: Drop, A: Allocator> KeyedQueue<V, A> {
 }
 
 impl<V: Drop, A: Allocator + Copy> KeyedQueue<V, A> {
-    /// Room for so many more pieces. Refused only where memory lacks, or where the numbers run out; the pieces stay as they
+    /// Room for so many more pieces. Refused only when out of memory, or where the numbers run out; the pieces stay as they
     /// were.
     pub fn reserve(&mut self, more: usize) -> Result<(), AllocError>
         ensures entries { self.new.entries ≡ self.old.entries }
@@ -194,7 +194,7 @@ impl<V: Drop, A: Allocator + Copy> KeyedQueue<V, A> {
     }
 
     /// The number of the first piece whose turn has come: of all that aren't taken and wait in no busy lane, the first. Refused
-    /// only where memory lacks; the pieces stay as they were.
+    /// only when out of memory; the pieces stay as they were.
     pub fn first<F: Fn(u32) -> bool>(&mut self, is_busy: F) -> Result<Option<u64>, AllocError>
         requires { F.IsAlwaysCallable is_busy }
         ensures same { self.new ≡ self.old }
@@ -204,7 +204,7 @@ impl<V: Drop, A: Allocator + Copy> KeyedQueue<V, A> {
         self.queue.first(is_busy)
     }
 
-    /// The number of the lane's first piece behind this number, taken or not. Refused only where memory lacks; the pieces stay
+    /// The number of the lane's first piece behind this number, taken or not. Refused only when out of memory; the pieces stay
     /// as they were.
     pub fn next_of(&mut self, lane: u32, number: u64) -> Result<Option<u64>, AllocError>
         requires { number < u64.MAX }

@@ -104,7 +104,7 @@ pub(crate) fn given(yes: bool, number: u64) -> Option<u64>
     if yes { Some(number) } else { None }
 }
 
-/// The number stands in its lane, and in the one where it waits, from here on. Refused only where memory lacks; then nothing
+/// The number stands in its lane, and in the one where it waits, from here on. Refused only when out of memory; then nothing
 /// changes.
 pub(crate) fn join_both<A: Allocator + Copy>(
     lanes: &mut Pairs<A>,

@@ -59,7 +59,7 @@ impl<V, A: Allocator + Copy> Order<V, A> {
         }
     }
 
-    /// Room to note the lanes of so many more pieces. Refused only where memory lacks.
+    /// Room to note the lanes of so many more pieces. Refused only when out of memory.
     pub(crate) fn reserve(&mut self, more: usize) -> Result<(), AllocError>
         ensures entries { self.new.entries ≡ self.old.entries }
         ensures stale { self.new.stale ≡ self.old.stale }
@@ -72,7 +72,7 @@ impl<V, A: Allocator + Copy> Order<V, A> {
         self.stale.reserve(wanted)
     }
 
-    /// The first piece of each lane that was noted is ready. Refused only where memory lacks; then some stay noted.
+    /// The first piece of each lane that was noted is ready. Refused only when out of memory; then some stay noted.
     pub(crate) fn catch_up(&mut self) -> Result<(), AllocError>
         ensures entries { self.new.entries ≡ self.old.entries }
         ensures grows { self.old.spare ≤ self.new.spare }
@@ -84,7 +84,7 @@ impl<V, A: Allocator + Copy> Order<V, A> {
         Ok(())
     }
 
-    /// The first piece of a lane that was noted is ready. Refused only where memory lacks; then nothing changes.
+    /// The first piece of a lane that was noted is ready. Refused only when out of memory; then nothing changes.
     fn make_ready(&mut self) -> Result<(), AllocError>
         ensures entries { self.new.entries ≡ self.old.entries }
         ensures grows { self.old.spare ≤ self.new.spare }
@@ -185,7 +185,7 @@ impl<V: Drop, A: Allocator> Order<Named<V, A>, A> {
 }
 
 impl<V: Drop, A: Allocator + Copy> Order<V, A> {
-    /// A piece comes behind all others. Refused only where memory lacks; then nothing changes, and the piece comes back.
+    /// A piece comes behind all others. Refused only when out of memory; then nothing changes, and the piece comes back.
     pub(crate) fn enter(
         &mut self,
         number: u64,
@@ -306,7 +306,7 @@ fn waiting_lane<V>(piece: &Piece<V>) -> Option<u32>
     if piece.taken { None } else { piece.lane }
 }
 
-/// The piece comes behind all others. Refused only where memory lacks; then nothing changes, and the piece comes back.
+/// The piece comes behind all others. Refused only when out of memory; then nothing changes, and the piece comes back.
 fn insert<V: Drop, A: Allocator + Copy>(
     pieces: &mut Pieces<V, A>,
     lanes: &mut Pairs<A>,

@@ -187,7 +187,7 @@ impl<V: Drop, A: Allocator> Queue<Named<V, A>, A> {
 }
 
 impl<V: Drop, A: Allocator + Copy> Queue<V, A> {
-    /// Room for so many more pieces. Refused only where memory lacks, or where the numbers run out; the pieces stay as they
+    /// Room for so many more pieces. Refused only when out of memory, or where the numbers run out; the pieces stay as they
     /// were.
     pub fn reserve(&mut self, more: usize) -> Result<(), AllocError>
         ensures entries { self.new.entries ≡ self.old.entries }
@@ -210,7 +210,7 @@ impl<V: Drop, A: Allocator + Copy> Queue<V, A> {
     }
 
     /// The number of the first piece whose turn has come: of all that aren't taken and wait in no busy lane, the first. Refused
-    /// only where memory lacks; the pieces stay as they were.
+    /// only when out of memory; the pieces stay as they were.
     pub fn first<F: Fn(u32) -> bool>(&mut self, is_busy: F) -> Result<Option<u64>, AllocError>
         requires { F.IsAlwaysCallable is_busy }
         ensures same { self.new ≡ self.old }
@@ -221,7 +221,7 @@ impl<V: Drop, A: Allocator + Copy> Queue<V, A> {
         Ok(self.order.first_open(&is_busy))
     }
 
-    /// The number of the lane's first piece behind this number, taken or not. Refused only where memory lacks; the pieces stay
+    /// The number of the lane's first piece behind this number, taken or not. Refused only when out of memory; the pieces stay
     /// as they were.
     pub fn next_of(&mut self, lane: u32, number: u64) -> Result<Option<u64>, AllocError>
         requires { number < u64.MAX }

@@ -72,7 +72,7 @@ impl<A: Allocator> CleanRegions<A> {
 }
 
 impl<A: Allocator + Clone> CleanRegions<A> {
-    /// This number comes in. Refused only where memory lacks.
+    /// This number comes in. Refused only when out of memory.
     fn insert(&mut self, r: u32) -> Result<(), AllocError>
         ensures ok { OnOk result (self.new ≡ with_number r self.old) }
         ensures err { OnErr result (self.new ≡ self.old) }
@@ -83,7 +83,7 @@ impl<A: Allocator + Clone> CleanRegions<A> {
         }
     }
 
-    /// The same numbers once more. Refused only where memory lacks.
+    /// The same numbers once more. Refused only when out of memory.
     fn copy(&self) -> Result<CleanRegions<A>, AllocError>
         ensures { IfOk result (λ copy. copy ≡ self.now) }
     {
@@ -138,8 +138,8 @@ pub fn open_lowest<A: Allocator + Clone + Copy>(
     store_at(regions, r, region);
 }
 
-/// The number of a region comes in that is about to be emptied, where no read holds it: then it is clean. Refused only where
-/// memory lacks.
+/// The number of a region comes in that is about to be emptied, where no read holds it: then it is clean. Refused only when
+/// out of memory.
 pub fn add_emptied<A: Allocator + Clone + Copy>(
     regions: &[Region<A>],
     clean: &mut CleanRegions<A>,
@@ -159,7 +159,7 @@ pub fn add_emptied<A: Allocator + Clone + Copy>(
 
 /// The numbers of the clean regions once a read let a region go, where that drains and no other read holds it: then it is
 /// clean too. Nothing where no region becomes clean. All memory is taken here, so that the read's end can't be refused: the
-/// numbers are copied, which happens once for a region that drains. Refused only where memory lacks.
+/// numbers are copied, which happens once for a region that drains. Refused only when out of memory.
 pub fn with_released<A: Allocator + Clone + Copy>(
     regions: &[Region<A>],
     clean: &CleanRegions<A>,
@@ -178,7 +178,7 @@ pub fn with_released<A: Allocator + Clone + Copy>(
     Ok(Some(more))
 }
 
-/// The numbers of so many clean regions. Refused only where memory lacks.
+/// The numbers of so many clean regions. Refused only when out of memory.
 pub fn all_clean<A: Allocator + Clone>(alloc: A, n: u64) -> Result<CleanRegions<A>, AllocError>
     requires { n ≤ 2 ^ 32 }
     ensures { IfOk result (λ clean. clean ≡ clean_from 0 (replicate n clean_region)) }

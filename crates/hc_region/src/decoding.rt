@@ -44,7 +44,7 @@ fn made_of<A: Allocator>(
 }
 
 /// The entry that these bytes are, all of them, or `None` where they are none. Its value, and a key of more than 46 bytes,
-/// share the bytes, which stay in memory as long as one of them does. Refused only where memory lacks.
+/// share the bytes, which stay in memory as long as one of them does. Refused only when out of memory.
 pub fn entry_in<A: Allocator>(mut bytes: Bytes<A>) -> Result<Option<Entry<A>>, AllocError>
     ensures { IfOk result (λ entry. option_map entry_of entry ≡ entry_in_seen bytes) }
 {

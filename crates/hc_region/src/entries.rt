@@ -28,7 +28,7 @@ fn put_u64<A: Allocator + Clone>(out: &mut Vec<u8, A>, number: u64) -> Result<()
 }
 
 /// The bytes of an entry in a region: the key's length in a byte, the pool in one, the value's length in four, the expiry
-/// in eight, the key and the value. The value has at most 1,048,576 bytes. Refused only where memory lacks.
+/// in eight, the key and the value. The value has at most 1,048,576 bytes. Refused only when out of memory.
 pub fn entry_bytes<A: Allocator + Clone>(
     alloc: A,
     entry: &Entry<A>,

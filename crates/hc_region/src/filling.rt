@@ -5,7 +5,7 @@ ghost use Rattle.hc_engines.specs.large.Region.{clean_region};
 use crate::region::Region;
 use std::alloc::{AllocError, Allocator};
 
-/// So many more clean regions. Refused only where memory lacks.
+/// So many more clean regions. Refused only when out of memory.
 pub fn fill<A: Allocator + Clone + Copy>(
     alloc: A,
     regions: &mut Vec<Region<A>, A>,

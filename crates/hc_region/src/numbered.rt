@@ -50,7 +50,7 @@ pub fn if_fits<A: Allocator + Clone + Copy>(
     }
 }
 
-/// These bytes go behind what a region has, under this kept hash. Refused only where memory lacks.
+/// These bytes go behind what a region has, under this kept hash. Refused only when out of memory.
 pub fn append_at<A: Allocator + Clone + Copy>(
     regions: &mut Vec<Region<A>, A>,
     r: u32,

@@ -115,7 +115,7 @@ impl<A: Allocator + Clone + Copy> Region<A> {
         self.written * flash.page + self.buffer.len() as u64
     }
 
-    /// These bytes go behind what it has, under this kept hash. Refused only where memory lacks, and then it is as before.
+    /// These bytes go behind what it has, under this kept hash. Refused only when out of memory, and then it is as before.
     pub fn append(&mut self, flash: &FlashConfig, hash: u64, bytes: &[u8]) -> Result<(), AllocError>
         requires { filled_to flash.now self.old < 2 ^ 32 }
         ensures ok { OnOk result (self.new ≡ grown flash.now hash bytes.now self.old) }

@@ -30,15 +30,15 @@ named (Moment now) refusal h = absurd cc
 named (Took take) refusal h = absurd cc
 named (Reclaimed region) refusal h = absurd cc
 
--- a reason that isn't want of memory is the machine's
+-- a reason other than out of memory is the machine's
 pub but-memory : (answer : Answer) (refusal : Refusal) → (refusal ≡ NoMemory → ⊥) → IsReason answer refusal → answer ≡ Refused refusal
 but-memory answer refusal other why = ⊎_elim (λ is. named answer refusal is) (λ memory. absurd (other memory.1)) why
 
--- where the machine doesn't refuse, it is want of memory
+-- where the machine doesn't refuse, it is out of memory
 pub memory-alone : (answer other : Answer) (refusal : Refusal) → answer ≡ other → refusal_in other ≡ None → IsReason answer refusal → refusal ≡ NoMemory
 memory-alone answer other refusal is none why = ⊎_elim (λ named. absurd (let both : None ≡ Some refusal = sym none ∙ sym (ap refusal_in is) ∙ named in cc)) (λ memory. memory.1) why
 
--- a step that is refused so, where it isn't for want of memory
+-- a step that is refused so, unless it is out of memory
 pub refused-so : {A E : Type 0} (P : Told → Type 0) (r : Result (Outcome A) E) (refusal : Refusal) → IfOk r (λ outcome. (told_of outcome ≡ Tells (Says (Refused refusal))) × (refusal ≡ NoMemory → ⊥))
     → ((refusal ≡ NoMemory → ⊥) → P (Tells (Says (Refused refusal)))) → IfOk r (λ outcome. P (told_of outcome))
 refused-so P (Ok outcome) refusal is may = subst P (sym is.0) (may is.1)

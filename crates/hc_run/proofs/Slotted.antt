@@ -63,7 +63,7 @@ module _ (held : Pages) where
   pub waits-back : (old new : Stage) → new ≡ old → Waits held old held new
   waits-back old new same = subst (λ (s : Stage). Waits held old held s) (sym same) (record { log = refl; shows = λ scene sh. sh })
 
-  -- the same of whatever the device holds, where a step was refused for want of memory
+  -- the same of whatever the device holds, where a step was refused when out of memory
   pub err-held : {T E : Type 0} (P : Pages → Type 0) (r : Result T E) → OnErr r ((every : Pages) → P every) → OnErr r (P held)
   err-held P (Ok x) h = tt
   err-held P (Err e) h = h held
@@ -126,7 +126,7 @@ module _ (held : Pages) where
         → Moves held old (by_client client (PutNew slot)) (Tells (Says (Refused refusal))) held new
     new-not handle refusal is why other same = moves-back old new client (PutNew slot) (Tells (Says (Refused refusal))) same (put-new-refused held old client slot handle refusal (at-some items slot handle is) (but-memory _ refusal other why))
 
-    -- ---- what is refused, and not for want of memory
+    -- ---- what is refused, and not when out of memory
 
     pub open-refused-ok : {A E : Type 0} (r : Result (Outcome A) E) (pool : ℕ) (key key' value value' : List ℕ) (ttl : ℕ) (refusal : Refusal) → IfOk r (λ outcome. (told_of outcome ≡ Tells (Says (Refused refusal))) × (refusal ≡ NoMemory → ⊥))
         → handle_in slot items ≡ None → IsSized key [] 0 → key' ≡ key → value' ≡ value → IsReason (allocate pool key' value' ttl cache).answer refusal → new ≡ old
@@ -157,6 +157,6 @@ module _ (held : Pages) where
         discarded held old new client slot handle Discarded (at-some items slot handle (sym is))
         (record { cache = c; answer_is = sym (discard_answer cache handle (slot-own cache items slot handle own (sym is))); log = l; failures = refl }) refl (ap (filled_from 0) set ∙ sym (without-is items slot))
 
--- memory lacks, and the stage is as it was
+-- out of memory, and the stage is as it was
 pub waits-err : {T E : Type 0} (r : Result T E) (old new : Stage) → new ≡ old → OnErr r ((held : Pages) → Waits held old held new)
 waits-err r old new same = let waits : (held : Pages) → Waits held old held new = λ held. waits-back held old new same in on-err r waits

@@ -28,7 +28,7 @@ abbrev pub IsWhy : Bool → Refusal → (Refusal → Type 0) → Refusal → Typ
 IsWhy true other IsReason refusal = IsReason refusal
 IsWhy false other IsReason refusal = refusal ≡ other
 
--- a call is refused for want of memory alone
+-- a call is refused only when out of memory
 abbrev pub IsMemory : Refusal → Type 0
 IsMemory refusal = refusal ≡ NoMemory
 

@@ -49,7 +49,7 @@ module _ (config : Config) where
           stops = many;
         }
 
-    -- memory lacked for the step: the shard stops before it
+    -- out of memory for the step: the shard stops before it
     pub lane-stops : (answers answers' : List Told) (ends ends' : List ℕ) → IsLane before config steps (record { stage = old; answers = answers; ends = ends; stopped = None }) → Waits before old after new → answers' ≡ answers → ends' ≡ ends
         → IsLane after config (steps ++ s ∷ []) (record { stage = new; answers = answers'; ends = ends'; stopped = Some (length answers') })
     lane-stops answers answers' ends ends' lane w a e =

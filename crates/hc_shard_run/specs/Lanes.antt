@@ -34,7 +34,7 @@ pub record IsNew (config : Config) (own : Window) (lane : Lane) : Type 0 where
   pub ends : lane.ends ≡ []
   pub stopped : lane.stopped ≡ None
 
--- The shard's steps so far are a run of its own, up to the one for which memory lacked, over a device that holds its
+-- The shard's steps so far are a run of its own, up to the one for which it was out of memory, over a device that holds its
 -- pages so.
 pub record IsLane (held : Pages) (config : Config) (steps : List Step) (lane : Lane) : Type 0 where
   pub ongoing : IsOngoing held config (take (length lane.answers) steps) lane.answers lane.ends lane.stage

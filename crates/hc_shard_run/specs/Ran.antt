@@ -8,7 +8,7 @@ use Rattle.hc_run.specs.Runs.{ends_from, failures_told}
 use Rattle.hc_run.specs.Shows.{Window, IsWithin}
 use Rattle.hc_shards.specs.Shards.{Sharded, page_in, pages_of}
 
--- the log, where each step's part ends in it, the answers, and, where memory lacked for a step, how many were made
+-- the log, where each step's part ends in it, the answers, and, when out of memory for a step, how many were made
 -- before it
 pub record RanShard : Type 0 where
   pub log : List Note
@@ -20,8 +20,8 @@ pub record RanShard : Type 0 where
 abbrev pub window_of : Sharded → ℕ → Window
 window_of s shard = record { first = page_in (pages_of s.config.flash) shard 0; pages = pages_of s.config.flash }
 
--- The answers, the ends and the log are those of the machine's run of the steps by themselves, up to the one for which
--- memory lacked, where the device fails so by itself; and of each page it is held what that run left there, where that
+-- The answers, the ends and the log are those of the machine's run of the steps by themselves, up to the one for which it
+-- was out of memory, where the device fails so by itself; and of each page it is held what that run left there, where that
 -- is known.
 pub record RunsAlone (config : Config) (steps : List Step) (ran : RanShard) (held : Pages) : Type 0 where
   pub breaks : List Bool

@@ -66,7 +66,7 @@ pub record IsMismatch (config : Config) (rows : List (List Record)) (failed shar
 abbrev pub IsOf : ℕ → List Record → Type 0
 IsOf shards row = length row ≡ shards
 
--- why there are no reports: a mismatch of the shard of this number; clients of another number of shards, or want of memory, and
+-- why there are no reports: a mismatch of the shard of this number; clients of another number of shards, or out of memory, and
 -- then the shards come back
 abbrev pub IsUnclosed : {G : Type 0} → Sharded → List (List Record) → ℕ → Unclosed G → Type 0
 IsUnclosed shards rows failed (unclosed.Mismatch shard) = (shard < shards.shards) × IsMismatch (share_of shards) rows failed shard

@@ -41,7 +41,7 @@ impl<A: Allocator> Sharded<A> {
     }
 
     /// The configuration of one shard, by which it is a cache like any other: of each pool its bytes and its items, divided
-    /// by the number of shards and rounded down, and the flash as it is. It isn't checked. Refused only where memory lacks.
+    /// by the number of shards and rounded down, and the flash as it is. It isn't checked. Refused only when out of memory.
     pub fn share(&self, alloc: A) -> Result<Config<A>, AllocError>
         ensures { IfOk result (λ config. config ≡ spec.share_of self.now) }
     {

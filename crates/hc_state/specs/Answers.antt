@@ -11,7 +11,7 @@ abbrev pub refusal_in : Answer → Option Refusal
 refusal_in (Refused refusal) = Some refusal
 refusal_in answer = None
 
--- the call is refused as the machine refuses it, and only for want of memory where the machine doesn't
+-- the call is refused as the machine refuses it, and where the machine doesn't, only when out of memory
 abbrev pub IsReason : Answer → Refusal → Type 0
 IsReason answer refusal = (refusal_in answer ≡ Some refusal) ⊎ ((refusal_in answer ≡ None) × (refusal ≡ NoMemory))
 

@@ -17,7 +17,7 @@ pub enum Begun<'a> {
     Fault(u64),
 }
 
-/// The configuration in front. An error is want of memory.
+/// The configuration in front. An error means out of memory.
 pub fn configuration(alloc: Global, bytes: &[u8]) -> Result<Begun<'_>, AllocError>
     ensures { IfOk result (λ begun. IsBegun (trace_of bytes.now) begun) }
 {

@@ -64,7 +64,7 @@ fn log_behind(
 }
 
 /// The log of the trace (docs/FORMATS.md): a cache of its configuration that has taken each of its lines, and kept the
-/// notes. An error is want of memory.
+/// notes. An error means out of memory.
 pub fn log_of(alloc: Global, bytes: &[u8]) -> Result<Logged, AllocError>
     ensures outcome { IfOk result (λ logged. outcome_seen logged ≡ outcome_of (trace_of bytes.now)) }
     ensures right { LogsAreRight }

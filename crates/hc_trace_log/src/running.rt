@@ -31,7 +31,7 @@ fn take_line(player: &mut Player<Kept>, line: &[u8]) -> Result<bool, AllocError>
 }
 
 /// Takes these lines, behind so many others. The line of the first fault, where there is one, from which on none is taken.
-/// An error is want of memory.
+/// An error means out of memory.
 pub fn take_lines(
     player: &mut Player<Kept>,
     bytes: &[u8],

@@ -63,8 +63,8 @@ impl<A: Allocator> Config<A> {
         Config { pools, flash }
     }
 
-    /// The configuration with pools of these sizes, which are copied, and no flash. It isn't checked. Refused only where
-    /// memory lacks.
+    /// The configuration with pools of these sizes, which are copied, and no flash. It isn't checked. Refused only when
+    /// out of memory.
     pub fn in_memory(alloc: A, pools: &[PoolSize]) -> Result<Config<A>, AllocError>
         ensures { IfOk result (λ config. config ≡ record { pools = pools.now; flash = None }) }
     {

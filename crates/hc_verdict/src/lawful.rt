@@ -17,7 +17,7 @@ use std::alloc::{AllocError, Allocator};
 
 /// The place, counted from 0, of the first note that isn't lawful after those before it; none, where each is. The
 /// configuration is one of which no number is refused. Each note is judged by all those before it, so that a log of `n`
-/// notes takes a time that grows with the square of `n`. Refused only where memory lacks.
+/// notes takes a time that grows with the square of `n`. Refused only when out of memory.
 pub fn first_unlawful<A: Allocator + Clone>(
     config: &Config<A>,
     log: &[Note<A>],

@@ -42,7 +42,7 @@ fn add_refusal(out: &mut String, refusal: Refusal) -> Result<(), AllocError>
 }
 
 /// Judges a log as `judge` does, and adds a line to `out`: the verdict, with status 0 where it is `legal, honest` and else
-/// with 3; or the refusal of its configuration, as `refused 3 BadPool`, with status 1. An error is want of memory.
+/// with 3; or the refusal of its configuration, as `refused 3 BadPool`, with status 1. An error means out of memory.
 pub fn judge_log(
     alloc: Global,
     config: &Config,
@@ -65,7 +65,7 @@ pub fn judge_log(
 }
 
 /// Judges the log that a text says (docs/FORMATS.md), as `judge_log` does. Of a text that is none, `fault line N` is added, with
-/// status 1. An error is want of memory.
+/// status 1. An error means out of memory.
 pub fn judge_text(alloc: Global, bytes: &[u8], out: &mut String) -> Result<u8, AllocError> {
     match read_log(alloc, bytes)? {
         LogText::Fault(line) => {

@@ -135,13 +135,13 @@ fn nothing<A: Allocator>(alloc: A) -> Bringing<A>
     }
 }
 
-/// The calls that wait, once one more was to join them, which comes back where memory lacked.
+/// The calls that wait, once one more was to join them, which comes back when out of memory.
 struct Joining<A: Allocator> {
     bringing: Bringing<A>,
     refused: Option<Waiter<A>>,
 }
 
-/// One call more waits. Where memory lacks it comes back.
+/// One call more waits. When out of memory it comes back.
 fn with_waiter<A: Allocator>(bringing: Bringing<A>, waiter: Waiter<A>) -> Joining<A>
     ensures { IsJoining waiter bringing result }
 {
@@ -248,7 +248,7 @@ impl<A: Allocator + Copy> Fills<A> {
         waiters_in(self.line.get(key))
     }
 
-    /// Makes room for so many more, and for as many jobs. Refused only where memory lacks; the fills stay as they were.
+    /// Makes room for so many more, and for as many jobs. Refused only when out of memory; the fills stay as they were.
     pub fn reserve(&mut self, more: usize) -> Result<(), AllocError>
         ensures flash { self.new.flash ≡ self.old.flash }
         ensures fills { self.new.fills ≡ self.old.fills }
@@ -276,7 +276,7 @@ impl<A: Allocator + Copy> Fills<A> {
         self.line.push(copy, key, Some(lane), bringing);
     }
 
-    /// One call more waits for a key for which some wait. Where memory lacks, the call comes back and nothing changed.
+    /// One call more waits for a key for which some wait. When out of memory, the call comes back and nothing changed.
     pub fn join(&mut self, key: &Key<A>, waiter: Waiter<A>) -> Result<(), Waiter<A>>
         requires { is_some (fill_at key.now self.old.fills) ≡ true }
         ensures flash { self.new.flash ≡ self.old.flash }

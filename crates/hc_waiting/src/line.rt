@@ -74,7 +74,7 @@ impl<V: Drop, A: Allocator> Line<V, A> {
 }
 
 impl<V: Drop, A: Allocator + Copy> Line<V, A> {
-    /// Makes room for so many pieces more. Refused only where memory lacks.
+    /// Makes room for so many pieces more. Refused only when out of memory.
     pub(crate) fn reserve(&mut self, more: usize) -> Result<(), AllocError>
         ensures pieces { self.new.pieces ≡ self.old.pieces }
         ensures room { OnOk result (more ≤ self.new.room) }
@@ -146,7 +146,7 @@ impl<V: Drop, A: Allocator + Copy> Line<V, A> {
     }
 
     /// The key of the first piece whose turn has come: of all that aren't taken and stand in no busy lane, the first.
-    /// Refused only where memory lacks.
+    /// Refused only when out of memory.
     pub(crate) fn first<F: Fn(u32) -> bool>(
         &mut self,
         is_busy: F,

@@ -126,7 +126,7 @@ impl<A: Allocator + Copy> Puts<A> {
         }
     }
 
-    /// A copy of the key's, which takes no more than a key's memory. Refused only where memory lacks.
+    /// A copy of the key's, which takes no more than a key's memory. Refused only when out of memory.
     pub fn value(&self, key: &Key<A>) -> Result<Option<Entry<A>>, AllocError>
         ensures { IfOk result (λ put. option_map entry_of put ≡ put_at key.now self.now.puts) }
     {
@@ -141,7 +141,7 @@ impl<A: Allocator + Copy> Puts<A> {
         expiry_by(self.line.get(key))
     }
 
-    /// Makes room for so many more. Refused only where memory lacks; the puts stay as they were.
+    /// Makes room for so many more. Refused only when out of memory; the puts stay as they were.
     pub fn reserve(&mut self, more: usize) -> Result<(), AllocError>
         ensures flash { self.new.flash ≡ self.old.flash }
         ensures puts { self.new.puts ≡ self.old.puts }

@@ -173,7 +173,7 @@ impl<A: Allocator> Replies<A> {
 }
 
 impl<A: Allocator + Clone> Replies<A> {
-    /// A reply is owed to a call that comes after all that one is owed to. Refused only where memory lacks.
+    /// A reply is owed to a call that comes after all that one is owed to. Refused only when out of memory.
     pub fn expect(&mut self, call: u64) -> Result<(), AllocError>
         requires { AreBefore call self.old }
         ensures ok { OnOk result (self.new ≡ owed_anew call self.old) }

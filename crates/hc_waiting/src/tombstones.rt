@@ -96,7 +96,7 @@ impl<A: Allocator + Copy> Tombstones<A> {
         }
     }
 
-    /// Makes room for so many more. Refused only where memory lacks; what waits stays as it was.
+    /// Makes room for so many more. Refused only when out of memory; what waits stays as it was.
     pub fn reserve(&mut self, more: usize) -> Result<(), AllocError>
         ensures flash { self.new.flash ≡ self.old.flash }
         ensures stones { self.new.stones ≡ self.old.stones }

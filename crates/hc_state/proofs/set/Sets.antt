@@ -260,7 +260,7 @@ module _ {A : Type 0} (pool : ℕ) (key value : List ℕ) (ttl want expiry : ℕ
   pub note-fits : 1 ≤ left.notes
   note-fits = omega (arith, s.way.notes, s.planned.room.notes)
 
-  -- it was put, or memory lacked
+  -- it was put, or it was out of memory
   pub record IsOver (result : Result (Unit {0}) Refusal) (new : Whole) : Type 0 where
     pub ok : OnOk result (IsStep (set_step pool key value ttl old.cache) (Replied Stored) old new)
     pub err : IfErr result (λ refusal. Stays old new ⊎ (IsStep (give_up_step pool key value ttl old.cache) Discarded old new × (refusal ≡ NoMemory)))

@@ -536,7 +536,7 @@ module _ {A : Type 0} (pool : ℕ) (key : List ℕ) (want : ℕ) (plan : SetPlan
           set-lacks pool key plan.value ttl mid left p.structured plan-quiet plan_alone p.fits roomy.within sound cache_is log_is new plan.count
           (subst (λ (n : ℕ). IsSkipped n left new) number_is skipped) left_room p.planned.room.notes
 
-      -- it was put, or memory lacked
+      -- it was put, or it was out of memory
       pub record IsOver (result : Result (Unit {0}) Refusal) : Type 0 where
         pub ok : OnOk result ((ttl : ℕ) → expiry ≡ expiry_of mid.cache.now ttl → IsStep (set_step pool key plan.value ttl mid.cache) (Replied Stored) mid new)
         pub err : IfErr result (λ refusal. Stays mid new ⊎ ((ttl : ℕ) → expiry ≡ expiry_of mid.cache.now ttl → IsStep (give_up_step pool key plan.value ttl mid.cache) Discarded mid new))

@@ -29,7 +29,7 @@ set_step pool key value ttl cache = inserted (insert_or_replace 0) (allocate poo
 abbrev pub give_up_step : ℕ → List ℕ → List ℕ → ℕ → Cache → Moved
 give_up_step pool key value ttl cache = inserted discard (allocate pool key value ttl cache)
 
--- the call is refused as the machine refuses to allocate the item, or for want of memory
+-- the call is refused as the machine refuses to allocate the item, or when out of memory
 abbrev pub MayRefuse : Answer → Refusal → Type 0
 MayRefuse answer refusal = (refusal_in answer ≡ Some refusal) ⊎ (refusal ≡ NoMemory)
 

@@ -26,7 +26,7 @@ loop-i-preserved g c =
     c.loop-i-test.true c.index-steps-i.is c.in_ok-stage.ensures.fits l.invariant.ongoing l.invariant.made (went (g.D.Flash.held l.device) (g.D.Flash.held c.go_on.new.device) l.stage c.go_on.new.stage l.invariant.window c.in-Ok.ensures.ok) in
     record { ongoing = turn.0; window = c.go_on.ensures.window ∙ l.invariant.window; counted = counted-on (g.D.Flash.failed c.args.device) l.stage c.go_on.new.stage l.invariant.window c.go_on.ensures.counted l.invariant.counted; made = turn.1 }
 
--- ---- where memory lacks
+-- ---- when out of memory
 
 pub end-log-requires : goal.end-log-requires
 end-log-requires g c =

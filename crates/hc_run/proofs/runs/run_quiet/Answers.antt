@@ -64,7 +64,7 @@ returns-then-not-is_quiet-clause-follows g c =
     let stops : StopsAt (Some l.i) (length l.answers.items) (length c.args.steps.now) = (l.invariant.made, c.loop-i-test.true) in
     (promised c.args.config.now c.args.steps.now l.answers.items l.ends.items (seen whole (g.D.Flash.held l.device)) l.stage c.end-log.result.notes.items (Some l.i) c.in_ok-stage.ensures.fits made.ongoing stops c.end-log.ensures.log).follows
 
--- ---- where memory lacks
+-- ---- when out of memory
 
 pub end-log-requires-in-Err : goal.end-log-requires-in-Err
 end-log-requires-in-Err g c =

@@ -19,7 +19,7 @@ returns-in-Ok-clause-lane g c =
     (λ config steps right lane. lane-more-so config steps c.args.step.now (seen f.stage.window (g.D.Flash.held c.args.device.now)) (seen f.stage.window (g.D.Flash.held new.device)) f.stage new.stage f.answers.items new.answers.items f.ends.items new.ends.items f.stopped
     (no-some f.stopped (ap (λ (l : Lane). is_some l.stopped) c.self.view_is ∙ sym c.has_stopped.ensures ∙ c.if-has_stopped.false)) right c.in-Ok.ensures.ok lane)
 
--- memory lacks for it
+-- out of memory for it
 pub returns-in-Err-clause-lane : goal.returns-in-Err-clause-lane
 returns-in-Err-clause-lane g c =
     let f = c.self.inside in
