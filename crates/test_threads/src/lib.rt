@@ -1,4 +1,4 @@
-//! Tests of clients and workers in threads, and of the replay by several clients, which end the same whatever the schedule.
+//! Tests of clients and workers in threads, which end the same whatever the schedule.
 #![tactic(auto)]
 
 #[cfg(test)]
@@ -12,11 +12,7 @@ mod leases;
 #[cfg(test)]
 mod refusals;
 #[cfg(test)]
-mod replays;
-#[cfg(test)]
 mod runs;
-#[cfg(test)]
-mod said;
 #[cfg(test)]
 mod scripts;
 #[cfg(test)]
