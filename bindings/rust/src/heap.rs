@@ -18,7 +18,8 @@ pub fn share_one_heap() -> bool {
         extern "C" {
             fn mallopt(parameter: i32, value: i32) -> i32;
         }
-        const M_ARENA_MAX: i32 = -8; // of glibc's malloc.h
+        // of glibc's malloc.h
+        const M_ARENA_MAX: i32 = -8;
         // SAFETY: glibc's signature; it takes any two numbers
         unsafe { mallopt(M_ARENA_MAX, 1) == 1 }
     }

@@ -173,7 +173,8 @@ fn main() -> ExitCode {
     println!("resident {after:.1} MB, of which {before:.1} before the cache was opened");
     if let Some(told) = trial.caches.memory_bytes() {
         let told = told as f64 / 1e6;
-        println!("that is {:.2} times the {told:.1} MB that its options tell, once all is full", (after - before) / told);
+        let times = (after - before) / told;
+        println!("that is {times:.2} times the {told:.1} MB that its options tell, once all is full");
     }
     if let Some(times) = harmed {
         println!("{times} pages of the file were spoiled under it");

@@ -6,7 +6,7 @@
 mod database;
 
 use database::{Database, Failed};
-use kilambosetry::{Error, HybridCache, LoadError, Options, Refused, Value};
+use kilambosetry::{share_one_heap, Error, HybridCache, LoadError, Options, Refused, Value};
 use std::path::PathBuf;
 use std::sync::atomic::{AtomicU64, Ordering::SeqCst};
 use std::{env, thread};
@@ -65,6 +65,7 @@ fn serve(
 }
 
 fn main() -> Result<(), Box<dyn std::error::Error>> {
+    share_one_heap(); // (so that what is resident is what the options print)
     let folder = env::args_os().nth(1).map_or_else(|| PathBuf::from("."), PathBuf::from);
     let path = folder.join("users.db");
     let mut database = Database::create(&path, USERS)?;
