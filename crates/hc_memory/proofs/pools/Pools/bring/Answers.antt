@@ -1,4 +1,5 @@
-use Rattle.std.proofs.Common.{◌≡◌, ℕ, ◌<◌, ◌≤◌, ◌^◌, subst, ◌+◌, ◌++◌, ◌∷◌, [], List, take, drop, length, true, sym, ◌∙◌, ap, arith, length-set}
+use Rattle.std.proofs.Common.{◌≡◌, refl, ℕ, ◌<◌, ◌≤◌, ◌^◌, subst, ◌+◌, ◌++◌, ◌∷◌, [], List, take, drop, length, true, sym, ◌∙◌, ap, arith, length-set}
+use Rattle.std.proofs.lemmas.Result.{err_from_is_err_and}
 use Rattle.hc_types.specs.Charge.{charge_of}
 use Rattle.hc_memory.specs.Item.{Item, item_by}
 use Rattle.hc_memory.specs.Pool.{dropped, bytes_of, unmarked_where}
@@ -131,3 +132,72 @@ settle_all-requires-clause-buckets g c = buckets-fit c.self.inside.flash c.self.
 
 pub forget_items-requires : goal.forget_items-requires
 forget_items-requires g c = bits-fit c.self.inside.flash c.self.invariant.2
+
+pub returns-in-None-clause-number : goal.returns-in-None-clause-number
+returns-in-None-clause-number g c = tt
+
+pub returns-in-None-clause-victims : goal.returns-in-None-clause-victims
+returns-in-None-clause-victims g c = tt
+
+pub returns-in-None-clause-pools : goal.returns-in-None-clause-pools
+returns-in-None-clause-pools g c = tt
+
+pub returns-in-None-clause-err : goal.returns-in-None-clause-err
+returns-in-None-clause-err g c = refl
+
+pub returns-in_err-victims-clause-number : goal.returns-in_err-victims-clause-number
+returns-in_err-victims-clause-number g c = rw (err_from_is_err_and c.from_residual.result c.from_residual.ensures.1).1 tt
+
+pub returns-in_err-victims-clause-victims : goal.returns-in_err-victims-clause-victims
+returns-in_err-victims-clause-victims g c = rw (err_from_is_err_and c.from_residual.result c.from_residual.ensures.1).1 tt
+
+pub returns-in_err-victims-clause-pools : goal.returns-in_err-victims-clause-pools
+returns-in_err-victims-clause-pools g c = rw (err_from_is_err_and c.from_residual.result c.from_residual.ensures.1).1 tt
+
+pub returns-in_err-victims-clause-err : goal.returns-in_err-victims-clause-err
+returns-in_err-victims-clause-err g c = rw (err_from_is_err_and c.from_residual.result c.from_residual.ensures.1).1 refl
+
+pub returns-in_err-value-clause-number : goal.returns-in_err-value-clause-number
+returns-in_err-value-clause-number g c = rw (err_from_is_err_and c.from_residual-in_err-value.result c.from_residual-in_err-value.ensures.1).1 tt
+
+pub returns-in_err-value-clause-victims : goal.returns-in_err-value-clause-victims
+returns-in_err-value-clause-victims g c = rw (err_from_is_err_and c.from_residual-in_err-value.result c.from_residual-in_err-value.ensures.1).1 tt
+
+pub returns-in_err-value-clause-pools : goal.returns-in_err-value-clause-pools
+returns-in_err-value-clause-pools g c = rw (err_from_is_err_and c.from_residual-in_err-value.result c.from_residual-in_err-value.ensures.1).1 tt
+
+pub returns-in_err-value-clause-err : goal.returns-in_err-value-clause-err
+returns-in_err-value-clause-err g c = rw (err_from_is_err_and c.from_residual-in_err-value.result c.from_residual-in_err-value.ensures.1).1 refl
+
+pub returns-in_err-list-clause-number : goal.returns-in_err-list-clause-number
+returns-in_err-list-clause-number g c = rw (err_from_is_err_and c.from_residual-in_err-list.result c.from_residual-in_err-list.ensures.1).1 tt
+
+pub returns-in_err-list-clause-victims : goal.returns-in_err-list-clause-victims
+returns-in_err-list-clause-victims g c = rw (err_from_is_err_and c.from_residual-in_err-list.result c.from_residual-in_err-list.ensures.1).1 tt
+
+pub returns-in_err-list-clause-pools : goal.returns-in_err-list-clause-pools
+returns-in_err-list-clause-pools g c = rw (err_from_is_err_and c.from_residual-in_err-list.result c.from_residual-in_err-list.ensures.1).1 tt
+
+pub returns-in_err-list-clause-err : goal.returns-in_err-list-clause-err
+returns-in_err-list-clause-err g c = rw (err_from_is_err_and c.from_residual-in_err-list.result c.from_residual-in_err-list.ensures.1).1 c.self.view_is
+
+pub returns-in_err-bring-clause-number : goal.returns-in_err-bring-clause-number
+returns-in_err-bring-clause-number g c = rw (err_from_is_err_and c.from_residual-in_err-bring.result c.from_residual-in_err-bring.ensures.1).1 tt
+
+pub returns-in_err-bring-clause-victims : goal.returns-in_err-bring-clause-victims
+returns-in_err-bring-clause-victims g c = rw (err_from_is_err_and c.from_residual-in_err-bring.result c.from_residual-in_err-bring.ensures.1).1 tt
+
+pub returns-in_err-bring-clause-pools : goal.returns-in_err-bring-clause-pools
+returns-in_err-bring-clause-pools g c = rw (err_from_is_err_and c.from_residual-in_err-bring.result c.from_residual-in_err-bring.ensures.1).1 tt
+
+pub returns-in_err-bring-clause-err : goal.returns-in_err-bring-clause-err
+returns-in_err-bring-clause-err g c =
+    let lt = within-marked c.self.inside.flash c.self.inside.marks c.self.inside.pools.items c.args.pool (rw (← c.self.view_is) at c.requires.pool) in
+    let same = untouched c.self.inside.pools.items c.from.result c.index_mut.result.now c.bring.new.self (omega (arith, lt, c.from.ensures)) c.index_mut.ensures.value c.in_err-bring.ensures.err in
+    rw (err_from_is_err_and c.from_residual-in_err-bring.result c.from_residual-in_err-bring.ensures.1).1 (rw same c.self.view_is)
+
+pub returns-clause-number : goal.returns-clause-number
+returns-clause-number g c = rw (← c.self.view_is) (omega (arith, c.in-Some.ensures))
+
+pub returns-clause-err : goal.returns-clause-err
+returns-clause-err g c = tt
