@@ -1,4 +1,4 @@
-use Rattle.std.proofs.Common.{◌≡◌, ◌∙◌, sym, ap, subst, set, List}
+use Rattle.std.proofs.Common.{◌≡◌, ◌∙◌, refl, sym, ap, subst, set, List}
 use Rattle.hc_engines.specs.large.Region.{region_at}
 use Rattle.hc_engines.specs.large.Block.{Block, Job, Moved, finished}
 use Rattle.hc_engines.specs.large.Steps.{emptied, end_region}
@@ -6,6 +6,7 @@ use Rattle.hc_region.specs.CleanNumbers.{clean_from}
 use Rattle.hc_block.specs.Large.{Large, Kept}
 use Rattle.hc_block.specs.Ends.{CanEnd, cause_seen, jobs_left, left_by}
 use Rattle.hc_block.proofs.RegionEnds.{ended_is}
+use Rattle.std.proofs.lemmas.Result.{IfOk-from_err, MatchResult-from_err}
 use Rattle.hc_block.proofs.block_cache.BlockCache.end_region.Goals as goal
 
 pub add_emptied-requires-clause-in_use : goal.add_emptied-requires-clause-in_use
@@ -40,3 +41,36 @@ returns-clause-ok g c =
     (c.appended_at.ensures ∙ ap (λ rs. (region_at c.args.r rs).appended) c.deref-3.ensures.value) c.in_ok-losses.ensures.items c.drain_index.ensures.losses c.drain_index.ensures.index c.empty_at-cleared.ensures.regions c.empty_at-cleared.ensures.cleared c.not_current-self-inside.ensures c.take_sealed_out.ensures c.leave_flushed.ensures c.ended.ensures in
     subst (λ (x : Large). end_region (cause_seen c.args.end) c.args.r (left_by c.args.job x.block) ≡ finished (record { regions = c.empty_at-cleared.new.regions.items; current = c.not_current-self-inside.result; sealed = c.take_sealed_out.new.sealed.items; flushed = c.leave_flushed.new.flushed.items; index = c.drain_index.new.index; jobs = c.leave_jobs.new.jobs }) c.ended.result) c.self.view_is
     (subst (λ (js : List Job). end_region (cause_seen c.args.end) c.args.r s ≡ finished (record { regions = c.empty_at-cleared.new.regions.items; current = c.not_current-self-inside.result; sealed = c.take_sealed_out.new.sealed.items; flushed = c.leave_flushed.new.flushed.items; index = c.drain_index.new.index; jobs = js }) c.ended.result) (sym c.leave_jobs.ensures) new)
+
+pub add_emptied-requires-clause-there : goal.add_emptied-requires-clause-there
+add_emptied-requires-clause-there g c = rw c.deref-2.ensures.value (subst (λ (x : Large). CanEnd x.flash (cause_seen c.args.end) c.args.r (left_by c.args.job x.block)) (sym c.self.view_is) c.requires).there
+
+pub invariant_of-self : goal.invariant_of-self
+invariant_of-self g c = (c.self.invariant.0, c.in_err-add_emptied.ensures.err ∙ c.self.invariant.1)
+
+pub returns-clause-err : goal.returns-clause-err
+returns-clause-err g c = tt
+
+pub returns-clause-flash : goal.returns-clause-flash
+returns-clause-flash g c = ap (λ (x : Large). x.flash) c.self.view_is
+
+pub returns-in_err-add_emptied-clause-err : goal.returns-in_err-add_emptied-clause-err
+returns-in_err-add_emptied-clause-err g c = MatchResult-from_err c.from_residual-in_err-add_emptied.result _ _ c.from_residual-in_err-add_emptied.ensures.0 (λ _. c.self.view_is)
+
+pub returns-in_err-add_emptied-clause-flash : goal.returns-in_err-add_emptied-clause-flash
+returns-in_err-add_emptied-clause-flash g c = ap (λ (x : Large). x.flash) c.self.view_is
+
+pub returns-in_err-add_emptied-clause-ok : goal.returns-in_err-add_emptied-clause-ok
+returns-in_err-add_emptied-clause-ok g c = IfOk-from_err c.from_residual-in_err-add_emptied.result _ c.from_residual-in_err-add_emptied.ensures.0
+
+pub returns-in_err-losses-clause-err : goal.returns-in_err-losses-clause-err
+returns-in_err-losses-clause-err g c = MatchResult-from_err c.from_residual.result _ _ c.from_residual.ensures.0 (λ _. refl)
+
+pub returns-in_err-losses-clause-flash : goal.returns-in_err-losses-clause-flash
+returns-in_err-losses-clause-flash g c = refl
+
+pub returns-in_err-losses-clause-ok : goal.returns-in_err-losses-clause-ok
+returns-in_err-losses-clause-ok g c = IfOk-from_err c.from_residual.result _ c.from_residual.ensures.0
+
+pub take_sealed_out-requires-clause-there : goal.take_sealed_out-requires-clause-there
+take_sealed_out-requires-clause-there g c = rw c.deref-4.ensures.value (subst (λ (x : Large). CanEnd x.flash (cause_seen c.args.end) c.args.r (left_by c.args.job x.block)) (sym c.self.view_is) c.requires).there
