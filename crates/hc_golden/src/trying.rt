@@ -3,7 +3,7 @@ use crate::folder::{answers_of, trace_of};
 use hc_trials::{Counts, Difference, Tried, try_lies, try_lies_of_row, try_silent, try_trace};
 use std::io;
 
-// The traces whose growths are told one by one.
+// The traces whose allocations are told one by one.
 const ROWS: [&str; 6] = [
     "small-items-go-to-a-bucket-and-come-back",
     "three-finds-wait-for-one-fill",
@@ -54,7 +54,7 @@ fn tell(
     }
 }
 
-// Says how many growths were refused in a trace, where it is one of those that are told.
+// Says how many allocations were refused in a trace, where it is one of those that are told.
 fn tell_row(rt: &HostRuntime, folder: &str, name: &str, tried: &Tried) -> io::Result<()> {
     let Tried::All(counts) = tried else {
         return Ok(());
@@ -62,11 +62,11 @@ fn tell_row(rt: &HostRuntime, folder: &str, name: &str, tried: &Tried) -> io::Re
     if !ROWS.contains(&name) {
         return Ok(());
     }
-    let growths = counts.growths;
+    let allocations = counts.allocations;
     let ends = counts.ends_of_three;
     let opened = counts.opened;
     println!(rt;
-        "{folder}/{name}: {growths} growths are refused, {ends} where three finds end, {opened} where a region opens"
+        "{folder}/{name}: {allocations} allocations are refused, {ends} where three finds end, {opened} where a region opens"
     )
 }
 
@@ -79,11 +79,11 @@ fn try_one(rt: &HostRuntime, folder: &str, name: &str, counts: &mut Counts) -> i
     tell(rt, folder, name, &tried, counts)
 }
 
-// Says how many growths and operations were tried.
+// Says how many allocations and operations were tried.
 fn tell_failures(rt: &HostRuntime, folder: &str, counts: &Counts) -> io::Result<()> {
     println!(rt;
-        "{folder}: {} growths are refused, {} where three finds end, {} where a region opens",
-        counts.growths, counts.ends_of_three, counts.opened
+        "{folder}: {} allocations are refused, {} where three finds end, {} where a region opens",
+        counts.allocations, counts.ends_of_three, counts.opened
     )?;
     println!(rt;
         "{folder}: {} operations fail by the step, {} by the device",

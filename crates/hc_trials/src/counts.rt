@@ -3,8 +3,8 @@
 /// How much was tried, by kind.
 #[derive(Clone, Copy, Debug, Default, PartialEq, Eq)]
 pub struct Counts {
-    /// Growths of memory that were refused.
-    pub growths: u64,
+    /// Allocations that were refused.
+    pub allocations: u64,
     /// Of these, in a result that is handed in and answers three finds or more.
     pub ends_of_three: u64,
     /// Of these, in a take that opens a region.
@@ -21,7 +21,7 @@ pub struct Counts {
     pub replies: u64,
     /// Replies that were asked for too early.
     pub early: u64,
-    /// Calls where every growth was refused.
+    /// Calls where every allocation was refused.
     pub free: u64,
     /// Operations that were failed by the step.
     pub failed: u64,
@@ -45,7 +45,7 @@ impl Counts {
     }
 
     fn add_memory(&mut self, other: &Counts) {
-        self.growths = self.growths.wrapping_add(other.growths);
+        self.allocations = self.allocations.wrapping_add(other.allocations);
         self.ends_of_three = self.ends_of_three.wrapping_add(other.ends_of_three);
         self.opened = self.opened.wrapping_add(other.opened);
         self.free = self.free.wrapping_add(other.free);

@@ -8,8 +8,8 @@ pub enum Trial {
     Alone,
     /// Calls that must be refused were made before its own.
     Hostile,
-    /// This growth of memory was refused.
-    Growth(u64),
+    /// This allocation was refused.
+    Allocation(u64),
     /// This operation was failed by the step that makes it.
     FailedByStep(u64),
     /// This operation was failed by the device.
@@ -18,7 +18,7 @@ pub enum Trial {
     Byte(u64, usize, u8),
     /// This read had noise over it, by this seed.
     Noise(u64, u64),
-    /// Nobody hears of the log, and every growth is refused.
+    /// Nobody hears of the log, and every allocation is refused.
     Unheard,
 }
 
@@ -27,7 +27,7 @@ impl fmt::Display for Trial {
         match self {
             Trial::Alone => f.write_str("alone"),
             Trial::Hostile => f.write_str("hostile calls"),
-            Trial::Growth(number) => write!(f, "growth {number}"),
+            Trial::Allocation(number) => write!(f, "allocation {number}"),
             Trial::FailedByStep(number) => write!(f, "operation {number} failed by the step"),
             Trial::FailedByDevice(number) => write!(f, "operation {number} failed by the device"),
             Trial::Byte(read, at, byte) => write!(f, "read {read}, byte {at} as {byte}"),
@@ -40,8 +40,8 @@ impl fmt::Display for Trial {
 /// What came of it.
 #[derive(Clone, Copy, Debug, PartialEq, Eq)]
 pub enum Wrong {
-    /// A call answered out of memory, and no growth was refused in it.
-    NoGrowth,
+    /// A call answered out of memory, and no allocation was refused in it.
+    NoAllocation,
     /// A refused call changed something.
     Changed,
     /// A handle of another cache was taken, or refused by another number.
@@ -71,7 +71,7 @@ pub enum Wrong {
 impl Wrong {
     fn text(self) -> &'static str {
         match self {
-            Wrong::NoGrowth => "memory lacks, and no growth was refused",
+            Wrong::NoAllocation => "out of memory, and no allocation was refused",
             Wrong::Changed => "a refused call changed something",
             Wrong::Handle => "a handle of another cache isn't refused as it must be",
             Wrong::Job => "a result for no job isn't refused as it must be",

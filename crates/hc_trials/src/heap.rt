@@ -3,7 +3,7 @@ use hc_core::{Core, Kept};
 use std::alloc::Global;
 use test_allocator::Refusing;
 
-/// Lends what refuses a growth.
+/// Lends what refuses an allocation.
 pub(crate) type Heap<'a> = &'a Refusing<Global>;
 
 /// A cache that keeps its log.

@@ -1,4 +1,4 @@
-//! Trials of hostile use, each over a trace: memory is refused growth by growth, calls are made that must be refused, each
+//! Trials of hostile use, each over a trace: allocations are refused one by one, calls are made that must be refused, each
 //! operation of the device fails in turn, and what it reads is changed. The trace must be answered as it is without, or as its
 //! judge allows.
 #![tactic(auto)]

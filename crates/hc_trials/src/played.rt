@@ -21,7 +21,7 @@ pub(crate) struct Played {
     pub(crate) is_whole: bool,
     /// Whether no line was refused but for want of a job, of a call or of its reply.
     pub(crate) is_scheduled: bool,
-    /// Whether a growth was refused.
+    /// Whether an allocation was refused.
     pub(crate) is_refused: bool,
     /// The regions of a cache that isn't tried.
     pub(crate) left_out: Option<u64>,

@@ -26,10 +26,10 @@ fn fate_of(trial: Trial) -> Fate {
     }
 }
 
-// The growth that is refused. 0: none.
-fn growth_of(trial: Trial) -> u64 {
+// The allocation that is refused. 0: none.
+fn allocation_of(trial: Trial) -> u64 {
     match trial {
-        Trial::Growth(number) => number,
+        Trial::Allocation(number) => number,
         _ => 0,
     }
 }
@@ -152,7 +152,7 @@ fn end<'a>(
     add_notes(&mut played.log, notes)?;
     played.reads = stage.core.notes().stats().reads;
     played.operations = stage.operations;
-    if growth_of(trial) == 0 {
+    if allocation_of(trial) == 0 {
         played.verdict = judge(config, notes, &stage.heap).ok();
         played.lie = first_lie(notes);
         played.is_bucket_lost = is_bucket_lost(notes, 0);
@@ -211,7 +211,7 @@ fn staged<'a>(
     config: &Config<Heap<'a>>,
     trial: Trial,
 ) -> Result<Result<Stage<'a>, Refusal>, AllocError> {
-    let due = growth_of(trial);
+    let due = allocation_of(trial);
     let before = heap.taken();
     let core = match new_core(heap, config, due) {
         Ok(core) => core,

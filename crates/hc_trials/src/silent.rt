@@ -46,7 +46,7 @@ impl<'a> Notes<Note<Heap<'a>>> for Deaf {
 
 type Silent<'a> = Core<Deaf, Heap<'a>>;
 
-// What a remove answers where every growth is refused.
+// What a remove answers where every allocation is refused.
 fn remove_with_none<'a>(heap: Heap<'a>, core: &mut Silent<'a>) -> Result<Removed, Refusal> {
     let key = Key::new(heap, b"a")?;
     heap.refuse_from(1);
@@ -55,7 +55,7 @@ fn remove_with_none<'a>(heap: Heap<'a>, core: &mut Silent<'a>) -> Result<Removed
     removed
 }
 
-// Whether an item is removed, and then none, where every growth is refused.
+// Whether an item is removed, and then none, where every allocation is refused.
 fn is_removed<'a>(heap: Heap<'a>, config: &Config<Heap<'a>>) -> Result<bool, Refusal> {
     let mut core = Core::new(heap, config, Deaf)?;
     core.set(0, b"a", b"one", 0)?;
@@ -99,7 +99,7 @@ fn waiting<'a>(core: &mut Silent<'a>) -> Result<u64, Refusal> {
     }
 }
 
-// Whether a reply is taken where every growth is refused.
+// Whether a reply is taken where every allocation is refused.
 fn is_replied<'a>(heap: Heap<'a>, config: &Config<Heap<'a>>) -> Result<bool, Refusal> {
     let mut core = Core::new(heap, config, Deaf)?;
     core.set(0, b"a", b"one", 0)?;
@@ -116,7 +116,7 @@ fn is_replied<'a>(heap: Heap<'a>, config: &Config<Heap<'a>>) -> Result<bool, Ref
     }
 }
 
-// Whether engines that have nothing say so where every growth is refused.
+// Whether engines that have nothing say so where every allocation is refused.
 fn rules_out<'a>(heap: Heap<'a>, flash: Option<FlashConfig>) -> Result<bool, Refusal>
     requires { IfSome flash (λ f. flash_wrong f ≡ None) }
 {

@@ -1,4 +1,4 @@
-// A cache over its device, of which one growth of memory is refused, or one operation fails.
+// A cache over its device, of which one allocation is refused, or one operation fails.
 use crate::books::{Books, books_of};
 use crate::counts::Counts;
 use crate::device::Device;
@@ -16,7 +16,7 @@ pub(crate) struct Stage<'a> {
     pub(crate) twins: Option<Twins<'a>>,
     pub(crate) device: Device<'a>,
     pub(crate) results: Results<Heap<'a>>,
-    /// The growth to refuse, counted from here on. 0: none.
+    /// The allocation to refuse, counted from here on. 0: none.
     due: u64,
     /// The operation to fail, counted from here on. 0: none.
     pub(crate) fails_in: u64,
@@ -69,7 +69,7 @@ impl<'a> Drop for Stage<'a> {
     }
 }
 
-/// What was, before a call in which a growth is due.
+/// What was, before a call in which an allocation is due.
 #[derive(Clone, Copy)]
 pub(crate) struct Armed {
     books: Books,
@@ -77,7 +77,7 @@ pub(crate) struct Armed {
     refused: u64,
 }
 
-/// An empty cache, of which this growth is refused at first.
+/// An empty cache, of which this allocation is refused at first.
 pub(crate) fn new_core<'a>(
     heap: Heap<'a>,
     config: &Config<Heap<'a>>,
@@ -93,7 +93,7 @@ pub(crate) fn new_core<'a>(
 }
 
 impl<'a> Stage<'a> {
-    /// An empty cache over its device, of which this growth is refused, and this operation fails.
+    /// An empty cache over its device, of which this allocation is refused, and this operation fails.
     pub(crate) fn new(
         heap: Heap<'a>,
         core: Cache<'a>,
@@ -140,7 +140,7 @@ impl<'a> Stage<'a> {
         }
     }
 
-    /// From here on the growth that is due is refused.
+    /// From here on the allocation that is due is refused.
     pub(crate) fn arm(&mut self) -> Armed {
         let books = self.books();
         self.heap.refuse(self.due);
@@ -162,10 +162,10 @@ impl<'a> Stage<'a> {
         };
     }
 
-    /// A call was refused for lack of memory: a growth was refused in it, and all is as it was.
+    /// A call was refused for lack of memory: an allocation was refused in it, and all is as it was.
     pub(crate) fn was_refused(&mut self, armed: Armed) {
         let is_reason = self.heap.refused() > armed.refused;
-        self.want(is_reason, Wrong::NoGrowth);
+        self.want(is_reason, Wrong::NoAllocation);
         let is_same = self.books() == armed.books;
         self.want(is_same, Wrong::Changed);
     }

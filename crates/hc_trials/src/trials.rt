@@ -18,7 +18,7 @@ pub enum Tried {
     Differs(Difference),
 }
 
-// No trace makes as many growths, or operations.
+// No trace makes as many allocations, or operations.
 const MOST: u64 = 1_000_000;
 
 // Whether the line is of the answers that are compared: neither what is lost, nor a fault, which are printed elsewhere.
@@ -87,23 +87,23 @@ fn try_hostile(
     Ok(compare(own, &played, Trial::Hostile))
 }
 
-// Each growth is refused in turn, until a run meets no refusal.
-fn try_growths(
+// Each allocation is refused in turn, until a run meets no refusal.
+fn try_allocations(
     alloc: Global,
     trace: &[u8],
     own: &Played,
     counts: &mut Counts,
 ) -> Result<Option<Difference>, AllocError> {
     for number in 1..MOST {
-        let played = play(alloc, trace, Trial::Growth(number))?;
-        if let Some(difference) = compare(own, &played, Trial::Growth(number)) {
+        let played = play(alloc, trace, Trial::Allocation(number))?;
+        if let Some(difference) = compare(own, &played, Trial::Allocation(number)) {
             return Ok(Some(difference));
         }
         if !played.is_refused {
             return Ok(None);
         }
         counts.add(&played.counts);
-        one_more(&mut counts.growths);
+        one_more(&mut counts.allocations);
     }
     Ok(None)
 }
@@ -157,14 +157,14 @@ fn try_all(
     if let Some(difference) = try_hostile(alloc, trace, own, counts)? {
         return Ok(Some(difference));
     }
-    if let Some(difference) = try_growths(alloc, trace, own, counts)? {
+    if let Some(difference) = try_allocations(alloc, trace, own, counts)? {
         return Ok(Some(difference));
     }
     try_failures(alloc, trace, own, counts)
 }
 
-/// Tries a trace, of which these are the answers: alone; with calls before its own that must be refused; with each growth of
-/// memory refused in turn; and with each operation of the device failed in turn.
+/// Tries a trace, of which these are the answers: alone; with calls before its own that must be refused; with each allocation
+/// refused in turn; and with each operation of the device failed in turn.
 pub fn try_trace(alloc: Global, trace: &[u8], answers: &[u8]) -> Result<Tried, AllocError> {
     let mut own = play(alloc, trace, Trial::Alone)?;
     if let Some(regions) = own.left_out {

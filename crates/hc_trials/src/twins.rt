@@ -101,7 +101,7 @@ fn charge<'a>(
     }
 }
 
-// The item isn't inserted where it belongs, while every growth is refused.
+// The item isn't inserted where it belongs, while every allocation is refused.
 fn give_up<'a>(
     heap: Heap<'a>,
     twin: &mut Cache<'a>,
@@ -119,7 +119,7 @@ fn give_up<'a>(
     }
 }
 
-// The item isn't sealed where it belongs, while every growth is refused.
+// The item isn't sealed where it belongs, while every allocation is refused.
 fn give_up_blank<'a>(
     heap: Heap<'a>,
     twin: &mut Cache<'a>,

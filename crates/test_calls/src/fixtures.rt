@@ -4,7 +4,7 @@ use std::alloc::{Allocator, Global};
 use std::process::Abort;
 use test_allocator::Refusing;
 
-/// Lends what counts growths, and refuses them.
+/// Lends what counts allocations, and refuses them.
 pub type Heap<'a> = &'a Refusing<Global>;
 
 /// Two buckets of 512 bytes for items of up to 100, and two regions of a page each.

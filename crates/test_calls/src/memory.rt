@@ -47,7 +47,7 @@ fn a_get_that_waits_for_nothing_takes_no_memory(rt: HostRuntime) {
     assert_found_with_none(&rt, &alloc, FLASH);
 }
 
-// That a value is replaced with two growths.
+// That a value is replaced with two allocations.
 fn assert_replaced_with_two<'a>(rt: &impl Abort, alloc: Heap<'a>, flash: Option<FlashConfig>) {
     let mut core = stored(rt, alloc, flash);
     let before = alloc.taken();
@@ -56,14 +56,14 @@ fn assert_replaced_with_two<'a>(rt: &impl Abort, alloc: Heap<'a>, flash: Option<
 }
 
 #[test]
-fn a_value_is_replaced_with_two_growths(rt: HostRuntime) {
+fn a_value_is_replaced_with_two_allocations(rt: HostRuntime) {
     let alloc = Refusing::new(rt.alloc(), 0);
     assert_replaced_with_two(&rt, &alloc, None);
     assert_replaced_with_two(&rt, &alloc, FLASH);
 }
 
-// That a new value for which another goes is stored with three growths: its own two, and its entry's. No list is made of what
-// goes, and what counts the losses has room for them.
+// That a new value for which another goes is stored with three allocations: its own two, and its entry's. No list is made of
+// what goes, and what counts the losses has room for them.
 fn assert_evicts_with_three<'a>(rt: &impl Abort, alloc: Heap<'a>) {
     let mut core = stored(rt, alloc, None);
     store(rt, &mut core, b"a");
@@ -75,13 +75,13 @@ fn assert_evicts_with_three<'a>(rt: &impl Abort, alloc: Heap<'a>) {
 }
 
 #[test]
-fn a_new_value_evicts_with_three_growths(rt: HostRuntime) {
+fn a_new_value_evicts_with_three_allocations(rt: HostRuntime) {
     assert_evicts_with_three(&rt, &Refusing::new(rt.alloc(), 0));
 }
 
-// Stores the key's value once none of its growths is refused: before, each is refused alone, which nobody counts as a call. How
-// many there are.
-fn growths_of<'a>(rt: &impl Abort, alloc: Heap<'a>, core: &mut Cache<'a>, key: &[u8]) -> u64 {
+// Stores the key's value once none of its allocations is refused: before, each is refused alone, which nobody counts as a call.
+// How many there are.
+fn allocations_of<'a>(rt: &impl Abort, alloc: Heap<'a>, core: &mut Cache<'a>, key: &[u8]) -> u64 {
     let calls = core.calls();
     for nth in 1..20u64 {
         let refused = alloc.refused();
@@ -95,18 +95,18 @@ fn growths_of<'a>(rt: &impl Abort, alloc: Heap<'a>, core: &mut Cache<'a>, key: &
         assert!(rt; stored == Err(Refusal::NoMemory) && alloc.refused() > refused);
         assert!(rt; core.calls() == calls);
     }
-    panic!(rt; "a set has no end of growths")
+    panic!(rt; "a set has no end of allocations")
 }
 
-// That a set whose growths are refused does the same when it is made again: of a new key, of one that has a value, and of one
-// for which another goes.
+// That a set whose allocations are refused does the same when it is made again: of a new key, of one that has a value, and of
+// one for which another goes.
 fn assert_set_again<'a>(rt: &impl Abort, alloc: Heap<'a>, flash: Option<FlashConfig>) {
     let mut core = counted(rt, alloc, flash);
-    assert!(rt; growths_of(rt, alloc, &mut core, b"k") > 2);
-    assert!(rt; growths_of(rt, alloc, &mut core, b"k") == 2);
+    assert!(rt; allocations_of(rt, alloc, &mut core, b"k") > 2);
+    assert!(rt; allocations_of(rt, alloc, &mut core, b"k") == 2);
     assert_gets(rt, &mut core);
-    assert!(rt; growths_of(rt, alloc, &mut core, b"a") > 2);
-    assert!(rt; growths_of(rt, alloc, &mut core, b"b") > 2);
+    assert!(rt; allocations_of(rt, alloc, &mut core, b"a") > 2);
+    assert!(rt; allocations_of(rt, alloc, &mut core, b"b") > 2);
     assert!(rt; matches!(core.get(b"b"), Ok(Found::Hit(_))));
 }
 
@@ -118,8 +118,8 @@ fn a_set_does_the_same_once_there_is_memory(rt: HostRuntime) {
     assert!(rt; alloc.is_even());
 }
 
-// How many growths so many rounds take. In each round three items come, of which two are in memory and one waits for flash, and
-// goes as its key is stored anew.
+// How many allocations so many rounds take. In each round three items come, of which two are in memory and one waits for flash,
+// and goes as its key is stored anew.
 fn taken_by<'a>(rt: &impl Abort, alloc: Heap<'a>, core: &mut Cache<'a>, rounds: u32) -> u64 {
     let before = alloc.taken();
     for _ in 0..rounds {
@@ -130,7 +130,7 @@ fn taken_by<'a>(rt: &impl Abort, alloc: Heap<'a>, core: &mut Cache<'a>, rounds: 
     alloc.taken().wrapping_sub(before)
 }
 
-// That later rounds take as many growths as earlier ones.
+// That later rounds take as many allocations as earlier ones.
 fn assert_even<'a>(rt: &impl Abort, alloc: Heap<'a>) {
     let mut core = counted(rt, alloc, FLASH);
     let _first = taken_by(rt, alloc, &mut core, 100);

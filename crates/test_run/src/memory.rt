@@ -8,15 +8,15 @@ use std::alloc::Global;
 use std::process::Abort;
 use test_allocator::Refusing;
 
-// Lends what refuses a growth.
+// Lends what refuses an allocation.
 type Heap<'a> = &'a Refusing<Global>;
 
 type Run<'a> = Ran<MemFlash<Heap<'a>>, Heap<'a>>;
 
-// No run makes as many growths.
+// No run makes as many allocations.
 const MANY: u64 = 500;
 
-// A run that is refused from this growth on.
+// A run that is refused from this allocation on.
 fn cut<'a>(
     rt: &impl Abort,
     alloc: Heap<'a>,
@@ -79,7 +79,7 @@ fn stop<'a>(rt: &impl Abort, cut: &Run<'a>, whole: &Run<'a>) -> Option<usize> {
     }
 }
 
-// Before which step a run stops that is refused from this growth on: the first, where it doesn't begin.
+// Before which step a run stops that is refused from this allocation on: the first, where it doesn't begin.
 fn stop_at<'a>(
     rt: &impl Abort,
     alloc: Heap<'a>,
@@ -97,8 +97,8 @@ fn stop_at<'a>(
     }
 }
 
-// Runs with one growth more each time, until one does all steps. Each does as many as one with less memory. Answers before how
-// many steps but the first a run stopped.
+// Runs with one allocation more each time, until one does all steps. Each does as many as one with less memory. Answers before
+// how many steps but the first a run stopped.
 fn grow<'a>(rt: &impl Abort, alloc: Heap<'a>) -> usize {
     let config = config(rt, alloc);
     let steps = trip(rt, alloc);

@@ -8,7 +8,7 @@ use std::alloc::Global;
 use std::process::Abort;
 use test_allocator::Refusing;
 
-// Lends what refuses a growth.
+// Lends what refuses an allocation.
 type Heap<'a> = &'a Refusing<Global>;
 
 type Run<'a> = RanShards<MemFlash<Heap<'a>>, Heap<'a>>;
@@ -16,7 +16,7 @@ type Run<'a> = RanShards<MemFlash<Heap<'a>>, Heap<'a>>;
 // How many shards there are.
 const SHARDS: u8 = 4;
 
-// A run for which this growth alone is refused.
+// A run for which this allocation alone is refused.
 fn cut<'a>(
     rt: &impl Abort,
     alloc: Heap<'a>,
@@ -51,7 +51,7 @@ fn stopped<'a>(rt: &impl Abort, cut: &Run<'a>, whole: &Run<'a>) -> u64 {
     stopped
 }
 
-// Each growth in turn is refused: in how many runs a shard stopped.
+// Each allocation in turn is refused: in how many runs a shard stopped.
 fn grow<'a>(rt: &impl Abort, alloc: Heap<'a>) -> u64 {
     let sharded = sharded(rt, alloc, SHARDS);
     let steps = list(rt, alloc, &sharded, 7, 40);

@@ -1,4 +1,4 @@
-// Calls of a client each of whose growths is refused in turn.
+// Calls of a client each of whose allocations is refused in turn.
 
 use hc_core::{
     Blank, Config, Core, Fill, Kept, Key, PoolSize, Refusal, Removed, Sealed, Uncharged, Unlinked,
@@ -129,8 +129,8 @@ impl<'a> Caller<'a> {
         }
     }
 
-    // Makes the call once none of its growths is refused: before, each is refused alone. How many there are.
-    fn growths_of<R: Abort + Wait>(&mut self, rt: &R, alloc: Heap<'a>, call: Call) -> u64 {
+    // Makes the call once none of its allocations is refused: before, each is refused alone. How many there are.
+    fn allocations_of<R: Abort + Wait>(&mut self, rt: &R, alloc: Heap<'a>, call: Call) -> u64 {
         for nth in 1..40u64 {
             let refused = alloc.refused();
             alloc.refuse(nth);
@@ -142,14 +142,14 @@ impl<'a> Caller<'a> {
             }
             assert!(rt; alloc.refused() > refused);
         }
-        panic!(rt; "a call has no end of growths")
+        panic!(rt; "a call has no end of allocations")
     }
 }
 
 // The key is longer than what stands in place, so that each of its copies takes memory. Each call that the cache has made is
 // recorded.
 #[test]
-fn each_growth_of_a_clients_calls_is_refused_in_turn(rt: HostRuntime) {
+fn each_allocation_of_a_clients_calls_is_refused_in_turn(rt: HostRuntime) {
     let alloc = Refusing::new(rt.alloc(), 0);
     let cache = cache(&rt, &alloc);
     let mut caller = Caller {
@@ -157,11 +157,11 @@ fn each_growth_of_a_clients_calls_is_refused_in_turn(rt: HostRuntime) {
         cache,
         key: Key::new(&alloc, [b'k'; 100].as_slice()).expect(&rt, "the key fits"),
     };
-    let mut growths = 0u64;
+    let mut allocations = 0u64;
     for call in [Call::Set, Call::Set, Call::Find, Call::Remove, Call::Add] {
-        growths = growths.saturating_add(caller.growths_of(&rt, &alloc, call));
+        allocations = allocations.saturating_add(caller.allocations_of(&rt, &alloc, call));
     }
-    assert!(&rt; growths > 3);
+    assert!(&rt; allocations > 3);
     let Caller {
         cache,
         client,
