@@ -5,7 +5,7 @@ use Rattle.hc_engines.specs.Engine.{Op, Get, Answer, Nothing, Over, Absent, Foun
 use Rattle.hc_engines.specs.small.BigHash.{BigHash, Job, Plan, ToEnd, ToGiveUp, Moved, job_at, carried}
 use Rattle.hc_bighash.specs.declared.results.Handed.{Handed}
 use Rattle.hc_bighash.specs.declared.results.Handed.TheVariants as handeds
-use Rattle.hc_bighash.specs.Next.{next_seen}
+use Rattle.hc_engines.specs.Next.{next_seen}
 
 -- a get is over with this plan and found nothing: whether its bucket is given up then
 abbrev pub ends_absent : Op → Plan → Option Bool

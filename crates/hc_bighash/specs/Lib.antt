@@ -1,6 +1,4 @@
--- How contracts see what the engine is asked and answers, and the steps of its jobs.
-pub mod Seen
-pub mod Next
+-- How contracts see the steps of the jobs of BigHash.
 pub mod Paged
 pub mod Steps
 pub mod Handed

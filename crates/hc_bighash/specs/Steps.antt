@@ -9,7 +9,7 @@ use Rattle.hc_bighash.specs.declared.turns.Turn.TheVariants as turns
 use Rattle.hc_engines.specs.small.Bloom.{word_of}
 use Rattle.hc_engines.specs.small.BigHash.{Phase, Reading, Writing, Plan, ToRead, ToWrite, ToEnd, ToKeep, ToGiveUp}
 use Rattle.hc_bighash.specs.Paged.{entries_on}
-use Rattle.hc_bighash.specs.Seen.{answer_of}
+use Rattle.hc_engines.specs.Seen.{answer_of}
 
 abbrev pub phase_of : {A : Type 0} → Phases A → Phase
 phase_of phases.Reading = Reading

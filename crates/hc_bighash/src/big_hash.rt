@@ -3,15 +3,14 @@ ghost use Rattle.std.specs.Prelude.{◌≡◌, ◌<◌, [], replicate, IfOk, OnE
 ghost use Rattle.hc_types.specs.Limits.{flash_wrong};
 ghost use Rattle.hc_engines.specs.small.BigHash.{word_at as word_in, job_at, moved, start as start_step, begun as plan_begun, our_bucket as our_bucket_of, could_hold, is_ours as is_op_ours};
 ghost use Rattle.hc_engines.specs.small.Sound.{Sound, CanStart};
-ghost use Rattle.hc_bighash.specs.Seen.{op_of};
-ghost use Rattle.hc_bighash.specs.Next.{next_seen};
+ghost use Rattle.hc_engines.specs.Seen.{op_of};
+ghost use Rattle.hc_engines.specs.Next.{next_seen};
 
 use crate::jobs::{Job, add_job, is_busy};
-use crate::ops::{Next, Op};
 use crate::plans::begun;
 use crate::steps::{Step, nothing, our_bucket, step_of};
 use crate::words::word_at;
-use hc_engines::bloom;
+use hc_engines::{Next, Op, bloom};
 use hc_types::{FlashConfig, Key, bucket_of};
 use std::alloc::{AllocError, Allocator, Global};
 use std::marker::Model;

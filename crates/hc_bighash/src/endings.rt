@@ -7,9 +7,9 @@ ghost use Rattle.hc_bighash.specs.Steps.{plan_of, IsTurn};
 
 use crate::big_hash::BigHash;
 use crate::jobs::place;
-use crate::ops::Answer;
 use crate::plans::Plan;
 use crate::turns::{Turn, turn_of};
+use hc_engines::Answer;
 use hc_flash::IoResult;
 use hc_types::Entry;
 use std::alloc::{AllocError, Allocator, Global};

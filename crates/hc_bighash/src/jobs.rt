@@ -2,11 +2,12 @@
 ghost use Rattle.std.specs.Prelude.{◌≡◌, ◌==◌, OnOk, OnErr, IfSome, ◌<◌, length, slice_index_or, option_map};
 ghost use Rattle.std.specs.List.{remove};
 ghost use Rattle.hc_engines.specs.small.BigHash.{Job as UnderWay, is_busy as is_bucket_busy, job_at, make_job, place_of, with_job};
-ghost use Rattle.hc_bighash.specs.Seen.{op_of};
+ghost use Rattle.hc_engines.specs.Seen.{op_of};
 ghost use Rattle.hc_bighash.specs.Steps.{phase_of};
 
+use crate::copies::copy_of_op;
 use crate::new_page::NewPage;
-use crate::ops::{Loss, Op, copy_of_op};
+use hc_engines::{Loss, Op};
 use std::alloc::{AllocError, Allocator, Global};
 use std::marker::Model;
 
@@ -33,7 +34,7 @@ pub(crate) struct Job<A: Allocator = Global> {
 
 impl<A: Allocator> Model for Job<A> {
     ghost use Rattle.hc_engines.specs.small.BigHash.{Job as UnderWay};
-    ghost use Rattle.hc_bighash.specs.Seen.{op_of};
+    ghost use Rattle.hc_engines.specs.Seen.{op_of};
     ghost use Rattle.hc_bighash.specs.Steps.{phase_of};
 
     ghost Value = { UnderWay };

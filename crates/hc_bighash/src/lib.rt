@@ -5,16 +5,15 @@
 
 mod awaiting;
 mod big_hash;
+mod copies;
 mod endings;
 mod jobs;
 mod new_page;
-mod ops;
 mod pages;
 mod plans;
 mod questions;
 mod results;
 mod resuming;
-mod shared_page;
 mod shown;
 mod steps;
 mod turns;
@@ -22,7 +21,4 @@ mod words;
 
 pub use big_hash::BigHash;
 pub use endings::Ending;
-pub use ops::{Answer, Loss, Next, Op, Outcome, SharedOrder};
 pub use results::Handed;
-pub use resuming::Unresumed;
-pub use shared_page::SharedPage;

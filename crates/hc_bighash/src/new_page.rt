@@ -6,9 +6,9 @@ ghost use Rattle.hc_engines.specs.small.Bloom.{word_of};
 ghost use Rattle.hc_engines.specs.small.Entries.{without};
 ghost use Rattle.hc_bighash.specs.Paged.{entries_on};
 
-use crate::shared_page::SharedPage;
 use bytes::Bytes;
 use hc_bucket::{Entries, begin_page, end_page, put_entry};
+use hc_engines::SharedPage;
 use hc_engines::bloom::bits_of;
 use hc_types::{Entry, Key};
 use std::alloc::{AllocError, Allocator, Global};

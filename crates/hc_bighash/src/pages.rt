@@ -9,14 +9,14 @@ ghost use Rattle.hc_engines.specs.small.Sound.{HasRoom, CanPut};
 ghost use Rattle.hc_engines.specs.small.Entries.{under, without as entries_without, staying, put_losses, full_losses as losses_of, size_of};
 ghost use Rattle.hc_engines.specs.small.BigHash.{was_read, read_as};
 ghost use Rattle.hc_bighash.specs.Paged.{IsValueAt};
-ghost use Rattle.hc_bighash.specs.Seen.{op_of, answer_of};
+ghost use Rattle.hc_engines.specs.Seen.{op_of, answer_of};
 ghost use Rattle.hc_bighash.specs.Steps.{plan_of, PlanFits};
 
 use crate::new_page::NewPage;
-use crate::ops::{Answer, Loss, Op};
 use crate::plans::Plan;
 use bytes::Bytes;
 use hc_bucket::{Entries, Placed, entry_len};
+use hc_engines::{Answer, Loss, Op};
 use hc_types::{Cause, Entry, Key, Scope};
 use std::alloc::{AllocError, Allocator};
 

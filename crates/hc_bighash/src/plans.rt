@@ -6,13 +6,13 @@ ghost use Rattle.hc_engines.specs.small.Sound.{HasRoom, CanPut};
 ghost use Rattle.hc_engines.specs.small.BigHash.{begun as plan_begun};
 ghost use Rattle.hc_types.specs.FlashEntry.{entry_of};
 ghost use Rattle.hc_engines.specs.Engine.{Put, Get};
-ghost use Rattle.hc_bighash.specs.Seen.{op_of};
+ghost use Rattle.hc_engines.specs.Seen.{op_of};
 ghost use Rattle.hc_bighash.specs.Steps.{plan_of, PlanFits};
 
 use crate::new_page::NewPage;
-use crate::ops::{Answer, Loss, Op};
 use hc_bucket::Entries;
 use hc_engines::bloom::could_have;
+use hc_engines::{Answer, Loss, Op};
 use hc_types::{Entry, Key};
 use std::alloc::{AllocError, Allocator, Global};
 

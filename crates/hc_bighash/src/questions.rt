@@ -4,13 +4,13 @@ ghost use Rattle.hc_engines.specs.Engine.{IoResult as Came};
 ghost use Rattle.hc_engines.specs.small.BigHash.{Moved, is_busy as is_bucket_busy, resume as resume_step};
 ghost use Rattle.hc_types.specs.Places.{bucket_at};
 ghost use Rattle.hc_bighash.specs.Found.{is_get as is_get_seen, losses_of, most_lost};
-ghost use Rattle.hc_bighash.specs.Seen.{op_of};
+ghost use Rattle.hc_engines.specs.Seen.{op_of};
 ghost use Rattle.hc_bighash.specs.Steps.{phase_of};
 
 use crate::big_hash::BigHash;
 use crate::jobs::{Job, Phase, is_busy, job_of};
-use crate::ops::Op;
 use crate::plans::Plan;
+use hc_engines::Op;
 use hc_types::{FlashConfig, Key, bucket_of};
 use std::alloc::Allocator;
 

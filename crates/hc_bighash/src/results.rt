@@ -4,18 +4,18 @@ ghost use Rattle.hc_types.specs.declared.refusal.Refusal.TheVariants.{UnknownJob
 ghost use Rattle.hc_types.specs.Loss.{Bucket, Fault};
 ghost use Rattle.hc_engines.specs.small.BigHash.{Job as UnderWay, job_at, place_of, is_given_up, carried, kept_as, kept_job, ToKeep, resume as resume_step, next_of, waits};
 ghost use Rattle.hc_bighash.specs.Handed.{absent_plan, ends_absent, is_absent, IsHanded, IsGet, op_in, lost_with};
-ghost use Rattle.hc_bighash.specs.Seen.{op_of};
+ghost use Rattle.hc_engines.specs.Seen.{op_of};
 ghost use Rattle.hc_flash.specs.Seen.{result_of};
-ghost use Rattle.hc_bighash.specs.Next.{next_seen};
+ghost use Rattle.hc_engines.specs.Next.{next_seen};
 ghost use Rattle.hc_bighash.specs.Steps.{plan_of, phase_of, PlanFits};
 
 use crate::big_hash::BigHash;
 use crate::jobs::{Job, Phase, go_on, job_of, place};
-use crate::ops::{Answer, Loss, Next, Op, Outcome};
 use crate::plans::Plan;
 use crate::steps::Step;
 use crate::turns::{Turn, step_for, turn_of};
 use crate::words::{set_word, settle};
+use hc_engines::{Answer, Loss, Next, Op, Outcome};
 use hc_flash::IoResult;
 use hc_types::{Cause, Refusal, Scope};
 use std::alloc::{AllocError, Allocator, Global};

@@ -4,21 +4,14 @@ ghost use Rattle.hc_types.specs.declared.refusal.Refusal.TheVariants.{UnknownJob
 ghost use Rattle.hc_engines.specs.small.BigHash.{carried, resume as resume_step};
 ghost use Rattle.hc_bighash.specs.Handed.{absent_plan, IsGet};
 ghost use Rattle.hc_flash.specs.Seen.{result_of};
-ghost use Rattle.hc_bighash.specs.Next.{next_seen};
+ghost use Rattle.hc_engines.specs.Next.{next_seen};
 
 use crate::big_hash::BigHash;
-use crate::ops::{Answer, Next, Outcome};
 use crate::results::Handed;
+use hc_engines::{Answer, Next, Outcome, Unresumed};
 use hc_flash::IoResult;
 use hc_types::Refusal;
-use std::alloc::{AllocError, Allocator, Global};
-
-/// A result that was refused, and why. It shows as the refusal.
-#[derive(Drop)]
-pub struct Unresumed<A: Allocator = Global> {
-    pub refusal: Refusal,
-    pub came: IoResult<A>,
-}
+use std::alloc::{AllocError, Allocator};
 
 impl<A: Allocator + Copy> BigHash<A> {
     /// Hands in what came of the device operation that the job with this number waits for. Refused with `UnknownJob`

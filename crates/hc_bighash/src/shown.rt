@@ -1,11 +1,8 @@
-// How what holds pages is shown: pages by their length, and buckets by how many there are.
+// How the engine is shown: its buckets by how many there are.
 ghost use Rattle.std.specs.Prelude.{◌≡◌, length, filter, is_some};
 
 use crate::big_hash::BigHash;
-use crate::ops::SharedOrder;
-use crate::resuming::Unresumed;
 use std::alloc::Allocator;
-use std::error::Error;
 use std::fmt;
 
 /// How many buckets are written.
@@ -27,31 +24,3 @@ impl<A: Allocator> fmt::Debug for BigHash<A> {
         )
     }
 }
-
-impl<A: Allocator> fmt::Debug for SharedOrder<A> {
-    fn fmt<W: fmt::Write>(&self, f: &mut fmt::Formatter<W>) -> fmt::Result {
-        match self {
-            SharedOrder::Read(page) => write!(f, "Read({page})"),
-            SharedOrder::Write(page, bytes) => write!(f, "Write({page}, {} bytes)", bytes.len()),
-        }
-    }
-}
-
-impl<A: Allocator> fmt::Display for Unresumed<A> {
-    ghost use Rattle.std.specs.Prelude.{Some};
-    ghost use Rattle.hc_types.specs.Refusals.{refusal_text};
-
-    ghost output = { λ e. Some (refusal_text e.refusal) };
-
-    fn fmt<W: fmt::Write>(&self, f: &mut fmt::Formatter<W>) -> fmt::Result {
-        fmt::Display::fmt(&self.refusal, f)
-    }
-}
-
-impl<A: Allocator> fmt::Debug for Unresumed<A> {
-    fn fmt<W: fmt::Write>(&self, f: &mut fmt::Formatter<W>) -> fmt::Result {
-        fmt::Debug::fmt(&self.refusal, f)
-    }
-}
-
-impl<A: Allocator> Error for Unresumed<A> {}

@@ -5,15 +5,15 @@ ghost use Rattle.hc_bucket.specs.Page.{page_bytes};
 ghost use Rattle.hc_engines.specs.Engine.{nothing as nothing_done, Put, Io, Done, Write};
 ghost use Rattle.hc_engines.specs.small.BigHash.{our_bucket as our_bucket_of, given_up as answer_given_up, ToGiveUp, next_of, waits};
 ghost use Rattle.hc_engines.specs.small.Sound.{CanStart};
-ghost use Rattle.hc_bighash.specs.Seen.{op_of, answer_of};
-ghost use Rattle.hc_bighash.specs.Next.{next_seen};
+ghost use Rattle.hc_engines.specs.Seen.{op_of, answer_of};
+ghost use Rattle.hc_engines.specs.Next.{next_seen};
 ghost use Rattle.hc_bighash.specs.Paged.{entries_on};
 ghost use Rattle.hc_bighash.specs.Steps.{plan_of, phase_of, PlanFits};
 
 use crate::jobs::Phase;
 use crate::new_page::NewPage;
-use crate::ops::{Answer, Loss, Next, Op, Outcome, SharedOrder};
 use crate::plans::Plan;
+use hc_engines::{Answer, Loss, Next, Op, Outcome, SharedOrder};
 use hc_types::{Cause, Entry, FlashConfig, Scope, bucket_of, is_small};
 use std::alloc::{AllocError, Allocator, Global};
 

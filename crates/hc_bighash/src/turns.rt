@@ -3,7 +3,7 @@ ghost use Rattle.std.specs.Prelude.{◌≡◌, ◌<◌, ◌^◌, IfOk, OnErr, Is
 ghost use Rattle.hc_engines.specs.small.BigHash.{went_on, next_of, waits};
 ghost use Rattle.hc_engines.specs.small.Sound.{HasRoom, CanPut};
 ghost use Rattle.hc_flash.specs.Seen.{result_of};
-ghost use Rattle.hc_bighash.specs.Next.{next_seen};
+ghost use Rattle.hc_engines.specs.Next.{next_seen};
 ghost use Rattle.hc_bighash.specs.Steps.{IsTurn, PlanFits, TurnFits, plan_of, phase_of};
 
 use crate::jobs::{Job, Phase};

@@ -7,7 +7,7 @@ use Rattle.hc_engines.specs.large.Region.{region_len}
 use Rattle.hc_engines.specs.large.Block.{Work, Block, Moved, finished, work_of}
 use Rattle.hc_engines.specs.large.Steps.{resume}
 use Rattle.hc_engines.specs.pair.Pair.{next_of, waits_for}
-use Rattle.hc_bighash.specs.Seen.{order_of}
+use Rattle.hc_engines.specs.Seen.{order_of}
 use Rattle.hc_block.specs.declared.steps.Step.{Step}
 use Rattle.hc_block.specs.declared.steps.Step.TheVariants as steps
 

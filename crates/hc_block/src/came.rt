@@ -6,13 +6,13 @@ ghost use Rattle.hc_types.specs.Places.{kept_of};
 ghost use Rattle.hc_engines.specs.large.Index.{place_at, is_place};
 ghost use Rattle.hc_engines.specs.large.Entries.{entry_in as entry_in_seen};
 ghost use Rattle.hc_engines.specs.large.Steps.{own_entry as own_entry_seen};
-ghost use Rattle.hc_bighash.specs.Seen.{answer_of};
+ghost use Rattle.hc_engines.specs.Seen.{answer_of};
 ghost use Rattle.hc_block.specs.Reads.{came_in as came_in_seen, came_by, came_failed as came_failed_seen, answer_at, losses_at};
 
 use crate::index::Index;
 use crate::reading::Reading;
 use bytes::Bytes;
-use hc_bighash::{Answer, Loss};
+use hc_engines::{Answer, Loss};
 use hc_region::entry_in;
 use hc_types::{Cause, Entry, FlashConfig, Key, Scope, kept};
 use std::alloc::{AllocError, Allocator};

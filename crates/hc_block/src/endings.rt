@@ -3,7 +3,7 @@ ghost use Rattle.std.specs.Prelude.{◌≡◌, Some, None, is_some, option_map, 
 ghost use Rattle.hc_types.specs.Places.{kept_of};
 ghost use Rattle.hc_engines.specs.large.Index.{place_at};
 ghost use Rattle.hc_engines.specs.large.Block.{finished};
-ghost use Rattle.hc_bighash.specs.Seen.{answer_of};
+ghost use Rattle.hc_engines.specs.Seen.{answer_of};
 ghost use Rattle.hc_flash.specs.Seen.{result_of};
 ghost use Rattle.hc_block.specs.Endings.{CanEndRead, IsReadEnding, IsEnding, IsEndingAtOnce, read_left, without_lost, lost_at, index_without};
 ghost use Rattle.hc_block.specs.Moves.{resume_by};
@@ -18,7 +18,7 @@ use crate::ends::leave_flushed;
 use crate::index::Index;
 use crate::outcomes::read;
 use crate::turns::Turn;
-use hc_bighash::{Answer, Outcome};
+use hc_engines::{Answer, Outcome};
 use hc_flash::IoResult;
 use hc_region::{CleanRegions, Place, release_at, with_released};
 use hc_types::Key;

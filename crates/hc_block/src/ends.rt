@@ -16,7 +16,7 @@ use crate::block_cache::BlockCache;
 use crate::index::Index;
 use crate::jobs::Jobs;
 use crate::outcomes::{ended, nothing, reclaimed};
-use hc_bighash::{Loss, Outcome};
+use hc_engines::{Loss, Outcome};
 use hc_region::{
     Appended, CleanRegions, Place, Region, add_emptied, appended_at, clean_count, empty_at, oldest,
     take_out, take_sealed_out,

@@ -6,7 +6,7 @@ ghost use Rattle.hc_engines.specs.large.Region.{region_at, next_page, page_no};
 ghost use Rattle.hc_engines.specs.large.Block.{Block, Writing, job_added};
 ghost use Rattle.hc_engines.specs.large.Steps.{flush as flush_seen};
 ghost use Rattle.hc_engines.specs.large.Laws.{IsFree};
-ghost use Rattle.hc_bighash.specs.Seen.{order_of};
+ghost use Rattle.hc_engines.specs.Seen.{order_of};
 ghost use Rattle.hc_region.specs.Stages.{mark_seen};
 ghost use Rattle.hc_region.specs.Numbers.{AllThere};
 ghost use Rattle.hc_engines.specs.large.Choices.{marked, left_sealed, early_next, flush_next as flush_next_seen, gone_out};
@@ -16,7 +16,7 @@ ghost use Rattle.hc_block.specs.Going.{choice_seen, CanGoOut};
 use crate::block_cache::BlockCache;
 use crate::jobs::{Jobs, Work};
 use crate::reading::page_number;
-use hc_bighash::{SharedOrder, SharedPage};
+use hc_engines::{SharedOrder, SharedPage};
 use hc_region::{
     Mark, Region, can_go_at, first_ready, mark_at, next_page_at, take_out, written_at,
 };

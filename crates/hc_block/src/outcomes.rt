@@ -3,9 +3,9 @@ ghost use Rattle.std.specs.Prelude.{◌≡◌, [], ◌∷◌, Some, IfOk};
 ghost use Rattle.hc_types.specs.Loss.{Key as KeyScope, NoCleanRegion};
 ghost use Rattle.hc_engines.specs.Engine.{Over, outcome_of, nothing as nothing_done};
 ghost use Rattle.hc_engines.specs.large.Steps.{collided as collided_seen};
-ghost use Rattle.hc_bighash.specs.Seen.{answer_of};
+ghost use Rattle.hc_engines.specs.Seen.{answer_of};
 
-use hc_bighash::{Answer, Loss, Outcome};
+use hc_engines::{Answer, Loss, Outcome};
 use hc_region::Place;
 use hc_types::{Cause, Key, Scope};
 use std::alloc::{AllocError, Allocator};

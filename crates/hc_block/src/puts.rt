@@ -15,7 +15,7 @@ ghost use Rattle.hc_block.specs.Large.{HasRoom, CanOpen};
 use crate::block_cache::BlockCache;
 use crate::index::Index;
 use crate::outcomes::{collided, no_clean_region, stored};
-use hc_bighash::Outcome;
+use hc_engines::Outcome;
 use hc_region::{
     CleanRegions, Place, Region, append_at, entry_bytes, filled_at, if_fits, lowest_clean,
     open_lowest, seal_at, undo_at,

@@ -3,7 +3,7 @@ ghost use Rattle.std.specs.Prelude.{◌≡◌, ◌++◌, option_map, IfSome, IfO
 ghost use Rattle.hc_types.specs.Places.{kept_of};
 ghost use Rattle.hc_engines.specs.large.Block.{finished, end_job};
 ghost use Rattle.hc_engines.specs.large.Steps.{read_next, let_go, got_page, failed_read};
-ghost use Rattle.hc_bighash.specs.Seen.{answer_of};
+ghost use Rattle.hc_engines.specs.Seen.{answer_of};
 ghost use Rattle.hc_block.specs.Moves.{moved_with};
 ghost use Rattle.hc_engines.specs.large.Unread.{read_on};
 ghost use Rattle.hc_block.specs.Works.{reading_at, IsReading};
@@ -13,7 +13,7 @@ use crate::block_cache::BlockCache;
 use crate::endings::Ending;
 use crate::steps::Step;
 use bytes::Bytes;
-use hc_bighash::{Answer, Outcome, SharedOrder};
+use hc_engines::{Answer, Outcome, SharedOrder};
 use std::alloc::{AllocError, Allocator};
 
 impl<A: Allocator + Clone + Copy> BlockCache<A> {

@@ -2,7 +2,7 @@
 ghost use Rattle.std.specs.Prelude.{◌≡◌, ◌⊎◌, option_map, Some, None, IfOk, IfErr, OnErr, IsSome};
 ghost use Rattle.hc_types.specs.declared.refusal.Refusal.TheVariants.{UnknownJob, NoMemory};
 ghost use Rattle.hc_flash.specs.Seen.{result_of};
-ghost use Rattle.hc_bighash.specs.Next.{next_seen};
+ghost use Rattle.hc_engines.specs.Next.{next_seen};
 ghost use Rattle.hc_block.specs.Moves.{stepped, moved_with, resume_by};
 ghost use Rattle.hc_block.specs.Turns.{IsTurnOf};
 ghost use Rattle.hc_block.specs.declared.turns.Turn.TheVariants.{PageRead};
@@ -10,7 +10,7 @@ ghost use Rattle.hc_block.specs.declared.turns.Turn.TheVariants.{PageRead};
 use crate::block_cache::BlockCache;
 use crate::steps::Step;
 use crate::turns::{Turn, turn_of};
-use hc_bighash::{Next, Unresumed};
+use hc_engines::{Next, Unresumed};
 use hc_flash::IoResult;
 use hc_types::Refusal;
 use std::alloc::Allocator;

@@ -2,14 +2,14 @@
 ghost use Rattle.std.specs.Prelude.{◌≡◌, IfOk, OnErr};
 ghost use Rattle.hc_engines.specs.large.Laws.{IsFree};
 ghost use Rattle.hc_engines.specs.large.Steps.{flush as flush_seen, start as start_seen};
-ghost use Rattle.hc_bighash.specs.Seen.{op_of};
-ghost use Rattle.hc_bighash.specs.Next.{next_seen};
+ghost use Rattle.hc_engines.specs.Seen.{op_of};
+ghost use Rattle.hc_engines.specs.Next.{next_seen};
 ghost use Rattle.hc_block.specs.Moves.{CanStart, stepped, moved_with};
 
 use crate::block_cache::BlockCache;
 use crate::outcomes::nothing;
 use crate::steps::Step;
-use hc_bighash::{Next, Op};
+use hc_engines::{Next, Op};
 use std::alloc::{AllocError, Allocator};
 
 impl<A: Allocator + Clone + Copy> BlockCache<A> {

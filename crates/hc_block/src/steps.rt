@@ -1,10 +1,10 @@
 // What comes next of an operation of the large engine, which is never in the way of another.
 ghost use Rattle.std.specs.Prelude.{◌≡◌};
-ghost use Rattle.hc_bighash.specs.Next.{next_seen};
+ghost use Rattle.hc_engines.specs.Next.{next_seen};
 ghost use Rattle.hc_block.specs.Moves.{next_in};
 
 use crate::outcomes::nothing;
-use hc_bighash::{Next, Outcome, SharedOrder};
+use hc_engines::{Next, Outcome, SharedOrder};
 use std::alloc::{Allocator, Global};
 
 /// What comes next of an operation.

@@ -1,4 +1,6 @@
 pub mod Engine
+pub mod Seen
+pub mod Next
 pub mod small
 pub mod large
 pub mod pair

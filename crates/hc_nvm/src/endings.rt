@@ -3,7 +3,7 @@ ghost use Rattle.std.specs.Prelude.{◌≡◌, ◌≤◌, ◌+◌, Some, None, o
 ghost use Rattle.std.specs.Option.{option_copied};
 ghost use Rattle.hc_types.specs.FlashEntry.{entry_of};
 ghost use Rattle.hc_types.specs.declared.refusal.Refusal.TheVariants.{UnknownJob, NoMemory};
-ghost use Rattle.hc_bighash.specs.Seen.{answer_of};
+ghost use Rattle.hc_engines.specs.Seen.{answer_of};
 ghost use Rattle.hc_flash.specs.Seen.{result_of};
 ghost use Rattle.hc_machine.specs.Nvm.{Fill, fill_at, next_fill as fill_step};
 ghost use Rattle.hc_machine.specs.Takes.{filler_take as filler_step, finish as finish_step, found_in};
@@ -20,7 +20,7 @@ use crate::jobs::Task;
 use crate::nvm::Nvm;
 use crate::settling::{Take, settle};
 use crate::starting::{NOTES_OF_A_RESULT, in_all};
-use hc_bighash::{Answer, Loss};
+use hc_engines::{Answer, Loss};
 use hc_flash::IoResult;
 use hc_history::{Note, Notes};
 use hc_memory::Pools;

@@ -2,7 +2,7 @@
 ghost use Rattle.std.specs.Prelude.{◌≡◌, ◌≤◌, None, Some, OnOk, OnErr, IfOk, option_map};
 ghost use Rattle.hc_types.specs.FlashEntry.{entry_of};
 ghost use Rattle.hc_engines.specs.Engine.{Get};
-ghost use Rattle.hc_bighash.specs.Seen.{op_of};
+ghost use Rattle.hc_engines.specs.Seen.{op_of};
 ghost use Rattle.hc_machine.specs.Nvm.{Fill, fill_at, fill_by, next_fill as fill_step, taken_fill};
 ghost use Rattle.hc_machine.specs.Takes.{filler_take as filler_step};
 ghost use Rattle.hc_nvm.specs.Filled.{filled_of, filled_if, left_if, over_of};
@@ -15,7 +15,7 @@ use crate::jobs::Task;
 use crate::nvm::Nvm;
 use crate::settling::{Outset, Take, launched};
 use crate::starting::{NOTES_OF_AN_OPERATION, in_all, start_in};
-use hc_bighash::Op;
+use hc_engines::Op;
 use hc_history::{Note, Notes};
 use hc_memory::Pools;
 use hc_types::{Entry, Key};

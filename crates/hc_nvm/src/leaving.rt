@@ -15,7 +15,7 @@ ghost use Rattle.hc_nvm.specs.Leaving.{unqueued};
 
 use crate::nvm::Nvm;
 use crate::telling::{lost, tell};
-use hc_bighash::Loss;
+use hc_engines::Loss;
 use hc_history::{Note, Notes, Said, tell_loss};
 use hc_memory::{Pools, is_expired};
 use hc_types::{Cause, Entry, Key, Scope, Why};

@@ -1,9 +1,9 @@
 // Device operations, as the engines ask for them, and as workers do them.
 ghost use Rattle.std.specs.Prelude.{◌≡◌};
-ghost use Rattle.hc_bighash.specs.Seen.{order_of as order_asked};
+ghost use Rattle.hc_engines.specs.Seen.{order_of as order_asked};
 ghost use Rattle.hc_flash.specs.Seen.{order_of};
 
-use hc_bighash::SharedOrder;
+use hc_engines::SharedOrder;
 use hc_flash::Order;
 use std::alloc::Allocator;
 

@@ -7,7 +7,7 @@ use crate::jobs::Task;
 use crate::nvm::Nvm;
 use crate::settling::settle;
 use crate::starting::{NOTES_OF_AN_OPERATION, in_all};
-use hc_bighash::{Next, Op};
+use hc_engines::{Next, Op};
 use hc_history::{Note, Notes};
 use hc_memory::Pools;
 use std::alloc::{AllocError, Allocator};

@@ -3,8 +3,8 @@ ghost use Rattle.std.specs.Prelude.{◌≡◌, ◌≤◌, ◌<◌, ◌+◌, ◌^
 ghost use Rattle.hc_engines.specs.pair.Below.{IsBelow};
 ghost use Rattle.hc_engines.specs.pair.Pair.{start as start_step};
 ghost use Rattle.hc_bighash.specs.Found.{losses_of};
-ghost use Rattle.hc_bighash.specs.Next.{next_seen};
-ghost use Rattle.hc_bighash.specs.Seen.{op_of};
+ghost use Rattle.hc_engines.specs.Next.{next_seen};
+ghost use Rattle.hc_engines.specs.Seen.{op_of};
 ghost use Rattle.hc_pair.specs.Found.{is_reclaim};
 ghost use Rattle.hc_pair.specs.Joined.{CanStart};
 ghost use Rattle.hc_types.specs.declared.config.FlashConfig.{FlashConfig};
@@ -15,7 +15,7 @@ ghost use Rattle.hc_nvm.specs.Starting.{made_after};
 ghost use Rattle.hc_nvm.specs.Stock.{AreNumbered};
 
 use crate::jobs::Job;
-use hc_bighash::{Next, Op};
+use hc_engines::{Next, Op};
 use hc_history::{Note, Notes};
 use hc_pair::Pair;
 use std::alloc::{AllocError, Allocator};

@@ -3,7 +3,7 @@ ghost use Rattle.std.specs.Prelude.{◌≡◌, ◌<◌, ◌≤◌, ◌+◌, ◌�
 ghost use Rattle.hc_types.specs.FlashEntry.{entry_of};
 ghost use Rattle.hc_types.specs.Places.{is_small_by};
 ghost use Rattle.hc_engines.specs.Engine.{Put, Delete};
-ghost use Rattle.hc_bighash.specs.Seen.{op_of};
+ghost use Rattle.hc_engines.specs.Seen.{op_of};
 ghost use Rattle.hc_history.specs.Note.{Unqueued, Writing};
 ghost use Rattle.hc_history.specs.Told.{told_more};
 ghost use Rattle.hc_machine.specs.Nvm.{Deleting, next_put as put_step};
@@ -18,7 +18,7 @@ use crate::jobs::Task;
 use crate::nvm::Nvm;
 use crate::settling::{Outset, Take, launched};
 use crate::starting::{NOTES_OF_A_PUT, NOTES_OF_AN_OPERATION, in_all, start_in};
-use hc_bighash::Op;
+use hc_engines::Op;
 use hc_history::{Note, Notes, Said};
 use hc_memory::Pools;
 use hc_types::{Entry, Key};

@@ -7,7 +7,7 @@ ghost use Rattle.hc_machine.specs.Cache.{unmarked_by};
 ghost use Rattle.hc_machine.specs.Takes.{region_note, loss_notes};
 ghost use Rattle.hc_memory.specs.Memory.{after_unmark};
 
-use hc_bighash::Loss;
+use hc_engines::Loss;
 use hc_history::{Note, Notes, Said, tell_loss};
 use hc_memory::Pools;
 use hc_types::Key;

@@ -6,7 +6,7 @@ ghost use Rattle.hc_engines.specs.small.BigHash.{ToEnd, carried, resume as resum
 ghost use Rattle.hc_engines.specs.pair.Pair.{start as start_step, resume as resume_step};
 ghost use Rattle.hc_engines.specs.pair.Held.{under_way};
 ghost use Rattle.hc_bighash.specs.Handed.{IsGet, absent_plan, lost_with, op_in};
-ghost use Rattle.hc_bighash.specs.Seen.{op_of};
+ghost use Rattle.hc_engines.specs.Seen.{op_of};
 ghost use Rattle.hc_flash.specs.Seen.{result_of};
 ghost use Rattle.hc_block.specs.Endings.{CanEndRead, without_lost};
 ghost use Rattle.hc_pair.specs.Endings.{CanLeave, Ends, EndsAtOnce, IsEnding, IsEndingAtOnce, IsStep, behind_losses, of_large, small_end, large_end, left_by, op_under, ends};
@@ -14,8 +14,9 @@ ghost use Rattle.hc_pair.specs.Endings.{CanLeave, Ends, EndsAtOnce, IsEnding, Is
 use crate::joining::in_front;
 use crate::losing::is_get;
 use crate::pair::Pair;
-use hc_bighash::{Answer, Ending as SmallEnding, Op, Outcome};
+use hc_bighash::Ending as SmallEnding;
 use hc_block::{Ending as LargeEnding, Rest};
+use hc_engines::{Answer, Op, Outcome};
 use hc_flash::IoResult;
 use hc_types::{Entry, Key};
 use std::alloc::{AllocError, Allocator, Global};

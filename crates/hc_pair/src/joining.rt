@@ -1,10 +1,10 @@
 // What was lost before a get went on stands in front of what it loses then.
 ghost use Rattle.std.specs.Prelude.{◌≡◌, ◌+◌, ◌≤◌, length, vec_len, vec_capacity};
 ghost use Rattle.hc_engines.specs.pair.Pair.{after_losses};
-ghost use Rattle.hc_bighash.specs.Next.{next_seen};
+ghost use Rattle.hc_engines.specs.Next.{next_seen};
 ghost use Rattle.hc_pair.specs.Joined.{after, losses_of};
 
-use hc_bighash::{Loss, Next, Outcome};
+use hc_engines::{Loss, Next, Outcome};
 use std::alloc::Allocator;
 
 /// These losses, and then the outcome's. There is room for them.

@@ -4,11 +4,11 @@ ghost use Rattle.hc_engines.specs.Engine.{IoResult as Came, Op as Asked, Reclaim
 ghost use Rattle.hc_engines.specs.pair.Pair.{Moved, start as start_step, resume as resume_step};
 ghost use Rattle.hc_bighash.specs.Found.{losses_of, is_get as is_get_seen};
 ghost use Rattle.hc_bighash.specs.Handed.{op_in};
-ghost use Rattle.hc_bighash.specs.Seen.{op_of};
+ghost use Rattle.hc_engines.specs.Seen.{op_of};
 ghost use Rattle.hc_pair.specs.Found.{is_reclaim};
 
 use crate::pair::Pair;
-use hc_bighash::Op;
+use hc_engines::Op;
 use std::alloc::Allocator;
 
 /// Whether it is a get, which may go on with the large engine.

@@ -8,14 +8,15 @@ ghost use Rattle.hc_engines.specs.large.Steps.{get};
 ghost use Rattle.hc_engines.specs.pair.Pair.{resume as resume_step};
 ghost use Rattle.hc_bighash.specs.Handed.{absent_plan, IsGet, op_in};
 ghost use Rattle.hc_flash.specs.Seen.{result_of};
-ghost use Rattle.hc_bighash.specs.Next.{next_seen};
+ghost use Rattle.hc_engines.specs.Next.{next_seen};
 ghost use Rattle.hc_block.specs.Moves.{stepped};
 ghost use Rattle.hc_pair.specs.Joined.{losses_of};
 
 use crate::joining::behind;
 use crate::pair::Pair;
-use hc_bighash::{BigHash, Handed, Next, Unresumed};
+use hc_bighash::{BigHash, Handed};
 use hc_block::BlockCache;
+use hc_engines::{Next, Unresumed};
 use hc_flash::IoResult;
 use hc_types::Refusal;
 use std::alloc::{AllocError, Allocator};

@@ -4,13 +4,13 @@ ghost use Rattle.hc_engines.specs.small.BigHash.{start as start_small};
 ghost use Rattle.hc_engines.specs.large.Steps.{start as start_large};
 ghost use Rattle.hc_engines.specs.pair.Pair.{by_small, by_large, start as start_step};
 ghost use Rattle.hc_engines.specs.pair.Held.{under_way};
-ghost use Rattle.hc_bighash.specs.Seen.{op_of};
-ghost use Rattle.hc_bighash.specs.Next.{next_seen};
+ghost use Rattle.hc_engines.specs.Seen.{op_of};
+ghost use Rattle.hc_engines.specs.Next.{next_seen};
 ghost use Rattle.hc_block.specs.Moves as block;
 ghost use Rattle.hc_pair.specs.Joined.{CanStart, is_miss as is_miss_of};
 
 use crate::pair::Pair;
-use hc_bighash::{Next, Op};
+use hc_engines::{Next, Op};
 use std::alloc::{AllocError, Allocator};
 
 /// Whether a get is over that was started: then it found nothing, and changed nothing.

@@ -17,7 +17,7 @@ use crate::state::State;
 use crate::tells;
 use crate::wait::commit::Course;
 use bytes::Bytes;
-use hc_bighash::Loss;
+use hc_engines::Loss;
 use hc_history::{Note, Notes};
 use hc_memory::{Brought, Item};
 use hc_types::{FlashConfig, Key, charge};

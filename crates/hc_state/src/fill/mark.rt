@@ -4,7 +4,7 @@ ghost use Rattle.hc_types.specs.Loss.{covers as is_covered};
 ghost use Rattle.hc_memory.specs.Sound.{FlashFits};
 ghost use Rattle.hc_state.specs.fill.Link.{is_lost as is_lost_seen, marked_by, all_marked_by};
 
-use hc_bighash::Loss;
+use hc_engines::Loss;
 use hc_memory::Item;
 use hc_types::{FlashConfig, Key};
 use std::alloc::Allocator;

@@ -1,5 +1,5 @@
-use Rattle.hc_bighash.specs.Seen.{op_of}
-use Rattle.hc_bighash.specs.Next.{next_seen}
+use Rattle.hc_engines.specs.Seen.{op_of}
+use Rattle.hc_engines.specs.Next.{next_seen}
 use Rattle.hc_nvm.proofs.Numbers.{started_below, started_flash, next_is_free}
 use Rattle.hc_nvm.proofs.Serving.{served_started}
 use Rattle.hc_nvm.proofs.starting.start_in.Goals as goal

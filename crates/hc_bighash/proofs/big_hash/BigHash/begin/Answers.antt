@@ -1,7 +1,7 @@
 use Rattle.std.proofs.Common.{◌≡◌, ◌<◌, Some, None, ap, ◌∙◌}
 use Rattle.hc_engines.specs.small.BigHash.{BigHash, our_bucket, job_at}
-use Rattle.hc_bighash.specs.Seen.{op_of}
-use Rattle.hc_bighash.specs.Next.{next_seen}
+use Rattle.hc_engines.specs.Seen.{op_of}
+use Rattle.hc_engines.specs.Next.{next_seen}
 use Rattle.hc_bighash.specs.Steps.{plan_of, phase_of}
 use Rattle.std.specs.Prelude.{option_map, slice_index_or}
 use Rattle.hc_engines.proofs.small.Beginning.{begun_moved, ours_from, ours_with}

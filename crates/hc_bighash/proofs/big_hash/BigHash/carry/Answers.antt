@@ -4,7 +4,7 @@ use Rattle.std.specs.List.{remove}
 use Rattle.hc_engines.specs.small.BigHash.{BigHash, Job, with_job, words_after, next_of}
 use Rattle.hc_bucket.proofs.Numbers.{some_is}
 use Rattle.hc_bighash.specs.Steps.{plan_of, phase_of}
-use Rattle.hc_bighash.specs.Next.{next_seen}
+use Rattle.hc_engines.specs.Next.{next_seen}
 use Rattle.hc_bighash.proofs.Places.{At, job_here}
 use Rattle.hc_bighash.proofs.Handing.{Made, made_carried, made_sound, settled, within_there}
 use Rattle.hc_bighash.proofs.big_hash.BigHash.carry.Goals as goal

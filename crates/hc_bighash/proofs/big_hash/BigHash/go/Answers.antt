@@ -4,7 +4,7 @@ use Rattle.hc_bucket.proofs.Numbers.{some_is}
 use Rattle.hc_engines.specs.Engine.{Op, Get}
 use Rattle.hc_engines.specs.small.BigHash.{BigHash, Job, Plan, job_at, carried}
 use Rattle.hc_bighash.specs.Handed.{ends_absent, is_absent}
-use Rattle.hc_bighash.specs.Seen.{op_of}
+use Rattle.hc_engines.specs.Seen.{op_of}
 use Rattle.hc_bighash.specs.Steps.{plan_of}
 use Rattle.hc_bighash.proofs.Places.{At, job_here}
 use Rattle.hc_bighash.proofs.Handing.{ends_get, get_there, no_miss}

@@ -1,6 +1,6 @@
 use Rattle.std.proofs.Common.{◌≡◌, subst}
 use Rattle.std.specs.Prelude.{option_map, IfOk}
-use Rattle.hc_bighash.specs.Seen.{answer_of}
+use Rattle.hc_engines.specs.Seen.{answer_of}
 use Rattle.hc_block.specs.Large.{Large}
 use Rattle.hc_block.specs.Reads.{came_by}
 use Rattle.hc_block.proofs.block_cache.BlockCache.came_now.Goals as goal

@@ -1,7 +1,7 @@
 use Rattle.std.proofs.Common.{◌∙◌, Some, ap}
 use Rattle.hc_engines.specs.large.Block.{Moved}
 use Rattle.std.specs.Prelude.{option_map}
-use Rattle.hc_bighash.specs.Seen.{answer_of}
+use Rattle.hc_engines.specs.Seen.{answer_of}
 use Rattle.hc_block.proofs.Leaving.{failed_ends}
 use Rattle.hc_block.proofs.block_cache.BlockCache.ending.Goals as goal
 

@@ -2,7 +2,7 @@ use Rattle.std.proofs.Common.{◌≡◌, ◌∙◌, refl, ap, sym, subst, arith,
 use Rattle.hc_engines.specs.large.Region.{region_at}
 use Rattle.hc_engines.specs.large.Block.{Block, Moved, end_job}
 use Rattle.hc_engines.specs.Engine.{nothing}
-use Rattle.hc_bighash.specs.Seen.{order_of}
+use Rattle.hc_engines.specs.Seen.{order_of}
 use Rattle.hc_block.specs.Large.{Large, Kept}
 use Rattle.hc_block.specs.Settling.{settled_by, CanSettle}
 use Rattle.hc_region.specs.declared.status.Stage.TheVariants.{More}

@@ -1,7 +1,7 @@
 use Rattle.std.proofs.Common.{◌≡◌, ◌++◌, subst}
 use Rattle.std.specs.Prelude.{option_map, IfOk}
 use Rattle.hc_engines.specs.large.Block.{Reading}
-use Rattle.hc_bighash.specs.Seen.{answer_of}
+use Rattle.hc_engines.specs.Seen.{answer_of}
 use Rattle.hc_block.specs.Large.{Large}
 use Rattle.hc_block.specs.Works.{reading_at}
 use Rattle.hc_block.specs.Reads.{came_by}

@@ -1,7 +1,7 @@
 use Rattle.std.proofs.Common.{◌∙◌, Some, sym, ap}
 use Rattle.std.specs.Prelude.{option_map, is_some}
 use Rattle.hc_engines.specs.large.Block.{Moved}
-use Rattle.hc_bighash.specs.Seen.{answer_of}
+use Rattle.hc_engines.specs.Seen.{answer_of}
 use Rattle.hc_flash.specs.Seen.{result_of}
 use Rattle.hc_block.proofs.Leaving.{page_ends}
 use Rattle.hc_block.proofs.block_cache.BlockCache.page_ending.Goals as goal

@@ -3,7 +3,7 @@ use Rattle.std.specs.Prelude.{Bool, option_map, if◌then◌else◌}
 use Rattle.hc_types.specs.Places.{kept_of}
 use Rattle.hc_engines.specs.large.Region.{Region, region_at}
 use Rattle.hc_engines.specs.large.Block.{Block, Reading}
-use Rattle.hc_bighash.specs.Seen.{answer_of}
+use Rattle.hc_engines.specs.Seen.{answer_of}
 use Rattle.hc_region.specs.CleanNumbers.{clean_from, now_clean}
 use Rattle.hc_region.specs.Pins.{is_last, released, released_by}
 use Rattle.hc_block.specs.Large.{Large}

@@ -2,8 +2,8 @@ use Rattle.std.proofs.Common.{◌≡◌, ◌+◌, ◌∙◌, List, Option, Some,
 use Rattle.std.specs.Prelude.{option_map}
 use Rattle.hc_types.specs.FlashEntry.{FlashEntry}
 use Rattle.hc_engines.specs.Engine.{Next}
-use Rattle.hc_bighash.specs.Next.{next_seen}
-use Rattle.hc_bighash.specs.Seen.{op_of}
+use Rattle.hc_engines.specs.Next.{next_seen}
+use Rattle.hc_engines.specs.Seen.{op_of}
 use Rattle.hc_machine.specs.Nvm.{Nvm, Job, Fill, Filling, fill_at, fill_by, taken_fill, next_fill}
 use Rattle.hc_machine.specs.Takes.{filler_take}
 use Rattle.hc_nvm.specs.After.{after}

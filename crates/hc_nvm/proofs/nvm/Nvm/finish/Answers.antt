@@ -1,8 +1,8 @@
 use Rattle.std.proofs.Common.{None, ap}
 use Rattle.std.specs.Prelude.{option_map}
 use Rattle.hc_engines.specs.Engine.{Io, Done}
-use Rattle.hc_bighash.specs.Next.{next_seen}
-use Rattle.hc_bighash.specs.Seen.{order_of as order_asked}
+use Rattle.hc_engines.specs.Next.{next_seen}
+use Rattle.hc_engines.specs.Seen.{order_of as order_asked}
 use Rattle.hc_flash.specs.Seen.{result_of}
 use Rattle.hc_nvm.specs.Filled.{filled_of}
 use Rattle.hc_nvm.specs.Seen.{take_of}

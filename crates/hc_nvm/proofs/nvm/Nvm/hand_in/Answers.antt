@@ -2,7 +2,7 @@ use Rattle.std.proofs.Common.{◌≡◌, ◌+◌, ◌≤◌, ◌∙◌, Some, No
 use Rattle.hc_engines.specs.Engine.{IoResult}
 use Rattle.hc_engines.specs.pair.Pair.{Moved, resume}
 use Rattle.hc_bighash.specs.Found.{losses_of}
-use Rattle.hc_bighash.specs.Next.{next_seen}
+use Rattle.hc_engines.specs.Next.{next_seen}
 use Rattle.hc_flash.specs.Seen.{result_of}
 use Rattle.hc_machine.specs.Nvm.{Nvm, Job}
 use Rattle.hc_machine.specs.Takes.{finish}

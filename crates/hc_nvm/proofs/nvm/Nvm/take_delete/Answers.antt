@@ -1,7 +1,7 @@
 use Rattle.std.proofs.Common.{◌∙◌, [], List, refl, sym, ap, subst, arith}
 use Rattle.hc_engines.specs.Engine.{Delete, Next}
-use Rattle.hc_bighash.specs.Next.{next_seen}
-use Rattle.hc_bighash.specs.Seen.{op_of}
+use Rattle.hc_engines.specs.Next.{next_seen}
+use Rattle.hc_engines.specs.Seen.{op_of}
 use Rattle.hc_history.proofs.Telling.{told-nothing}
 use Rattle.hc_machine.specs.Nvm.{Nvm, Task, Job, Deleting, taken_stone}
 use Rattle.hc_nvm.specs.After.{after}

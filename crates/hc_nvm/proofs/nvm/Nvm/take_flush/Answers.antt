@@ -1,6 +1,6 @@
 use Rattle.std.proofs.Common.{◌∙◌, [], List, None, refl, sym, ap, subst, arith}
 use Rattle.hc_engines.specs.Engine.{Flush, Next}
-use Rattle.hc_bighash.specs.Next.{next_seen}
+use Rattle.hc_engines.specs.Next.{next_seen}
 use Rattle.hc_history.proofs.Telling.{told-nothing}
 use Rattle.hc_machine.specs.Nvm.{Nvm, Job, Flushing}
 use Rattle.hc_nvm.specs.After.{after}

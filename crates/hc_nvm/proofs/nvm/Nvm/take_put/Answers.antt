@@ -2,8 +2,8 @@ use Rattle.std.proofs.Common.{◌≡◌, ◌∙◌, ◌≤◌, Bool, List, None,
 use Rattle.hc_types.specs.FlashEntry.{FlashEntry, entry_of}
 use Rattle.hc_types.specs.Places.{is_small_by}
 use Rattle.hc_engines.specs.Engine.{Put, Next}
-use Rattle.hc_bighash.specs.Next.{next_seen}
-use Rattle.hc_bighash.specs.Seen.{op_of}
+use Rattle.hc_engines.specs.Next.{next_seen}
+use Rattle.hc_engines.specs.Seen.{op_of}
 use Rattle.hc_history.specs.Told.{told_more}
 use Rattle.hc_machine.specs.Nvm.{Nvm, Job, without_put}
 use Rattle.hc_machine.specs.Takes.{Taken}

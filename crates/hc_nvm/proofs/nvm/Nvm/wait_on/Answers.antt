@@ -1,6 +1,6 @@
 use Rattle.std.proofs.Common.{◌≡◌, ◌∙◌, [], ◌∷◌, Some, None, set, slice_get, sym, ap, subst}
 use Rattle.hc_engines.specs.Engine.{Order, Io}
-use Rattle.hc_bighash.specs.Seen.{order_of as order_asked}
+use Rattle.hc_engines.specs.Seen.{order_of as order_asked}
 use Rattle.hc_flash.specs.Seen.{result_of}
 use Rattle.hc_history.specs.Told.{told_more}
 use Rattle.hc_machine.specs.Nvm.{Nvm, Job, job_at}

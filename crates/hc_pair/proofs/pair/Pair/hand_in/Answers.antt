@@ -1,5 +1,5 @@
 use Rattle.std.proofs.Common.{sym}
-use Rattle.hc_bighash.specs.Seen.{op_of}
+use Rattle.hc_engines.specs.Seen.{op_of}
 use Rattle.hc_pair.proofs.pair.Pair.hand_in.Goals as goal
 
 pub resume_small-requires : goal.resume_small-requires

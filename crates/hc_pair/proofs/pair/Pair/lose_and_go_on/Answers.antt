@@ -3,7 +3,7 @@ use Rattle.hc_engines.specs.Engine.{Get}
 use Rattle.hc_engines.specs.small.BigHash.{carried, resume}
 use Rattle.hc_bighash.specs.Handed.{IsGet, absent_plan}
 use Rattle.hc_flash.specs.Seen.{result_of}
-use Rattle.hc_bighash.specs.Next.{next_seen}
+use Rattle.hc_engines.specs.Next.{next_seen}
 use Rattle.hc_pair.proofs.Steps.{get_is_apart, get_gone_on}
 use Rattle.hc_pair.proofs.pair.Pair.lose_and_go_on.Goals as goal
 

@@ -1,7 +1,7 @@
 use Rattle.std.proofs.Common.{◌≡◌, ◌∙◌, Some, sym}
 use Rattle.hc_engines.specs.pair.Pair.{Pair}
 use Rattle.hc_bighash.specs.Handed.{op_in}
-use Rattle.hc_bighash.specs.Seen.{op_of}
+use Rattle.hc_engines.specs.Seen.{op_of}
 use Rattle.hc_pair.proofs.Peeks.{small_loses}
 use Rattle.hc_pair.proofs.pair.Pair.most_of_small.Goals as goal
 

@@ -1,7 +1,7 @@
 use Rattle.std.proofs.Common.{◌≡◌, None, ◌∙◌}
 use Rattle.hc_bighash.specs.Handed.{op_in}
 use Rattle.hc_flash.specs.Seen.{result_of}
-use Rattle.hc_bighash.specs.Next.{next_seen}
+use Rattle.hc_engines.specs.Next.{next_seen}
 use Rattle.hc_pair.proofs.Steps.{resumed_large, resumed_joined}
 use Rattle.hc_pair.proofs.pair.Pair.resume_large.Goals as goal
 

@@ -2,7 +2,7 @@ use Rattle.std.proofs.Common.{◌≡◌, Some}
 use Rattle.hc_engines.specs.Engine.{Op}
 use Rattle.hc_bighash.specs.Handed.{op_in}
 use Rattle.hc_flash.specs.Seen.{result_of}
-use Rattle.hc_bighash.specs.Next.{next_seen}
+use Rattle.hc_engines.specs.Next.{next_seen}
 use Rattle.hc_pair.proofs.Steps.{small_joined}
 use Rattle.hc_pair.proofs.pair.Pair.resume_small.Goals as goal
 

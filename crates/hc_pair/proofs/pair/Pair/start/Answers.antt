@@ -1,8 +1,8 @@
 use Rattle.std.proofs.Common.{◌≡◌, true, [], sym, ap, ◌∙◌}
 use Rattle.hc_engines.specs.pair.Pair.{Pair, by_large}
 use Rattle.hc_engines.specs.large.Steps as steps
-use Rattle.hc_bighash.specs.Seen.{op_of}
-use Rattle.hc_bighash.specs.Next.{next_seen}
+use Rattle.hc_engines.specs.Seen.{op_of}
+use Rattle.hc_engines.specs.Next.{next_seen}
 use Rattle.hc_pair.specs.Joined.{is_miss}
 use Rattle.hc_pair.proofs.Steps.{miss_changes_nothing, miss_goes_on, on_err}
 use Rattle.hc_pair.proofs.pair.Pair.start.Goals as goal

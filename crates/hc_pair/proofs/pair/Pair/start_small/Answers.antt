@@ -1,5 +1,5 @@
-use Rattle.hc_bighash.specs.Seen.{op_of}
-use Rattle.hc_bighash.specs.Next.{next_seen}
+use Rattle.hc_engines.specs.Seen.{op_of}
+use Rattle.hc_engines.specs.Next.{next_seen}
 use Rattle.hc_pair.proofs.Steps.{started_small}
 use Rattle.hc_pair.proofs.pair.Pair.start_small.Goals as goal
 

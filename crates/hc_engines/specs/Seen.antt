@@ -1,11 +1,11 @@
 -- How contracts see what an engine is asked and answers.
 use Rattle.hc_types.specs.FlashEntry.{entry_of}
-use Rattle.hc_bighash.specs.declared.ops.Op.{Op as Ops}
-use Rattle.hc_bighash.specs.declared.ops.Op.TheVariants as ops
-use Rattle.hc_bighash.specs.declared.ops.SharedOrder.{SharedOrder as Orders}
-use Rattle.hc_bighash.specs.declared.ops.SharedOrder.TheVariants as orders
-use Rattle.hc_bighash.specs.declared.ops.Answer.{Answer as AnswersGiven}
-use Rattle.hc_bighash.specs.declared.ops.Answer.TheVariants as answers
+use Rattle.hc_engines.specs.declared.ops.Op.{Op as Ops}
+use Rattle.hc_engines.specs.declared.ops.Op.TheVariants as ops
+use Rattle.hc_engines.specs.declared.ops.SharedOrder.{SharedOrder as Orders}
+use Rattle.hc_engines.specs.declared.ops.SharedOrder.TheVariants as orders
+use Rattle.hc_engines.specs.declared.ops.Answer.{Answer as AnswersGiven}
+use Rattle.hc_engines.specs.declared.ops.Answer.TheVariants as answers
 use Rattle.hc_engines.specs.Engine.{Op, Put, Get, Delete, Flush, Reclaim, Order, Read, Write, Answer, Nothing, Over, Absent, Found}
 
 abbrev pub op_of : {A : Type 0} → Ops A → Op

@@ -1,13 +1,12 @@
 // What an engine on flash is asked, and what it answers.
-ghost use Rattle.std.specs.Prelude.{◌≡◌, IfOk};
+ghost use Rattle.std.specs.Prelude.{◌≡◌};
 ghost use Rattle.hc_types.specs.Loss.{scope_of, cause_of};
-ghost use Rattle.hc_types.specs.FlashEntry.{entry_of};
 ghost use Rattle.hc_engines.specs.Engine.{outcome_of};
-ghost use Rattle.hc_bighash.specs.Seen.{op_of, answer_of};
+ghost use Rattle.hc_engines.specs.Seen.{answer_of};
 
 use crate::shared_page::SharedPage;
 use hc_types::{Cause, Entry, Key, Scope};
-use std::alloc::{AllocError, Allocator, Global};
+use std::alloc::{Allocator, Global};
 use std::marker::Model;
 
 /// What an engine on flash is asked.
@@ -92,7 +91,7 @@ pub struct Outcome<A: Allocator = Global> {
 
 impl<A: Allocator> Model for Outcome<A> {
     ghost use Rattle.hc_engines.specs.Engine.{Outcome as Came};
-    ghost use Rattle.hc_bighash.specs.Seen.{answer_of};
+    ghost use Rattle.hc_engines.specs.Seen.{answer_of};
 
     ghost Value = { Came };
 
@@ -126,29 +125,4 @@ pub enum Next<A: Allocator = Global> {
     Io(SharedOrder<A>, Outcome<A>),
     /// It is over.
     Done(Outcome<A>),
-}
-
-/// Another owner of the same entry.
-pub(crate) fn copy_of<A: Allocator>(entry: &Entry<A>) -> Result<Entry<A>, AllocError>
-    ensures { IfOk result (λ copy. entry_of copy ≡ entry_of entry.now) }
-{
-    Ok(Entry {
-        key: entry.key.clone()?,
-        value: entry.value.clone()?,
-        pool: entry.pool,
-        expiry: entry.expiry,
-    })
-}
-
-/// Another owner of the same operation.
-pub(crate) fn copy_of_op<A: Allocator>(op: &Op<A>) -> Result<Op<A>, AllocError>
-    ensures { IfOk result (λ copy. op_of copy ≡ op_of op.now) }
-{
-    match op {
-        Op::Put(entry) => Ok(Op::Put(copy_of(entry)?)),
-        Op::Get(key) => Ok(Op::Get(key.clone()?)),
-        Op::Delete(key) => Ok(Op::Delete(key.clone()?)),
-        Op::Flush => Ok(Op::Flush),
-        Op::Reclaim => Ok(Op::Reclaim),
-    }
 }
