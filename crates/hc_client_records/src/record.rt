@@ -7,11 +7,21 @@ use std::alloc::{Allocator, Global};
 use std::marker::Model;
 
 /// An answered call: its number, what it asked, and the reply that was handed out.
-#[derive(Drop)]
 pub struct Entry<A: Allocator = Global> {
     pub call: u64,
     pub op: Op<A>,
     pub reply: Reply<A>,
+}
+
+// (written out, as that of a record is, so that who drops one calls one function)
+impl<A: Allocator> Drop for Entry<A> {
+    fn drop(self) {
+        let Entry {
+            call: _,
+            op: _,
+            reply: _,
+        } = self;
+    }
 }
 
 impl<A: Allocator> Model for Entry<A> {
@@ -61,12 +71,22 @@ impl<A: Allocator> OpenCall<A> {
 
 /// What a client did: its answered calls, the calls that it left open, and the moments (in seconds) to which it moved the
 /// clock, each in order.
-#[derive(Drop)]
 pub struct Record<A: Allocator = Global> {
     pub client: u8,
     pub entries: Vec<Entry<A>, A>,
     pub open_calls: Vec<OpenCall<A>, A>,
     pub ticks: Vec<u64, A>,
+}
+
+impl<A: Allocator> Drop for Record<A> {
+    fn drop(self) {
+        let Record {
+            client: _,
+            entries: _,
+            open_calls: _,
+            ticks: _,
+        } = self;
+    }
 }
 
 impl<A: Allocator> Model for Record<A> {

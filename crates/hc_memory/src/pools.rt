@@ -27,7 +27,6 @@ use std::marker::Model;
 ///
 /// Each call first takes all the memory that it needs, and then changes what is there: a refusal leaves everything as
 /// it was, and gives back what was handed in, but for what `bring` was handed.
-#[derive(Drop)]
 pub struct Pools<A: Allocator = Global> {
     pub(crate) flash: Option<FlashConfig>,
     pub(crate) pools: Vec<Pool<A>, A>,
@@ -37,6 +36,20 @@ pub struct Pools<A: Allocator = Global> {
     pub(crate) clean: CleanIndex<A>,
     // the buckets that were lost: an item in the pools is clean as `marks` settles it
     pub(crate) marks: Marks<A>,
+}
+
+// (written out, so that who drops the pools calls this one function, whatever stands in them)
+impl<A: Allocator> Drop for Pools<A> {
+    fn drop(self) {
+        let Pools {
+            flash: _,
+            pools: _,
+            charges: _,
+            made: _,
+            clean: _,
+            marks: _,
+        } = self;
+    }
 }
 
 impl<A: Allocator> Model for Pools<A> {

@@ -14,7 +14,6 @@ use std::marker::Model;
 /// the fills, and the jobs. It calls no device: a worker takes a job, does its order on a device, and hands the result in.
 ///
 /// Contracts see the state of its machine, and for how many more puts, tombstones and fills there is room.
-#[derive(Drop)]
 pub struct Nvm<A: Allocator = Global> {
     pub(crate) pair: Pair<A>,
     pub(crate) queue: Puts<A>,
@@ -22,6 +21,20 @@ pub struct Nvm<A: Allocator = Global> {
     pub(crate) fills: Fills<A>,
     pub(crate) jobs: Vec<Job<A>, A>,
     pub(crate) made: u64,
+}
+
+// (written out, so that who drops it calls this one function, whatever stands in it)
+impl<A: Allocator> Drop for Nvm<A> {
+    fn drop(self) {
+        let Nvm {
+            pair: _,
+            queue: _,
+            tombstones: _,
+            fills: _,
+            jobs: _,
+            made: _,
+        } = self;
+    }
 }
 
 impl<A: Allocator> Model for Nvm<A> {
