@@ -68,7 +68,7 @@ IsOf shards row = length row ≡ shards
 
 -- why there are no reports: a mismatch of the shard of this number; clients of another number of shards, or out of memory, and
 -- then the shards come back
-abbrev pub IsUnclosed : {G : Type 0} → Sharded → List (List Record) → ℕ → Unclosed G → Type 0
+abbrev pub IsUnclosed : Sharded → List (List Record) → ℕ → Unclosed → Type 0
 IsUnclosed shards rows failed (unclosed.Mismatch shard) = (shard < shards.shards) × IsMismatch (share_of shards) rows failed shard
 IsUnclosed shards rows failed (unclosed.OtherClients back) = (back ≡ shards) × (All (IsOf shards.shards) rows → ⊥)
 IsUnclosed shards rows failed (unclosed.NoMemory back) = back ≡ shards

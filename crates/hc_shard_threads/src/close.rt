@@ -1,6 +1,7 @@
 // The end: what the logs and the records come to.
 ghost use Rattle.std.specs.Prelude.{◌≡◌, ◌<◌, ◌≤◌, ℕ, true, false, List, Some, All, length, slice_get, IfOk, IfErr};
 ghost use Rattle.hc_client_records.specs.Records.{Record as Did, failures as failures_in_log};
+ghost use Rattle.hc_paged.specs.Digests.{folded};
 ghost use Rattle.hc_shards.specs.Shards.{share_of};
 ghost use Rattle.hc_shard_threads.specs.Closed.{AreClosed, IsColumn, IsOf, IsUnclosed};
 
@@ -8,20 +9,19 @@ use crate::client::ShardClient;
 use crate::shards::Shards;
 use hc_client_records::{Record, Recorded, failures as failures_of};
 use hc_history::Kept;
-use hc_paged::Digest;
 use hc_threads::Report;
 use std::alloc::{AllocError, Global};
 use std::marker::Model;
 
 /// Why there is no report.
 #[derive(Drop)]
-pub enum Unclosed<G: Digest + Copy> {
+pub enum Unclosed {
     /// What `Shared::close` calls a mismatch, in the shard of this number: the first that has one.
     Mismatch(u8),
     /// A client isn't one of so many shards. The shards come back.
-    OtherClients(Shards<Kept, Global, G>),
+    OtherClients(Shards<Kept, Global>),
     /// There is no memory for the reports. The shards come back.
-    NoMemory(Shards<Kept, Global, G>),
+    NoMemory(Shards<Kept, Global>),
 }
 
 /// What a client did in one shard.
@@ -61,12 +61,12 @@ impl<'x> Recorded for InShard<'x> {
     }
 }
 
-impl<G: Digest + Copy> Shards<Kept, Global, G> {
+impl Shards<Kept, Global> {
     /// Ends the shards, and judges each as `Shared::close` does: by its share of the configuration and by its clients'
     /// records, and all together by how often the device failed, lies among it. The reports stand in the order of the
     /// shards' numbers.
-    pub fn close(self, clients: &[ShardClient], failures: u64) -> Result<Vec<Report>, Unclosed<G>>
-        ensures ok { IfOk result (λ reports. AreClosed G.of (share_of self) self.shards clients.now failures reports.items) }
+    pub fn close(self, clients: &[ShardClient], failures: u64) -> Result<Vec<Report>, Unclosed>
+        ensures ok { IfOk result (λ reports. AreClosed folded (share_of self) self.shards clients.now failures reports.items) }
         ensures err { IfErr result (λ e. IsUnclosed self clients.now failures e) }
     {
         let shards = self.count();

@@ -4,7 +4,7 @@ ghost use Rattle.std.specs.Prelude.{◌≡◌, IfOk, IfErr, length};
 use crate::gate::{AtShard, ShardGate};
 use crate::shards::Shards;
 use hc_history::{Note, Notes};
-use hc_paged::{Device, Digest};
+use hc_paged::Device;
 use hc_threads::{Port, Shared, serve as serve_one};
 use hc_types::Refusal;
 use std::alloc::Allocator;
@@ -21,12 +21,11 @@ pub fn serve<
     A: Allocator + Clone + Copy + Send + Sync,
     D: Device<A> + Send,
     G: ShardGate + Sync,
-    H: Digest + Copy + Send + Sync,
     T,
     B: FnOnce() -> T + Drop,
 >(
     rt: &R,
-    shards: &Shards<N, A, H>,
+    shards: &Shards<N, A>,
     ports: &[Port<D, A>],
     fillers: u32,
     gate: &G,
@@ -48,12 +47,11 @@ fn serve_from<
     A: Allocator + Clone + Copy + Send + Sync,
     D: Device<A> + Send,
     G: ShardGate + Sync,
-    H: Digest + Copy + Send + Sync,
     T,
     B: FnOnce() -> T + Drop,
 >(
     rt: &R,
-    lanes: &[Shared<N, A, H>],
+    lanes: &[Shared<N, A>],
     ports: &[Port<D, A>],
     shard: u8,
     fillers: u32,

@@ -6,7 +6,6 @@ ghost use Rattle.hc_shards.specs.Shards as spec;
 
 use hc_core::Core;
 use hc_history::{Listener, Note, Notes};
-use hc_paged::{Digest, Folded};
 use hc_shards::{Sharded, shares_are_right};
 use hc_threads::{Shared, slots_for};
 use hc_types::{Config, Key, Refusal};
@@ -16,14 +15,23 @@ use std::sync::Wait;
 
 /// Shards that clients and workers share: each is a cache by itself, under a lock of its own, and each call takes the lock
 /// of its key's shard and no other. Contracts see the configuration that was cut into shards.
-#[derive(Drop)]
-pub struct Shards<N: Listener, A: Allocator = Global, G: Digest + Copy = Folded> {
+pub struct Shards<N: Listener, A: Allocator = Global> {
     /// A shard each, in the order of their numbers.
-    pub(crate) lanes: Vec<Shared<N, A, G>, A>,
+    pub(crate) lanes: Vec<Shared<N, A>, A>,
     sharded: Sharded<A>,
 }
 
-impl<N: Listener, A: Allocator, G: Digest + Copy> Model for Shards<N, A, G> {
+// (written out, so that who drops the shards calls this one function)
+impl<N: Listener, A: Allocator> Drop for Shards<N, A> {
+    fn drop(self) {
+        let Shards {
+            lanes: _,
+            sharded: _,
+        } = self;
+    }
+}
+
+impl<N: Listener, A: Allocator> Model for Shards<N, A> {
     ghost use Rattle.std.specs.Prelude.{◌≡◌, None, replicate};
     ghost use Rattle.hc_shards.specs.Shards.{Sharded as Settings, share_of, sharded_wrong};
 
@@ -34,32 +42,13 @@ impl<N: Listener, A: Allocator, G: Digest + Copy> Model for Shards<N, A, G> {
     ghost invariant = { λ s. (s.lanes.items ≡ replicate s.sharded.shards (share_of s.sharded)) × (sharded_wrong s.sharded ≡ None) };
 }
 
-impl<N: Notes<Note<A>>, A: Allocator + Clone + Copy> Shards<N, A, Folded> {
-    /// New shards, whose pages are told apart by the fast hash of the toolchain. `notes` makes the notes of each. Refused as
-    /// `Sharded::check` refuses, and with `NoMemory`.
+impl<N: Notes<Note<A>>, A: Allocator + Clone + Copy> Shards<N, A> {
+    /// New shards. `notes` makes the notes of each. Refused as `Sharded::check` refuses, and with `NoMemory`.
     pub fn new<F: Fn() -> N>(
         alloc: A,
         sharded: &Sharded<A>,
         notes: F,
-    ) -> Result<Shards<N, A, Folded>, Refusal>
-        requires makes { F.pre notes }
-        requires log { (n : N) → F.post notes n → IfLog (N.told n) (λ log. log ≡ []) }
-        ensures ok { IfOk result (λ shards. shards ≡ sharded.now) }
-        ensures fits { OnOk result (spec.sharded_wrong sharded.now ≡ None) }
-        ensures err { IfErr result (λ refusal. (spec.sharded_wrong sharded.now ≡ Some refusal) ⊎ ((spec.sharded_wrong sharded.now ≡ None) × (refusal ≡ Refusal.NoMemory))) }
-    {
-        Shards::with_digest(alloc, sharded, Folded, notes)
-    }
-}
-
-impl<N: Notes<Note<A>>, A: Allocator + Clone + Copy, G: Digest + Copy> Shards<N, A, G> {
-    /// The same, whose pages are told apart by this digest, which takes 8 bytes a page.
-    pub fn with_digest<F: Fn() -> N>(
-        alloc: A,
-        sharded: &Sharded<A>,
-        digest: G,
-        notes: F,
-    ) -> Result<Shards<N, A, G>, Refusal>
+    ) -> Result<Shards<N, A>, Refusal>
         requires makes { F.pre notes }
         requires log { (n : N) → F.post notes n → IfLog (N.told n) (λ log. log ≡ []) }
         ensures ok { IfOk result (λ shards. shards ≡ sharded.now) }
@@ -74,7 +63,7 @@ impl<N: Notes<Note<A>>, A: Allocator + Clone + Copy, G: Digest + Copy> Shards<N,
             return Err(Refusal::NoMemory);
         };
         shares_are_right();
-        let Ok(lanes) = lanes_of(alloc, &share, sharded.shards, digest, &notes) else {
+        let Ok(lanes) = lanes_of(alloc, &share, sharded.shards, &notes) else {
             return Err(Refusal::NoMemory);
         };
         Ok(Shards {
@@ -84,7 +73,7 @@ impl<N: Notes<Note<A>>, A: Allocator + Clone + Copy, G: Digest + Copy> Shards<N,
     }
 }
 
-impl<N: Listener, A: Allocator, G: Digest + Copy> Shards<N, A, G> {
+impl<N: Listener, A: Allocator> Shards<N, A> {
     /// The configuration that was cut into shards.
     #[must_use]
     pub fn sharded(&self) -> &Sharded<A>
@@ -116,7 +105,7 @@ impl<N: Listener, A: Allocator, G: Digest + Copy> Shards<N, A, G> {
     /// The shard of this number, a cache under a lock of its own. A call that is made through it isn't kept to the shard's
     /// own keys.
     #[must_use]
-    pub fn shard(&self, number: u8) -> &Shared<N, A, G>
+    pub fn shard(&self, number: u8) -> &Shared<N, A>
         requires { number < self.now.shards }
         ensures { result.now ≡ spec.share_of self.now }
     {
@@ -124,7 +113,7 @@ impl<N: Listener, A: Allocator, G: Digest + Copy> Shards<N, A, G> {
     }
 
     /// The shards, each by itself, in the order of their numbers.
-    pub(crate) fn into_lanes(self) -> Vec<Shared<N, A, G>, A>
+    pub(crate) fn into_lanes(self) -> Vec<Shared<N, A>, A>
         ensures { result.items ≡ replicate self.shards (spec.share_of self) }
     {
         let Shards { lanes, sharded: _ } = self;
@@ -151,7 +140,7 @@ impl<N: Listener, A: Allocator, G: Digest + Copy> Shards<N, A, G> {
     }
 }
 
-impl<N: Notes<Note<A>>, A: Allocator + Clone + Copy, G: Digest + Copy> Shards<N, A, G> {
+impl<N: Notes<Note<A>>, A: Allocator + Clone + Copy> Shards<N, A> {
     /// Waits while another loads the key, as `Shared::await_load` does.
     pub fn await_load<R: Wait>(&self, rt: &R, key: &Key<A>, patience: u64) {
         self.lanes[usize::from(self.shard_of(key))].await_load(rt, key, patience);
@@ -174,13 +163,12 @@ fn copy_of<A: Allocator + Clone + Copy>(sharded: &Sharded<A>) -> Result<Sharded<
 }
 
 /// So many caches of this configuration, each under a lock of its own.
-fn lanes_of<N: Notes<Note<A>>, A: Allocator + Clone + Copy, G: Digest + Copy, F: Fn() -> N>(
+fn lanes_of<N: Notes<Note<A>>, A: Allocator + Clone + Copy, F: Fn() -> N>(
     alloc: A,
     config: &Config<A>,
     count: u8,
-    digest: G,
     notes: &F,
-) -> Result<Vec<Shared<N, A, G>, A>, AllocError>
+) -> Result<Vec<Shared<N, A>, A>, AllocError>
     requires makes { F.pre notes.now }
     requires log { (n : N) → F.post notes.now n → IfLog (N.told n) (λ log. log ≡ []) }
     ensures { IfOk result (λ lanes. lanes.items ≡ replicate count config.now) }
@@ -188,26 +176,25 @@ fn lanes_of<N: Notes<Note<A>>, A: Allocator + Clone + Copy, G: Digest + Copy, F:
     let mut lanes = Vec::with_capacity(alloc, usize::from(count))?;
     let slots = slots_for(count);
     for _ in 0..count {
-        lanes.push_reserved(lane_of(alloc, config, digest, slots, notes())?);
+        lanes.push_reserved(lane_of(alloc, config, slots, notes())?);
     }
     Ok(lanes)
 }
 
 /// A new cache of this configuration with so many slots for leases, under a lock of its own.
-fn lane_of<N: Notes<Note<A>>, A: Allocator + Clone + Copy, G: Digest + Copy>(
+fn lane_of<N: Notes<Note<A>>, A: Allocator + Clone + Copy>(
     alloc: A,
     config: &Config<A>,
-    digest: G,
     slots: usize,
     notes: N,
-) -> Result<Shared<N, A, G>, AllocError>
+) -> Result<Shared<N, A>, AllocError>
     requires log { IfLog (N.told notes) (λ log. log ≡ []) }
     ensures { IfOk result (λ lane. lane ≡ config.now) }
 {
     let Ok(core) = Core::new(alloc, config, notes) else {
         return Err(AllocError);
     };
-    match Shared::with_slots(core, digest, slots) {
+    match Shared::with_slots(core, slots) {
         Ok(lane) => Ok(lane),
         Err(core) => {
             drop(core);

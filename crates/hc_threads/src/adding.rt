@@ -6,7 +6,6 @@ ghost use Rattle.hc_threads.specs.Seen.{Returns};
 use crate::shared::Shared;
 use hc_history::{Note, Notes, Reply};
 use hc_memory::Sealed;
-use hc_paged::Digest;
 use hc_state::{Inserted, Unlinked};
 use hc_types::Refusal;
 use std::alloc::{Allocator, Global};
@@ -36,7 +35,7 @@ pub(crate) enum Unstored<A: Allocator> {
     Open(u64),
 }
 
-impl<N: Notes<Note<A>>, A: Allocator + Clone + Copy, G: Digest + Copy> Shared<N, A, G> {
+impl<N: Notes<Note<A>>, A: Allocator + Clone + Copy> Shared<N, A> {
     /// Answers the number of the call, and its reply. A call that waits lets the lock go until its reply is there. It gives
     /// up where the workers are stuck, and where there is no memory for the reply.
     pub(crate) fn insert<R: Wait>(

@@ -17,7 +17,7 @@ use hc_flash::MemFlash;
 use hc_history::{Listener, Note, Notes, Op, Reply};
 use hc_leased::{KeptItem, Ticket};
 use hc_memory::{Blank, Fill, ReadHandle, Sealed, Uncharged};
-use hc_paged::{Device, Digest};
+use hc_paged::Device;
 use hc_state::{Removed, Unlinked};
 use hc_types::{Key, Refusal};
 use std::alloc::{AllocError, Allocator, Global};
@@ -26,9 +26,14 @@ use std::sync::Wait;
 
 /// A client: its number, and the record of what it did and was answered. It borrows nothing; each call is lent the `Shared`.
 /// Contracts see its record.
-#[derive(Drop)]
 pub struct Client<A: Allocator = Global> {
     record: Record<A>,
+}
+
+impl<A: Allocator> Drop for Client<A> {
+    fn drop(self) {
+        let Client { record: _ } = self;
+    }
 }
 
 impl<A: Allocator> Model for Client<A> {
@@ -47,7 +52,7 @@ impl Recorded for Client {
     }
 }
 
-impl<N: Listener, A: Allocator + Clone + Copy, G: Digest + Copy> Shared<N, A, G> {
+impl<N: Listener, A: Allocator + Clone + Copy> Shared<N, A> {
     /// The next client. Refused with `TooManyClients` after the 64th.
     pub fn client<R: Wait>(&self, rt: &R, alloc: A) -> Result<Client<A>, Refusal>
         ensures ok { IfOk result (λ client. (client.entries ≡ []) × (client.open_calls ≡ []) × (client.ticks ≡ []) × (client.client < 64)) }
@@ -88,10 +93,10 @@ impl<A: Allocator + Clone + Copy> Client<A> {
 
     /// Moves the clock on to the moment, in seconds, as `Core::tick` does, and records that. Answers the moment that holds
     /// then. Refused with `NoMemory`.
-    pub fn tick<R: Wait, N: Notes<Note<A>>, G: Digest + Copy>(
+    pub fn tick<R: Wait, N: Notes<Note<A>>>(
         &mut self,
         rt: &R,
-        shared: &Shared<N, A, G>,
+        shared: &Shared<N, A>,
         moment: u64,
     ) -> Result<u64, Refusal>
         ensures recorded { OnOk result (IsTicked self.old moment self.new) }
@@ -106,10 +111,10 @@ impl<A: Allocator + Clone + Copy> Client<A> {
     }
 
     /// Allocates an item that begins as zeros, as `Core::allocate` does, and is refused as that is.
-    pub fn allocate<R: Wait, N: Notes<Note<A>>, G: Digest + Copy>(
+    pub fn allocate<R: Wait, N: Notes<Note<A>>>(
         &self,
         rt: &R,
-        shared: &Shared<N, A, G>,
+        shared: &Shared<N, A>,
         pool: u8,
         key: Key<A>,
         size: u64,
@@ -123,10 +128,10 @@ impl<A: Allocator + Clone + Copy> Client<A> {
     }
 
     /// Allocates an item that begins as `fill`, as `Core::allocate_with` does.
-    pub fn allocate_with<R: Wait, N: Notes<Note<A>>, G: Digest + Copy>(
+    pub fn allocate_with<R: Wait, N: Notes<Note<A>>>(
         &self,
         rt: &R,
-        shared: &Shared<N, A, G>,
+        shared: &Shared<N, A>,
         pool: u8,
         key: Key<A>,
         fill: Fill<'_>,
@@ -140,10 +145,10 @@ impl<A: Allocator + Clone + Copy> Client<A> {
     }
 
     /// Gives up an item that wasn't inserted, as `Core::discard` does.
-    pub fn discard<R: Wait, N: Notes<Note<A>>, G: Digest + Copy>(
+    pub fn discard<R: Wait, N: Notes<Note<A>>>(
         &self,
         rt: &R,
-        shared: &Shared<N, A, G>,
+        shared: &Shared<N, A>,
         sealed: Sealed<A>,
     ) -> Result<(), Sealed<A>>
         ensures { IfErr result (λ back. back ≡ sealed) }
@@ -152,10 +157,10 @@ impl<A: Allocator + Clone + Copy> Client<A> {
     }
 
     /// Gives up an item that wasn't sealed, as `Core::discard_blank` does.
-    pub fn discard_blank<R: Wait, N: Notes<Note<A>>, G: Digest + Copy>(
+    pub fn discard_blank<R: Wait, N: Notes<Note<A>>>(
         &self,
         rt: &R,
-        shared: &Shared<N, A, G>,
+        shared: &Shared<N, A>,
         blank: Blank<A>,
     ) -> Result<(), Blank<A>>
         ensures { IfErr result (λ back. back ≡ blank) }
@@ -164,10 +169,10 @@ impl<A: Allocator + Clone + Copy> Client<A> {
     }
 
     /// Inserts the item, as `Core::insert_or_replace` does, and records that.
-    pub fn insert_or_replace<R: Wait, N: Notes<Note<A>>, G: Digest + Copy>(
+    pub fn insert_or_replace<R: Wait, N: Notes<Note<A>>>(
         &mut self,
         rt: &R,
-        shared: &Shared<N, A, G>,
+        shared: &Shared<N, A>,
         sealed: Sealed<A>,
     ) -> Result<(), Unlinked<A>>
         ensures recorded { OnOk result (IsRecorded self.old (Insert sealed.key sealed.value sealed.expiry) Stored self.new) }
@@ -189,10 +194,10 @@ impl<A: Allocator + Clone + Copy> Client<A> {
     /// Inserts the item, which was loaded after the ticket was handed out, as `Leased::insert_leased` does: exactly where the
     /// ticket is still fresh for its key, and records that. Else its handle comes back, to be given up, and nothing is
     /// recorded. Refused as `insert_or_replace` is; then the ticket is as good as before.
-    pub fn insert_leased<R: Wait, N: Notes<Note<A>>, G: Digest + Copy>(
+    pub fn insert_leased<R: Wait, N: Notes<Note<A>>>(
         &mut self,
         rt: &R,
-        shared: &Shared<N, A, G>,
+        shared: &Shared<N, A>,
         ticket: Ticket,
         sealed: Sealed<A>,
     ) -> Result<KeptItem<A>, Unlinked<A>>
@@ -218,10 +223,10 @@ impl<A: Allocator + Clone + Copy> Client<A> {
 
     /// Inserts the item where the key has no unexpired value, as `Core::insert` does, waits where one may be on flash, and
     /// records what came. Where it waits and is out of memory, it stays open, and is recorded so.
-    pub fn insert<R: Wait, N: Notes<Note<A>>, G: Digest + Copy>(
+    pub fn insert<R: Wait, N: Notes<Note<A>>>(
         &mut self,
         rt: &R,
-        shared: &Shared<N, A, G>,
+        shared: &Shared<N, A>,
         sealed: Sealed<A>,
     ) -> Result<Added, Unadded<A>>
         ensures recorded { IfOk result (λ added. IsRecorded self.old (Add sealed.key sealed.value sealed.expiry) (added_as added) self.new) }
@@ -253,10 +258,10 @@ impl<A: Allocator + Clone + Copy> Client<A> {
     }
 
     /// Takes what the key has out of the cache, as `Core::remove` does, and records that. Refused with `NoMemory`.
-    pub fn remove<R: Wait, N: Notes<Note<A>>, G: Digest + Copy>(
+    pub fn remove<R: Wait, N: Notes<Note<A>>>(
         &mut self,
         rt: &R,
-        shared: &Shared<N, A, G>,
+        shared: &Shared<N, A>,
         key: &Key<A>,
     ) -> Result<Removed, Refusal>
         ensures recorded { IfOk result (λ removed. IsRecorded self.old (Remove key.now) (removed_as removed) self.new) }
@@ -276,10 +281,10 @@ impl<A: Allocator + Clone + Copy> Client<A> {
     /// Where there is no memory for another owner of the value, the call is answered and recorded all the same. Where it lacks
     /// for the reply of a call that waited, or for a worker while none can get on, the call stays open. Refused with
     /// `NoMemory`.
-    pub fn find<R: Wait, N: Notes<Note<A>>, G: Digest + Copy>(
+    pub fn find<R: Wait, N: Notes<Note<A>>>(
         &mut self,
         rt: &R,
-        shared: &Shared<N, A, G>,
+        shared: &Shared<N, A>,
         key: &Key<A>,
     ) -> Result<Option<ReadHandle<A>>, Refusal>
         ensures recorded { IfOk result (λ found. IsRecorded self.old (Find key.now) (found_as found) self.new) }
@@ -294,10 +299,10 @@ impl<A: Allocator + Clone + Copy> Client<A> {
     }
 
     /// Finds the value under the key, as `find` does; a miss is handed a ticket, which is good for what is loaded from now on.
-    pub fn find_or_lease<R: Wait, N: Notes<Note<A>>, G: Digest + Copy>(
+    pub fn find_or_lease<R: Wait, N: Notes<Note<A>>>(
         &mut self,
         rt: &R,
-        shared: &Shared<N, A, G>,
+        shared: &Shared<N, A>,
         key: &Key<A>,
     ) -> Result<Looked<A>, Refusal>
         ensures recorded { IfOk result (λ looked. IsRecorded self.old (Find key.now) (looked_as looked) self.new) }
@@ -310,10 +315,10 @@ impl<A: Allocator + Clone + Copy> Client<A> {
     /// Finds the value under the key, as `find_or_lease` does, for who loads what is missed: of many who miss a key one is
     /// handed a ticket, and is to load it. The others are told so, for as long as `patience` seconds by the cache's clock: they
     /// wait by `Shared::await_load`, and find it again. No promise rests on whose turn it is.
-    pub fn find_or_load<R: Wait, N: Notes<Note<A>>, G: Digest + Copy>(
+    pub fn find_or_load<R: Wait, N: Notes<Note<A>>>(
         &mut self,
         rt: &R,
-        shared: &Shared<N, A, G>,
+        shared: &Shared<N, A>,
         key: &Key<A>,
         patience: u64,
     ) -> Result<Looked<A>, Refusal>
@@ -327,10 +332,10 @@ impl<A: Allocator + Clone + Copy> Client<A> {
     /// Finds the value under the key, as `find` does. But a call that waits makes the reads itself, by a handle of the
     /// device, as long as there are some which no other is making: its own, or those of calls that have waited longer. So
     /// it mostly wakes no worker and is woken by none. A read for which there is no memory is left to the fillers.
-    pub fn find_filling<R: Wait, N: Notes<Note<A>>, D: Device<A>, G: Digest + Copy>(
+    pub fn find_filling<R: Wait, N: Notes<Note<A>>, D: Device<A>>(
         &mut self,
         rt: &R,
-        shared: &Shared<N, A, G>,
+        shared: &Shared<N, A>,
         port: &Port<D, A>,
         key: &Key<A>,
     ) -> Result<Option<ReadHandle<A>>, Refusal>
@@ -346,10 +351,10 @@ impl<A: Allocator + Clone + Copy> Client<A> {
     }
 
     /// Finds the value under the key, as `find_or_load` does, and makes its reads itself, as `find_filling` does.
-    pub fn find_or_load_filling<R: Wait, N: Notes<Note<A>>, D: Device<A>, G: Digest + Copy>(
+    pub fn find_or_load_filling<R: Wait, N: Notes<Note<A>>, D: Device<A>>(
         &mut self,
         rt: &R,
-        shared: &Shared<N, A, G>,
+        shared: &Shared<N, A>,
         port: &Port<D, A>,
         key: &Key<A>,
         patience: u64,
@@ -362,10 +367,10 @@ impl<A: Allocator + Clone + Copy> Client<A> {
     }
 
     /// Finds the value, makes its reads itself where a port is there, and records what came.
-    fn find_by<R: Wait, N: Notes<Note<A>>, D: Device<A>, G: Digest + Copy>(
+    fn find_by<R: Wait, N: Notes<Note<A>>, D: Device<A>>(
         &mut self,
         rt: &R,
-        shared: &Shared<N, A, G>,
+        shared: &Shared<N, A>,
         port: Option<&Port<D, A>>,
         key: &Key<A>,
         patience: Option<u64>,
@@ -412,8 +417,8 @@ impl<A: Allocator + Clone + Copy> Client<A> {
 }
 
 /// No port, of whatever device.
-fn no_port<'x, N: Listener, A: Allocator + Clone + Copy, G: Digest + Copy>(
-    _shared: &'x Shared<N, A, G>,
+fn no_port<'x, N: Listener, A: Allocator + Clone + Copy>(
+    _shared: &'x Shared<N, A>,
 ) -> Option<&'x Port<MemFlash<A>, A>>
     ensures { result ≡ None }
 {

@@ -9,6 +9,7 @@ ghost use Rattle.hc_client_records.specs.Records as records;
 ghost use Rattle.hc_client_records.specs.Records.{Reconciled};
 ghost use Rattle.hc_core.specs.Logged.{Logged};
 ghost use Rattle.hc_marked.specs.Marked.{Marked, NoneCollides};
+ghost use Rattle.hc_paged.specs.Digests.{folded};
 ghost use Rattle.hc_threads.specs.Settled.{IsSettled};
 
 use crate::shared::Shared;
@@ -16,7 +17,6 @@ use hc_client_records::{Mismatch, Recorded, failures as failures_of, reconcile};
 use hc_core::Core;
 use hc_history::{Kept, Note, Stats};
 use hc_judge_memory::first_lie_in;
-use hc_paged::Digest;
 use hc_tracked::is_same;
 use hc_types::Config;
 use std::alloc::Global;
@@ -73,7 +73,7 @@ pub fn settle<T: Recorded>(
     })
 }
 
-impl<G: Digest + Copy> Shared<Kept, Global, G> {
+impl Shared<Kept, Global> {
     /// Ends the cache, and judges it as `settle` does: by the configuration that was kept as `Shared` was made, by the
     /// clients' records, and by how often the device failed, which is by how much its count rose, and how many lies
     /// (`lies`) were told by the digests. Each page that was read in the log has the digest of the page as it was written
@@ -87,10 +87,10 @@ impl<G: Digest + Copy> Shared<Kept, Global, G> {
         ensures legal { IfOk result (λ r. r.lie ≡ None → Legal self r.log.items) }
         ensures agrees { IfOk result (λ r. Reconciled r.log.items (map T.recorded clients.now)) }
         ensures failed { IfOk result (λ r. records.failures r.log.items ≤ failures) }
-        ensures marked { IfOk result (λ r. Marked G.of r.log.items) }
-        ensures honest { IfOk result (λ r. NoneCollides G.of r.log.items → Honest r.log.items) }
-        ensures no_lie { IfOk result (λ r. NoneCollides G.of r.log.items → r.lie ≡ None) }
-        ensures lawful { IfOk result (λ r. NoneCollides G.of r.log.items → Legal self r.log.items) }
+        ensures marked { IfOk result (λ r. Marked folded r.log.items) }
+        ensures honest { IfOk result (λ r. NoneCollides folded r.log.items → Honest r.log.items) }
+        ensures no_lie { IfOk result (λ r. NoneCollides folded r.log.items → r.lie ≡ None) }
+        ensures lawful { IfOk result (λ r. NoneCollides folded r.log.items → Legal self r.log.items) }
         ensures settled { (core : Logged) × IsSettled core self (map T.recorded clients.now) failures result }
     {
         let (tracked, config) = self.into_parts();

@@ -9,7 +9,7 @@ use hc_history::{Note, Notes, Reply};
 use hc_leased::Lookup;
 use hc_memory::ReadHandle;
 use hc_nvm::Take;
-use hc_paged::{Device, Digest};
+use hc_paged::{Device, Folded};
 use hc_tracked::digest_of;
 use hc_types::{Key, Refusal};
 use std::alloc::Allocator;
@@ -34,7 +34,7 @@ enum Asked<A: Allocator> {
     Waits(u64),
 }
 
-impl<N: Notes<Note<A>>, A: Allocator + Clone + Copy, G: Digest + Copy> Shared<N, A, G> {
+impl<N: Notes<Note<A>>, A: Allocator + Clone + Copy> Shared<N, A> {
     /// Answers the number of the call, and the value, or a ticket. A find that waits lets the lock go until its reply is there. It gives
     /// up where the workers are stuck, and where there is no memory for the reply. Where a port is there, it does what a filler
     /// would do, as long as there is something; it waits where all that there is to fill is under way elsewhere. Where it
@@ -72,8 +72,8 @@ impl<N: Notes<Note<A>>, A: Allocator + Clone + Copy, G: Digest + Copy> Shared<N,
         &'x self,
         rt: &R,
         call: u64,
-        held: MutexGuard<'x, Guarded<N, A, G>>,
-    ) -> Result<MutexGuard<'x, Guarded<N, A, G>>, Unfound> {
+        held: MutexGuard<'x, Guarded<N, A>>,
+    ) -> Result<MutexGuard<'x, Guarded<N, A>>, Unfound> {
         if held.crew.is_stuck() {
             return Err(Unfound::Open(call));
         }
@@ -87,8 +87,8 @@ impl<N: Notes<Note<A>>, A: Allocator + Clone + Copy, G: Digest + Copy> Shared<N,
         port: &Port<D, A>,
         client: u8,
         call: u64,
-        held: MutexGuard<'x, Guarded<N, A, G>>,
-    ) -> Result<MutexGuard<'x, Guarded<N, A, G>>, Unfound> {
+        held: MutexGuard<'x, Guarded<N, A>>,
+    ) -> Result<MutexGuard<'x, Guarded<N, A>>, Unfound> {
         let mut held = held;
         match self.take_fill(&mut held, client) {
             Ok(Take::Work(job, order)) => {
@@ -111,7 +111,7 @@ impl<N: Notes<Note<A>>, A: Allocator + Clone + Copy, G: Digest + Copy> Shared<N,
     }
 
     /// What a client takes of the fillers' work: nothing while a job that it left isn't taken yet.
-    fn take_fill(&self, held: &mut Guarded<N, A, G>, client: u8) -> Result<Take<A>, Refusal> {
+    fn take_fill(&self, held: &mut Guarded<N, A>, client: u8) -> Result<Take<A>, Refusal> {
         if held.left.has(client) {
             return Ok(Take::Idle);
         }
@@ -127,7 +127,7 @@ impl<N: Notes<Note<A>>, A: Allocator + Clone + Copy, G: Digest + Copy> Shared<N,
         client: u8,
         job: u64,
         first: Order<A>,
-    ) -> MutexGuard<'x, Guarded<N, A, G>> {
+    ) -> MutexGuard<'x, Guarded<N, A>> {
         let mut order = first;
         for _ in rt.forever() {
             let (mut held, finished) = match port.perform(rt, &order) {
@@ -157,15 +157,15 @@ impl<N: Notes<Note<A>>, A: Allocator + Clone + Copy, G: Digest + Copy> Shared<N,
     }
 }
 
-impl<N: Notes<Note<A>>, A: Allocator + Clone + Copy, G: Digest + Copy> Shared<N, A, G> {
+impl<N: Notes<Note<A>>, A: Allocator + Clone + Copy> Shared<N, A> {
     /// Hands in what came of the operation of the job. The lock is held behind it.
     fn hand_in<'x, R: Wait>(
         &'x self,
         rt: &R,
         job: u64,
         came: IoResult<A>,
-    ) -> (MutexGuard<'x, Guarded<N, A, G>>, Result<Take<A>, Refusal>) {
-        let digest = digest_of(&self.digest, &came);
+    ) -> (MutexGuard<'x, Guarded<N, A>>, Result<Take<A>, Refusal>) {
+        let digest = digest_of(&Folded, &came);
         let mut held = self.guarded.lock(rt);
         let finished = match held.cache.finish(job, came, digest) {
             Ok(take) => Ok(take),
@@ -176,8 +176,8 @@ impl<N: Notes<Note<A>>, A: Allocator + Clone + Copy, G: Digest + Copy> Shared<N,
 }
 
 /// Asks for the value under the key.
-fn ask<N: Notes<Note<A>>, A: Allocator + Clone + Copy, G: Digest + Copy>(
-    held: &mut Guarded<N, A, G>,
+fn ask<N: Notes<Note<A>>, A: Allocator + Clone + Copy>(
+    held: &mut Guarded<N, A>,
     client: u8,
     key: &Key<A>,
     patience: Option<u64>,
@@ -194,8 +194,8 @@ fn ask<N: Notes<Note<A>>, A: Allocator + Clone + Copy, G: Digest + Copy>(
 }
 
 /// What the find that waits is answered, once it is.
-fn reply_to<N: Notes<Note<A>>, A: Allocator + Clone + Copy, G: Digest + Copy>(
-    held: &mut Guarded<N, A, G>,
+fn reply_to<N: Notes<Note<A>>, A: Allocator + Clone + Copy>(
+    held: &mut Guarded<N, A>,
     call: u64,
     key: &Key<A>,
     patience: Option<u64>,

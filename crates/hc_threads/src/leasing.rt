@@ -7,7 +7,6 @@ use crate::shared::{Guarded, Shared};
 use hc_history::{Note, Notes};
 use hc_leased::Ticket;
 use hc_memory::ReadHandle;
-use hc_paged::Digest;
 use hc_types::Key;
 use std::alloc::{Allocator, Global};
 use std::fmt;
@@ -38,7 +37,7 @@ impl<A: Allocator> fmt::Debug for Looked<A> {
     }
 }
 
-impl<N: Notes<Note<A>>, A: Allocator + Clone + Copy, G: Digest + Copy> Shared<N, A, G> {
+impl<N: Notes<Note<A>>, A: Allocator + Clone + Copy> Shared<N, A> {
     /// Waits while another loads the key, who began fewer than `patience` seconds ago by the cache's clock. Find it again then.
     /// A load is over as the key is stored, with a ticket or without, or removed, and by `end_turn`. Where who loads dies,
     /// those that wait go on once the clock is moved past `patience`.
@@ -63,8 +62,8 @@ impl<N: Notes<Note<A>>, A: Allocator + Clone + Copy, G: Digest + Copy> Shared<N,
 
 /// What a find that misses is answered: the ticket, or where the caller would load the key and asks whose turn it is, that
 /// another loads it.
-pub(crate) fn missed<N: Notes<Note<A>>, A: Allocator + Clone + Copy, G: Digest + Copy>(
-    held: &mut Guarded<N, A, G>,
+pub(crate) fn missed<N: Notes<Note<A>>, A: Allocator + Clone + Copy>(
+    held: &mut Guarded<N, A>,
     key: &Key<A>,
     ticket: Option<Ticket>,
     patience: Option<u64>,

@@ -7,7 +7,7 @@ use crate::port::Port;
 use crate::shared::{Shared, Stage};
 use hc_flash::{IoResult, Order};
 use hc_history::{Listener, Note, Notes};
-use hc_paged::{Device, Digest};
+use hc_paged::Device;
 use hc_types::Refusal;
 use std::alloc::{AllocError, Allocator};
 use std::sync::Wait;
@@ -24,12 +24,11 @@ pub fn serve<
     A: Allocator + Clone + Copy + Send + Sync,
     D: Device<A> + Send,
     G: Gate + Sync,
-    H: Digest + Copy + Send + Sync,
     T,
     B: FnOnce() -> T + Drop,
 >(
     rt: &R,
-    shared: &Shared<N, A, H>,
+    shared: &Shared<N, A>,
     port: &Port<D, A>,
     fillers: u32,
     gate: &G,
@@ -46,21 +45,19 @@ pub fn serve<
 }
 
 /// Where workers stand: what they share.
-struct Post<'x, N: Listener, A: Allocator, D: Device<A>, G, H: Digest + Copy> {
-    shared: &'x Shared<N, A, H>,
+struct Post<'x, N: Listener, A: Allocator, D: Device<A>, G> {
+    shared: &'x Shared<N, A>,
     port: &'x Port<D, A>,
     gate: &'x G,
 }
 
-impl<'x, N: Listener, A: Allocator, D: Device<A>, G, H: Digest + Copy> Clone
-    for Post<'x, N, A, D, G, H> {
-    fn clone(&self) -> Result<Post<'x, N, A, D, G, H>, AllocError> {
+impl<'x, N: Listener, A: Allocator, D: Device<A>, G> Clone for Post<'x, N, A, D, G> {
+    fn clone(&self) -> Result<Post<'x, N, A, D, G>, AllocError> {
         Ok(*self)
     }
 }
 
-impl<'x, N: Listener, A: Allocator, D: Device<A>, G, H: Digest + Copy> Copy
-    for Post<'x, N, A, D, G, H> {}
+impl<'x, N: Listener, A: Allocator, D: Device<A>, G> Copy for Post<'x, N, A, D, G> {}
 
 /// Workers, of whatever cache. (Of the thread that begins them, a checker has to know no more.)
 trait Workers<R>: Copy {
@@ -111,15 +108,8 @@ fn run<R: Threads + Wait + Sync, P: Workers<R> + Send, T, B: FnOnce() -> T + Dro
     )
 }
 
-impl<
-    'x,
-    R: Wait,
-    N: Notes<Note<A>>,
-    A: Allocator + Clone + Copy,
-    D: Device<A>,
-    G: Gate,
-    H: Digest + Copy,
-> Workers<R> for Post<'x, N, A, D, G, H> {
+impl<'x, R: Wait, N: Notes<Note<A>>, A: Allocator + Clone + Copy, D: Device<A>, G: Gate> Workers<R>
+    for Post<'x, N, A, D, G> {
     /// A take each round. The core's lock isn't held at a gate or during a device operation.
     fn work(self, rt: &R, worker: Worker) {
         let mut turn = Turn::new(worker);
@@ -142,14 +132,13 @@ impl<
     }
 }
 
-impl<
+impl<'x, N: Notes<Note<A>>, A: Allocator + Clone + Copy, D: Device<A>, G: Gate> Post<
     'x,
-    N: Notes<Note<A>>,
-    A: Allocator + Clone + Copy,
-    D: Device<A>,
-    G: Gate,
-    H: Digest + Copy,
-> Post<'x, N, A, D, G, H> {
+    N,
+    A,
+    D,
+    G,
+> {
     /// Does the operations of the job, one after the other, until it is over, or the workers are to end and are out of memory.
     fn do_job<R: Wait>(self, rt: &R, worker: Worker, turn: &mut Turn, job: u64, first: Order<A>) {
         let mut next = Some(first);

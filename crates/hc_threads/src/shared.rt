@@ -12,7 +12,7 @@ use hc_core::Core;
 use hc_history::{Listener, Note, Notes};
 use hc_leased::{DEFAULT_SLOTS, KeptItem, Leased, Ticket};
 use hc_memory::{Blank, Fill, Sealed, Uncharged};
-use hc_paged::{Digest, Folded};
+use hc_paged::Folded;
 use hc_state::{Removed, Unlinked};
 use hc_tracked::TrackedCore;
 use hc_types::{Config, Key, Refusal};
@@ -31,8 +31,8 @@ pub(crate) enum Stage {
 
 /// What lies under the lock. Whoever takes the lock finds a cache with leases, and what is true of each is all that is known.
 #[derive(Drop)]
-pub(crate) struct Guarded<N: Listener, A: Allocator, G: Digest + Copy> {
-    pub(crate) cache: Leased<TrackedCore<N, A, G>, A>,
+pub(crate) struct Guarded<N: Listener, A: Allocator> {
+    pub(crate) cache: Leased<TrackedCore<N, A, Folded>, A>,
     pub(crate) stage: Stage,
     pub(crate) crew: Crew,
     pub(crate) left: Left,
@@ -57,20 +57,32 @@ fn numbered(clients: &mut u8) -> Result<u8, Refusal>
 
 /// A core that clients and workers share: each call of the core is one hold of the one lock. Contracts see the
 /// configuration of the core that it was made of, of which it keeps a copy beside the lock.
-#[derive(Drop)]
-pub struct Shared<N: Listener, A: Allocator = Global, G: Digest + Copy = Folded> {
-    pub(crate) guarded: Mutex<Guarded<N, A, G>>,
+pub struct Shared<N: Listener, A: Allocator = Global> {
+    pub(crate) guarded: Mutex<Guarded<N, A>>,
     /// Wake workers, for work and to end.
     writer: Condvar,
     fillers: Condvar,
     reclaimer: Condvar,
     /// Wakes clients that wait for a reply.
     pub(crate) replies: Condvar,
-    pub(crate) digest: G,
     config: Config<A>,
 }
 
-impl<N: Listener, A: Allocator, G: Digest + Copy> Model for Shared<N, A, G> {
+// (written out, so that who drops what is shared calls this one function, whatever lies under the lock)
+impl<N: Listener, A: Allocator> Drop for Shared<N, A> {
+    fn drop(self) {
+        let Shared {
+            guarded: _,
+            writer: _,
+            fillers: _,
+            reclaimer: _,
+            replies: _,
+            config: _,
+        } = self;
+    }
+}
+
+impl<N: Listener, A: Allocator> Model for Shared<N, A> {
     ghost use Rattle.hc_types.specs.Config.{Config as Settings};
 
     ghost Value = { Settings };
@@ -78,26 +90,20 @@ impl<N: Listener, A: Allocator, G: Digest + Copy> Model for Shared<N, A, G> {
     ghost view = { λ shared. shared.config };
 }
 
-impl<N: Listener, A: Allocator + Clone + Copy, G: Digest + Copy> Shared<N, A, G> {
-    /// Shares a new core, with `DEFAULT_SLOTS` slots for leases. Pages are told apart by this digest. Refused as
-    /// `with_slots` is.
-    pub fn with_digest(core: Core<N, A>, digest: G) -> Result<Shared<N, A, G>, Core<N, A>>
+impl<N: Listener, A: Allocator + Clone + Copy> Shared<N, A> {
+    /// Shares a new core, with `DEFAULT_SLOTS` slots for leases. Refused as `with_slots` is.
+    pub fn new(core: Core<N, A>) -> Result<Shared<N, A>, Core<N, A>>
         requires log { IfLog core.log (λ log. log ≡ []) }
         ensures config { IfOk result (λ shared. shared ≡ core.cache.config) }
         ensures core_returned { IfErr result (λ back. back ≡ core) }
     {
-        Shared::with_slots(core, digest, DEFAULT_SLOTS)
+        Shared::with_slots(core, DEFAULT_SLOTS)
     }
 
     /// Shares a new core, with so many slots for leases, of 8 bytes each, and a sixteenth as many places for turns, of 24
-    /// bytes each; at least one of either. The more slots, the fewer tickets end without need. Pages are told apart by this
-    /// digest. Where there is no memory for these, for the copy of its configuration or for the digests of its pages, which take 8
+    /// bytes each; at least one of either. The more slots, the fewer tickets end without need. Where there is no memory for these, for the copy of its configuration or for the digests of its pages, which take 8
     /// bytes a page, the core comes back, and so does one of which calls were made already.
-    pub fn with_slots(
-        core: Core<N, A>,
-        digest: G,
-        slots: usize,
-    ) -> Result<Shared<N, A, G>, Core<N, A>>
+    pub fn with_slots(core: Core<N, A>, slots: usize) -> Result<Shared<N, A>, Core<N, A>>
         requires log { IfLog core.log (λ log. log ≡ []) }
         ensures config { IfOk result (λ shared. shared ≡ core.cache.config) }
         ensures core_returned { IfErr result (λ back. back ≡ core) }
@@ -109,7 +115,7 @@ impl<N: Listener, A: Allocator + Clone + Copy, G: Digest + Copy> Shared<N, A, G>
             return Err(core);
         };
         let alloc = *config.pools.allocator();
-        let tracked = TrackedCore::new(core, digest, alloc)?;
+        let tracked = TrackedCore::new(core, Folded, alloc)?;
         let places = (slots / 16).max(1);
         let cache = match Leased::new(alloc, tracked, slots.max(1), places) {
             Ok(cache) => cache,
@@ -130,24 +136,12 @@ impl<N: Listener, A: Allocator + Clone + Copy, G: Digest + Copy> Shared<N, A, G>
             fillers: Condvar::new(),
             reclaimer: Condvar::new(),
             replies: Condvar::new(),
-            digest,
             config,
         })
     }
 }
 
-impl<N: Listener, A: Allocator + Clone + Copy> Shared<N, A, Folded> {
-    /// Shares a new core, whose pages are told apart by the fast hash of the toolchain. Refused as `with_digest` is.
-    pub fn new(core: Core<N, A>) -> Result<Shared<N, A, Folded>, Core<N, A>>
-        requires log { IfLog core.log (λ log. log ≡ []) }
-        ensures config { IfOk result (λ shared. shared ≡ core.cache.config) }
-        ensures core_returned { IfErr result (λ back. back ≡ core) }
-    {
-        Shared::with_digest(core, Folded)
-    }
-}
-
-impl<N: Listener, A: Allocator, G: Digest + Copy> Shared<N, A, G> {
+impl<N: Listener, A: Allocator> Shared<N, A> {
     /// The number of the next client. Refused with `TooManyClients` after the 64th.
     pub(crate) fn next_client<R: Wait>(&self, rt: &R) -> Result<u8, Refusal>
         ensures few { IfOk result (λ number. number < 64) }
@@ -158,7 +152,7 @@ impl<N: Listener, A: Allocator, G: Digest + Copy> Shared<N, A, G> {
     }
 
     /// The core, and the configuration that was kept.
-    pub(crate) fn into_parts(self) -> (TrackedCore<N, A, G>, Config<A>)
+    pub(crate) fn into_parts(self) -> (TrackedCore<N, A, Folded>, Config<A>)
         ensures { result.1 ≡ self }
     {
         let Shared {
@@ -167,7 +161,6 @@ impl<N: Listener, A: Allocator, G: Digest + Copy> Shared<N, A, G> {
             fillers: _,
             reclaimer: _,
             replies: _,
-            digest: _,
             config,
         } = self;
         let Guarded {
@@ -219,28 +212,28 @@ impl<N: Listener, A: Allocator, G: Digest + Copy> Shared<N, A, G> {
     }
 
     /// Calls the workers of this kind.
-    pub(crate) fn call(&self, held: &mut Guarded<N, A, G>, worker: Worker) {
+    pub(crate) fn call(&self, held: &mut Guarded<N, A>, worker: Worker) {
         held.crew.call(worker);
         self.bell(worker).notify_all();
     }
 
     /// Calls all workers.
-    pub(crate) fn call_all(&self, held: &mut Guarded<N, A, G>) {
+    pub(crate) fn call_all(&self, held: &mut Guarded<N, A>) {
         held.crew.call_all();
         self.ring();
     }
 
     /// The same, and wakes the calls that wait.
-    pub(crate) fn wake(&self, held: &mut Guarded<N, A, G>) {
+    pub(crate) fn wake(&self, held: &mut Guarded<N, A>) {
         self.call_all(held);
         self.replies.notify_all();
     }
 }
 
-impl<N: Notes<Note<A>>, A: Allocator + Clone + Copy, G: Digest + Copy> Shared<N, A, G> {
+impl<N: Notes<Note<A>>, A: Allocator + Clone + Copy> Shared<N, A> {
     /// Calls the workers that find something to do behind a step, or all where one of them was out of memory. (A region is to
     /// be given up behind the writer's steps alone.)
-    pub(crate) fn stepped(&self, held: &mut Guarded<N, A, G>) {
+    pub(crate) fn stepped(&self, held: &mut Guarded<N, A>) {
         if held.crew.is_starved() {
             return self.call_all(held);
         }
@@ -254,13 +247,13 @@ impl<N: Notes<Note<A>>, A: Allocator + Clone + Copy, G: Digest + Copy> Shared<N,
     }
 
     /// The same, and wakes the calls that wait.
-    pub(crate) fn answered(&self, held: &mut Guarded<N, A, G>) {
+    pub(crate) fn answered(&self, held: &mut Guarded<N, A>) {
         self.stepped(held);
         self.replies.notify_all();
     }
 }
 
-impl<N: Notes<Note<A>>, A: Allocator + Clone + Copy, G: Digest + Copy> Shared<N, A, G> {
+impl<N: Notes<Note<A>>, A: Allocator + Clone + Copy> Shared<N, A> {
     /// Moves the clock on, as `Core::tick` does, and answers the moment that holds then. Wakes who waits, since turns end by
     /// the clock.
     pub(crate) fn tick<R: Wait>(&self, rt: &R, moment: u64) -> Result<u64, Refusal>

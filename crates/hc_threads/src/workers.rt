@@ -6,13 +6,13 @@ use crate::shared::{Guarded, Shared, Stage};
 use hc_flash::{IoResult, Order};
 use hc_history::{Listener, Note, Notes};
 use hc_nvm::{Take, Unfinished};
-use hc_paged::Digest;
+use hc_paged::Folded;
 use hc_tracked::digest_of;
 use hc_types::Refusal;
 use std::alloc::{AllocError, Allocator};
 use std::sync::Wait;
 
-impl<N: Listener, A: Allocator, G: Digest + Copy> Shared<N, A, G> {
+impl<N: Listener, A: Allocator> Shared<N, A> {
     /// Has so many workers begin, which take no work yet.
     pub(crate) fn begin<R: Wait>(&self, rt: &R, workers: u32) {
         let mut held = self.guarded.lock(rt);
@@ -65,23 +65,23 @@ impl<N: Listener, A: Allocator, G: Digest + Copy> Shared<N, A, G> {
     }
 
     /// There was no memory for what the worker is at.
-    fn starve(&self, held: &mut Guarded<N, A, G>, turn: &mut Turn) {
+    fn starve(&self, held: &mut Guarded<N, A>, turn: &mut Turn) {
         held.crew.starve(turn);
         self.ring();
         self.tell_stuck(held);
     }
 
     /// Wakes the calls that wait where the workers are stuck.
-    fn tell_stuck(&self, held: &Guarded<N, A, G>) {
+    fn tell_stuck(&self, held: &Guarded<N, A>) {
         if held.crew.is_stuck() {
             self.replies.notify_all();
         }
     }
 }
 
-impl<N: Notes<Note<A>>, A: Allocator + Clone + Copy, G: Digest + Copy> Shared<N, A, G> {
+impl<N: Notes<Note<A>>, A: Allocator + Clone + Copy> Shared<N, A> {
     /// Behind a worker's job: calls those that find something to do, and wakes the calls that wait.
-    fn worked(&self, held: &mut Guarded<N, A, G>, worker: Worker) {
+    fn worked(&self, held: &mut Guarded<N, A>, worker: Worker) {
         if worker == Worker::Writer {
             self.call(held, Worker::Reclaimer);
         }
@@ -115,7 +115,7 @@ impl<N: Notes<Note<A>>, A: Allocator + Clone + Copy, G: Digest + Copy> Shared<N,
         job: u64,
         came: IoResult<A>,
     ) -> Result<Option<Order<A>>, IoResult<A>> {
-        let digest = digest_of(&self.digest, &came);
+        let digest = digest_of(&Folded, &came);
         let mut held = self.guarded.lock(rt);
         match held.cache.finish(job, came, digest) {
             Ok(Take::Work(_, next)) => {
@@ -145,8 +145,8 @@ impl<N: Notes<Note<A>>, A: Allocator + Clone + Copy, G: Digest + Copy> Shared<N,
 }
 
 /// What the worker takes. A filler takes first what clients left.
-fn take_as<N: Notes<Note<A>>, A: Allocator + Clone + Copy, G: Digest + Copy>(
-    held: &mut Guarded<N, A, G>,
+fn take_as<N: Notes<Note<A>>, A: Allocator + Clone + Copy>(
+    held: &mut Guarded<N, A>,
     worker: Worker,
 ) -> Result<Take<A>, Refusal> {
     match worker {
@@ -163,8 +163,8 @@ fn take_as<N: Notes<Note<A>>, A: Allocator + Clone + Copy, G: Digest + Copy>(
 }
 
 /// A filler takes a job that was left, with the operation for which it waits, which is made anew.
-fn take_left<N: Notes<Note<A>>, A: Allocator + Clone + Copy, G: Digest + Copy>(
-    held: &mut Guarded<N, A, G>,
+fn take_left<N: Notes<Note<A>>, A: Allocator + Clone + Copy>(
+    held: &mut Guarded<N, A>,
     job: u64,
 ) -> Result<Take<A>, Refusal> {
     let take = match held.cache.cache().order(job) {
