@@ -1,31 +1,28 @@
 #!/usr/bin/env bash
 # Replays a trace and shows its answers: ./replay.sh --help says how it is called.
 #
-# The program is hc_replay_plain. It is built where a crate at or below it has changed since this script proved it last: a file of its src/,
-# specs/ or proofs/, or its line in crates.txt. Before that dist/ is asked for a program that was built of these very sources. Where a build
-# takes long, the trace is answered first by a build that nothing has proved.
+# The program is hc_replay_plain: the one of dist/, or one that was built here later, as tools/dist says. With --prove it is built anew
+# where a crate at or below it has changed since this script proved it last: a file of its src/, specs/ or proofs/, or its line in
+# crates.txt.
 set -euo pipefail
 shopt -s globstar nullglob dotglob lastpipe
 
-usage="usage: ./replay.sh [TRACE | -]
+usage="usage: ./replay.sh [--prove] [TRACE | -]
 
 Replays a trace on a cache and prints its answers: that of the file TRACE, of standard input for -, of traces/first-with-flash.trace
 where none is named. docs/FORMATS.md says what a trace is, what is answered, and what the status says. Where a line of the trace is at fault,
 or the configuration is refused, that line and its right form are shown on standard error. The status is 2 also where the trace can't be
 read or the command line is wrong, and 1 also where the program can't be built.
 
-Where dist/ has the program, built of the very sources that are here, that one is taken. Else it is built first where it has to be, crate by
-crate, lowest first: each crate that has changed is proved. The first time that takes an hour or two. So a trace that is a file is answered before that, in a minute or two, by a build that isn't proved yet and checks
-itself as it runs; once all is proved, it is told whether the proved program answers the same. Ctrl-C ends it at any time. What is proved
-by then stays, and the next call goes on there."
+The program is the one of dist/, or one that was built here later; where code has changed since, that is said. With --prove it is built
+first where it has to be, by the toolchain's rt, crate by crate, lowest first: each crate that has changed is proved, and how long that
+takes is said before. Ctrl-C ends it at any time. What is proved by then stays, and the next call goes on there."
 
 top="$(dirname -- "$(realpath -- "$0")")"
 default="$top/traces/first-with-flash.trace"
 name=hc_replay_plain
 program="$top/crates/$name/out/$name"
 kept_bytes=16777216 # so much of a trace that comes through a pipe is kept until its end
-most_tried=4194304  # so many bytes of a trace are answered before the proofs at most (`rt try` has no answer past 1 MiB of answers)
-worth_trying=300    # the hundredths of a minute of proofs before which it is
 other_minutes=100   # the hundredths of a minute that a crate is taken to need where no gate has measured it
 crates=()           # the crates that the program stands on, lowest first, and itself
 left=()             # those of them that are still to be proved
@@ -35,8 +32,6 @@ begun=0             # the second at which it began to
 work=""             # a folder of this run's own
 log=""              # the file in it with what a build says
 has_run=0           # whether that was run
-tried=""            # the file in it with what a build that isn't proved answered
-tried_status=0
 declare -A line_of=() minutes_of=()
 
 refuse() {
@@ -119,17 +114,15 @@ find_left() {
     [ -x "$program" ] || [[ " ${left[*]} " == *" $name "* ]] || left+=("$name")
 }
 
-# Takes the program of dist/, where it was built of the sources that are here, and says so. It was proved then, so that nothing is left.
-take_built() {
-    local said
-    [ -f "$top/dist/MANIFEST" ] || return 0
-    if said="$("$top/tools/dist" --take "$name")"; then
-        program="${said%%$'\n'*}"
-        left=()
-        echo "replay.sh: takes $program, ${said#*$'\n'}" >&2
-    else
-        echo "replay.sh: builds $name, since $said" >&2
+# Takes the program that there is, and says where code has changed since it was built.
+take_program() {
+    local taken
+    if ! taken="$("$top/tools/dist" --take "$name")"; then
+        echo "replay.sh: there is no $name, since $taken: ./replay.sh --prove builds it" >&2
+        exit 1
     fi
+    program="${taken%%$'\n'*}"
+    [ "$program" = "$taken" ] || echo "replay.sh: ${taken#*$'\n'}" >&2
 }
 
 # Prints the sum of the minutes of these crates, in hundredths.
@@ -162,26 +155,6 @@ watch() {
         fi
     done
     [ ! -t 2 ] || printf '\r\e[K' >&2
-}
-
-# Tells on a terminal for how long a build that nothing proves has been made and run.
-tell_try() {
-    [ ! -t 2 ] || printf '\r\e[K%d:%02d' $(($1 / 60)) $(($1 % 60)) >&2
-}
-
-# Answers the trace in this file by a build that nothing has proved. Returns whether it could.
-answer_unproved() {
-    [ "$(wc -c < "$1")" -le "$most_tried" ] || return 1
-    echo "These first answers are of a build that isn't proved yet, and checks itself as it runs (a minute or two):" >&2
-    tried="$work/tried"
-    (cd "$top/crates/$name" && exec rt try --seconds 120 2>&1 > "$tried") < "$1" | watch tell_try || tried_status=$?
-    if ! tail -n 1 "$log" | grep -q '^run=ended '; then
-        echo "replay.sh: there are none: $(tail -n 1 "$log")" >&2
-        tried=""
-        return
-    fi
-    cat "$tried"
-    [ "$tried_status" != 1 ] || explain "$1" "$(tail -n 1 "$tried")"
 }
 
 # Tells which crate is being proved, on a terminal also for how long, and how many minutes are left: those of processor that the
@@ -220,7 +193,8 @@ build() {
     local crate kept
     begun="$SECONDS"
     to_do="$(minutes "${left[@]}")"
-    echo "Now $name is proved, with what it stands on: ${#left[@]} of ${#crates[@]} crates are left. Ctrl-C ends it: what is proved by then stays." >&2
+    echo "replay.sh: proves $name and what it stands on: ${#left[@]} of ${#crates[@]} crates are left, which took the gate" \
+        "$(((to_do + 99) / 100)) minutes of processor. Ctrl-C ends it: what is proved by then stays." >&2
     for crate in "${left[@]}"; do
         : > "$log"
         if ! build_crate "$crate"; then
@@ -233,6 +207,23 @@ build() {
         to_do=$((to_do - $(minutes "$crate")))
         over=$((over + $(minutes "$crate")))
     done
+}
+
+# Proves what has changed, and takes the program that comes of it.
+prove() {
+    read_crates
+    read_minutes
+    add_crate "$name"
+    find_left
+    [ ${#left[@]} -gt 0 ] || return 0
+    if ! command -v rt > /dev/null; then
+        echo "replay.sh: to prove takes the toolchain, whose rt isn't here" >&2
+        exit 1
+    fi
+    log="$work/log"
+    trap '[ ! -t 2 ] || echo >&2; exit 130' INT
+    build
+    trap - INT
 }
 
 # Says on standard error which line of the trace in this file is at fault, and why, where its last answer is this.
@@ -249,20 +240,6 @@ explain_file() {
     local last
     last="$("$program" < "$1" 2> /dev/null | tail -n 1)" || true
     explain "$1" "$last"
-}
-
-# Replays standard input, a file that was answered before the proofs, and says whether the proved program answers the same.
-replay_again() {
-    local status=0
-    "$program" > "$work/answers" || status=$?
-    if [ "$status" = "$tried_status" ] && cmp -s "$tried" "$work/answers"; then
-        echo "All is proved now, and the proved program answers the same, with status $status." >&2
-    else
-        echo "replay.sh: all is proved now, and the PROVED PROGRAM ANSWERS OTHERWISE, with status $status:" >&2
-        cat "$work/answers"
-        [ "$status" != 1 ] || explain_file "$1"
-    fi
-    exit "$status"
 }
 
 # Replays standard input, which is this file.
@@ -289,39 +266,25 @@ replay_pipe() {
     exit "$status"
 }
 
+proves=0
 case "${1:-}" in
     -h | --help)
         printf '%s\n' "$usage"
         exit
+        ;;
+    --prove)
+        proves=1
+        shift
         ;;
     -?*) refuse "$usage" ;;
 esac
 [ $# -le 1 ] || refuse "$usage"
 trace="${1-$default}"
 open_trace "$trace"
-read_crates
-read_minutes
-add_crate "$name"
-find_left
-[ ${#left[@]} -eq 0 ] || take_built
-if [ ${#left[@]} -gt 0 ] && ! command -v rt > /dev/null; then
-    echo "replay.sh: $name isn't built, and to build it takes the toolchain, whose rt isn't here" >&2
-    exit 1
-fi
 work="$(mktemp -d)"
-log="$work/log"
 trap 'rm -rf "$work"' EXIT
-if [ ${#left[@]} -gt 0 ]; then
-    trap '[ ! -t 2 ] || echo >&2; exit 130' INT
-    if [ -f "$trace" ] && [ "$(minutes "${left[@]}")" -ge "$worth_trying" ]; then
-        answer_unproved "$trace" || true
-    fi
-    build
-    trap - INT
-fi
-if [ -n "$tried" ]; then
-    replay_again "$trace"
-elif [ -f "$trace" ]; then
+if [ "$proves" = 1 ]; then prove; else take_program; fi
+if [ -f "$trace" ]; then
     replay_file "$trace"
 elif [ -t 0 ]; then
     "$program"

@@ -3,6 +3,7 @@
 #
 #   bindings/build.sh            library, C checks and examples (under valgrind too, where there is one), cargo test, the server; with rt
 #                                also the example in Rattle
+#   bindings/build.sh --library  the library alone
 #   bindings/build.sh --c        library and C checks alone
 #   bindings/build.sh --speed    also the comparison with other caches, where Debian's crate `lru` (librust-lru-dev) is installed
 #   bindings/build.sh --trial    also a service before a slow database, with leases and without, where that crate is installed
@@ -10,7 +11,8 @@
 #   bindings/build.sh --server   also the server's long runs: many lines beside memcached and damaged ones, and what it costs
 #
 # What it makes lies in bindings/out, as in a prefix: lib, lib/pkgconfig and include. PREFIX is what the file for pkg-config
-# names, where the three are to be copied elsewhere. What a machine lacks is skipped, and said so.
+# names, where the three are to be copied elsewhere. What a machine lacks is skipped, and said so. Without rt the library is the one
+# of dist/.
 set -eu
 here=$(cd "$(dirname "$0")" && pwd)
 crate=$here/../crates/hc_c
@@ -33,7 +35,9 @@ library() {
 mkdir -p "$out"
 if has rt && has ar; then
     kit=$(dirname "$(dirname "$(readlink -f "$(command -v rt)")")")
-elif ! taken=$("$here/../tools/dist" --take hc_c); then
+elif taken=$("$here/../tools/dist" --take hc_c); then
+    cp -p "$(echo "$taken" | head -n 1)" "$out/taken.a" # (as old as it is there: it isn't built now)
+else
     echo "build.sh: the library needs rt and ar, and $taken" >&2
     exit 1
 fi
@@ -52,14 +56,11 @@ if [ -n "${kit-}" ]; then
     (cd "$out/objects" && ar x "$crate/out/libhc_c.a" && ar x "$kit/c/liblibc_c.a" && ar rcsD "$out/lib/libkilambosetry.a" ./*)
 else
     echo "$taken"
-    cp "$(echo "$taken" | head -n 1)" "$out/lib/"
+    mv "$out/taken.a" "$out/lib/libkilambosetry.a"
 fi
 cp "$here"/c/*.h "$out/include/"
 sed "s|@prefix@|${PREFIX:-$out}|" "$here/c/kilambosetry.pc.in" >"$out/lib/pkgconfig/kilambosetry.pc"
-
-if [ -f "$here/../dist/MANIFEST" ]; then
-    "$here/../tools/dist" --check
-fi
+[ "${1-}" != --library ] || exit 0
 
 echo "== C"
 if has cc; then
