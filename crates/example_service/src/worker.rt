@@ -1,7 +1,7 @@
 // The worker of a cache: it takes jobs, does their operations on the device, and hands in what came of them.
 use crate::metered::Metered;
 use hc_core::{Core, Counting, IoResult, Order, Refusal, Take, Unfinished};
-use hc_paged::{Checked, Device, FileDevice, Folded, OpenError, open, operate};
+use hc_paged::{Checked, Device, FileDevice, SipHash, OpenError, open, operate};
 use std::alloc::Global;
 use std::fs::File;
 use std::io::{self, ErrorKind};
@@ -13,7 +13,7 @@ const PAGES: u32 = 16;
 const PAGE: u32 = 512;
 
 // A file, and the digest of each of its pages: what the disk lost or tore isn't served. Over it a meter of the service's own.
-type Disk = Metered<Checked<FileDevice<File>, Folded>>;
+type Disk = Metered<Checked<FileDevice<File>, SipHash>>;
 
 // The device does one operation. One that it can't do for lack of memory has failed: the cache does without it.
 fn make(device: &mut Disk, order: &Order) -> IoResult {
@@ -38,7 +38,7 @@ impl Worker {
         path: &str,
     ) -> Result<Worker, OpenError> {
         let file = open(rt, alloc, path, PAGES, PAGE)?;
-        match Checked::new(alloc, file, Folded, PAGES) {
+        match Checked::new(alloc, file, SipHash, PAGES) {
             Ok(device) => Ok(Worker {
                 device: Metered::new(device),
                 owed: None,

@@ -1,7 +1,10 @@
 // Digests of pages.
-ghost use Rattle.std.specs.Prelude.{◌≡◌, ◌<◌, ℕ, List};
+ghost use Rattle.std.specs.Prelude.{◌≡◌, ◌<◌, ◌^◌, ℕ, List};
+ghost use Rattle.std.specs.declared.hash.DefaultHasher.{DefaultHasher as State};
+ghost use Rattle.std.specs.Hash.DefaultHasher.{write_word};
+ghost use Rattle.hc_paged.specs.Digests.{IsState};
 
-use std::hash::{FoldHasher, Hasher};
+use std::hash::{DefaultHasher, Hasher};
 
 /// A number by which one page is told from another. It is never 0, which stands for a page of which nothing is known.
 pub trait Digest: Drop {
@@ -27,19 +30,26 @@ impl Digest for Undigested {
     }
 }
 
-/// The toolchain's fast hash, which takes 16 bytes at a time; where it is 0, the digest is 1. It has a fixed seed, and isn't
-/// made against an enemy: who chooses what is written can find two pages with one digest.
+/// SipHash-1-3 (Aumasson and Bernstein, 2012) with both keys 0, of all bytes, as Rust's `DefaultHasher` has it; where it is 0, the
+/// digest is 1. It finds what a fault made. It has no secret, so that who chooses what is written, and when the device fails,
+/// can look for two pages with one digest.
 #[derive(Clone, Copy, Debug, Default)]
-pub struct Folded;
+pub struct SipHash;
 
-impl Digest for Folded {
-    ghost use Rattle.hc_paged.specs.Digests.{folded};
+impl Digest for SipHash {
+    ghost use Rattle.hc_paged.specs.Digests.{sip_hash};
 
-    ghost of = { folded };
+    ghost of = { sip_hash };
 
     fn digest(&self, bytes: &[u8]) -> u64 {
-        let mut hasher = FoldHasher::default();
+        let mut hasher = DefaultHasher::new();
         hasher.write(bytes);
         hasher.finish().max(1)
     }
 }
+
+/// States of SipHash that differ before a word of eight bytes differ behind it, whatever the word is. So no word makes the
+/// digest blind for what stands before it.
+pub fn states_stay_apart()
+    ensures { (s : State) (t : State) (word : ℕ) → IsState s → IsState t → word < 2 ^ 64 → write_word s word ≡ write_word t word → s ≡ t }
+{}

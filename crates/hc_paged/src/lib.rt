@@ -14,7 +14,7 @@ mod telling;
 
 pub use checked::Checked;
 pub use device::Device;
-pub use digest::{Digest, Folded, Undigested};
+pub use digest::{Digest, SipHash, Undigested, states_stay_apart};
 pub use file::FileDevice;
 pub use opening::{OpenError, open};
 pub use operation::operate;

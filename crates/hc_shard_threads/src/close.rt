@@ -1,7 +1,7 @@
 // The end: what the logs and the records come to.
 ghost use Rattle.std.specs.Prelude.{◌≡◌, ◌<◌, ◌≤◌, ℕ, true, false, List, Some, All, length, slice_get, IfOk, IfErr};
 ghost use Rattle.hc_client_records.specs.Records.{Record as Did, failures as failures_in_log};
-ghost use Rattle.hc_paged.specs.Digests.{folded};
+ghost use Rattle.hc_paged.specs.Digests.{sip_hash};
 ghost use Rattle.hc_shards.specs.Shards.{share_of};
 ghost use Rattle.hc_shard_threads.specs.Closed.{AreClosed, IsColumn, IsOf, IsUnclosed};
 
@@ -66,7 +66,7 @@ impl Shards<Kept, Global> {
     /// records, and all together by how often the device failed, lies among it. The reports stand in the order of the
     /// shards' numbers.
     pub fn close(self, clients: &[ShardClient], failures: u64) -> Result<Vec<Report>, Unclosed>
-        ensures ok { IfOk result (λ reports. AreClosed folded (share_of self) self.shards clients.now failures reports.items) }
+        ensures ok { IfOk result (λ reports. AreClosed sip_hash (share_of self) self.shards clients.now failures reports.items) }
         ensures err { IfErr result (λ e. IsUnclosed self clients.now failures e) }
     {
         let shards = self.count();

@@ -9,7 +9,7 @@ ghost use Rattle.hc_client_records.specs.Records as records;
 ghost use Rattle.hc_client_records.specs.Records.{Reconciled};
 ghost use Rattle.hc_core.specs.Logged.{Logged};
 ghost use Rattle.hc_marked.specs.Marked.{Marked, NoneCollides};
-ghost use Rattle.hc_paged.specs.Digests.{folded};
+ghost use Rattle.hc_paged.specs.Digests.{sip_hash};
 ghost use Rattle.hc_threads.specs.Settled.{IsSettled};
 
 use crate::shared::Shared;
@@ -87,10 +87,10 @@ impl Shared<Kept, Global> {
         ensures legal { IfOk result (λ r. r.lie ≡ None → Legal self r.log.items) }
         ensures agrees { IfOk result (λ r. Reconciled r.log.items (map T.recorded clients.now)) }
         ensures failed { IfOk result (λ r. records.failures r.log.items ≤ failures) }
-        ensures marked { IfOk result (λ r. Marked folded r.log.items) }
-        ensures honest { IfOk result (λ r. NoneCollides folded r.log.items → Honest r.log.items) }
-        ensures no_lie { IfOk result (λ r. NoneCollides folded r.log.items → r.lie ≡ None) }
-        ensures lawful { IfOk result (λ r. NoneCollides folded r.log.items → Legal self r.log.items) }
+        ensures marked { IfOk result (λ r. Marked sip_hash r.log.items) }
+        ensures honest { IfOk result (λ r. NoneCollides sip_hash r.log.items → Honest r.log.items) }
+        ensures no_lie { IfOk result (λ r. NoneCollides sip_hash r.log.items → r.lie ≡ None) }
+        ensures lawful { IfOk result (λ r. NoneCollides sip_hash r.log.items → Legal self r.log.items) }
         ensures settled { (core : Logged) × IsSettled core self (map T.recorded clients.now) failures result }
     {
         let (tracked, config) = self.into_parts();

@@ -9,7 +9,7 @@ use hc_history::{Note, Notes, Reply};
 use hc_leased::Lookup;
 use hc_memory::ReadHandle;
 use hc_nvm::Take;
-use hc_paged::{Device, Folded};
+use hc_paged::{Device, SipHash};
 use hc_tracked::digest_of;
 use hc_types::{Key, Refusal};
 use std::alloc::Allocator;
@@ -165,7 +165,7 @@ impl<N: Notes<Note<A>>, A: Allocator + Clone + Copy> Shared<N, A> {
         job: u64,
         came: IoResult<A>,
     ) -> (MutexGuard<'x, Guarded<N, A>>, Result<Take<A>, Refusal>) {
-        let digest = digest_of(&Folded, &came);
+        let digest = digest_of(&SipHash, &came);
         let mut held = self.guarded.lock(rt);
         let finished = match held.cache.finish(job, came, digest) {
             Ok(take) => Ok(take),

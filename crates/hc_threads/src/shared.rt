@@ -12,7 +12,7 @@ use hc_core::Core;
 use hc_history::{Listener, Note, Notes};
 use hc_leased::{DEFAULT_SLOTS, KeptItem, Leased, Ticket};
 use hc_memory::{Blank, Fill, Sealed, Uncharged};
-use hc_paged::Folded;
+use hc_paged::SipHash;
 use hc_state::{Removed, Unlinked};
 use hc_tracked::TrackedCore;
 use hc_types::{Config, Key, Refusal};
@@ -32,7 +32,7 @@ pub(crate) enum Stage {
 /// What lies under the lock. Whoever takes the lock finds a cache with leases, and what is true of each is all that is known.
 #[derive(Drop)]
 pub(crate) struct Guarded<N: Listener, A: Allocator> {
-    pub(crate) cache: Leased<TrackedCore<N, A, Folded>, A>,
+    pub(crate) cache: Leased<TrackedCore<N, A, SipHash>, A>,
     pub(crate) stage: Stage,
     pub(crate) crew: Crew,
     pub(crate) left: Left,
@@ -115,7 +115,7 @@ impl<N: Listener, A: Allocator + Clone + Copy> Shared<N, A> {
             return Err(core);
         };
         let alloc = *config.pools.allocator();
-        let tracked = TrackedCore::new(core, Folded, alloc)?;
+        let tracked = TrackedCore::new(core, SipHash, alloc)?;
         let places = (slots / 16).max(1);
         let cache = match Leased::new(alloc, tracked, slots.max(1), places) {
             Ok(cache) => cache,
@@ -152,7 +152,7 @@ impl<N: Listener, A: Allocator> Shared<N, A> {
     }
 
     /// The core, and the configuration that was kept.
-    pub(crate) fn into_parts(self) -> (TrackedCore<N, A, Folded>, Config<A>)
+    pub(crate) fn into_parts(self) -> (TrackedCore<N, A, SipHash>, Config<A>)
         ensures { result.1 ≡ self }
     {
         let Shared {

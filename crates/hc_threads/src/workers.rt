@@ -6,7 +6,7 @@ use crate::shared::{Guarded, Shared, Stage};
 use hc_flash::{IoResult, Order};
 use hc_history::{Listener, Note, Notes};
 use hc_nvm::{Take, Unfinished};
-use hc_paged::Folded;
+use hc_paged::SipHash;
 use hc_tracked::digest_of;
 use hc_types::Refusal;
 use std::alloc::{AllocError, Allocator};
@@ -115,7 +115,7 @@ impl<N: Notes<Note<A>>, A: Allocator + Clone + Copy> Shared<N, A> {
         job: u64,
         came: IoResult<A>,
     ) -> Result<Option<Order<A>>, IoResult<A>> {
-        let digest = digest_of(&Folded, &came);
+        let digest = digest_of(&SipHash, &came);
         let mut held = self.guarded.lock(rt);
         match held.cache.finish(job, came, digest) {
             Ok(Take::Work(_, next)) => {

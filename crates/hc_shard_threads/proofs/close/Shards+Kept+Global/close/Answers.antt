@@ -2,7 +2,7 @@ use Rattle.std.proofs.Common.{◌≡◌, ◌∷◌, ◌<◌, ◌≤◌, ◌+◌,
 use Rattle.std.proofs.lemmas.List.{length_push}
 use Rattle.std.proofs.lemmas.Option.{slice_get_read}
 use Rattle.std.specs.Vec.Iter.{into_iter_items}
-use Rattle.hc_paged.specs.Digests.{folded}
+use Rattle.hc_paged.specs.Digests.{sip_hash}
 use Rattle.hc_types.specs.Config.{Config}
 use Rattle.hc_client_records.specs.Records.{failures}
 use Rattle.hc_threads.specs.declared.close.Report.{Report}
@@ -49,13 +49,13 @@ loop-lane-preserved g c =
     let report = c.in-Ok-close.report in
     let own : c.failures.result ≡ failures report.log.items = c.failures.ensures ∙ ap failures c.as_slice-in-loop-lane.ensures.value in
     let few : c.failures.result ≤ l.left = omega (arith, own, says.failed) in
-    let closed = closed-of folded share lane c.args.clients.now l.shard column c.as_slice.result.now report of (c.as_slice.ensures.value ∙ c.behind-columns.view_is) next.same says.config says.stats says.lie says.legal says.agrees says.marked says.honest says.no_lie says.lawful in
+    let closed = closed-of sip_hash share lane c.args.clients.now l.shard column c.as_slice.result.now report of (c.as_slice.ensures.value ∙ c.behind-columns.view_is) next.same says.config says.stats says.lie says.legal says.agrees says.marked says.honest says.no_lie says.lawful in
     record {
       lanes = next.others;
       counted = omega (arith, ap (λ (xs : List Config). length xs) first, inv.counted, c.in-Some.ensures.steps.1);
       count = ap (λ (xs : List Report). length xs) push.items ∙ length_push l.reports.items report ∙ ap (λ n. n + 1) inv.count;
       few = omega (arith, next.below);
-      each = each-push (λ n r. IsClosed folded share c.args.clients.now n r) l.reports.items c.push_reserved.new.self.items report l.shard push.items inv.count inv.each closed;
+      each = each-push (λ n r. IsClosed sip_hash share c.args.clients.now n r) l.reports.items c.push_reserved.new.self.items report l.shard push.items inv.count inv.each closed;
       failed = failed-more l.reports.items c.push_reserved.new.self.items report l.left c.args.failures c.failures.result push.items own few inv.failed;
       room = omega (arith, push.capacity, inv.room);
     }
@@ -79,7 +79,7 @@ loop-lane-init g c =
       counted = ap (λ (xs : List Config). length xs) gives.0 ∙ sym c.into_lanes-lane-items.result.ok.0 ∙ sym gives.1;
       count = ap (λ (rs : List Report). length rs) none;
       few = omega arith;
-      each = none-yet (λ n r. IsClosed folded share c.args.clients.now n r) reports none;
+      each = none-yet (λ n r. IsClosed sip_hash share c.args.clients.now n r) reports none;
       failed = omega (arith, no_failure);
       room = omega (arith, c.in-Ok-with_capacity.ensures.capacity, c.from.ensures);
     }

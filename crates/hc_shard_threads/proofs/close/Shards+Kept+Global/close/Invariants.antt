@@ -1,7 +1,7 @@
 use Rattle.std.proofs.Common.{◌≡◌, ◌≤◌, ◌+◌, ◌-◌, ℕ, Some, length, replicate, slice_get}
 use Rattle.std.specs.Prelude.{vec_capacity}
 use Rattle.std.specs.Vec.Iter.{into_iter_items, into_iter_len}
-use Rattle.hc_paged.specs.Digests.{folded}
+use Rattle.hc_paged.specs.Digests.{sip_hash}
 use Rattle.hc_threads.specs.declared.close.Report.{Report}
 use Rattle.hc_shards.specs.Shards.{share_of}
 use Rattle.hc_shard_threads.specs.Closed.{IsClosed, failures_in}
@@ -14,7 +14,7 @@ invariant-loop-lane g l = record {
   counted : length (into_iter_items l.lane-iterator) ≡ into_iter_len l.lane-iterator;
   count : length l.reports.items ≡ l.shard;
   few : l.shard ≤ l.shards;
-  each : (n : ℕ) (r : Report) → slice_get l.reports.items n ≡ Some r → IsClosed folded (share_of l.fn.self) l.clients n r;
+  each : (n : ℕ) (r : Report) → slice_get l.reports.items n ≡ Some r → IsClosed sip_hash (share_of l.fn.self) l.clients n r;
   failed : failures_in l.reports.items + l.left ≡ l.failures;
   room : l.shards ≤ vec_capacity l.reports;
 }

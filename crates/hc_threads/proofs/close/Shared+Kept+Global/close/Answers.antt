@@ -1,5 +1,5 @@
 use Rattle.std.proofs.Common.{◌≡◌, ◌≢◌, ◌⊎◌, ◌<◌, None, IfOk, OnOk, OnErr, map, subst}
-use Rattle.hc_paged.specs.Digests.{folded}
+use Rattle.hc_paged.specs.Digests.{sip_hash}
 use Rattle.hc_types.specs.Config.{Config}
 use Rattle.hc_history.specs.Lawful.{Legal}
 use Rattle.hc_history.specs.Told.{IfLog}
@@ -28,11 +28,11 @@ returns-clause-marked g c = marked-report _ _ _ _ c.settle.ensures.log (rw c.int
 
 -- so it is honest where no page collides, and then there is no lie in it, and it is legal
 pub returns-clause-honest : goal.returns-clause-honest
-returns-clause-honest g c = honest_report folded c.args.self c.settle.result (returns-clause-marked g c)
+returns-clause-honest g c = honest_report sip_hash c.args.self c.settle.result (returns-clause-marked g c)
 
 pub returns-clause-no_lie : goal.returns-clause-no_lie
-returns-clause-no_lie g c = true_report folded c.args.self c.settle.result (returns-clause-marked g c) c.settle.ensures.lie
+returns-clause-no_lie g c = true_report sip_hash c.args.self c.settle.result (returns-clause-marked g c) c.settle.ensures.lie
 
 pub returns-clause-lawful : goal.returns-clause-lawful
-returns-clause-lawful g c = lawful_report folded c.args.self c.settle.result (returns-clause-marked g c) c.settle.ensures.lie
+returns-clause-lawful g c = lawful_report sip_hash c.args.self c.settle.result (returns-clause-marked g c) c.settle.ensures.lie
     (subst (λ (config : Config). IfOk c.settle.result (λ r. r.lie ≡ None → Legal config r.log.items)) c.into_parts-tracked.ensures c.settle.ensures.legal)
