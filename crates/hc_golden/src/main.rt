@@ -1,27 +1,20 @@
 //! Replays the traces of each folder that it is given, judges its logs, and compares what is printed with the answers and
 //! the verdicts that stand beside them. A line for each says `ok`, or in which line they differ first. Then the log that
 //! each trace leaves is judged, note by note: a line says how many were, and one for each that isn't legal and honest what is
-//! wrong with it. Then each trace is tried with hostile use: memory that is refused, calls that must be, devices that fail and lie.
-//! Lines say how much was tried, and the first difference ends the trials of a folder. The status is 0 where all are as wanted, 1
-//! where one isn't, and 2 where a folder or a file can't be read.
+//! wrong with it. The status is 0 where all are as wanted, 1 where one isn't, and 2 where a folder or a file can't be read.
 #![tactic(auto)]
 
 mod difference;
 mod folder;
 mod judging;
 mod left;
-mod trying;
 
 use crate::folder::{answers_of, log_names, log_of, status_of, trace_names, trace_of, verdict_of};
 use crate::judging::{Verdict, judge, judge_log};
 use crate::left::judge_left;
-use crate::trying::{try_lying, try_traces};
 use hc_verdict::Verdict as Said;
 use std::process::ExitCode;
 use std::{env, io};
-
-// The folder with the traces over which devices lie.
-const LYING: &str = "traces";
 
 // Replays a trace of the folder, which is to end with this status.
 fn judged(rt: &HostRuntime, folder: &str, name: &str, status: u8) -> io::Result<Verdict> {
@@ -125,12 +118,6 @@ fn check_traces(rt: &HostRuntime, folder: &str) -> io::Result<bool> {
         all &= check_trace(rt, folder, name, status)?;
     }
     all &= check_all_left(rt, folder, &names)?;
-    if !names.is_empty() {
-        all &= try_traces(rt, folder, &names)?;
-    }
-    if folder == LYING {
-        all &= try_lying(rt, folder)?;
-    }
     Ok(all)
 }
 

@@ -1,2 +1,0 @@
--- What a configuration says.
-mod Configured

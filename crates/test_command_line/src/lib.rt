@@ -1,5 +1,0 @@
-//! Tests of which command lines `hc_replay` follows.
-#![tactic(auto)]
-
-#[cfg(test)]
-mod rows;
