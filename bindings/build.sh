@@ -3,6 +3,8 @@
 #
 #   bindings/build.sh            library, C checks and examples (under valgrind too, where there is one), cargo test, the server; with rt
 #                                also the example in Rattle
+#   bindings/build.sh --short    the same without what takes longest, valgrind and the thread sanitizer, and without `cargo test` and
+#                                `cargo doc` of the crate
 #   bindings/build.sh --library  the library alone
 #   bindings/build.sh --c        library and C checks alone
 #   bindings/build.sh --speed    also the comparison with other caches, where Debian's crate `lru` (librust-lru-dev) is installed
@@ -17,6 +19,7 @@ set -eu
 here=$(cd "$(dirname "$0")" && pwd)
 crate=$here/../crates/hc_c
 out=$here/out
+what=${1-}
 has() { command -v "$1" >/dev/null 2>&1; }
 # Runs a command on an empty folder, which goes afterwards.
 on_folder() {
@@ -25,6 +28,21 @@ on_folder() {
     "$@" "$out/files"
     rm -r "$out/files"
 }
+
+# Runs valgrind with these words, behind what it shows.
+under_valgrind() {
+    shows=$1
+    shift
+    if [ "$what" = --short ]; then
+        :
+    elif has valgrind; then
+        valgrind -q --error-exitcode=1 "$@"
+        echo "valgrind: $shows"
+    else
+        echo "skipped: no valgrind"
+    fi
+}
+all_leaks="--leak-check=full --show-leak-kinds=all --errors-for-leak-kinds=all"
 
 # The static library anew, over what the checker kept.
 library() {
@@ -60,7 +78,7 @@ else
 fi
 cp "$here"/c/*.h "$out/include/"
 sed "s|@prefix@|${PREFIX:-$out}|" "$here/c/kilambosetry.pc.in" >"$out/lib/pkgconfig/kilambosetry.pc"
-[ "${1-}" != --library ] || exit 0
+[ "$what" != --library ] || exit 0
 
 echo "== C"
 if has cc; then
@@ -71,12 +89,7 @@ if has cc; then
     # (unquoted: words)
     cc -std=c99 -Wall -Wextra -Wpedantic -Werror -O1 -g -o "$out/checks" "$here/c/checks.c" $flags
     "$out/checks"
-    if has valgrind; then
-        valgrind -q --leak-check=full --show-leak-kinds=all --errors-for-leak-kinds=all --error-exitcode=1 "$out/checks"
-        echo "valgrind: no error, nothing lost"
-    else
-        echo "skipped: no valgrind"
-    fi
+    under_valgrind "no error, nothing lost" $all_leaks "$out/checks"
 else
     echo "skipped: no cc"
 fi
@@ -104,17 +117,12 @@ elif ! makes "#include <pthread.h>" -pthread; then
 else
     service service-checks "$here/c/service_checks.c" $refusing
     "$out/service-checks" "$out"
-    if has valgrind; then
-        valgrind -q --fair-sched=yes --leak-check=full --show-leak-kinds=all --errors-for-leak-kinds=all --error-exitcode=1 \
-            "$out/service-checks" "$out" 16
-        echo "valgrind: no error, nothing lost"
-        valgrind -q --tool=helgrind --fair-sched=yes --suppressions="$here/c/helgrind.supp" --error-exitcode=1 \
-            "$out/service-checks" "$out" 80
-        echo "helgrind: no race, no lock taken in another order"
-    else
-        echo "skipped: no valgrind"
-    fi
-    if makes "" -fsanitize=thread -pthread && "$out/tried"; then
+    under_valgrind "no error, nothing lost" --fair-sched=yes $all_leaks "$out/service-checks" "$out" 16
+    under_valgrind "no race, no lock taken in another order" --tool=helgrind --fair-sched=yes --suppressions="$here/c/helgrind.supp" \
+        "$out/service-checks" "$out" 80
+    if [ "$what" = --short ]; then
+        :
+    elif makes "" -fsanitize=thread -pthread && "$out/tried"; then
         service service-races -fsanitize=thread "$here/c/service_checks.c" $refusing
         "$out/service-races" "$out" 8
         echo "thread sanitizer: no race in the service's own code"
@@ -124,25 +132,22 @@ else
     if makes "#include <sqlite3.h>" -lsqlite3; then
         service profiles "$here/examples/c/profiles.c" "$here/examples/c/database.c" -lsqlite3
         on_folder "$out/profiles"
-        if has valgrind; then
-            on_folder valgrind -q --leak-check=full --show-leak-kinds=all --errors-for-leak-kinds=all --error-exitcode=1 "$out/profiles"
-            echo "valgrind: no error, nothing lost"
-        else
-            echo "skipped: no valgrind"
-        fi
+        on_folder under_valgrind "no error, nothing lost" $all_leaks "$out/profiles"
     else
         echo "skipped: no SQLite for the example (Debian's libsqlite3-dev)"
     fi
 fi
 rm -f "$out"/tried*
-[ "${1-}" != --c ] || exit 0
+[ "$what" != --c ] || exit 0
 
 echo "== Cargo"
 export KILAMBOSETRY_LIB="$out/lib" # (and not the one of dist/)
 if has cargo; then
-    (cd "$here/rust" && CARGO_TARGET_DIR="$out/target" cargo test --offline --quiet)
-    (cd "$here/rust" && CARGO_TARGET_DIR="$out/target" RUSTDOCFLAGS="-D warnings" cargo doc --offline --quiet --no-deps)
-    echo "the crate's pages: no warning"
+    if [ "$what" != --short ]; then
+        (cd "$here/rust" && CARGO_TARGET_DIR="$out/target" cargo test --offline --quiet)
+        (cd "$here/rust" && CARGO_TARGET_DIR="$out/target" RUSTDOCFLAGS="-D warnings" cargo doc --offline --quiet --no-deps)
+        echo "the crate's pages: no warning"
+    fi
     # the code of README.md: it is the example's, word for word, and does what it says
     sed -n '/^```rust$/,/^```$/{/^```/!p;}' "$here/../README.md" >"$out/readme.txt"
     sed -n '/^fn open/,/^fn main/p' "$here/rust/examples/readme.rs" | sed '/^fn main/d' | sed '$d' | cmp - "$out/readme.txt"
@@ -151,15 +156,10 @@ if has cargo; then
     echo "the README's code: does what it says"
     example service
     echo "the service: no row was older than it may be"
-    if has valgrind; then
-        for name in readme service; do
-            valgrind -q --fair-sched=yes --leak-check=full --show-leak-kinds=definite --errors-for-leak-kinds=definite \
-                --error-exitcode=1 "$out/target/release/examples/$name" >/dev/null
-        done
-        echo "valgrind: no error, nothing lost"
-    else
-        echo "skipped: no valgrind"
-    fi
+    for name in readme service; do
+        under_valgrind "no error, nothing lost by the example $name" --fair-sched=yes --leak-check=full --show-leak-kinds=definite \
+            --errors-for-leak-kinds=definite "$out/target/release/examples/$name"
+    done
     if makes "" -lsqlite3; then
         (cd "$here/examples/rust" && CARGO_TARGET_DIR="$out/target" cargo build --offline --quiet --release)
         on_folder "$out/target/release/profiles"
@@ -167,7 +167,7 @@ if has cargo; then
         echo "skipped: no SQLite for the example (Debian's libsqlite3-dev)"
     fi
     rm -f "$out"/tried*
-    if [ "${1-}" = --speed ]; then
+    if [ "$what" = --speed ]; then
         if ls -d /usr/share/cargo/registry/lru-0.7* >/dev/null 2>&1; then
             speed() { (cd "$here/speed" && CARGO_TARGET_DIR="$out/target" cargo run --offline --quiet --release -- "$@"); }
             speed
@@ -177,7 +177,7 @@ if has cargo; then
             echo "skipped: no crate lru (Debian's librust-lru-dev)"
         fi
     fi
-    if [ "${1-}" = --trial ]; then
+    if [ "$what" = --trial ]; then
         if ls -d /usr/share/cargo/registry/lru-0.7* >/dev/null 2>&1; then
             trial() { (cd "$here/trial" && CARGO_TARGET_DIR="$out/target" cargo run --offline --quiet --release -- "$@"); }
             for cache in leases sets plain lru; do trial slow $cache 10 20; done
@@ -186,7 +186,7 @@ if has cargo; then
             echo "skipped: no crate lru (Debian's librust-lru-dev)"
         fi
     fi
-    if [ "${1-}" = --memory ]; then
+    if [ "$what" = --memory ]; then
         (cd "$here/rust" && CARGO_TARGET_DIR="$out/target" cargo run --offline --quiet --release --example resident)
     fi
 else

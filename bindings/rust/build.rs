@@ -25,7 +25,7 @@ fn folder_here(top: &Path) -> Option<PathBuf> {
     match ask_dist(top, "--take").as_deref() {
         Ok([library, said @ ..]) => {
             for line in said {
-                println!("cargo:warning=links {line}");
+                println!("cargo:warning={line}");
             }
             Path::new(library).parent().map(Path::to_path_buf)
         }
