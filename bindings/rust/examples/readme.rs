@@ -35,9 +35,9 @@ fn profile(cache: &HybridCache, user: &str) -> Result<Vec<u8>, LoadError<io::Err
     Ok(row.into_vec())
 }
 
-fn rename(cache: &HybridCache, user: &str, name: &str) -> Result<bool, Box<dyn Error>> {
-    database::rename(user, name)?; // the commit first
-    Ok(cache.delete(user.as_bytes())?) // what was loaded before isn't stored from now on
+fn rename(cache: &HybridCache, user: &str, name: &str) -> io::Result<()> {
+    // whatever comes of the commit: once this is back nobody finds an older row, also none that was loaded before
+    cache.change(user.as_bytes(), || database::rename(user, name))
 }
 
 fn main() -> Result<(), Box<dyn Error>> {

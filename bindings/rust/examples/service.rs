@@ -1,5 +1,5 @@
 //! A cache before a database: eight threads read and change rows, and none reads an older row than was there before.
-use kilambosetry::{Error, HybridCache, LoadError, Options};
+use kilambosetry::{HybridCache, LoadError, Options};
 use std::convert::Infallible;
 use std::{env, fs, process, sync::RwLock, thread};
 
@@ -14,9 +14,9 @@ impl Service {
         let row = self.cache.get_or_load(&user.to_be_bytes(), 3600, load)?;
         Ok(u64::from_be_bytes(row[..].try_into().unwrap()))
     }
-    fn change(&self, user: u32) -> Result<bool, Error> {
-        self.rows.write().unwrap()[user as usize] += 1; // committed first, and then
-        self.cache.delete(&user.to_be_bytes())
+    fn change(&self, user: u32) -> Result<(), Infallible> {
+        let commit = || Ok(self.rows.write().unwrap()[user as usize] += 1);
+        self.cache.change(&user.to_be_bytes(), commit)
     }
 }
 

@@ -1,7 +1,6 @@
+use crate::wakes::Wakes;
 use crate::{Engine, Error, Refused, Reply};
 use std::collections::HashMap;
-use std::panic::{self, AssertUnwindSafe};
-use std::sync::{Arc, Condvar};
 use std::task::Waker;
 
 /// What a call that waited is answered.
@@ -9,7 +8,7 @@ pub(crate) type Answer = Result<Reply, Error>;
 
 /// Who is to be woken once a call is answered.
 enum Waits {
-    Thread(Arc<Condvar>),
+    Thread,
     Task(Waker),
 }
 
@@ -29,8 +28,6 @@ pub(crate) struct Calls {
     // jobs of which an operation failed, and whether that whose replies come now is one
     failed: Vec<u64>,
     is_faulty: bool,
-    // tasks to be woken, once the shard's lock is free: they may do anything
-    woken: Vec<Waker>,
     /// The cache is out of memory for a reply, which holds those behind it up: a filler tries again.
     pub is_held_up: bool,
     /// Gets that waited and found a value.
@@ -42,12 +39,16 @@ pub(crate) struct Calls {
 }
 
 impl Calls {
-    /// Lists a call that waits from now on.
-    pub fn begin(&mut self, call: u64) -> Result<(), Refused> {
+    /// Keeps a place for one more call, before the engine is asked: a call that it has taken can't be refused any more.
+    pub fn reserve(&mut self) -> Result<(), Refused> {
+        self.waiting.try_reserve(1).map_err(|_| Refused::NO_MEMORY)
+    }
+
+    /// Lists a call that waits from now on, in the place that was kept; and so it has one among those who are woken.
+    pub fn begin(&mut self, call: u64, wakes: &mut Wakes) {
         self.owed += 1;
-        self.waiting.try_reserve(1).map_err(|_| Refused::NO_MEMORY)?;
         self.waiting.insert(call, Call::default());
-        Ok(())
+        wakes.wait();
     }
 
     /// How many calls wait.
@@ -71,18 +72,10 @@ impl Calls {
         self.waiting.remove(&call)?.answer
     }
 
-    /// What wakes the thread that waits for the call.
-    pub fn thread(&mut self, call: u64) -> Arc<Condvar> {
-        let waits = self.waiting.get_mut(&call).map(|call| &mut call.waits);
-        match waits {
-            Some(Some(Waits::Thread(wakes))) => Arc::clone(wakes),
-            waits => {
-                let wakes = Arc::new(Condvar::new());
-                if let Some(waits) = waits {
-                    *waits = Some(Waits::Thread(Arc::clone(&wakes)));
-                }
-                wakes
-            }
+    /// A thread sleeps until the call is answered.
+    pub fn sleep(&mut self, call: u64) {
+        if let Some(call) = self.waiting.get_mut(&call) {
+            call.waits = Some(Waits::Thread);
         }
     }
 
@@ -98,9 +91,12 @@ impl Calls {
 
     /// Gives the call up. Its reply is dropped when it comes. What is handed back is to be dropped without the lock.
     #[must_use]
-    pub fn give_up(&mut self, call: u64) -> Option<Call> {
+    pub fn give_up(&mut self, call: u64, wakes: &mut Wakes) -> Option<Call> {
         let given_up = self.waiting.remove(&call)?;
-        self.given_up += u64::from(given_up.answer.is_none());
+        if given_up.answer.is_none() {
+            self.given_up += 1;
+            wakes.forget();
+        }
         Some(given_up)
     }
 
@@ -118,7 +114,7 @@ impl Calls {
     }
 
     /// Hands out the replies that are there.
-    pub fn sweep(&mut self, engine: &mut Engine) {
+    pub fn sweep(&mut self, engine: &mut Engine, wakes: &mut Wakes) {
         let is_faulty = std::mem::take(&mut self.is_faulty);
         self.is_held_up = false;
         while self.owed > 0 {
@@ -127,48 +123,39 @@ impl Calls {
             if matches!(reply, Err(Refused::NO_MEMORY)) {
                 // it is still owed, and dropped once there is memory
                 self.is_held_up = true;
-                return self.answer(call, Err(Error::Refused(Refused::NO_MEMORY)));
+                return self.answer(call, Err(Error::Refused(Refused::NO_MEMORY)), wakes);
             }
             self.owed -= 1;
             self.from_flash += u64::from(matches!(reply, Ok(Reply::Hit(_))));
             self.misses_by_fault += u64::from(is_faulty && matches!(reply, Ok(Reply::Miss)));
-            self.answer(call, reply.map_err(Error::Refused));
+            self.answer(call, reply.map_err(Error::Refused), wakes);
         }
     }
 
-    fn answer(&mut self, number: u64, answer: Answer) {
-        // (what it is told first holds: that the cache is out of memory, or closed)
-        if let Some(call) = self.waiting.get_mut(&number).filter(|call| call.answer.is_none()) {
-            call.answer = Some(answer);
-            match call.waits.take() {
-                Some(Waits::Thread(wakes)) => {
-                    wakes.notify_one();
-                    call.waits = Some(Waits::Thread(wakes));
-                }
-                Some(Waits::Task(waker)) => self.woken.push(waker),
-                None => {}
-            }
+    fn answer(&mut self, number: u64, answer: Answer, wakes: &mut Wakes) {
+        if let Some(call) = self.waiting.get_mut(&number) {
+            call.answer(number, answer, wakes);
         }
     }
 
     /// Answers all that wait that the cache is closed.
-    pub fn close(&mut self) {
-        let unanswered = self.waiting.iter().filter(|(_, call)| call.answer.is_none());
-        for call in unanswered.map(|(call, _)| *call).collect::<Vec<_>>() {
-            self.answer(call, Err(Error::Closed));
-        }
-    }
-
-    /// The tasks to be woken now: by `wake`, without the lock.
-    #[must_use]
-    pub fn woken(&mut self) -> Vec<Waker> {
-        std::mem::take(&mut self.woken)
+    pub fn close(&mut self, wakes: &mut Wakes) {
+        self.waiting.iter_mut().for_each(|(number, call)| call.answer(*number, Err(Error::Closed), wakes));
     }
 }
 
-/// Wakes these tasks. One that panics ends no worker.
-pub(crate) fn wake(tasks: Vec<Waker>) {
-    for task in tasks {
-        let _ = panic::catch_unwind(AssertUnwindSafe(|| task.wake()));
+impl Call {
+    // What it is told first holds: that the cache is out of memory, or closed.
+    fn answer(&mut self, number: u64, answer: Answer, wakes: &mut Wakes) {
+        if self.answer.is_some() {
+            return;
+        }
+        self.answer = Some(answer);
+        match self.waits.take() {
+            Some(Waits::Task(waker)) => return wakes.task(waker),
+            Some(Waits::Thread) => wakes.threads(number),
+            None => {}
+        }
+        wakes.forget();
     }
 }

@@ -39,20 +39,21 @@ impl error::Error for Error {
     }
 }
 
-/// Why [`get_or_load`](crate::HybridCache::get_or_load) has no value.
-#[derive(Clone, Copy, Debug, PartialEq, Eq)]
+/// Why [`get_or_load`](crate::HybridCache::get_or_load) has no value. It is never the cache's refusal: the load is made then.
+#[derive(Clone, Debug, PartialEq, Eq)]
+#[non_exhaustive]
 pub enum LoadError<E> {
-    /// The cache refused the get, or was closed. Nothing was loaded.
-    Cache(Error),
     /// The load failed.
     Load(E),
+    /// Another's load failed, for which this call waited: the text of its error; or it panicked, or was given up.
+    Elsewhere(String),
 }
 
 impl<E: fmt::Display> fmt::Display for LoadError<E> {
     fn fmt(&self, f: &mut fmt::Formatter<'_>) -> fmt::Result {
         match self {
-            LoadError::Cache(error) => error.fmt(f),
             LoadError::Load(error) => error.fmt(f),
+            LoadError::Elsewhere(text) => f.write_str(text),
         }
     }
 }
@@ -60,8 +61,8 @@ impl<E: fmt::Display> fmt::Display for LoadError<E> {
 impl<E: error::Error + 'static> error::Error for LoadError<E> {
     fn source(&self) -> Option<&(dyn error::Error + 'static)> {
         match self {
-            LoadError::Cache(error) => Some(error),
             LoadError::Load(error) => Some(error),
+            LoadError::Elsewhere(_) => None,
         }
     }
 }

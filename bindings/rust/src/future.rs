@@ -1,13 +1,13 @@
 use crate::calls::Answer;
 use crate::hybrid::held_of;
-use crate::lease::{hit, Begun};
+use crate::lease::{Begun, Waited};
+use crate::loads::{after, Begins, Outcome};
 use crate::shards::Locked;
 use crate::{Error, Found, HybridCache, Lookup, Value};
 use std::fmt;
 use std::future::Future;
 use std::pin::Pin;
 use std::task::{Context, Poll, Waker};
-use std::time::Instant;
 
 /// A get that waits as a future: [`HybridCache::get_async`]. Where it is dropped, its call is given up.
 #[derive(Debug)]
@@ -33,7 +33,7 @@ impl<'a> GetAsync<'a> {
         match state.get(self.key)? {
             Found::Hit(held) => {
                 drop(state);
-                Poll::Ready(Ok(Some(Value::of(held)?)))
+                Poll::Ready(Ok(shards.value_of(held)?))
             }
             Found::Miss => Poll::Ready(Ok(None)),
             Found::Waits(call) => {
@@ -41,7 +41,7 @@ impl<'a> GetAsync<'a> {
                 if begun.is_pending() {
                     self.call = Some((shard, call));
                 }
-                begun.map(value_of)
+                begun.map(|answer| self.value_of(answer))
             }
         }
     }
@@ -54,7 +54,7 @@ impl<'a> GetAsync<'a> {
             Some(answer) => {
                 drop(state);
                 self.call = None;
-                Poll::Ready(value_of(answer))
+                Poll::Ready(self.value_of(answer))
             }
             None => {
                 let before = state.calls.task(call, waker);
@@ -64,11 +64,11 @@ impl<'a> GetAsync<'a> {
             }
         }
     }
-}
 
-// What a call that waited found.
-fn value_of(answer: Answer) -> Result<Option<Value>, Error> {
-    Ok(held_of(answer?).map(Value::of).transpose()?)
+    // What a call that waited found.
+    fn value_of(&self, answer: Answer) -> Result<Option<Value>, Error> {
+        self.cache.shards().value_of_any(held_of(answer?))
+    }
 }
 
 impl Future for GetAsync<'_> {
@@ -96,24 +96,23 @@ enum Waits {
     Nothing,
     // the answer of this call, begun with the key's load in hand or without it
     Flash { call: u64, was_ours: bool },
-    // another's load of the key
-    Load,
+    // another's load of the key, as the task of this number
+    Load { load: u64, task: u64 },
 }
 
 /// A get that hands out a lease where it misses, as a future: [`HybridCache::get_or_lease_async`]. Where it is dropped, its call
-/// is given up, and so is its load.
+/// is given up, and nothing of it is left.
 #[must_use = "a future does nothing until it is polled"]
 pub struct LeaseAsync<'a> {
     cache: &'a HybridCache,
     begun: Begun<'a>,
     waits: Waits,
-    // until when it waits for loads of others
-    limit: Option<Instant>,
+    may_wait: bool,
 }
 
 impl<'a> LeaseAsync<'a> {
     pub(crate) fn new(cache: &'a HybridCache, key: &'a [u8]) -> LeaseAsync<'a> {
-        LeaseAsync { cache, begun: Begun::new(cache.shards(), key), waits: Waits::Nothing, limit: None }
+        LeaseAsync { cache, begun: Begun::new(cache.shards(), key), waits: Waits::Nothing, may_wait: true }
     }
 
     // Gets the key anew.
@@ -124,14 +123,14 @@ impl<'a> LeaseAsync<'a> {
         match state.get(key)? {
             Found::Hit(held) => {
                 drop(state);
-                Poll::Ready(hit(held))
+                Poll::Ready(self.cache.found(held))
             }
             Found::Miss => {
-                let is_ours = self.begun.begin(&mut state);
-                self.missed(waker, state, is_ours)
+                let begins = self.begun.begin(&mut state);
+                self.missed(waker, state, begins)
             }
             Found::Waits(call) => {
-                let was_ours = self.begun.begin(&mut state);
+                let was_ours = self.begun.begin(&mut state).is_ours();
                 match shards.begin(shard, state, call, waker) {
                     Poll::Ready(answer) => self.answered(context, answer, was_ours),
                     Poll::Pending => {
@@ -163,51 +162,56 @@ impl<'a> LeaseAsync<'a> {
         let Begun { shards, shard, .. } = self.begun;
         self.waits = Waits::Nothing;
         if let Some(held) = held_of(answer?) {
-            return Poll::Ready(hit(held));
+            return Poll::Ready(self.cache.found(held));
         }
         let waker = context.waker().clone();
         let mut state = shards.enter(shard)?;
-        let is_ours = self.begun.begin(&mut state);
-        if is_ours && !was_ours {
+        let begins = self.begun.begin(&mut state);
+        if begins.is_ours() && !was_ours {
             drop(state);
             return self.get(context); // another's load was over behind the miss, and may have stored
         }
-        self.missed(waker, state, is_ours)
+        self.missed(waker, state, begins)
     }
 
     // There is none: it is loaded, or another's load waited for.
-    fn missed(&mut self, waker: Waker, mut state: Locked<'_>, is_ours: bool) -> Poll<Result<Lookup, Error>> {
-        let Begun { shards, key, .. } = self.begun;
-        let until = *self.limit.get_or_insert_with(|| {
-            state.loads.waited += u64::from(!is_ours);
-            shards.limit()
-        });
-        if is_ours || until <= Instant::now() {
-            self.waits = Waits::Nothing;
-            return Poll::Ready(Ok(Lookup::Miss(self.cache.lease(state, &mut self.begun))));
+    fn missed(&mut self, waker: Waker, mut state: Locked<'_>, begins: Begins) -> Poll<Result<Lookup, Error>> {
+        let mut waker = Some(waker);
+        if let Begins::Anothers(load) = begins {
+            if self.may_wait && self.cache.keeps_time() {
+                if let Some((task, until)) = state.join_load(load, &mut waker) {
+                    drop(state);
+                    self.waits = Waits::Load { load, task };
+                    self.begun.shards.timer.set(until);
+                    return Poll::Pending;
+                }
+            }
         }
-        let known = state.loads.task(key, waker);
-        drop(state);
-        drop(known);
-        self.waits = Waits::Load;
-        Poll::Pending
+        let lease = self.cache.lease(state, &mut self.begun);
+        Poll::Ready(Ok(Lookup::Miss(lease)))
     }
 
     // Looks whether another's load is over, or has taken too long.
-    fn wait(&mut self, context: &Context<'_>) -> Poll<Result<Lookup, Error>> {
-        let Begun { shards, shard, key, .. } = self.begun;
+    fn wait(&mut self, context: &Context<'_>, load: u64, task: u64) -> Poll<Result<Lookup, Error>> {
+        let Begun { shards, shard, .. } = self.begun;
         let waker = context.waker().clone();
         let mut state = shards.enter(shard)?;
-        let now = Instant::now();
-        let goes_on = state.loads.running(key).is_some_and(|(_, until)| now < until);
-        if goes_on && self.limit.is_some_and(|limit| now < limit) {
-            let known = state.loads.task(key, waker);
+        if let Some(left) = state.loads.left(load) {
+            let known = state.loads.renew(load, task, waker);
             drop(state);
             drop(known);
+            // (a task may be polled without being woken, and just before its time is up)
+            shards.timer.set(after(left));
             return Poll::Pending;
         }
-        drop(state);
-        self.get(context)
+        self.waits = Waits::Nothing;
+        match shards.leave_load(shard, state, load, Some(task)) {
+            Waited::Came(came) => Poll::Ready(Ok(came)),
+            Waited::Look { was_loaded } => {
+                self.may_wait = !was_loaded;
+                self.get(context)
+            }
+        }
     }
 }
 
@@ -218,10 +222,10 @@ impl Future for LeaseAsync<'_> {
         let polled = match self.waits {
             Waits::Nothing => self.get(context),
             Waits::Flash { call, was_ours } => self.look(context, call, was_ours),
-            Waits::Load => self.wait(context),
+            Waits::Load { load, task } => self.wait(context, load, task),
         };
-        if polled.is_ready() {
-            self.begun.give_up(); // (a lease has taken it over)
+        if let Poll::Ready(Ok(Lookup::Hit(_) | Lookup::Absent)) = polled {
+            self.begun.end(Outcome::Look);
         }
         polled
     }
@@ -229,8 +233,11 @@ impl Future for LeaseAsync<'_> {
 
 impl Drop for LeaseAsync<'_> {
     fn drop(&mut self) {
-        if let Waits::Flash { call, .. } = self.waits {
-            self.begun.shards.give_up(self.begun.shard, call);
+        let Begun { shards, shard, .. } = self.begun;
+        match self.waits {
+            Waits::Nothing => {}
+            Waits::Flash { call, .. } => shards.give_up(shard, call),
+            Waits::Load { load, task } => drop(shards.leave_load(shard, shards.lock(shard), load, Some(task))),
         }
     }
 }

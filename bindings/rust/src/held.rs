@@ -64,6 +64,14 @@ pub(crate) fn zeros(length: usize) -> Result<Vec<u8>, Refused> {
     Ok(bytes)
 }
 
+// A copy of these bytes, or a refusal.
+pub(crate) fn copied(bytes: &[u8]) -> Result<Vec<u8>, Refused> {
+    let mut copy = Vec::new();
+    copy.try_reserve_exact(bytes.len()).map_err(|_| Refused::NO_MEMORY)?;
+    copy.extend_from_slice(bytes);
+    Ok(copy)
+}
+
 impl Drop for Held {
     fn drop(&mut self) {
         // SAFETY: the handle is this value's own.

@@ -3,13 +3,14 @@ use crate::checked::{Checked, PageDevice};
 use crate::engine::Copied;
 use crate::future::GetAsync;
 use crate::numbers::Numbers;
-use crate::shards::{Locked, Shards};
-use crate::{Added, Engine, Error, Found, Held, OpenError, Options, PageFile, Refused, Reply, Stats, Value};
-use std::fmt;
+use crate::shards::{Locked, Shards, State, ABSENT};
+use crate::{Added, Error, Found, Held, OpenError, Options, PageFile, Refused, Reply, Stats, Value};
+use std::cell::Cell;
 use std::path::Path;
-use std::sync::{Arc, Mutex, PoisonError};
+use std::sync::{Arc, Mutex, OnceLock, PoisonError};
 use std::thread::{self, JoinHandle};
 use std::time::{Duration, Instant};
+use std::{fmt, io, process};
 
 /// A cache in memory with flash behind it, for the threads of a service. A clone is another handle to the same cache.
 ///
@@ -34,8 +35,8 @@ use std::time::{Duration, Instant};
 /// begins empty, whatever the file has.
 ///
 /// Before a database read by [`get_or_load`](HybridCache::get_or_load): of many threads that miss a key one loads its row, and a
-/// row that was loaded before a change of its key is never stored after it. A change of a row is committed first, and then its
-/// key is deleted. What is loaded otherwise, and stored by `set`, may be older than what was deleted meanwhile.
+/// row that was loaded before a change of its key is never stored after it. Rows are changed by [`change`](HybridCache::change).
+/// What is loaded otherwise, and stored by `set`, may be older than what was deleted meanwhile.
 #[derive(Clone)]
 pub struct HybridCache {
     inner: Arc<Inner>,
@@ -45,7 +46,10 @@ pub struct HybridCache {
 struct Inner {
     shards: Arc<Shards>,
     numbers: Numbers,
-    workers: Mutex<Vec<JoinHandle<()>>>,
+    workers: Workers,
+    keeps_time: OnceLock<bool>,
+    // the one that has the threads
+    process: u32,
 }
 
 impl HybridCache {
@@ -76,10 +80,16 @@ impl HybridCache {
         options: &Options,
         open: impl FnOnce() -> Result<Option<Box<dyn PageDevice>>, OpenError>,
     ) -> Result<HybridCache, OpenError> {
-        let mut shards = Shards::new(&numbers, options.clock.clone(), options.patience)?;
+        let mut shards = Shards::new(&numbers, options)?;
         shards.device = open()?.map(|device| Checked::new(device, numbers.pages())).transpose()?;
         let has_flash = shards.device.is_some();
-        let inner = Inner { shards: Arc::new(shards), numbers, workers: Mutex::default() };
+        let inner = Inner {
+            shards: Arc::new(shards),
+            numbers,
+            workers: Workers::default(),
+            keeps_time: OnceLock::new(),
+            process: process::id(),
+        };
         let cache = HybridCache { inner: Arc::new(inner) };
         if has_flash {
             // (where one can't be started, those that were are ended as the cache is dropped)
@@ -123,12 +133,28 @@ impl HybridCache {
             Found::Miss => None,
             Found::Waits(call) => held_of(wait(shards, shard, state, call)?),
         };
-        Ok(held.map(Value::of).transpose()?)
+        shards.value_of_any(held)
     }
 
     /// Copies the value under the key to the head of `out`, and answers its length. Where that is more than `out` has, nothing
     /// is copied. It waits as `get` does.
     pub fn get_into(&self, key: &[u8], out: &mut [u8]) -> Result<Option<usize>, Error> {
+        let found = self.copy_out(key, out)?;
+        if found != Some(ABSENT) {
+            return Ok(found);
+        }
+        // (it may say that there is no such row, which isn't shown)
+        match out.get_mut(..ABSENT) {
+            Some(copied) if !self.shards().is_absent(copied) => Ok(found),
+            Some(copied) => {
+                copied.fill(0);
+                Ok(None)
+            }
+            None => Ok(self.get(key)?.map(|value| value.len())),
+        }
+    }
+
+    fn copy_out(&self, key: &[u8], out: &mut [u8]) -> Result<Option<usize>, Error> {
         let (shards, shard) = self.locate(key);
         let mut state = shards.enter(shard)?;
         match state.get_into(key, out)? {
@@ -142,20 +168,24 @@ impl HybridCache {
     }
 
     /// Stores a copy of the value under the key, in place of what the key has, for `ttl` seconds from now (0: for good). The
-    /// least recently used items are evicted to make room, and go to flash.
+    /// least recently used items are evicted to make room, and go to flash. Where it is refused, the key has what it had.
+    ///
+    /// A row of a database isn't stored by this, nor by `add`, but by who loads it: two who set a key may do so in another order
+    /// than they committed ([`change`](HybridCache::change), [`get_or_load`](HybridCache::get_or_load)).
     pub fn set(&self, key: &[u8], value: &[u8], ttl: u32) -> Result<(), Error> {
-        self.change(key, |engine, pool| engine.set(pool, key, value, ttl))
+        self.step(key, |state, pool| {
+            state.engine.set(pool, key, value, ttl)?;
+            state.end_load(key);
+            Ok(())
+        })
     }
 
-    // A step that changes the key, with the key's pool: it may answer calls and make work, and ends the key's load.
+    // A step of the key's shard, with the key's pool: it may answer calls and make work.
     #[inline]
-    fn change<T>(&self, key: &[u8], step: impl FnOnce(&mut Engine, u8) -> Result<T, Refused>) -> Result<T, Error> {
+    fn step<T>(&self, key: &[u8], step: impl FnOnce(&mut State, u8) -> Result<T, Refused>) -> Result<T, Error> {
         let (shards, shard) = self.locate(key);
         let mut state = shards.enter(shard)?;
-        let done = step(&mut state.engine, shards.pool_of(key));
-        if done.is_ok() {
-            state.loads.end(key);
-        }
+        let done = step(&mut state, shards.pool_of(key));
         shards.leave(shard, state);
         Ok(done?)
     }
@@ -166,9 +196,9 @@ impl HybridCache {
     pub fn add(&self, key: &[u8], value: &[u8], ttl: u32) -> Result<bool, Error> {
         let (shards, shard) = self.locate(key);
         let mut state = shards.enter(shard)?;
-        let added = state.engine.add(shards.pool_of(key), key, value, ttl);
+        let added = state.add(shards.pool_of(key), key, value, ttl);
         if added.is_ok() {
-            state.loads.end(key);
+            state.end_load(key);
         }
         let added = match added {
             Ok(Added::Waits(call)) => shards.fill_for(shard, state, call).map(|_| ()),
@@ -183,9 +213,10 @@ impl HybridCache {
         }
     }
 
-    /// Takes the key out of the cache, from memory and flash, and answers whether there was an item in memory.
+    /// Takes the key out of the cache, from memory and flash, and answers whether there was an item in memory. Where it is refused
+    /// for want of memory, the key still has what it had: try it again.
     pub fn delete(&self, key: &[u8]) -> Result<bool, Error> {
-        self.change(key, |engine, _| engine.delete(key))
+        self.step(key, |state, _| state.delete(key))
     }
 
     /// Waits until each shard had nothing that waits to be written to flash, at some moment since.
@@ -241,6 +272,12 @@ impl HybridCache {
     pub(crate) fn shards(&self) -> &Shards {
         &self.inner.shards
     }
+
+    // Whether tasks are woken whose loads take too long: the first that waits begins a thread for that.
+    pub(crate) fn keeps_time(&self) -> bool {
+        let begin = || self.inner.start("cache-timer", Shards::keep_time).is_ok();
+        *self.inner.keeps_time.get_or_init(begin)
+    }
 }
 
 // What a get that waited found.
@@ -289,22 +326,52 @@ fn add_shard(stats: &mut Stats, state: &mut Locked<'_>, shards: &Shards) {
     }
 }
 
-impl Inner {
-    fn start(&self, name: &str, work: fn(&Shards)) -> Result<(), OpenError> {
-        let shards = Arc::clone(&self.shards);
-        let worker = thread::Builder::new().name(name.to_string()).spawn(move || work(&shards))?;
-        self.workers.lock().unwrap_or_else(PoisonError::into_inner).push(worker);
+// The threads of a cache.
+#[derive(Default)]
+struct Workers {
+    running: Mutex<Vec<JoinHandle<()>>>,
+    // those that were running are being waited for
+    joining: Mutex<()>,
+}
+
+thread_local! {
+    // whether this thread is one of a cache's own
+    static WORKS: Cell<bool> = const { Cell::new(false) };
+}
+
+impl Workers {
+    fn start(&self, name: &str, work: impl FnOnce() + Send + 'static) -> io::Result<()> {
+        let works = move || {
+            WORKS.set(true);
+            work();
+        };
+        let worker = thread::Builder::new().name(name.to_string()).spawn(works)?;
+        self.running.lock().unwrap_or_else(PoisonError::into_inner).push(worker);
         Ok(())
     }
 
+    // Waits until all have ended; a worker, which may close a cache in a task that it wakes, doesn't, since another may wait for it.
+    fn join(&self) {
+        if WORKS.get() {
+            return;
+        }
+        let _joining = self.joining.lock().unwrap_or_else(PoisonError::into_inner);
+        let ended = std::mem::take(&mut *self.running.lock().unwrap_or_else(PoisonError::into_inner));
+        ended.into_iter().for_each(|worker| drop(worker.join()));
+    }
+}
+
+impl Inner {
+    fn start(&self, name: &str, work: fn(&Shards)) -> io::Result<()> {
+        let shards = Arc::clone(&self.shards);
+        self.workers.start(name, move || work(&shards))
+    }
+
     fn end(&self) {
-        self.shards.close();
-        let mut workers = self.workers.lock().unwrap_or_else(PoisonError::into_inner);
-        for worker in workers.drain(..) {
-            // (a worker may drop the last handle, with a task that it wakes)
-            if worker.thread().id() != thread::current().id() {
-                let _ = worker.join();
-            }
+        // (in the child of a `fork` the threads aren't there, and locks may be held for good)
+        if self.process == process::id() {
+            self.shards.close();
+            self.workers.join();
         }
     }
 }

@@ -1,22 +1,27 @@
+use crate::held::copied;
 use crate::hybrid::held_of;
+use crate::loads::{Begins, Outcome};
 use crate::shards::{Locked, Shards};
-use crate::{Error, Found, Held, HybridCache, Kept, LeaseAsync, LoadError, Ticket, Value};
+use crate::told::Told;
+use crate::{Error, Found, Held, HybridCache, Kept, LeaseAsync, LoadError, Loaded, Ticket, Value};
 use std::fmt;
-use std::sync::Arc;
-use std::time::Instant;
 
 /// What a get comes to that hands out a lease where it misses: [`HybridCache::get_or_lease`].
 #[derive(Debug)]
 #[must_use]
 pub enum Lookup {
-    /// The value under the key.
+    /// The value under the key; or a row that another loaded meanwhile, and that isn't stored.
     Hit(Value),
+    /// It is known that there is no such row ([`Lease::store_absent`]).
+    Absent,
     /// There is none. Load it now, and store it by the lease.
     Miss(Lease),
+    /// Another loaded it meanwhile, and its load failed: why. A load that was given up has failed too.
+    Failed(String),
 }
 
 /// Who has a lease loads its key's value, and may store it unless the key was changed meanwhile. Others who miss the key wait
-/// until the lease is used or dropped, or until `patience` is up.
+/// until the lease is used or dropped, or until `patience` is up. Where it is dropped, the load has failed.
 ///
 /// ```
 /// use kilambosetry::{HybridCache, Kept, Lookup, Options};
@@ -29,18 +34,18 @@ pub enum Lookup {
 /// assert!(cache.get(b"user:7")?.is_none());
 /// # Ok::<(), Box<dyn std::error::Error>>(())
 /// ```
-#[must_use = "where it is dropped, its load is given up"]
+#[must_use = "where it is dropped, its load has failed"]
 pub struct Lease {
     cache: HybridCache,
     shard: usize,
-    key: Arc<[u8]>,
+    key: Vec<u8>,
     // none once the numbers are used up
     ticket: Option<Ticket>,
-    // the number of the load; none, where the time to wait for another's is up
+    // the number of the load; none, where nobody waits for it
     load: Option<u64>,
 }
 
-/// A key that may be to be loaded. Its load is given up where it is dropped.
+/// A key that may be to be loaded. Where it is dropped before a lease has taken it over, nobody has begun to load it.
 pub(crate) struct Begun<'a> {
     pub shards: &'a Shards,
     pub shard: usize,
@@ -53,38 +58,55 @@ impl<'a> Begun<'a> {
         Begun { shards, shard: shards.of(key), key, load: None }
     }
 
-    /// Begins the load, unless another is under way. Whether it is ours.
-    pub fn begin(&mut self, state: &mut Locked<'_>) -> bool {
-        self.load = self.load.or_else(|| state.loads.begin(self.key, self.shards.patience));
-        self.load.is_some()
+    /// Begins the load, unless another's is under way.
+    pub fn begin(&mut self, state: &mut Locked<'_>) -> Begins {
+        if self.load.is_some() {
+            return Begins::Ours(self.load);
+        }
+        let begins = state.loads.begin(self.key, self.shards.patience);
+        if let Begins::Ours(load) = begins {
+            self.load = load;
+        }
+        begins
     }
 
-    /// Gives it up, if it is ours. The shard's lock isn't held.
-    pub fn give_up(&mut self) {
+    /// Ends it, if it is ours and no lease has taken it over. The shard's lock isn't held.
+    pub fn end(&mut self, outcome: Outcome) {
         if let Some(load) = self.load.take() {
-            self.shards.give_up_load(self.shard, self.key, load);
+            self.shards.finish_load(self.shard, self.key, load, outcome);
         }
     }
 }
 
 impl Drop for Begun<'_> {
     fn drop(&mut self) {
-        self.give_up();
+        self.end(Outcome::NotBegun);
     }
+}
+
+/// What came of waiting for another's load.
+pub(crate) enum Waited {
+    /// The key is to be looked at again.
+    Look {
+        /// Whether somebody loaded: no second load is waited for.
+        was_loaded: bool,
+    },
+    Came(Lookup),
 }
 
 impl HybridCache {
     /// The value under the key, or else what `load` answers, which is stored for `ttl` seconds (0: for good). Of many threads
     /// that miss a key at once one loads it, and the others wait for that. No lock is held while it loads.
     ///
-    /// What was loaded before a change of the key (a `set`, an `add` or a `delete`) is never stored after it. So a service whose
-    /// changes are committed first, and then delete the key, finds no row that is older than what was committed before a delete
+    /// What was loaded before a change of the key (a `change`, a `set`, an `add` or a `delete`) is never stored after it. So where
+    /// rows are changed by [`change`](HybridCache::change), no row is found that is older than what was committed before a change
     /// that was answered. Where the key was changed meanwhile, what was loaded is answered and not stored. So is what the cache
-    /// can't store.
+    /// can't store; and where it refuses the get, `load` is asked all the same.
     ///
-    /// Where a load fails or panics, or takes longer than [`patience`](crate::Options::patience), the next thread that waits
-    /// loads. None waits longer than twice that: then it loads by itself. A load that gets its own key waits for itself, for as
-    /// long.
+    /// A caller waits for one load of another, and for no second one. What that load came to is handed to all who wait for it: the
+    /// row, also one that can't be stored, or [`LoadError::Elsewhere`] where it failed, panicked or was given up. Where the key
+    /// was changed meanwhile, or the load takes longer than [`patience`](crate::Options::patience), who waits loads by himself. A
+    /// load that gets its own key waits for itself, for as long.
     ///
     /// ```
     /// use kilambosetry::{HybridCache, Options};
@@ -97,80 +119,164 @@ impl HybridCache {
     /// assert_eq!(&again[..], b"Ada");
     /// # Ok::<(), Box<dyn std::error::Error>>(())
     /// ```
-    pub fn get_or_load<V: Into<Vec<u8>>, E>(
+    pub fn get_or_load<V: Into<Vec<u8>>, E: fmt::Display>(
         &self,
         key: &[u8],
         ttl: u32,
         load: impl FnOnce() -> Result<V, E>,
     ) -> Result<Value, LoadError<E>> {
-        let lease = match self.get_or_lease(key).map_err(LoadError::Cache)? {
-            Lookup::Hit(value) => return Ok(value),
-            Lookup::Miss(lease) => lease,
+        let lease = match self.look(key, false) {
+            Ok(Lookup::Hit(value)) => return Ok(value),
+            Ok(Lookup::Failed(why)) => return Err(LoadError::Elsewhere(why)),
+            Ok(Lookup::Miss(lease)) => Some(lease),
+            Ok(Lookup::Absent) | Err(_) => None,
         };
-        // (where it fails or panics, the lease is dropped)
-        let value = load().map_err(LoadError::Load)?.into();
-        // (what can't be stored is served all the same)
-        let _ = lease.store(&value, ttl);
-        Ok(Value::from(value))
+        let load = || load().map(|row| Loaded::row(row, ttl));
+        Ok(Value::from(loaded(lease, load)?.row.unwrap_or_default()))
+    }
+
+    /// The same where there may be no such row, which is then kept too: `load` answers which it is, and for how long that is kept.
+    ///
+    /// ```
+    /// use kilambosetry::{HybridCache, Loaded, Options};
+    /// use std::io;
+    ///
+    /// let cache = HybridCache::in_memory(&Options::default())?;
+    /// let nobody = || Ok::<_, io::Error>(Loaded::absent(10)); // the database has no such row
+    /// assert_eq!(cache.find_or_load(b"user:8", nobody)?, None);
+    /// let never = || Err::<Loaded, _>(io::Error::other("it isn't asked again for ten seconds"));
+    /// assert_eq!(cache.find_or_load(b"user:8", never)?, None);
+    /// cache.change(b"user:8", || Ok::<_, io::Error>(()))?; // it is inserted
+    /// let somebody = || Ok::<_, io::Error>(Loaded::row("Ada", 3600));
+    /// assert_eq!(cache.find_or_load(b"user:8", somebody)?.as_deref(), Some(&b"Ada"[..]));
+    /// # Ok::<(), Box<dyn std::error::Error>>(())
+    /// ```
+    pub fn find_or_load<E: fmt::Display>(
+        &self,
+        key: &[u8],
+        load: impl FnOnce() -> Result<Loaded, E>,
+    ) -> Result<Option<Value>, LoadError<E>> {
+        let lease = match self.look(key, true) {
+            Ok(Lookup::Hit(value)) => return Ok(Some(value)),
+            Ok(Lookup::Absent) => return Ok(None),
+            Ok(Lookup::Failed(why)) => return Err(LoadError::Elsewhere(why)),
+            Ok(Lookup::Miss(lease)) => Some(lease),
+            Err(_) => None,
+        };
+        Ok(loaded(lease, load)?.row.map(Value::from))
     }
 
     /// The value under the key, or else a lease for who loads it otherwise than [`get_or_load`](HybridCache::get_or_load) does.
-    /// It waits as that does, for flash and for others who load the key.
+    /// It waits as that does, for flash and for one load of another.
     pub fn get_or_lease(&self, key: &[u8]) -> Result<Lookup, Error> {
+        self.look(key, true)
+    }
+
+    // The value, or a lease. Where it is known that there is no such row, that is told, or else it is a miss.
+    fn look(&self, key: &[u8], tells_absent: bool) -> Result<Lookup, Error> {
         let shards = self.shards();
         let mut begun = Begun::new(shards, key);
-        let shard = begun.shard;
-        let mut limit = None;
+        let mut may_wait = true;
         loop {
-            let mut state = shards.enter(shard)?;
-            let is_ours = match state.get(key)? {
-                Found::Hit(held) => {
-                    drop(state);
-                    return hit(held);
-                }
-                Found::Miss => begun.begin(&mut state),
-                Found::Waits(call) => {
-                    let was_ours = begun.begin(&mut state);
-                    if let Some(held) = held_of(shards.fill_for(shard, state, call)?) {
-                        return hit(held);
-                    }
-                    state = shards.enter(shard)?;
-                    let is_ours = begun.begin(&mut state);
-                    if is_ours && !was_ours {
-                        continue; // another's load was over behind the miss, and may have stored
-                    }
-                    is_ours
+            let (state, begins) = match self.get_or_begin(&mut begun, tells_absent)? {
+                Sought::Again => continue,
+                Sought::Missed(state, begins) => (state, begins),
+                Sought::Found(found) => {
+                    begun.end(Outcome::Look);
+                    return Ok(found);
                 }
             };
-            let until = *limit.get_or_insert_with(|| {
-                state.loads.waited += u64::from(!is_ours);
-                shards.limit()
-            });
-            if is_ours || until <= Instant::now() {
+            let Begins::Anothers(load) = begins else { return Ok(Lookup::Miss(self.lease(state, &mut begun))) };
+            if !may_wait {
                 return Ok(Lookup::Miss(self.lease(state, &mut begun)));
             }
-            shards.wait_for_load(state, key, until)?;
+            match shards.wait_for_load(begun.shard, state, load)? {
+                Waited::Look { was_loaded } => may_wait = !was_loaded,
+                Waited::Came(Lookup::Absent) if !tells_absent => may_wait = false,
+                Waited::Came(came) => return Ok(came),
+            }
         }
     }
 
+    // Gets the key, and begins its load where that misses.
+    fn get_or_begin<'a>(&'a self, begun: &mut Begun<'a>, tells_absent: bool) -> Result<Sought<'a>, Error> {
+        let (shards, shard) = (begun.shards, begun.shard);
+        let mut state = shards.enter(shard)?;
+        let mut was_ours = true;
+        let held = match state.get(begun.key)? {
+            Found::Hit(held) => {
+                drop(state);
+                Some(held)
+            }
+            Found::Miss => {
+                let begins = begun.begin(&mut state);
+                return Ok(Sought::Missed(state, begins));
+            }
+            Found::Waits(call) => {
+                was_ours = begun.begin(&mut state).is_ours();
+                held_of(shards.fill_for(shard, state, call)?)
+            }
+        };
+        if let Some(held) = held {
+            let found = self.found(held)?;
+            if tells_absent || !matches!(found, Lookup::Absent) {
+                return Ok(Sought::Found(found));
+            }
+        }
+        let mut state = shards.enter(shard)?;
+        let begins = begun.begin(&mut state);
+        if begins.is_ours() && !was_ours {
+            return Ok(Sought::Again); // another's load was over behind the miss, and may have stored
+        }
+        Ok(Sought::Missed(state, begins))
+    }
+
     /// The same as a future, for any executor: of a get that waits for flash a filler makes the read, and the task is woken. Where
-    /// another loads the key, the task is woken once that is over. A future has no clock: have it polled by your runtime's time
-    /// limit, and after twice [`patience`](crate::Options::patience) it is answered a lease all the same.
+    /// another loads the key, the task is woken once that is over, or [`patience`](crate::Options::patience) is up. (The first
+    /// task that waits so begins a thread, which sees to that.)
     pub fn get_or_lease_async<'a>(&'a self, key: &'a [u8]) -> LeaseAsync<'a> {
         LeaseAsync::new(self, key)
     }
 
     // The ticket comes behind the miss, and before the load.
     pub(crate) fn lease(&self, mut state: Locked<'_>, begun: &mut Begun<'_>) -> Lease {
+        let shards = begun.shards;
         state.loads.begun += 1;
-        let ticket = state.engine.ticket();
-        drop(state);
-        Lease { cache: self.clone(), shard: begun.shard, key: begun.key.into(), ticket, load: begun.load.take() }
+        // (a bar that is due ends here: what is loaded from now on is of behind it)
+        state.is_barred(begun.key);
+        let key = copied(begun.key).unwrap_or_default();
+        // (without its key it stores nothing)
+        let ticket = if key.is_empty() { None } else { state.engine.ticket() };
+        shards.leave(begun.shard, state);
+        Lease { cache: self.clone(), shard: begun.shard, key, ticket, load: begun.load.take() }
+    }
+
+    /// What was found: a value, or that it is known that there is none.
+    pub(crate) fn found(&self, held: Held) -> Result<Lookup, Error> {
+        Ok(self.shards().value_of(held)?.map_or(Lookup::Absent, Lookup::Hit))
     }
 }
 
-pub(crate) fn hit(held: Held) -> Result<Lookup, Error> {
-    Ok(Lookup::Hit(Value::of(held)?))
+// What a get came to that begins its key's load.
+enum Sought<'a> {
+    Found(Lookup),
+    Missed(Locked<'a>, Begins),
+    Again,
+}
+
+// What was loaded, which is kept by the lease, if there is one; or why nothing was, which is told who waits.
+fn loaded<E: fmt::Display>(
+    lease: Option<Lease>,
+    load: impl FnOnce() -> Result<Loaded, E>,
+) -> Result<Loaded, LoadError<E>> {
+    // (where it panics, the lease is dropped)
+    let loaded = load();
+    match (lease, &loaded) {
+        (Some(lease), Ok(loaded)) => lease.keep(loaded),
+        (Some(lease), Err(error)) => lease.fail(error),
+        (None, _) => {}
+    }
+    loaded.map_err(LoadError::Load)
 }
 
 impl Lease {
@@ -181,30 +287,70 @@ impl Lease {
     }
 
     /// Stores a copy of the value that was loaded since the lease was handed out, for `ttl` seconds from now (0: for good), and
-    /// wakes who waits for it. Where the key was changed meanwhile it is [`Kept::Stale`], and not stored.
-    pub fn store(self, value: &[u8], ttl: u32) -> Result<Kept, Error> {
+    /// wakes who waits for it. Where the key was changed meanwhile, or is being changed, it is [`Kept::Stale`], and not stored.
+    /// What isn't stored is handed to who waits.
+    pub fn store(mut self, value: &[u8], ttl: u32) -> Result<Kept, Error> {
+        let kept = self.try_store(value, ttl);
+        if kept != Ok(Kept::Stored) {
+            self.hand_on(|| copied(value).map(Told::Row).ok());
+        }
+        kept
+    }
+
+    /// Keeps that there is no such row, for `ttl` seconds from now (0: for good): a get of the key is a miss then, and a call that
+    /// would load it is told. An `add` finds that the key has a value.
+    pub fn store_absent(mut self, ttl: u32) -> Result<Kept, Error> {
+        let absent = self.cache.shards().absent;
+        let kept = self.try_store(&absent, ttl);
+        if let Some(load) = self.load.take() {
+            self.cache.shards().finish_load(self.shard, &self.key, load, Outcome::Absent);
+        }
+        kept
+    }
+
+    // Keeps what was loaded. (What can't be stored is served all the same.)
+    fn keep(self, loaded: &Loaded) {
+        let _ = match &loaded.row {
+            Some(row) => self.store(row, loaded.ttl),
+            None => self.store_absent(loaded.ttl),
+        };
+    }
+
+    /// The load has failed. Who waits for it is told why.
+    pub fn fail(mut self, why: impl fmt::Display) {
+        self.hand_on(|| Some(Told::failure(&why)));
+    }
+
+    fn try_store(&mut self, value: &[u8], ttl: u32) -> Result<Kept, Error> {
         let shards = self.cache.shards();
         let mut state = shards.enter(self.shard)?;
         let kept = match self.ticket {
-            Some(ticket) => state.engine.set_leased(ticket, shards.pool_of(&self.key), &self.key, value, ttl),
+            Some(ticket) => state.set_leased(ticket, shards.pool_of(&self.key), &self.key, value, ttl),
             None => Ok(Kept::Stale),
         };
         match kept {
-            Ok(Kept::Stored) => state.loads.end(&self.key),
+            Ok(Kept::Stored) => state.end_load(&self.key),
             Ok(Kept::Stale) => state.loads.stale += 1,
             Err(_) => state.loads.refused += 1,
         }
         shards.leave(self.shard, state);
         Ok(kept?)
-        // (its load is given up where it isn't over)
+    }
+
+    // The load is over, and nothing of it is in the cache: what it came to is told who waits.
+    fn hand_on(&mut self, told: impl FnOnce() -> Option<Told>) {
+        let Some(load) = self.load.take() else { return };
+        let shards = self.cache.shards();
+        let is_awaited = shards.lock(self.shard).loads.is_awaited(load);
+        let is_told = is_awaited && told().is_some_and(|told| shards.tellings.tell((self.shard, load), told).is_ok());
+        let outcome = if is_told { Outcome::Told } else { Outcome::Look };
+        shards.finish_load(self.shard, &self.key, load, outcome);
     }
 }
 
 impl Drop for Lease {
     fn drop(&mut self) {
-        if let Some(load) = self.load {
-            self.cache.shards().give_up_load(self.shard, &self.key, load);
-        }
+        self.hand_on(|| Some(Told::failure(&"the load was given up")));
     }
 }
 

@@ -12,7 +12,7 @@
 //! let cache = HybridCache::open(&path, &options)?;
 //! cache.set(b"user:7", b"Ada", 3600)?;
 //! assert_eq!(cache.get(b"user:7")?.as_deref(), Some(&b"Ada"[..]));
-//! cache.delete(b"user:7")?; // once a change of it is committed in the database
+//! cache.change(b"user:7", || Ok::<_, std::io::Error>(()))?; // the commit in the database, and then it is deleted
 //! let row = cache.get_or_load(b"user:7", 3600, || Ok::<_, std::io::Error>("Grace"))?; // from the database
 //! assert_eq!(&row[..], b"Grace");
 //! println!("{}", cache.close());
@@ -21,7 +21,7 @@
 //! ```
 //!
 //! What was loaded before a change of its key is never stored after it, and of many threads that miss a key one loads it:
-//! [`get_or_load`](HybridCache::get_or_load).
+//! [`get_or_load`](HybridCache::get_or_load), [`change`](HybridCache::change).
 //!
 //! Below it there are a [`Cache`] of up to 16 pools in memory, a [`ShardedCache`] of such caches under locks of their own, and
 //! an [`Engine`] with flash behind its pools, for who makes its device operations himself:
@@ -41,9 +41,11 @@
 //! [`KeyValue`] has the calls that all of them have, for code that is to run over any.
 #![warn(missing_docs)]
 
+mod bars;
 mod bell;
 mod buffer;
 mod calls;
+mod change;
 mod checked;
 mod clock;
 mod engine;
@@ -57,6 +59,7 @@ mod key_value;
 mod lease;
 mod leases;
 mod library;
+mod loaded;
 mod loads;
 mod numbers;
 mod options;
@@ -64,8 +67,12 @@ mod refused;
 mod sharded;
 mod shards;
 mod stats;
+mod timer;
+mod told;
 mod value;
+mod wakes;
 
+pub use change::Change;
 pub use checked::{DeviceCounts, PageDevice};
 pub use clock::Clock;
 pub use engine::{Added, Came, Copied, Device, Engine, Flash, Found, Operation, Reply, Take};
@@ -78,6 +85,7 @@ pub use hybrid::HybridCache;
 pub use key_value::{EngineWithDevice, KeyValue};
 pub use lease::{Lease, Lookup};
 pub use leases::{Kept, Ticket, Turn};
+pub use loaded::Loaded;
 pub use numbers::Numbers;
 pub use options::Options;
 pub use refused::Refused;

@@ -52,8 +52,11 @@ pub struct Options {
     /// Whether reads and writes go past the system's copies of pages (`O_DIRECT`). A page must be one that the disk has then.
     pub direct: bool,
     /// How long the load of a key may take before another begins one ([`get_or_load`](crate::HybridCache::get_or_load)). A call
-    /// that misses a key waits for loads of others twice as long, at most. With 0 none waits.
+    /// that misses a key waits for one load of another, and no longer than this. With 0 none waits.
     pub patience: Duration,
+    /// How long a commit may take effect after [`change`](crate::HybridCache::change) was told an error, or nothing: so long what
+    /// is loaded isn't stored under its key.
+    pub unknown_for: Duration,
     /// The most bytes and items of all shards together, in place of those that `memory` comes to.
     pub pool: Option<Pool>,
     /// The ten numbers of one shard's flash, in place of those that `flash` and `page` come to.
@@ -63,8 +66,8 @@ pub struct Options {
 }
 
 impl Default for Options {
-    /// 64 MB of memory, 1 GB of flash, values of 1,000 bytes, 8 shards, two writers and two fillers, ten seconds for a load, and
-    /// the system's clock.
+    /// 64 MB of memory, 1 GB of flash, values of 1,000 bytes, 8 shards, two writers and two fillers, ten seconds for a load, a
+    /// minute for a commit whose answer is lost, and the system's clock.
     fn default() -> Options {
         Options {
             memory: 64_000_000,
@@ -77,6 +80,7 @@ impl Default for Options {
             page: 4096,
             direct: false,
             patience: Duration::from_secs(10),
+            unknown_for: Duration::from_secs(60),
             pool: None,
             flash_numbers: None,
             clock: Clock::system(),

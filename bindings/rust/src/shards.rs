@@ -1,11 +1,21 @@
+use crate::bars::Bars;
 use crate::bell::Bell;
 use crate::buffer::with_page;
-use crate::calls::{wake, Answer, Call, Calls};
+use crate::calls::{Answer, Call, Calls};
 use crate::checked::{digest_of, Checked};
-use crate::loads::{after, Loads};
+use crate::lease::Waited;
+use crate::loads::{Loads, Outcome};
 use crate::numbers::Numbers;
-use crate::{Came, Clock, Copied, Engine, Error, Found, Held, Operation, Refused, Take};
+use crate::timer::Timer;
+use crate::told::{Tellings, Told};
+use crate::wakes::{Rings, Wakes, Woken};
+use crate::{
+    Added, Came, Clock, Copied, Engine, Error, Found, Held, Kept, Lookup, Operation, Options, Refused, Take, Ticket,
+    Value,
+};
+use std::collections::hash_map::RandomState;
 use std::collections::VecDeque;
+use std::hash::{BuildHasher, Hasher};
 use std::sync::atomic::{AtomicU64, Ordering::Relaxed};
 use std::sync::{Condvar, Mutex, MutexGuard, PoisonError, TryLockError};
 use std::task::{Poll, Waker};
@@ -13,21 +23,24 @@ use std::thread;
 use std::time::{Duration, Instant};
 
 // How long one waits for memory, before one tries again.
-const PAUSE: Duration = Duration::from_millis(5);
+pub(crate) const PAUSE: Duration = Duration::from_millis(5);
 
 /// What a shard's lock holds.
 pub(crate) struct State {
     pub engine: Engine,
     pub calls: Calls,
     pub loads: Loads,
+    pub bars: Bars,
+    pub wakes: Wakes,
     /// Gets that missed, of whose key memory had an item that was expired.
     pub misses_expired: u64,
     // the last second that the engine was told
     now: u64,
     // jobs of writers that are under way
     writing: usize,
-    // what tasks began, and fillers are to go on with
+    // what tasks began, and fillers are to go on with; and how many jobs are out that may come to be
     left: VecDeque<Left>,
+    lent: usize,
     closed: bool,
 }
 
@@ -38,8 +51,31 @@ enum Left {
 }
 
 impl State {
+    fn new(engine: Engine, now: u64) -> State {
+        State {
+            engine,
+            calls: Calls::default(),
+            loads: Loads::default(),
+            bars: Bars::default(),
+            wakes: Wakes::default(),
+            misses_expired: 0,
+            now,
+            writing: 0,
+            left: VecDeque::new(),
+            lent: 0,
+            closed: false,
+        }
+    }
+
+    // Keeps what a call that waits needs, before the engine is asked.
+    fn reserve(&mut self) -> Result<(), Refused> {
+        self.calls.reserve()?;
+        self.wakes.reserve()
+    }
+
     /// The value under the key. A miss of memory is counted by its reason.
     pub fn get(&mut self, key: &[u8]) -> Result<Found, Refused> {
+        self.reserve()?;
         let found = self.engine.get(key)?;
         self.count_expired(key, matches!(found, Found::Miss));
         Ok(found)
@@ -47,9 +83,78 @@ impl State {
 
     /// The same, copied to the head of `out`.
     pub fn get_into(&mut self, key: &[u8], out: &mut [u8]) -> Result<Copied, Refused> {
+        self.reserve()?;
         let copied = self.engine.get_into(key, out)?;
         self.count_expired(key, copied == Copied::Miss);
         Ok(copied)
+    }
+
+    /// Stores the value where there is none.
+    pub fn add(&mut self, pool: u8, key: &[u8], value: &[u8], ttl: u32) -> Result<Added, Refused> {
+        self.reserve()?;
+        self.engine.add(pool, key, value, ttl)
+    }
+
+    /// Takes the key out, and ends its load.
+    pub fn delete(&mut self, key: &[u8]) -> Result<bool, Refused> {
+        let was_there = self.engine.delete(key)?;
+        self.end_load(key);
+        Ok(was_there)
+    }
+
+    /// Stores what was loaded, unless the key was changed since the ticket was handed out, or is being changed.
+    pub fn set_leased(
+        &mut self,
+        ticket: Ticket,
+        pool: u8,
+        key: &[u8],
+        value: &[u8],
+        ttl: u32,
+    ) -> Result<Kept, Refused> {
+        if self.is_barred(key) {
+            return Ok(Kept::Stale);
+        }
+        self.engine.set_leased(ticket, pool, key, value, ttl)
+    }
+
+    /// Raises a bar on the key.
+    pub fn raise_bar(&mut self, key: &[u8]) -> Result<(), Refused> {
+        let State { engine, bars, loads, wakes, .. } = self;
+        bars.end_due(|key| delete(engine, loads, wakes, key));
+        bars.raise(key)
+    }
+
+    /// Whether a bar stands on the key. One that is due ends here.
+    pub fn is_barred(&mut self, key: &[u8]) -> bool {
+        let State { engine, bars, loads, wakes, .. } = self;
+        bars.stands(key, |key| delete(engine, loads, wakes, key))
+    }
+
+    /// The key's load is over, since the key was changed, or what was loaded is stored.
+    #[inline]
+    pub fn end_load(&mut self, key: &[u8]) {
+        self.loads.end(key, &mut self.wakes);
+    }
+
+    /// A task waits for a load.
+    pub fn join_load(&mut self, load: u64, waker: &mut Option<Waker>) -> Option<(u64, Instant)> {
+        self.loads.join_task(load, waker, &mut self.wakes)
+    }
+
+    // Keeps a place for one more job that may have to be left.
+    fn can_leave_a_job(&mut self) -> bool {
+        self.left.try_reserve(self.lent + 1).is_ok()
+    }
+
+    // A call waits, in the places that were kept.
+    fn begin(&mut self, call: u64) {
+        self.calls.begin(call, &mut self.wakes);
+    }
+
+    /// Gives the call up. What is handed back is to be dropped without the lock.
+    #[must_use]
+    pub fn give_up(&mut self, call: u64) -> Option<Call> {
+        self.calls.give_up(call, &mut self.wakes)
     }
 
     fn count_expired(&mut self, key: &[u8], is_miss: bool) {
@@ -65,10 +170,21 @@ impl State {
     }
 }
 
+// Whether the key could be deleted.
+fn delete(engine: &mut Engine, loads: &mut Loads, wakes: &mut Wakes, key: &[u8]) -> bool {
+    let is_deleted = engine.delete(key).is_ok();
+    if is_deleted {
+        loads.end(key, wakes);
+    }
+    is_deleted
+}
+
 /// A shard, on lines of the processor's memory of its own.
 #[repr(align(128))]
 pub(crate) struct Shard {
     state: Mutex<State>,
+    // wake who waits for a call or a load
+    rings: Rings,
     // a writer has no more to do
     quiet: Condvar,
     lock_waits: AtomicU64,
@@ -83,8 +199,25 @@ pub(crate) struct Shards {
     pools: u8,
     clock: Clock,
     pub patience: Duration,
+    pub unknown_for: Duration,
+    // the value that says that there is no such row. Nobody else can have it, since it is drawn by chance, and never shown
+    pub absent: [u8; ABSENT],
+    pub tellings: Tellings,
+    pub timer: Timer,
     writers: Bell,
     fillers: Bell,
+}
+
+/// The length of the value that says that there is no such row.
+pub(crate) const ABSENT: usize = 16;
+
+// As many bytes as the platform draws by chance.
+fn drawn() -> [u8; ABSENT] {
+    let half = || RandomState::new().build_hasher().finish().to_le_bytes();
+    let mut drawn = [0; ABSENT];
+    drawn[..ABSENT / 2].copy_from_slice(&half());
+    drawn[ABSENT / 2..].copy_from_slice(&half());
+    drawn
 }
 
 /// A shard, locked.
@@ -92,18 +225,17 @@ pub(crate) type Locked<'a> = MutexGuard<'a, State>;
 
 impl Shards {
     /// Empty shards with these numbers, over a device that is still to come, where there is flash.
-    pub fn new(numbers: &Numbers, clock: Clock, patience: Duration) -> Result<Shards, Refused> {
+    pub fn new(numbers: &Numbers, options: &Options) -> Result<Shards, Refused> {
         let pools = numbers.pools();
-        let now = clock.now();
+        let now = options.clock.now();
         let made = (0..numbers.shards).map(|_| {
             let mut engine = match &numbers.flash {
                 Some(flash) => Engine::new_shard(&pools, flash, numbers.shards)?,
                 None => Engine::new_shard_in_memory(&pools, numbers.shards)?,
             };
             engine.tick(now)?;
-            let (calls, loads, left) = (Calls::default(), Loads::default(), VecDeque::new());
-            let state = State { engine, calls, loads, misses_expired: 0, now, writing: 0, left, closed: false };
-            Ok(Shard { state: Mutex::new(state), quiet: Condvar::new(), lock_waits: AtomicU64::new(0) })
+            let state = Mutex::new(State::new(engine, now));
+            Ok(Shard { state, rings: Rings::default(), quiet: Condvar::new(), lock_waits: AtomicU64::new(0) })
         });
         let (page, pages) = numbers.flash.map_or((0, 0), |flash| (flash.page as usize, flash.pages() as u32));
         Ok(Shards {
@@ -112,8 +244,12 @@ impl Shards {
             page,
             pages,
             pools: pools.len() as u8,
-            clock,
-            patience,
+            clock: options.clock.clone(),
+            patience: options.patience,
+            unknown_for: options.unknown_for,
+            absent: drawn(),
+            tellings: Tellings::default(),
+            timer: Timer::default(),
             writers: Bell::default(),
             fillers: Bell::default(),
         })
@@ -182,12 +318,12 @@ impl Shards {
 
     /// Lets the shard go after a step that may have answered calls or made work: who waits for that is told.
     pub fn leave(&self, shard: usize, mut state: Locked<'_>) {
-        let State { engine, calls, loads, left, .. } = &mut *state;
-        calls.sweep(engine);
+        let State { engine, calls, wakes, left, .. } = &mut *state;
+        calls.sweep(engine, wakes);
         let has_reads = calls.is_owed() && (calls.is_held_up || engine.filler_has_work() != Ok(false));
         let has_fills = has_reads || !left.is_empty();
         let has_writes = self.device.is_some() && engine.writer_has_work() != Ok(false);
-        let woken = [calls.woken(), loads.woken()];
+        let woken = wakes.take();
         drop(state);
         if has_writes {
             self.writers.ring(shard);
@@ -195,20 +331,54 @@ impl Shards {
         if has_fills {
             self.fillers.ring(shard);
         }
-        woken.into_iter().for_each(wake);
+        self.wake(shard, woken);
+    }
+
+    /// Wakes these, and who else is to be woken.
+    fn wake(&self, shard: usize, first: Woken) {
+        let mut woken = first;
+        loop {
+            let is_all = woken.is_all;
+            woken.wake(&self.shards[shard].rings);
+            if is_all {
+                return;
+            }
+            woken = self.lock(shard).wakes.take();
+        }
+    }
+
+    // Sleeps until what has this number is rung, or for so long.
+    fn sleep<'a>(&'a self, shard: usize, state: Locked<'a>, number: u64, most: Option<Duration>) -> Locked<'a> {
+        let ring = self.shards[shard].rings.of(number);
+        match most {
+            None => ring.wait(state).unwrap_or_else(PoisonError::into_inner),
+            Some(most) => ring.wait_timeout(state, most).unwrap_or_else(PoisonError::into_inner).0,
+        }
+    }
+
+    // Sleeps until the call is answered, or for so long.
+    fn sleep_for_call<'a>(
+        &'a self,
+        shard: usize,
+        mut state: Locked<'a>,
+        call: u64,
+        most: Option<Duration>,
+    ) -> Locked<'a> {
+        state.calls.sleep(call);
+        self.sleep(shard, state, call, most)
     }
 
     /// Waits for the answer of a call that begins to wait, and makes the reads that are to be made meanwhile: its own, and
     /// those of who waits longer. Where another thread makes it, it sleeps.
     pub fn fill_for<'a>(&'a self, shard: usize, mut state: Locked<'a>, call: u64) -> Answer {
-        state.calls.begin(call)?;
+        state.begin(call);
         loop {
             if let Some(answer) = state.calls.take(call) {
                 return answer;
             }
             match state.engine.filler_take() {
-                Ok(Take::Idle) => drop(sleep(state, call, None)),
-                Err(_) => drop(sleep(state, call, Some(PAUSE))),
+                Ok(Take::Idle) => drop(self.sleep_for_call(shard, state, call, None)),
+                Err(_) => drop(self.sleep_for_call(shard, state, call, Some(PAUSE))),
                 Ok(take) => self.complete(shard, state, take),
             }
             state = self.lock(shard);
@@ -218,7 +388,7 @@ impl Shards {
     /// Waits for the answer of a call that begins to wait, until this moment at most. The fillers make the reads for which this
     /// thread would have to wait.
     pub fn wait_for<'a>(&'a self, shard: usize, mut state: Locked<'a>, call: u64, until: Option<Instant>) -> Answer {
-        state.calls.begin(call)?;
+        state.begin(call);
         state = self.fill_now(shard, state, call);
         self.fillers.ring(shard);
         loop {
@@ -227,23 +397,19 @@ impl Shards {
             }
             let left = until.map(|until| until.saturating_duration_since(Instant::now()));
             if left == Some(Duration::ZERO) {
-                let given_up = state.calls.give_up(call);
+                let given_up = state.give_up(call);
                 drop(state);
                 drop(given_up);
                 return Err(Error::TimedOut);
             }
-            state = sleep(state, call, left);
+            state = self.sleep_for_call(shard, state, call, left);
         }
     }
 
     /// Begins a call that waits: its answer, where nobody has to wait for its reads. Else the fillers make them, and the task is
     /// woken.
     pub fn begin<'a>(&'a self, shard: usize, mut state: Locked<'a>, call: u64, waker: Waker) -> Poll<Answer> {
-        if let Err(refused) = state.calls.begin(call) {
-            drop(state);
-            self.fillers.ring(shard);
-            return Poll::Ready(Err(Error::Refused(refused)));
-        }
+        state.begin(call);
         state = self.fill_now(shard, state, call);
         if let Some(answer) = state.calls.take(call) {
             return Poll::Ready(answer);
@@ -257,12 +423,14 @@ impl Shards {
 
     // Makes reads as long as nobody has to wait for one, and the call isn't answered.
     fn fill_now<'a>(&'a self, shard: usize, mut state: Locked<'a>, call: u64) -> Locked<'a> {
-        while state.calls.is_open(call) {
+        while state.calls.is_open(call) && state.can_leave_a_job() {
             match state.engine.filler_take() {
                 Ok(Take::Idle) | Err(_) => break,
                 Ok(take) => {
+                    state.lent += 1;
                     let is_done = self.complete_now(shard, state, take);
                     state = self.lock(shard);
+                    state.lent -= 1;
                     if !is_done {
                         break;
                     }
@@ -274,35 +442,89 @@ impl Shards {
 
     /// Gives a call up.
     pub fn give_up(&self, shard: usize, call: u64) {
-        let given_up: Option<Call> = self.lock(shard).calls.give_up(call);
+        let given_up: Option<Call> = self.lock(shard).give_up(call);
         drop(given_up);
     }
 
-    /// Waits until nobody loads the key any more, or the load has taken too long, or until this moment.
-    pub fn wait_for_load(&self, mut state: Locked<'_>, key: &[u8], limit: Instant) -> Result<(), Error> {
+    /// Waits until the load is over, or has taken too long.
+    pub fn wait_for_load<'a>(&'a self, shard: usize, mut state: Locked<'a>, load: u64) -> Result<Waited, Error> {
+        state.loads.join(load);
         while !state.closed {
-            let Some((ended, until)) = state.loads.running(key) else { return Ok(()) };
-            let left = until.min(limit).saturating_duration_since(Instant::now());
-            if left.is_zero() {
-                return Ok(());
+            match state.loads.left(load) {
+                None => return Ok(self.leave_load(shard, state, load, None)),
+                left => state = self.sleep(shard, state, load, left),
             }
-            state = ended.wait_timeout(state, left).unwrap_or_else(PoisonError::into_inner).0;
         }
+        self.leave_load(shard, state, load, None);
         Err(Error::Closed)
     }
 
-    /// Until when a call waits for others that load its key: for one that is under way, and for one that takes over.
-    pub fn limit(&self) -> Instant {
-        after(self.patience.saturating_mul(2))
+    /// Waits for the load no more: what it came to, where it is over.
+    pub fn leave_load(&self, shard: usize, mut state: Locked<'_>, load: u64, task: Option<u64>) -> Waited {
+        let State { loads, wakes, .. } = &mut *state;
+        let waker = task.and_then(|task| loads.forget_task(load, task, wakes));
+        let (outcome, is_last) = loads.leave(load);
+        drop(state);
+        drop(waker);
+        match outcome {
+            Some(Outcome::NotBegun) => Waited::Look { was_loaded: false },
+            Some(Outcome::Absent) => Waited::Came(Lookup::Absent),
+            Some(Outcome::Told) => self.read_telling((shard, load), is_last),
+            Some(Outcome::Look) | None => Waited::Look { was_loaded: true },
+        }
     }
 
-    /// Gives a load up.
-    pub fn give_up_load(&self, shard: usize, key: &[u8], load: u64) {
+    fn read_telling(&self, load: (usize, u64), is_last: bool) -> Waited {
+        let told = if is_last { self.tellings.take(load) } else { self.tellings.read(load) };
+        match told {
+            Some(Told::Row(row)) => Waited::Came(Lookup::Hit(Value::from(row))),
+            Some(Told::Failed(why)) => Waited::Came(Lookup::Failed(why)),
+            None => Waited::Look { was_loaded: true },
+        }
+    }
+
+    /// The load is over, and came to this.
+    pub fn finish_load(&self, shard: usize, key: &[u8], load: u64, outcome: Outcome) {
         let mut state = self.lock(shard);
-        state.loads.give_up(key, load);
-        let woken = state.loads.woken();
+        let State { loads, wakes, .. } = &mut *state;
+        let is_known = loads.finish(key, load, outcome, wakes);
+        let woken = wakes.take();
         drop(state);
-        wake(woken);
+        if outcome == Outcome::Told && !is_known {
+            drop(self.tellings.take((shard, load))); // (who waited has gone meanwhile)
+        }
+        self.wake(shard, woken);
+    }
+
+    /// Sees to it that tasks are woken whose loads have taken too long, until the end.
+    pub fn keep_time(&self) {
+        while self.timer.wait() {
+            for shard in 0..self.len() {
+                let mut state = self.lock(shard);
+                let State { loads, wakes, .. } = &mut *state;
+                let next = loads.wake_overdue(wakes);
+                let woken = wakes.take();
+                drop(state);
+                next.into_iter().for_each(|next| self.timer.set(next));
+                self.wake(shard, woken);
+            }
+        }
+    }
+
+    /// The value that is held; none, where it says that there is none.
+    pub fn value_of(&self, held: Held) -> Result<Option<Value>, Refused> {
+        let value = Value::of(held)?;
+        Ok((!self.is_absent(&value)).then_some(value))
+    }
+
+    /// The same of what may be held.
+    pub fn value_of_any(&self, held: Option<Held>) -> Result<Option<Value>, Error> {
+        Ok(held.map_or(Ok(None), |held| self.value_of(held))?)
+    }
+
+    /// Whether these bytes say that there is no such row.
+    pub fn is_absent(&self, value: &[u8]) -> bool {
+        value == self.absent
     }
 
     /// Does what was taken to its end, with no lock held while the device works, and lets the shard go.
@@ -484,15 +706,17 @@ impl Shards {
         for shard in 0..self.len() {
             let mut state = self.lock(shard);
             state.closed = true;
-            state.calls.close();
-            state.loads.close();
-            let woken = [state.calls.woken(), state.loads.woken()];
+            let State { calls, loads, wakes, .. } = &mut *state;
+            calls.close(wakes);
+            loads.close(wakes);
+            let woken = wakes.take();
             drop(state);
             self.shards[shard].quiet.notify_all();
-            woken.into_iter().for_each(wake);
+            self.wake(shard, woken);
         }
         self.writers.end();
         self.fillers.end();
+        self.timer.end();
     }
 }
 
@@ -500,13 +724,4 @@ impl Shards {
 fn take_write(engine: &mut Engine) -> Result<Take, Refused> {
     while engine.reclaim()? {}
     engine.writer_take()
-}
-
-// Sleeps until the call is answered, or for so long.
-fn sleep(mut state: Locked<'_>, call: u64, most: Option<Duration>) -> Locked<'_> {
-    let wakes = state.calls.thread(call);
-    match most {
-        None => wakes.wait(state).unwrap_or_else(PoisonError::into_inner),
-        Some(most) => wakes.wait_timeout(state, most).unwrap_or_else(PoisonError::into_inner).0,
-    }
 }

@@ -1,7 +1,7 @@
 //! What was loaded before a change of its key is never stored after it, and of many who miss a key one loads it.
 use kilambosetry::{
-    Added, Cache, Clock, Device, Engine, Error, Flash, Found, HybridCache, Kept, Lease, LoadError, Lookup, Options,
-    PageDevice, Pool, Refused, Reply, ShardedCache, Turn,
+    Added, Cache, Clock, Device, Engine, Error, Flash, Found, HybridCache, Kept, Lease, LoadError, Loaded, Lookup,
+    Options, PageDevice, Pool, Refused, Reply, ShardedCache, Turn,
 };
 use std::cell::RefCell;
 use std::collections::HashMap;
@@ -149,7 +149,7 @@ fn next(seed: &mut u64) -> u64 {
 fn lease(cache: &HybridCache, key: &[u8]) -> Lease {
     match cache.get_or_lease(key).unwrap() {
         Lookup::Miss(lease) => lease,
-        Lookup::Hit(value) => panic!("a hit: {value:?}"),
+        other => panic!("no miss: {other:?}"),
     }
 }
 
@@ -260,7 +260,7 @@ fn who_missed_before_another_stored_gets_the_key_again() {
         let row = value(number, 1);
         match second_of_two(&cache, &key(number), &row, number % 2 == 0) {
             Lookup::Hit(found) => assert_eq!(*found, row[..]),
-            Lookup::Miss(_) => panic!("it is loaded twice"),
+            other => panic!("no hit: {other:?}"),
         }
     }
     assert_eq!(cache.stats().loads, 80);
@@ -334,31 +334,141 @@ fn a_late_load_ends_no_other() {
 }
 
 #[test]
-fn a_load_that_panics_or_fails_is_followed_by_the_next() {
+fn who_waits_for_a_load_that_fails_is_told_so() {
+    let _in_time = InTime::begin();
+    for cache in both() {
+        let ends: [(fn(Lease), &str); 3] = [
+            (|lease| lease.fail("no database"), "no database"),
+            (drop, "the load was given up"),
+            (
+                |lease| {
+                    let load = move || -> Result<&str, Error> {
+                        let _lease = lease;
+                        panic::resume_unwind(Box::new("it panics"))
+                    };
+                    assert!(panic::catch_unwind(AssertUnwindSafe(load)).is_err());
+                },
+                "the load was given up",
+            ),
+        ];
+        for (end, text) in ends {
+            let (lease, waits) = (lease(&cache, b"key"), cache.stats().waits_for_loads);
+            let never = || -> Result<&str, Error> { panic!("it isn't loaded again") };
+            thread::scope(|scope| {
+                let all: Vec<_> = (0..16).map(|_| scope.spawn(|| cache.get_or_load(b"key", 0, never))).collect();
+                wait_for(&cache, waits + 16);
+                end(lease);
+                for one in all {
+                    assert_eq!(one.join().unwrap(), Err(LoadError::Elsewhere(text.to_string())));
+                }
+            });
+        }
+        // who comes next loads
+        assert_eq!(*cache.get_or_load::<_, Error>(b"key", 0, loads("row")).unwrap(), *b"row");
+        let failed = cache.get_or_load(b"other", 0, || Err::<&str, _>("no database")).unwrap_err();
+        assert_eq!((failed.to_string(), failed), ("no database".to_string(), LoadError::Load("no database")));
+    }
+}
+
+#[test]
+fn a_load_that_panics_or_fails_is_told_to_all_who_wait_and_made_once() {
     let _in_time = InTime::begin();
     for cache in both() {
         for fails in [false, true] {
             let (key, made, waits) = (key(u64::from(fails)), AtomicUsize::new(0), cache.stats().waits_for_loads);
-            let load = || match made.fetch_add(1, SeqCst) {
-                0..5 if fails => Err("it fails"),
-                0..5 => panic::resume_unwind(Box::new("it panics")),
-                _ => Ok("row"),
+            let load = || {
+                made.fetch_add(1, SeqCst);
+                wait_for(&cache, waits + 15);
+                if fails {
+                    return Err::<&str, _>("it fails");
+                }
+                panic::resume_unwind(Box::new("it panics"))
             };
-            // (the first waits until the others do)
-            let first = lease(&cache, &key);
-            let served: usize = thread::scope(|scope| {
-                let all: Vec<_> = (0..16)
-                    .map(|_| scope.spawn(|| panic::catch_unwind(AssertUnwindSafe(|| cache.get_or_load(&key, 0, load)))))
-                    .collect();
-                wait_for(&cache, waits + 16);
-                drop(first);
+            let get = || panic::catch_unwind(AssertUnwindSafe(|| cache.get_or_load(&key, 0, load)));
+            let told = thread::scope(|scope| {
+                let all: Vec<_> = (0..16).map(|_| scope.spawn(get)).collect();
                 let answers = all.into_iter().map(|one| one.join().unwrap());
-                answers.filter(|answer| matches!(answer, Ok(Ok(row)) if **row == *b"row")).count()
+                answers.filter(|answer| matches!(answer, Ok(Err(LoadError::Elsewhere(_))))).count()
             });
-            assert_eq!((served, made.load(SeqCst)), (11, 6));
+            assert_eq!((told, made.load(SeqCst)), (15, 1));
         }
-        let failed = cache.get_or_load(b"other", 0, || Err::<&str, _>("no database")).unwrap_err();
-        assert_eq!((failed, failed.to_string()), (LoadError::Load("no database"), "no database".to_string()));
+    }
+}
+
+#[test]
+fn what_can_not_be_stored_is_handed_to_all_who_wait() {
+    let _in_time = InTime::begin();
+    let long = vec![7; (1 << 20) + 1];
+    for cache in both() {
+        let made = AtomicUsize::new(0);
+        let load = || {
+            made.fetch_add(1, SeqCst);
+            wait_for(&cache, 63);
+            Ok::<_, Error>(&long[..])
+        };
+        thread::scope(|scope| {
+            let all: Vec<_> = (0..64).map(|_| scope.spawn(|| cache.get_or_load(b"key", 0, load).unwrap())).collect();
+            all.into_iter().for_each(|one| assert!(*one.join().unwrap() == long[..]));
+        });
+        assert_eq!((made.load(SeqCst), cache.stats().refused_stores), (1, 1));
+    }
+}
+
+#[test]
+fn that_there_is_no_such_row_is_kept_for_a_time_of_its_own() {
+    let _in_time = InTime::begin();
+    let second = Arc::new(AtomicU64::new(1000));
+    for flash in [false, true] {
+        second.store(1000, SeqCst);
+        let hand = Arc::clone(&second);
+        let options = Options { clock: Clock::new(move || hand.load(SeqCst)), patience: LONG, ..small() };
+        let cache =
+            if flash { HybridCache::over(Pages::default(), &options) } else { HybridCache::in_memory(&options) };
+        let cache = cache.unwrap();
+        let made = AtomicUsize::new(0);
+        let load = || {
+            made.fetch_add(1, SeqCst);
+            wait_for(&cache, 63);
+            Ok::<_, Error>(Loaded::absent(10))
+        };
+        thread::scope(|scope| {
+            let all: Vec<_> = (0..64).map(|_| scope.spawn(|| cache.find_or_load(b"key", load).unwrap())).collect();
+            all.into_iter().for_each(|one| assert_eq!(one.join().unwrap(), None));
+        });
+        if flash {
+            filled(&cache, 400); // it goes there
+        }
+        second.store(1009, SeqCst);
+        assert!(matches!(cache.get_or_lease(b"key"), Ok(Lookup::Absent)));
+        assert!(matches!(block_on(cache.get_or_lease_async(b"key")), Ok(Lookup::Absent)));
+        assert_eq!((cache.find_or_load(b"key", load), made.load(SeqCst)), (Ok(None), 1));
+        // of a get it is a miss, whatever its buffer
+        assert_eq!((cache.get(b"key"), block_on(cache.get_async(b"key"))), (Ok(None), Ok(None)));
+        for length in [0, 15, 16, 64] {
+            let mut out = vec![0; length];
+            assert_eq!((cache.get_into(b"key", &mut out), out), (Ok(None), vec![0; length]));
+        }
+        // who wants a row loads it
+        assert_eq!(*cache.get_or_load::<_, Error>(b"key", 10, loads("row")).unwrap(), *b"row");
+        assert_eq!(cache.get(b"key").unwrap().as_deref(), Some(&b"row"[..]));
+        // it is over in its time, and as the row is inserted
+        cache.delete(b"key").unwrap();
+        assert_eq!(cache.find_or_load(b"key", || Ok::<_, Error>(Loaded::absent(10))), Ok(None));
+        second.store(1019, SeqCst);
+        let found = cache.find_or_load(b"key", || Ok::<_, Error>(Loaded::row("row", 10)));
+        assert_eq!(found.unwrap().as_deref(), Some(&b"row"[..]));
+        let stale = cache.find_or_load(b"other", || {
+            cache.change(b"other", || Ok::<_, Error>(()))?;
+            Ok::<_, Error>(Loaded::absent(10))
+        });
+        assert_eq!(stale, Ok(None));
+        assert!(matches!(cache.get_or_lease(b"other"), Ok(Lookup::Miss(_)))); // it was inserted meanwhile
+                                                                              // values of the same length are values
+        cache.set(b"long", &[7; 16], 0).unwrap();
+        let mut out = [0; 16];
+        assert_eq!((cache.get_into(b"long", &mut out), out), (Ok(Some(16)), [7; 16]));
+        assert_eq!(cache.get_into(b"long", &mut []), Ok(Some(16)));
+        assert_eq!(cache.get(b"long").unwrap().as_deref(), Some(&[7; 16][..]));
     }
 }
 
@@ -575,9 +685,9 @@ fn patience_without_end_is_taken() {
     let cache = in_memory(Duration::MAX);
     let first = lease(&cache, b"key");
     thread::scope(|scope| {
-        let waits = scope.spawn(|| cache.get_or_load(b"key", 0, || Ok::<_, Error>("row")).unwrap());
+        let waits = scope.spawn(|| cache.get_or_load(b"key", 0, || Err::<&str, Error>(Error::TimedOut)).unwrap());
         wait_for(&cache, 1);
-        drop(first);
+        assert_eq!(first.store(b"row", 0), Ok(Kept::Stored));
         assert_eq!(*waits.join().unwrap(), *b"row");
     });
 }
@@ -585,14 +695,16 @@ fn patience_without_end_is_taken() {
 #[test]
 fn wrong_keys_and_values_are_refused_by_name() {
     for cache in both() {
-        let never = || -> Result<&str, Error> { panic!("it isn't loaded") };
         for (key, refused, name) in [
             (&b""[..], Refused::KEY_EMPTY, "refused 1 KeyEmpty"),
             (&[7; 256][..], Refused::KEY_TOO_LONG, "refused 2 KeyTooLong"),
         ] {
-            let error = cache.get_or_load(key, 0, never).unwrap_err();
-            assert_eq!((error, error.to_string()), (LoadError::Cache(Error::Refused(refused)), name.to_string()));
-            assert_eq!(cache.get_or_lease(key).unwrap_err(), Error::Refused(refused));
+            // (the database's row is answered all the same)
+            assert_eq!(*cache.get_or_load::<_, Error>(key, 0, loads("row")).unwrap(), *b"row");
+            assert_eq!(cache.get_or_load(key, 0, || Err::<&str, _>("no row")), Err(LoadError::Load("no row")));
+            assert_eq!(cache.find_or_load(key, || Ok::<_, Error>(Loaded::absent(0))), Ok(None));
+            let error = cache.get_or_lease(key).unwrap_err();
+            assert_eq!((error, error.to_string()), (Error::Refused(refused), name.to_string()));
         }
         assert_eq!(cache.stats().loads, 0);
         // what can't be stored is served, and the next loads it again
@@ -629,7 +741,7 @@ fn closing_answers_who_waits_for_a_load() {
             let waits = scope.spawn(|| cache.get_or_load(b"key", 0, || Ok::<_, Error>("row")));
             wait_for(&cache, 1);
             assert_eq!(cache.clone().close().loads, 1);
-            assert_eq!(waits.join().unwrap(), Err(LoadError::Cache(Error::Closed)));
+            assert_eq!(waits.join().unwrap().as_deref(), Ok(&b"row"[..])); // by itself
         });
         assert_eq!(first.store(b"row", 0), Err(Error::Closed));
         assert_eq!(cache.get_or_lease(b"key").unwrap_err(), Error::Closed);
@@ -710,6 +822,7 @@ fn load_async(cache: &HybridCache, key: &[u8], row: &[u8]) -> bool {
             assert_eq!(lease.store(row, 0), Ok(Kept::Stored));
             true
         }
+        other => panic!("{other:?}"),
     }
 }
 
@@ -739,7 +852,7 @@ fn a_future_waits_for_a_load_and_is_woken() {
             |cache: &HybridCache, _| cache.set(b"key", b"row", 0).unwrap(),
             |_: &HybridCache, lease: Lease| assert_eq!(lease.store(b"row", 0), Ok(Kept::Stored)),
             |_: &HybridCache, lease| drop(lease),
-            |cache: &HybridCache, _| assert_eq!(cache.clone().close().loads, 5),
+            |cache: &HybridCache, _| assert_eq!(cache.clone().close().loads, 4),
         ]
         .into_iter()
         .enumerate()
@@ -752,7 +865,7 @@ fn a_future_waits_for_a_load_and_is_woken() {
                 end(&cache, lease);
                 match (at, waiting.join().unwrap()) {
                     (0 | 1, Ok(Lookup::Hit(value))) => assert_eq!(*value, *b"row"),
-                    (2, Ok(Lookup::Miss(lease))) => assert_eq!(lease.key(), b"key"),
+                    (2, Ok(Lookup::Failed(why))) => assert_eq!(why, "the load was given up"),
                     (3, Err(Error::Closed)) => return,
                     (at, other) => panic!("{at}: {other:?}"),
                 }
@@ -867,6 +980,9 @@ fn read(cache: &HybridCache, database: &Database, number: u64, pause: u64, store
             cache.set(&key(number), &row, 0).unwrap();
             row
         }
+        // (the lease of a load is dropped here, also where its row is set)
+        Lookup::Failed(_) => database.load(number, pause),
+        Lookup::Absent => unreachable!("each row is there"),
     }
 }
 

@@ -112,22 +112,30 @@ fn player(cache: &HybridCache, number: u64, rounds: u64) -> u64 {
         let done = match next(&seed) % 20 {
             0..=3 => cache.set(&key, &value(of, version), 0).map(|()| drop(latest.insert(of, value(of, version)))),
             4 => cache.delete(&key).map(|_| drop(latest.remove(&of))),
+            8 => {
+                // (its delete is tried until it is answered)
+                let Ok(()) = cache.change(&key, || Ok::<_, Infallible>(()));
+                latest.remove(&of);
+                Ok(())
+            }
             6 | 7 => {
+                // (where the cache refuses the get, it may have the row all the same)
+                let row = latest.get(&of).cloned().unwrap_or_else(|| value(of, version));
                 let mut is_loaded = false;
                 let found = cache.get_or_load(&key, 0, || {
                     is_loaded = true;
-                    Ok::<_, Infallible>(value(of, version))
+                    Ok::<_, Infallible>(row.clone())
                 });
                 if is_loaded {
-                    latest.insert(of, value(of, version));
+                    latest.insert(of, row);
                 }
                 match found {
                     Ok(found) => {
                         assert_eq!(Some(&found[..]), latest.get(&of).map(|value| &value[..]), "key {of}");
                         Ok(())
                     }
-                    Err(LoadError::Cache(error)) => Err(error),
                     Err(LoadError::Load(never)) => match never {},
+                    Err(error) => panic!("{error}"), // (nobody else loads it)
                 }
             }
             chosen => if chosen == 5 { cache.get_timeout(&key, limit) } else { cache.get(&key) }.map(|found| {

@@ -1,4 +1,4 @@
-use kilambosetry::{Error, HybridCache, LoadError, Lookup, Options};
+use kilambosetry::{Error, HybridCache, Lookup, Options};
 use lru::LruCache;
 use std::convert::Infallible;
 use std::path::Path;
@@ -60,36 +60,29 @@ impl Caches {
         let key = key(row);
         let read = match self {
             Caches::Leases(cache) => {
-                cache.get_or_load(&key, TTL, || Ok::<_, Infallible>(load())).map(|value| value.into_vec())
+                let row = cache.get_or_load(&key, TTL, || Ok::<_, Infallible>(load()));
+                row.ok().map(|row| row.into_vec())
             }
-            Caches::Sets(cache) => cache
-                .get_or_lease(&key)
-                .map(|found| match found {
-                    Lookup::Hit(value) => value.into_vec(),
-                    Lookup::Miss(_lease) => loaded(cache, &key, &mut load),
-                })
-                .map_err(LoadError::Cache),
-            Caches::Plain(cache) => cache
-                .get(&key)
-                .map(|found| match found {
-                    Some(value) => value.into_vec(),
-                    None => loaded(cache, &key, &mut load),
-                })
-                .map_err(LoadError::Cache),
+            Caches::Sets(cache) => match cache.get_or_lease(&key) {
+                Ok(Lookup::Hit(value)) => Some(value.into_vec()),
+                Ok(Lookup::Miss(_lease)) => Some(loaded(cache, &key, &mut load)),
+                _ => None,
+            },
+            Caches::Plain(cache) => match cache.get(&key) {
+                Ok(Some(value)) => Some(value.into_vec()),
+                Ok(None) => Some(loaded(cache, &key, &mut load)),
+                Err(_) => None,
+            },
             Caches::Lru(rows) => {
                 let found = locked(rows).rows.get(&key).cloned();
-                Ok(found.unwrap_or_else(|| {
+                Some(found.unwrap_or_else(|| {
                     let value = load();
                     locked(rows).put(key, value.clone());
                     value
                 }))
             }
         };
-        match read {
-            Ok(value) => value,
-            Err(LoadError::Cache(_)) => load(), // (what the cache can't do is done without it)
-            Err(LoadError::Load(never)) => match never {},
-        }
+        read.unwrap_or_else(load) // (what the cache can't do is done without it)
     }
 
     /// Forgets the row.

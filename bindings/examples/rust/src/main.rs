@@ -1,12 +1,12 @@
 //! A small service: users from SQLite, through a cache in memory and on flash. Four threads read and change them, and none is
-//! served an older row than was there, with its delete answered, before it asked. In the end each row that is served is the
+//! served an older row than was there, with its change answered, before it asked. In the end each row that is served is the
 //! database's.
 //!
 //!     profiles FOLDER      the database and the flash are files there
 mod database;
 
 use database::{Database, Failed};
-use kilambosetry::{share_one_heap, Error, HybridCache, LoadError, Options, Refused, Value};
+use kilambosetry::{share_one_heap, HybridCache, LoadError, Options, Value};
 use std::path::PathBuf;
 use std::sync::atomic::{AtomicU64, Ordering::SeqCst};
 use std::{env, thread};
@@ -21,15 +21,9 @@ fn read(cache: &HybridCache, database: &mut Database, user: u32) -> Result<Value
     cache.get_or_load(&user.to_be_bytes(), 3600, || database.load(user))
 }
 
-/// First the database, then the cache. A delete that is refused is tried again, since the old row would still be served.
-fn change(cache: &HybridCache, database: &mut Database, user: u32) -> Result<Vec<u8>, LoadError<Failed>> {
-    let row = database.change(user).map_err(LoadError::Load)?;
-    loop {
-        match cache.delete(&user.to_be_bytes()) {
-            Err(Error::Refused(Refused::NO_MEMORY)) => thread::yield_now(),
-            deleted => return deleted.map(|_| row).map_err(LoadError::Cache),
-        }
-    }
+/// The user's row is changed in the database, and then no older one is found.
+fn change(cache: &HybridCache, database: &mut Database, user: u32) -> Result<Vec<u8>, Failed> {
+    cache.change(&user.to_be_bytes(), || database.change(user))
 }
 
 // How often the user was changed, as the row says.
@@ -55,7 +49,8 @@ fn serve(
         let user = next(&mut seed) % if step % 2 == 0 { MOST_USED } else { USERS };
         let least = &least[user as usize];
         if step % 5 == 0 {
-            least.fetch_max(changes_in(&change(cache, database, user)?), SeqCst);
+            let row = change(cache, database, user).map_err(LoadError::Load)?;
+            least.fetch_max(changes_in(&row), SeqCst);
         } else {
             let before = least.load(SeqCst);
             assert!(changes_in(&read(cache, database, user)?) >= before, "user {user} is served an older row");

@@ -1,0 +1,435 @@
+//! Who waits for a load, or for the end of a cache, is told in time, and leaves nothing behind: threads, tasks, forked children.
+use kilambosetry::{Error, Flash, HybridCache, Kept, Lease, LoadError, Lookup, Options, PageDevice, Pool};
+use std::alloc::{GlobalAlloc, Layout, System};
+use std::future::Future;
+use std::io;
+use std::mem;
+use std::pin::{pin, Pin};
+use std::sync::atomic::{AtomicBool, AtomicIsize, AtomicUsize, Ordering::SeqCst};
+use std::sync::{mpsc, Arc, Barrier, Condvar, Mutex};
+use std::task::{Context, Poll, Wake, Waker};
+use std::thread::{self, Thread};
+use std::time::{Duration, Instant};
+
+// Counts the bytes that are allocated.
+struct Counting;
+
+static BYTES: AtomicIsize = AtomicIsize::new(0);
+
+// SAFETY: it is the system's.
+unsafe impl GlobalAlloc for Counting {
+    unsafe fn alloc(&self, layout: Layout) -> *mut u8 {
+        BYTES.fetch_add(layout.size() as isize, SeqCst);
+        System.alloc(layout)
+    }
+
+    unsafe fn dealloc(&self, block: *mut u8, layout: Layout) {
+        BYTES.fetch_sub(layout.size() as isize, SeqCst);
+        System.dealloc(block, layout);
+    }
+}
+
+#[global_allocator]
+static HEAP: Counting = Counting;
+
+// One test at a time, since they measure.
+static ALONE: Mutex<()> = Mutex::new(());
+
+const LONG: Duration = Duration::from_secs(60);
+
+fn in_memory(patience: Duration) -> HybridCache {
+    HybridCache::in_memory(&Options { shards: 1, patience, ..Options::default() }).unwrap()
+}
+
+fn lease(cache: &HybridCache, key: &[u8]) -> Lease {
+    match cache.get_or_lease(key).unwrap() {
+        Lookup::Miss(lease) => lease,
+        other => panic!("no miss: {other:?}"),
+    }
+}
+
+// Pages in memory, whose reads wait while the gate is shut.
+struct Pages(Mutex<Vec<[u8; 512]>>, Arc<(Mutex<bool>, Condvar)>);
+
+impl PageDevice for Pages {
+    fn read(&self, page: u32, out: &mut [u8]) -> io::Result<()> {
+        let is_shut = self.1 .0.lock().unwrap();
+        drop(self.1 .1.wait_while(is_shut, |is_shut| *is_shut).unwrap());
+        out.copy_from_slice(&self.0.lock().unwrap()[page as usize]);
+        Ok(())
+    }
+
+    fn write(&self, page: u32, bytes: &[u8]) -> io::Result<()> {
+        self.0.lock().unwrap()[page as usize].copy_from_slice(bytes);
+        Ok(())
+    }
+}
+
+// A cache with 100 keys, most of them on flash alone, and what shuts the gate of its reads.
+fn with_flash(workers: u64) -> (HybridCache, impl Fn(bool)) {
+    let flash = Flash {
+        page: 512,
+        buckets: 1,
+        regions: 64,
+        region_pages: 4,
+        clean: 2,
+        small_max: 0,
+        queue: 1024,
+        bits: 64,
+        admit_min: 1,
+        admit_max: 2000,
+    };
+    let pool = Some(Pool { bytes: 4000, items: 8 });
+    let options = Options { shards: 1, writers: workers, fillers: workers, page: 512, pool, ..Options::default() };
+    let options = Options { flash_numbers: Some(flash), ..options };
+    let gate = Arc::new((Mutex::new(false), Condvar::new()));
+    let pages = Pages(Mutex::new(vec![[0; 512]; flash.pages() as usize]), Arc::clone(&gate));
+    let cache = HybridCache::over(pages, &options).unwrap();
+    for number in 0..100u8 {
+        cache.set(&[number], &[number; 300], 0).unwrap();
+        cache.flush().unwrap();
+    }
+    let shut = move |is_shut| {
+        *gate.0.lock().unwrap() = is_shut;
+        gate.1.notify_all();
+    };
+    (cache, shut)
+}
+
+struct Unparks(Thread);
+
+impl Wake for Unparks {
+    fn wake(self: Arc<Self>) {
+        self.0.unpark();
+    }
+}
+
+fn waker() -> Waker {
+    Waker::from(Arc::new(Unparks(thread::current())))
+}
+
+// What an executor does that polls a task as it is woken, and not otherwise: what it is answered in so much time.
+fn block_on<T>(future: impl Future<Output = T>, most: Duration) -> Option<T> {
+    let (mut future, waker, until) = (pin!(future), waker(), Instant::now() + most);
+    while Instant::now() < until {
+        match future.as_mut().poll(&mut Context::from_waker(&waker)) {
+            Poll::Ready(answer) => return Some(answer),
+            Poll::Pending => thread::park_timeout(until.saturating_duration_since(Instant::now())),
+        }
+    }
+    None
+}
+
+// The time that the last of 64 callers takes who miss a key at once, of whom each does this.
+fn last_of_64(call: impl Fn(&HybridCache) + Sync) -> Duration {
+    let (cache, start) = (in_memory(LONG), Barrier::new(64));
+    thread::scope(|scope| {
+        let one = || {
+            start.wait();
+            let begin = Instant::now();
+            call(&cache);
+            begin.elapsed()
+        };
+        let all: Vec<_> = (0..64).map(|_| scope.spawn(one)).collect();
+        all.into_iter().map(|one| one.join().unwrap()).max().unwrap()
+    })
+}
+
+// A load takes so long.
+const LOAD: Duration = Duration::from_millis(1000);
+
+fn load<T, E>(answer: Result<T, E>) -> Result<T, E> {
+    thread::sleep(LOAD);
+    answer
+}
+
+#[test]
+fn what_a_load_comes_to_is_handed_to_all_within_one_load_and_a_half() {
+    let _alone = ALONE.lock();
+    let long = vec![1; 1_100_000];
+    let times = [
+        last_of_64(|cache| drop(cache.get_or_load(b"key", 60, || load(Ok::<_, &str>("row"))))),
+        last_of_64(|cache| drop(cache.get_or_load(b"key", 60, || load(Err::<&str, _>("no such row"))))),
+        last_of_64(|cache| drop(cache.get_or_load(b"key", 60, || load(Ok::<_, &str>(&long[..]))))),
+        last_of_64(|cache| match block_on(cache.get_or_lease_async(b"key"), LONG).unwrap().unwrap() {
+            Lookup::Miss(lease) => load(Ok::<_, &str>(())).map(|()| lease.fail("no database")).unwrap(),
+            looked => assert!(matches!(looked, Lookup::Failed(why) if why == "no database")),
+        }),
+    ];
+    assert!(times.iter().all(|time| *time < LOAD * 3 / 2), "{times:?}");
+}
+
+#[test]
+fn who_waited_for_one_load_loads_by_himself_next() {
+    let _alone = ALONE.lock();
+    // the key is changed within each load
+    let change = |cache: &HybridCache| {
+        cache.delete(b"key").unwrap();
+        load(Ok::<_, Error>("row"))
+    };
+    let time = last_of_64(|cache| drop(cache.get_or_load(b"key", 60, || change(cache))));
+    assert!(time < LOAD * 22 / 10, "{time:?}");
+}
+
+#[test]
+fn a_key_that_is_changed_more_often_than_it_can_be_loaded_is_read_all_the_same() {
+    let _alone = ALONE.lock();
+    let reads = |patience| {
+        let (cache, ends, reads) = (in_memory(patience), AtomicBool::new(false), AtomicUsize::new(0));
+        let slow = || {
+            thread::sleep(Duration::from_millis(20));
+            Ok::<_, Error>("row")
+        };
+        thread::scope(|scope| {
+            let read = || {
+                while !ends.load(SeqCst) {
+                    cache.get_or_load(b"key", 60, slow).unwrap();
+                    reads.fetch_add(1, SeqCst);
+                }
+            };
+            (0..16).for_each(|_| drop(scope.spawn(read)));
+            for _ in 0..200 {
+                cache.delete(b"key").unwrap();
+                thread::sleep(Duration::from_millis(10));
+            }
+            ends.store(true, SeqCst);
+        });
+        reads.into_inner()
+    };
+    let (waiting, alone) = (reads(LONG), reads(Duration::ZERO));
+    assert!(waiting * 4 > alone, "{waiting} reads, and {alone} where none waits");
+}
+
+struct Counted(Arc<AtomicUsize>);
+
+impl Counted {
+    fn waker(alive: &Arc<AtomicUsize>) -> Waker {
+        alive.fetch_add(1, SeqCst);
+        Waker::from(Arc::new(Counted(Arc::clone(alive))))
+    }
+}
+
+impl Drop for Counted {
+    fn drop(&mut self) {
+        self.0.fetch_sub(1, SeqCst);
+    }
+}
+
+impl Wake for Counted {
+    fn wake(self: Arc<Self>) {}
+}
+
+#[test]
+fn a_task_waits_for_a_load_in_constant_time() {
+    let _alone = ALONE.lock();
+    let time = |many: usize| {
+        let (cache, alive) = (in_memory(LONG), Arc::default());
+        let _lease = lease(&cache, b"hot");
+        let wakers: Vec<_> = (0..many).map(|_| Counted::waker(&alive)).collect();
+        let mut futures: Vec<_> = (0..many).map(|_| Box::pin(cache.get_or_lease_async(b"hot"))).collect();
+        let begin = Instant::now();
+        for (future, waker) in futures.iter_mut().zip(&wakers) {
+            assert!(future.as_mut().poll(&mut Context::from_waker(waker)).is_pending());
+        }
+        begin.elapsed() / many as u32
+    };
+    let (few, many) = (time(1_000), time(40_000));
+    assert!(many < 8 * few + Duration::from_micros(5), "{few:?} each of 1,000, {many:?} each of 40,000");
+}
+
+#[test]
+fn a_task_that_was_cancelled_is_forgotten() {
+    let _alone = ALONE.lock();
+    let (cache, alive) = (in_memory(LONG), Arc::new(AtomicUsize::new(0)));
+    let hangs = lease(&cache, b"hot");
+    let before = BYTES.load(SeqCst);
+    for _ in 0..10_000 {
+        let waker = Counted::waker(&alive);
+        let mut future = pin!(cache.get_or_lease_async(b"hot"));
+        for _ in 0..2 {
+            assert!(future.as_mut().poll(&mut Context::from_waker(&waker)).is_pending());
+        }
+    }
+    assert_eq!(alive.load(SeqCst), 0);
+    assert!(BYTES.load(SeqCst) - before < 10_000, "{} bytes are kept", BYTES.load(SeqCst) - before);
+    drop(hangs);
+}
+
+#[test]
+fn a_task_is_woken_once_patience_is_up() {
+    let _alone = ALONE.lock();
+    for shards in [1, 16] {
+        let patience = Duration::from_millis(200);
+        let cache = HybridCache::in_memory(&Options { shards, patience, ..Options::default() }).unwrap();
+        let hangs = [lease(&cache, b"key"), lease(&cache, b"other")];
+        thread::scope(|scope| {
+            for key in [b"key".as_slice(), b"other", b"key"] {
+                let cache = &cache;
+                scope.spawn(move || {
+                    let begin = Instant::now();
+                    let found = block_on(cache.get_or_lease_async(key), LONG).expect("it is woken").unwrap();
+                    assert!(matches!(found, Lookup::Miss(_)) && begin.elapsed() >= patience / 2);
+                });
+            }
+        });
+        drop(hangs);
+    }
+}
+
+#[test]
+fn a_lease_that_was_leaked_is_forgotten() {
+    let _alone = ALONE.lock();
+    let cache = in_memory(Duration::from_millis(1));
+    lease(&cache, b"first").fail("");
+    let before = BYTES.load(SeqCst);
+    const LEAKED: u32 = 100_000;
+    for number in 0..LEAKED {
+        // (the lease has a copy of its key, of four bytes)
+        mem::forget(lease(&cache, &number.to_be_bytes()));
+    }
+    let kept = (BYTES.load(SeqCst) - before) / LEAKED as isize;
+    assert!(kept < 30, "{kept} bytes of each are kept");
+}
+
+#[test]
+fn a_load_that_was_handed_on_keeps_nothing() {
+    let _alone = ALONE.lock();
+    let cache = in_memory(LONG);
+    let before = BYTES.load(SeqCst);
+    let mut waits = cache.stats().waits_for_loads;
+    for number in 0..50u32 {
+        let (hangs, key) = (lease(&cache, &number.to_be_bytes()), number.to_be_bytes());
+        let mut left = pin!(cache.get_or_lease_async(&key));
+        assert!(left.as_mut().poll(&mut Context::from_waker(&waker())).is_pending());
+        thread::scope(|scope| {
+            let all: Vec<_> =
+                (0..4).map(|_| scope.spawn(|| cache.get_or_load::<&str, &str>(&key, 0, || Err("")))).collect();
+            while cache.stats().waits_for_loads < waits + 5 {
+                thread::yield_now();
+            }
+            hangs.fail("no database");
+            for one in all {
+                assert_eq!(one.join().unwrap(), Err(LoadError::Elsewhere("no database".to_string())));
+            }
+        });
+        waits += 5;
+    }
+    // (what threads keep for themselves, and tables that have grown)
+    assert!(BYTES.load(SeqCst) - before < 20_000, "{} bytes are kept", BYTES.load(SeqCst) - before);
+}
+
+// A task that closes the cache where it is woken, a while later.
+struct Closes(Mutex<Option<HybridCache>>, mpsc::Sender<()>);
+
+impl Wake for Closes {
+    fn wake(self: Arc<Self>) {
+        let _ = self.1.send(());
+        thread::sleep(Duration::from_millis(300)); // (another is in `close` by now)
+        if let Some(cache) = self.0.lock().unwrap().take() {
+            let _ = cache.close();
+        }
+    }
+}
+
+#[test]
+fn two_may_close_a_cache_at_once_also_in_wakers_and_while_others_flush() {
+    let _alone = ALONE.lock();
+    for workers in [1, 3] {
+        let (cache, shut) = with_flash(workers);
+        shut(true);
+        let (says, said) = mpsc::channel();
+        let wakers = [(); 2].map(|()| Waker::from(Arc::new(Closes(Mutex::new(Some(cache.clone())), says.clone()))));
+        let mut gets: Vec<_> = (0..2u8).map(|number| (number, cache.clone())).collect();
+        let mut futures: Vec<Pin<Box<dyn Future<Output = _>>>> = Vec::new();
+        for ((number, cache), waker) in gets.iter_mut().zip(&wakers) {
+            let key = std::slice::from_ref(number);
+            let mut future: Pin<Box<dyn Future<Output = _>>> = Box::pin(cache.get_async(key));
+            assert!(future.as_mut().poll(&mut Context::from_waker(waker)).is_pending());
+            futures.push(future);
+        }
+        let (tell, told) = mpsc::channel();
+        for flushes in [false, false, true, true] {
+            let (cache, tell) = (cache.clone(), tell.clone());
+            thread::spawn(move || {
+                while flushes && cache.flush() != Err(Error::Closed) {}
+                if !flushes {
+                    said_first(&cache);
+                    let _ = cache.close();
+                }
+                tell.send(()).unwrap();
+            });
+        }
+        shut(false);
+        said.recv_timeout(LONG).unwrap();
+        CLOSES.store(true, SeqCst);
+        for _ in 0..4 {
+            told.recv_timeout(LONG).expect("each closes, and none flushes any more");
+        }
+        CLOSES.store(false, SeqCst);
+        assert_eq!(cache.get(b"key"), Err(Error::Closed));
+    }
+}
+
+static CLOSES: AtomicBool = AtomicBool::new(false);
+
+// Waits until a waker runs.
+fn said_first(_: &HybridCache) {
+    while !CLOSES.load(SeqCst) {
+        thread::yield_now();
+    }
+}
+
+#[test]
+fn a_forked_child_may_drop_its_copy() {
+    extern "C" {
+        fn fork() -> i32;
+        fn waitpid(child: i32, status: *mut i32, options: i32) -> i32;
+        fn _exit(status: i32) -> !;
+        fn kill(child: i32, signal: i32) -> i32;
+    }
+    let _alone = ALONE.lock();
+    let (cache, _) = with_flash(2);
+    // SAFETY: the child drops what it has, and ends; else it is killed.
+    let child = unsafe { fork() };
+    if child == 0 {
+        let is_dropped = std::panic::catch_unwind(std::panic::AssertUnwindSafe(|| drop(cache))).is_ok();
+        unsafe { _exit(i32::from(!is_dropped)) }
+    }
+    let (mut status, begin) = (0, Instant::now());
+    let mut ended = 0;
+    while ended == 0 && begin.elapsed() < Duration::from_secs(10) {
+        thread::sleep(Duration::from_millis(10));
+        // SAFETY: the child is this test's own.
+        ended = unsafe { waitpid(child, &mut status, 1) };
+    }
+    if ended == 0 {
+        // SAFETY: as above.
+        unsafe { (kill(child, 9), waitpid(child, &mut status, 0)) };
+    }
+    assert_eq!((ended, status), (child, 0), "the child panicked, or waits for threads that it hasn't got");
+    assert!(cache.get(&[99]).unwrap().is_some());
+}
+
+#[test]
+fn loads_in_a_circle_come_to_an_end() {
+    let _alone = ALONE.lock();
+    let (patience, start) = (Duration::from_millis(300), Barrier::new(2));
+    let cache = in_memory(patience);
+    let begin = Instant::now();
+    let inner = |key: &[u8]| cache.get_or_load(key, 0, || Ok::<_, Error>("inner")).map(|row| row.into_vec());
+    thread::scope(|scope| {
+        for (mine, other) in [(b"1", b"2"), (b"2", b"1")] {
+            let (cache, start) = (&cache, &start);
+            scope.spawn(move || {
+                let outer = || {
+                    start.wait();
+                    inner(other).map_err(|_| Error::Closed)
+                };
+                assert_eq!(*cache.get_or_load(mine, 0, outer).unwrap(), *b"inner");
+            });
+        }
+    });
+    assert_eq!(*cache.get_or_load(b"own", 0, || inner(b"own").map_err(|_| Error::Closed)).unwrap(), *b"inner");
+    assert!(begin.elapsed() >= 2 * patience && begin.elapsed() < LONG);
+    assert_eq!(lease(&cache, b"next").store(b"row", 0), Ok(Kept::Stored));
+}
