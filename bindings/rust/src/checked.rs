@@ -1,3 +1,4 @@
+use crate::digest::digest_of;
 use crate::Refused;
 use std::fmt;
 use std::io;
@@ -141,24 +142,6 @@ fn attempted(operate: impl FnOnce() -> Option<io::Result<()>>) -> Option<bool> {
     }
 }
 
-fn folded(a: u64, b: u64) -> u64 {
-    let product = u128::from(a) * u128::from(b);
-    product as u64 ^ (product >> 64) as u64
-}
-
-/// A digest of 64 bits, never 0: 16 bytes at a time are folded by a product into those before. It tells a page that was torn,
-/// lost or misplaced. It isn't made against who chooses both pages.
-pub(crate) fn digest_of(bytes: &[u8]) -> u64 {
-    let mut state = 0x243f_6a88_85a3_08d3u64.wrapping_add(bytes.len() as u64);
-    for block in bytes.chunks(16) {
-        let mut words = [0; 16];
-        words[..block.len()].copy_from_slice(block);
-        let word = u128::from_le_bytes(words);
-        state = folded(word as u64 ^ state, (word >> 64) as u64 ^ 0x9e37_79b9_7f4a_7c15);
-    }
-    state.max(1)
-}
-
 #[cfg(test)]
 mod tests {
     use super::*;
@@ -212,21 +195,5 @@ mod tests {
         assert!(!checked.read(2, &mut [0; 512]));
         let counts = checked.counts();
         assert_eq!((counts.reads, counts.read_failures, counts.lies, counts.pages), (1, 1, 1, 1));
-    }
-
-    #[test]
-    fn digests_tell_each_bit_and_each_order() {
-        let page: Vec<u8> = (0..4096u32).map(|i| ((i * i) >> 3) as u8).collect();
-        let known = digest_of(&page);
-        for bit in 0..4096 * 8 {
-            let mut other = page.clone();
-            other[bit / 8] ^= 1 << (bit % 8);
-            assert_ne!(digest_of(&other), known);
-        }
-        let mut other = page.clone();
-        other.rotate_left(16);
-        assert_ne!(digest_of(&other), known);
-        assert_ne!(digest_of(&page[..2048]), known);
-        assert_ne!(digest_of(&[0; 512]), 0);
     }
 }

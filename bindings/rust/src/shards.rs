@@ -2,10 +2,11 @@ use crate::bars::Bars;
 use crate::bell::Bell;
 use crate::buffer::with_page;
 use crate::calls::{Answer, Call, Calls};
-use crate::checked::{digest_of, Checked};
+use crate::checked::Checked;
 use crate::lease::Waited;
 use crate::loads::{Loads, Outcome};
 use crate::numbers::Numbers;
+use crate::spread::Spread;
 use crate::timer::Timer;
 use crate::told::{Tellings, Told};
 use crate::wakes::{Rings, Wakes, Woken};
@@ -197,6 +198,7 @@ pub(crate) struct Shards {
     page: usize,
     pages: u32,
     pools: u8,
+    spread: Spread,
     clock: Clock,
     pub patience: Duration,
     pub unknown_for: Duration,
@@ -244,6 +246,7 @@ impl Shards {
             page,
             pages,
             pools: pools.len() as u8,
+            spread: Spread::new(),
             clock: options.clock.clone(),
             patience: options.patience,
             unknown_for: options.unknown_for,
@@ -263,13 +266,13 @@ impl Shards {
         self.pools
     }
 
-    /// The key's shard, by the upper half of its digest. (That of the library, FNV-1a, goes byte by byte, and takes as long as
+    /// The key's shard, by the upper half of its hash. (That of the library, FNV-1a, goes byte by byte, and takes as long as
     /// half a hit.)
     #[inline]
     pub fn of(&self, key: &[u8]) -> usize {
         match self.shards.len() {
             1 => 0,
-            shards => (((digest_of(key) >> 32) * shards as u64) >> 32) as usize,
+            shards => (((self.spread.hash(key) >> 32) * shards as u64) >> 32) as usize,
         }
     }
 
@@ -278,7 +281,7 @@ impl Shards {
     pub fn pool_of(&self, key: &[u8]) -> u8 {
         match self.pools {
             1 => 0,
-            pools => (digest_of(key) as u32 % u32::from(pools)) as u8,
+            pools => (self.spread.hash(key) as u32 % u32::from(pools)) as u8,
         }
     }
 
