@@ -1,7 +1,7 @@
 // The worker of a cache: it takes jobs, does their operations on the device, and hands in what came of them.
 use crate::metered::Metered;
 use hc_core::{Core, Counting, IoResult, Order, Refusal, Take, Unfinished};
-use hc_paged::{Checked, Device, FileDevice, SipHash, OpenError, open, operate};
+use hc_paged::{Checked, Device, FileDevice, OpenError, SipHash, open, operate};
 use std::alloc::Global;
 use std::fs::File;
 use std::io::{self, ErrorKind};
