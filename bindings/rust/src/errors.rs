@@ -86,16 +86,11 @@ pub enum OpenError {
     Page(u64),
     /// The library refused the pool or the flash: the refusal's name says which number.
     Refused(Refused),
-    /// Another has the file open, in this process or in another one.
+    /// Another has the file open, in this process or in another one; or the block device is mounted, or otherwise in use.
     InUse,
-    /// There is a file that isn't empty and has another length, so that it may be something else. Where it is the flash of a
-    /// cache with other options, remove it first.
-    OtherLength {
-        /// The bytes that it has.
-        found: u64,
-        /// The bytes that it would have.
-        wanted: u64,
-    },
+    /// The file or block device has something, and isn't ours. To lose what it has, say so ([`Options`](crate::Options),
+    /// `overwrite`).
+    NotOurs,
     /// It is neither a file nor a block device.
     OtherKind,
     /// The block device has fewer bytes than the flash.
@@ -132,9 +127,9 @@ impl fmt::Display for OpenError {
             OpenError::Number { name, given, least, most } => write!(f, "{name} is {given}, and not {least} to {most}"),
             OpenError::Page(given) => write!(f, "page is {given}, and not 512, 1024, 2048 or 4096"),
             OpenError::Refused(refused) => refused.fmt(f),
-            OpenError::InUse => f.write_str("another has the file open"),
-            OpenError::OtherLength { found, wanted } => {
-                write!(f, "the file has {found} bytes, and not {wanted}: remove it, if it is an old flash")
+            OpenError::InUse => f.write_str("another has the file open, or the device is in use"),
+            OpenError::NotOurs => {
+                f.write_str("it has something, and is no flash of a cache: remove it, or let it be overwritten")
             }
             OpenError::OtherKind => f.write_str("neither a file nor a block device"),
             OpenError::TooSmall { found, wanted } => write!(f, "the device has {found} bytes, and not {wanted}"),

@@ -1,9 +1,22 @@
-use crate::{OpenError, PageDevice};
-use std::fs::{File, OpenOptions, TryLockError};
+use crate::buffer::with_page;
+use crate::digest::digest_of;
+use crate::{OpenError, Options, PageDevice};
+use std::collections::hash_map::RandomState;
+use std::fs::{self, File, OpenOptions, TryLockError};
+use std::hash::{BuildHasher, Hasher};
 use std::io::{self, Seek, SeekFrom};
 use std::os::fd::AsRawFd;
 use std::os::unix::fs::{FileExt, FileTypeExt, OpenOptionsExt};
 use std::path::Path;
+
+/// The bytes in front of the first page: a head, which says that the file or device is one of ours (docs/FORMATS.md).
+const HEAD: u64 = 4096;
+const NAME: [u8; 16] = *b"Kilambosetry\r\n\x1a\n";
+const VERSION: u32 = 1;
+
+// So much at each end of a file or device that isn't ours is looked at, for anything but zeros: file systems, partitions, volumes
+// and the like have their marks there.
+const LOOKED_AT: u64 = 1 << 20;
 
 /// A device of pages in a file or on a block device, which is locked against a second opener as long as it is open.
 #[derive(Debug)]
@@ -15,53 +28,138 @@ pub struct PageFile {
 }
 
 impl PageFile {
-    /// Opens the file, or makes it (readable and writable for its owner alone), for so many pages of so many bytes. `direct`
-    /// goes past the system's copies of pages. An empty file gets its length, and room on the disk as it is written. What it
-    /// has is never read: a cache begins empty.
-    pub fn open(path: &Path, pages: u64, page: u64, direct: bool) -> Result<PageFile, OpenError> {
-        let mut options = OpenOptions::new();
-        options.read(true).write(true).create(true).truncate(false).mode(0o600);
-        if direct {
-            options.custom_flags(O_DIRECT);
-        }
-        let mut file = options.open(path)?;
+    /// Opens the file or block device, or makes the file (readable and writable for its owner alone), for so many pages of so many
+    /// bytes. An empty file gets its length, and room on the disk as it is written. What it has is never read: a cache begins
+    /// empty. One that has anything and isn't ours is refused, as [`Options::overwrite`] says, and a block device that is in use.
+    pub fn open(path: &Path, pages: u64, page: u64, options: &Options) -> Result<PageFile, OpenError> {
+        let mut file = match options.unnamed {
+            true => opened(&OpenOptions::new(), path, O_TMPFILE, options)?,
+            false => open_named(path, options)?,
+        };
         file.try_lock().map_err(|error| match error {
             TryLockError::WouldBlock => OpenError::InUse,
             TryLockError::Error(error) => OpenError::Io(error),
         })?;
-        make_long(&mut file, pages * page)?;
-        Ok(PageFile { file, page, is_cached: !direct })
+        take(&mut file, HEAD + pages * page, options.overwrite)?;
+        write_head(&file, pages, page)?;
+        Ok(PageFile { file, page, is_cached: !options.direct })
+    }
+
+    fn place_of(&self, page: u32) -> u64 {
+        HEAD + u64::from(page) * self.page
     }
 }
 
-// Sees that there is room for so many bytes.
-fn make_long(file: &mut File, wanted: u64) -> Result<(), OpenError> {
-    let found = file.metadata()?;
-    if found.file_type().is_block_device() {
-        let found = file.seek(SeekFrom::End(0))?;
-        return if found < wanted { Err(OpenError::TooSmall { found, wanted }) } else { Ok(()) };
+// A block device is opened so that the system refuses it where it is mounted, or otherwise in use.
+fn open_named(path: &Path, options: &Options) -> Result<File, OpenError> {
+    let is_device = fs::metadata(path).is_ok_and(|found| found.file_type().is_block_device());
+    let file = match is_device {
+        true => opened(&OpenOptions::new(), path, O_EXCL, options)?,
+        false => opened(OpenOptions::new().create(true).truncate(false), path, 0, options)?,
+    };
+    if file.metadata()?.file_type().is_block_device() != is_device {
+        return Err(OpenError::InUse); // (another puts something else there)
     }
-    if !found.is_file() {
+    Ok(file)
+}
+
+fn opened(as_given: &OpenOptions, path: &Path, flags: i32, options: &Options) -> Result<File, OpenError> {
+    let direct = if options.direct { O_DIRECT } else { 0 };
+    let opened = as_given.clone().read(true).write(true).mode(0o600).custom_flags(flags | direct).open(path);
+    opened.map_err(|error| match error.kind() {
+        io::ErrorKind::ResourceBusy => OpenError::InUse,
+        _ => OpenError::Io(error),
+    })
+}
+
+// Sees that it is ours to write, and has so many bytes.
+fn take(file: &mut File, wanted: u64, overwrites: bool) -> Result<(), OpenError> {
+    let kind = file.metadata()?.file_type();
+    if !kind.is_file() && !kind.is_block_device() {
         return Err(OpenError::OtherKind);
     }
-    match found.len() {
-        0 => Ok(file.set_len(wanted)?),
-        found if found == wanted => Ok(()),
-        found => Err(OpenError::OtherLength { found, wanted }),
+    let found = file.seek(SeekFrom::End(0))?;
+    if kind.is_block_device() && found < wanted {
+        return Err(OpenError::TooSmall { found, wanted });
     }
+    let is_ours = found >= HEAD && read_head(file)?.starts_with(&NAME);
+    if !is_ours && !overwrites && has_anything(file, found, kind.is_file())? {
+        return Err(OpenError::NotOurs);
+    }
+    if kind.is_file() && (!is_ours || found != wanted) {
+        file.set_len(0)?;
+        file.set_len(wanted)?;
+    }
+    Ok(())
+}
+
+fn read_head(file: &File) -> Result<[u8; NAME.len()], OpenError> {
+    let read = |out: &mut [u8]| -> io::Result<[u8; NAME.len()]> {
+        file.read_exact_at(out, 0)?;
+        let mut name = NAME;
+        name.copy_from_slice(&out[..NAME.len()]);
+        Ok(name)
+    };
+    Ok(with_page(HEAD as usize, read).ok_or(OpenError::NoMemory)??)
+}
+
+// Whose it is: the name and the version, what the pages are, a number drawn by chance, the seal of a restart (none: zeros), and a
+// digest of these.
+fn write_head(file: &File, pages: u64, page: u64) -> Result<(), OpenError> {
+    let drawn = || RandomState::new().build_hasher().finish().to_le_bytes();
+    let fields = [
+        &NAME[..],
+        &VERSION.to_le_bytes(),
+        &(page as u32).to_le_bytes(),
+        &pages.to_le_bytes(),
+        &drawn(),
+        &drawn(),
+        &[0; 16],
+    ];
+    let write = |out: &mut [u8]| {
+        out.fill(0);
+        let mut at = 0;
+        for field in fields {
+            out[at..at + field.len()].copy_from_slice(field);
+            at += field.len();
+        }
+        let digest = digest_of(&out[..at]).to_le_bytes();
+        out[at..at + digest.len()].copy_from_slice(&digest);
+        file.write_all_at(out, 0)
+    };
+    Ok(with_page(HEAD as usize, write).ok_or(OpenError::NoMemory)??)
+}
+
+// Whether there is anything in it, of what is looked at. A file that has room alone has nothing.
+fn has_anything(file: &File, bytes: u64, is_file: bool) -> Result<bool, OpenError> {
+    if bytes == 0 {
+        return Ok(false);
+    }
+    if is_file {
+        return Ok(has_data(file));
+    }
+    let head = 0..bytes.min(LOOKED_AT);
+    let tail = bytes.saturating_sub(LOOKED_AT) / HEAD * HEAD..bytes;
+    for at in head.chain(tail).step_by(HEAD as usize) {
+        let is_zero = |out: &mut [u8]| file.read_exact_at(out, at).map(|()| out.iter().all(|byte| *byte == 0));
+        if !with_page(HEAD.min(bytes - at) as usize, is_zero).ok_or(OpenError::NoMemory)?? {
+            return Ok(true);
+        }
+    }
+    Ok(false)
 }
 
 impl PageDevice for PageFile {
     fn read(&self, page: u32, out: &mut [u8]) -> io::Result<()> {
-        self.file.read_exact_at(out, u64::from(page) * self.page)
+        self.file.read_exact_at(out, self.place_of(page))
     }
 
     fn write(&self, page: u32, bytes: &[u8]) -> io::Result<()> {
-        self.file.write_all_at(bytes, u64::from(page) * self.page)
+        self.file.write_all_at(bytes, self.place_of(page))
     }
 
     fn read_now(&self, page: u32, out: &mut [u8]) -> Option<io::Result<()>> {
-        let is_read = self.is_cached && read_copy(&self.file, out, u64::from(page) * self.page);
+        let is_read = self.is_cached && read_copy(&self.file, out, self.place_of(page));
         is_read.then_some(Ok(()))
     }
 }
@@ -89,10 +187,34 @@ fn read_copy(_: &File, _: &mut [u8], _: u64) -> bool {
     false
 }
 
-// Linux has another number for it on some processors.
+// Whether anything was written to the file since it got its length.
+#[cfg(all(target_os = "linux", target_pointer_width = "64"))]
+fn has_data(file: &File) -> bool {
+    extern "C" {
+        fn lseek(file: i32, offset: i64, whence: i32) -> i64;
+    }
+    const SEEK_DATA: i32 = 3;
+    // SAFETY: the call has no pointers. Whose place in the file it is doesn't matter, since each operation says its own.
+    let found = unsafe { lseek(file.as_raw_fd(), 0, SEEK_DATA) };
+    const NO_SUCH_PLACE: i32 = 6;
+    found >= 0 || io::Error::last_os_error().raw_os_error() != Some(NO_SUCH_PLACE)
+}
+
+#[cfg(not(all(target_os = "linux", target_pointer_width = "64")))]
+fn has_data(_: &File) -> bool {
+    true
+}
+
+// Linux has other numbers for these on some processors.
 #[cfg(any(target_arch = "aarch64", target_arch = "arm"))]
 const O_DIRECT: i32 = 0o200_000;
 #[cfg(any(target_arch = "powerpc", target_arch = "powerpc64"))]
 const O_DIRECT: i32 = 0o400_000;
 #[cfg(not(any(target_arch = "aarch64", target_arch = "arm", target_arch = "powerpc", target_arch = "powerpc64")))]
 const O_DIRECT: i32 = 0o40_000;
+#[cfg(any(target_arch = "aarch64", target_arch = "arm", target_arch = "powerpc", target_arch = "powerpc64"))]
+const O_DIRECTORY: i32 = 0o40_000;
+#[cfg(not(any(target_arch = "aarch64", target_arch = "arm", target_arch = "powerpc", target_arch = "powerpc64")))]
+const O_DIRECTORY: i32 = 0o200_000;
+const O_TMPFILE: i32 = 0o20_000_000 | O_DIRECTORY;
+const O_EXCL: i32 = 0o200;

@@ -54,12 +54,14 @@ struct Inner {
 
 impl HybridCache {
     /// An empty cache with its flash in this file, or on this block device. A file is made where there is none, readable and
-    /// writable for its owner alone. It is locked as long as the cache is open.
+    /// writable for its owner alone. It is locked as long as the cache is open. What has anything and isn't ours is refused, and
+    /// left alone ([`Options::overwrite`]); so is a block device that is mounted, or otherwise in use. What the cache has lies
+    /// there in the clear, also once it is closed ([`Options::unnamed`]).
     pub fn open(path: impl AsRef<Path>, options: &Options) -> Result<HybridCache, OpenError> {
         let numbers = options.numbers()?;
         let page = numbers.flash.map_or(0, |flash| flash.page);
         HybridCache::make(numbers, options, || {
-            let file = PageFile::open(path.as_ref(), numbers.pages(), page, options.direct)?;
+            let file = PageFile::open(path.as_ref(), numbers.pages(), page, options)?;
             Ok(Some(Box::new(file)))
         })
     }

@@ -51,6 +51,12 @@ pub struct Options {
     pub page: u64,
     /// Whether reads and writes go past the system's copies of pages (`O_DIRECT`). A page must be one that the disk has then.
     pub direct: bool,
+    /// Whether a file or block device is taken that has anything and isn't ours: what it has is lost. A device that is mounted, or
+    /// otherwise in use, is refused all the same. Ours are those with a head that a cache wrote.
+    pub overwrite: bool,
+    /// Whether the flash is a file without a name in the folder that is given (`O_TMPFILE`): nobody else can open it, and nothing
+    /// of it is left once the process ends.
+    pub unnamed: bool,
     /// How long the load of a key may take before another begins one ([`get_or_load`](crate::HybridCache::get_or_load)). A call
     /// that misses a key waits for one load of another, and no longer than this. With 0 none waits.
     pub patience: Duration,
@@ -79,6 +85,8 @@ impl Default for Options {
             fillers: 2,
             page: 4096,
             direct: false,
+            overwrite: false,
+            unnamed: false,
             patience: Duration::from_secs(10),
             unknown_for: Duration::from_secs(60),
             pool: None,
