@@ -3,8 +3,7 @@
 #
 #   bindings/build.sh            library, C checks and examples (under valgrind too, where there is one), cargo test, the server; with rt
 #                                also the example in Rattle
-#   bindings/build.sh --short    the same without what takes longest, valgrind and the thread sanitizer, and without `cargo test` and
-#                                `cargo doc` of the crate
+#   bindings/build.sh --short    the same without `cargo test` of the crate, which is a command by itself
 #   bindings/build.sh --library  the library alone
 #   bindings/build.sh --c        library and C checks alone
 #   bindings/build.sh --speed    also the comparison with other caches, where Debian's crate `lru` (librust-lru-dev) is installed
@@ -34,9 +33,7 @@ on_folder() {
 under_valgrind() {
     shows=$1
     shift
-    if [ "$what" = --short ]; then
-        :
-    elif has valgrind; then
+    if has valgrind; then
         valgrind -q --error-exitcode=1 "$@"
         echo "valgrind: $shows"
     else
@@ -140,9 +137,7 @@ else
     under_valgrind "no error, nothing lost" --fair-sched=yes $all_leaks "$out/service-checks" "$out" 16
     under_valgrind "no race, no lock taken in another order" --tool=helgrind --fair-sched=yes --suppressions="$here/c/helgrind.supp" \
         "$out/service-checks" "$out" 80
-    if [ "$what" = --short ]; then
-        :
-    elif makes "" -fsanitize=thread -pthread && "$out/tried"; then
+    if makes "" -fsanitize=thread -pthread && "$out/tried"; then
         service service-races -fsanitize=thread "$here/c/service_checks.c" $refusing
         "$out/service-races" "$out" 8
         echo "thread sanitizer: no race in the service's own code"
@@ -165,9 +160,9 @@ export KILAMBOSETRY_LIB="$out/lib" # (and not the one of dist/)
 if has cargo; then
     if [ "$what" != --short ]; then
         (cd "$here/rust" && CARGO_TARGET_DIR="$out/target" cargo test --offline --quiet)
-        (cd "$here/rust" && CARGO_TARGET_DIR="$out/target" RUSTDOCFLAGS="-D warnings" cargo doc --offline --quiet --no-deps)
-        echo "the crate's pages: no warning"
     fi
+    (cd "$here/rust" && CARGO_TARGET_DIR="$out/target" RUSTDOCFLAGS="-D warnings" cargo doc --offline --quiet --no-deps)
+    echo "the crate's pages: no warning"
     # the code of README.md: it is the example's, word for word, and does what it says
     sed -n '/^```rust$/,/^```$/{/^```/!p;}' "$here/../README.md" >"$out/readme.txt"
     sed -n '/^fn open/,/^fn main/p' "$here/rust/examples/readme.rs" | sed '/^fn main/d' | sed '$d' | cmp - "$out/readme.txt"
