@@ -15,8 +15,10 @@ impl Service {
         Ok(u64::from_be_bytes(row[..].try_into().unwrap()))
     }
     fn change(&self, user: u32) -> Result<(), Infallible> {
-        let commit = || Ok(self.rows.write().unwrap()[user as usize] += 1);
-        self.cache.change(&user.to_be_bytes(), commit)
+        self.cache.change(&user.to_be_bytes(), || {
+            self.rows.write().unwrap()[user as usize] += 1;
+            Ok(())
+        })
     }
 }
 

@@ -25,6 +25,7 @@ pub trait PageDevice: Send + Sync {
 
 /// Operations of a device.
 #[derive(Clone, Copy, Debug, Default, PartialEq, Eq)]
+#[non_exhaustive]
 pub struct DeviceCounts {
     /// Pages that were read, or tried.
     pub reads: u64,

@@ -1,4 +1,5 @@
 use std::fmt;
+use std::panic::{RefUnwindSafe, UnwindSafe};
 #[cfg(all(target_os = "linux", target_pointer_width = "64"))]
 use std::sync::atomic::{AtomicU64, Ordering::Relaxed};
 use std::sync::{Arc, OnceLock};
@@ -102,6 +103,10 @@ fn passed_awake() -> u64 {
     static BEGIN: OnceLock<std::time::Instant> = OnceLock::new();
     BEGIN.get_or_init(std::time::Instant::now).elapsed().as_secs()
 }
+
+// The cache asks it with nothing half done.
+impl UnwindSafe for Clock {}
+impl RefUnwindSafe for Clock {}
 
 impl fmt::Debug for Clock {
     fn fmt(&self, f: &mut fmt::Formatter<'_>) -> fmt::Result {

@@ -35,9 +35,9 @@ pub struct Flash {
 }
 
 impl Flash {
-    /// How many pages its device has.
+    /// How many pages its device has; of numbers that are no flash's, 2^64 - 1 at most.
     pub fn pages(&self) -> u64 {
-        self.buckets + self.regions * self.region_pages
+        self.buckets.saturating_add(self.regions.saturating_mul(self.region_pages))
     }
 }
 
@@ -288,9 +288,10 @@ impl Engine {
     /// Gives up the call with this number, whose reply nobody takes any more: of a request that was cancelled, say. A reply that
     /// is there is dropped at once, and one that isn't as jobs end (or another call is given up), so that it keeps no value
     /// alive. What an add was to store is stored all the same. Refused with [`Refused::UNKNOWN_CALL`] where no reply is owed to
-    /// the call.
+    /// the call, and with [`Refused::NO_MEMORY`].
     pub fn forget(&mut self, call: u64) -> Result<(), Refused> {
         self.drop_replies();
+        self.forgotten.try_reserve(1).map_err(|_| Refused::NO_MEMORY)?;
         match self.take_reply(call) {
             Err(Refused::NOT_READY) => self.forgotten.push_back(call),
             Err(refused) if refused != Refused::EXISTS => return Err(refused),

@@ -5,6 +5,7 @@ use std::io;
 
 /// Why a call of a [`HybridCache`](crate::HybridCache) has no answer.
 #[derive(Clone, Copy, Debug, PartialEq, Eq)]
+#[non_exhaustive]
 pub enum Error {
     /// The cache refused it, and is as it was.
     Refused(Refused),

@@ -6,6 +6,7 @@ use crate::numbers::Numbers;
 use crate::shards::{Locked, Shards, State, ABSENT};
 use crate::{Added, Error, Found, Held, OpenError, Options, PageFile, Refused, Reply, Stats, Value};
 use std::cell::Cell;
+use std::panic::{RefUnwindSafe, UnwindSafe};
 use std::path::Path;
 use std::sync::{Arc, Mutex, OnceLock, PoisonError};
 use std::thread::{self, JoinHandle};
@@ -383,6 +384,10 @@ impl Drop for Inner {
         self.end();
     }
 }
+
+// What panics in a call (a clock, a device, a task that is woken) does so with the shard as a call leaves it, or its lock free.
+impl UnwindSafe for HybridCache {}
+impl RefUnwindSafe for HybridCache {}
 
 impl fmt::Debug for HybridCache {
     fn fmt(&self, f: &mut fmt::Formatter<'_>) -> fmt::Result {

@@ -118,6 +118,7 @@ pub struct Pool {
 /// What was done so far.
 #[repr(C)]
 #[derive(Clone, Copy, Debug, Default, PartialEq, Eq)]
+#[non_exhaustive]
 pub struct Counts {
     /// Values that were stored.
     pub stored: u64,
@@ -139,6 +140,7 @@ pub struct Counts {
 #[repr(C)]
 #[derive(Clone, Copy, Debug, Default, PartialEq, Eq)]
 #[must_use]
+#[non_exhaustive]
 pub struct Losses {
     /// Evicted to make room: there is no flash.
     pub no_flash: u64,
@@ -183,6 +185,7 @@ impl AddAssign for Losses {
 /// The limits of a pool, what its items take, and what is taken by items that aren't in it yet: none, between two calls.
 #[repr(C)]
 #[derive(Clone, Copy, Debug, Default, PartialEq, Eq)]
+#[non_exhaustive]
 pub struct Usage {
     /// The most bytes.
     pub limit_bytes: u64,

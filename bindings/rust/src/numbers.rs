@@ -22,6 +22,7 @@ const MOST_SLOTS: u64 = 1 << 16;
 /// What [`Options`](crate::Options) come to, for all shards together: the library's numbers, and the memory that they take once
 /// all is full. `Display` prints them.
 #[derive(Clone, Copy, Debug, PartialEq, Eq)]
+#[non_exhaustive]
 pub struct Numbers {
     /// The most bytes that items are charged, and the most items, of all shards together.
     pub pool: Pool,
@@ -66,16 +67,17 @@ impl Numbers {
     /// Bytes of memory that these take.
     #[must_use]
     pub fn items_bytes(&self) -> u64 {
-        self.items() * (self.item + CHARGE + BESIDE)
+        self.items().saturating_mul(self.item + CHARGE + BESIDE)
     }
 
     /// Bytes of the index of large items on flash: some 60 for each.
     #[must_use]
     pub fn index_bytes(&self) -> u64 {
         self.all(|flash| {
-            let item = self.item.max(flash.small_max + 1);
+            let item = self.item.max(flash.small_max.saturating_add(1));
             let region = flash.region_pages.saturating_mul(flash.page);
-            flash.regions.saturating_mul(region / (item + BESIDE_LARGE) * INDEX + REGION)
+            let entries = region / item.saturating_add(BESIDE_LARGE);
+            flash.regions.saturating_mul(entries.saturating_mul(INDEX).saturating_add(REGION))
         })
     }
 
@@ -121,7 +123,7 @@ impl Numbers {
     #[must_use]
     pub fn memory_bytes(&self) -> u64 {
         let beside = [self.index_bytes(), self.buckets_bytes(), self.buffers_bytes(), self.queue_bytes()];
-        let first = self.items_bytes() + self.digests_bytes() + self.leases_bytes();
+        let first = self.items_bytes().saturating_add(self.digests_bytes()).saturating_add(self.leases_bytes());
         beside.iter().fold(first, |sum, bytes| sum.saturating_add(*bytes))
     }
 }

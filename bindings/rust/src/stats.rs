@@ -4,6 +4,7 @@ use std::fmt::{self, Write};
 /// What a [`HybridCache`](crate::HybridCache) did so far, and what it has, of all shards together. Each shard is asked by
 /// itself, so that no two numbers need be of one moment.
 #[derive(Clone, Copy, Debug, Default, PartialEq, Eq)]
+#[non_exhaustive]
 pub struct Stats {
     /// Gets that found a value in memory, items that wait for flash too.
     pub hits_from_memory: u64,
@@ -95,7 +96,9 @@ impl Stats {
     /// ```
     /// use kilambosetry::Stats;
     ///
-    /// let text = Stats { stored: 3, ..Stats::default() }.to_prometheus();
+    /// let mut stats = Stats::default();
+    /// stats.stored = 3;
+    /// let text = stats.to_prometheus();
     /// assert!(text.contains("# TYPE kilambosetry_stored_total counter\nkilambosetry_stored_total 3\n"));
     /// ```
     #[must_use]

@@ -66,7 +66,6 @@ impl Wakes {
     }
 
     /// Whom to wake now, without the lock. There may be more.
-    #[must_use]
     pub fn take(&mut self) -> Woken {
         let mut woken = Woken { threads: std::mem::take(&mut self.threads), ..Woken::default() };
         woken.tasks.iter_mut().for_each(|task| *task = self.tasks.pop());

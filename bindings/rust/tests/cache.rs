@@ -37,7 +37,9 @@ fn the_least_recently_used_items_go() {
     assert!(cache.get(b"a").unwrap().is_some());
     let counts = cache.counts();
     assert_eq!((counts.stored, counts.hits, counts.misses, counts.losses), (5, 2, 1, 1));
-    assert_eq!(cache.losses(), Losses { no_flash: 1, ..Losses::default() });
+    let mut losses = Losses::default();
+    losses.no_flash = 1;
+    assert_eq!(cache.losses(), losses);
     assert_eq!(cache.calls(), 8);
 }
 

@@ -16,8 +16,9 @@ fn first_heap() -> (usize, usize) {
 }
 
 fn main() {
-    if !share_one_heap() {
-        assert!(!cfg!(all(target_os = "linux", target_env = "gnu")), "glibc takes the setting");
+    let is_shared = share_one_heap();
+    assert_eq!(is_shared, cfg!(all(target_os = "linux", target_env = "gnu")), "glibc takes the setting");
+    if !is_shared {
         return println!("skipped: no glibc");
     }
     let all = Barrier::new(THREADS);

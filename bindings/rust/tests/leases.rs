@@ -333,11 +333,14 @@ fn a_late_load_ends_no_other() {
     });
 }
 
+// What ends a load that fails.
+type End = fn(Lease);
+
 #[test]
 fn who_waits_for_a_load_that_fails_is_told_so() {
     let _in_time = InTime::begin();
     for cache in both() {
-        let ends: [(fn(Lease), &str); 3] = [
+        let ends: [(End, &str); 3] = [
             (|lease| lease.fail("no database"), "no database"),
             (drop, "the load was given up"),
             (

@@ -7,7 +7,7 @@ use std::fs::{self, File, OpenOptions};
 use std::future::Future;
 use std::io;
 use std::os::unix::fs::{FileExt, PermissionsExt};
-use std::panic;
+use std::panic::{self, RefUnwindSafe, UnwindSafe};
 use std::path::{Path, PathBuf};
 use std::pin::{pin, Pin};
 use std::sync::atomic::{AtomicBool, AtomicU64, AtomicUsize, Ordering::SeqCst};
@@ -930,12 +930,19 @@ fn values_that_wait_to_be_written_are_counted() {
 
 #[test]
 fn handles_are_for_threads() {
-    fn shared<T: Send + Sync + Clone + 'static>(_: &T) {}
+    fn shared<T: Send + Sync + Clone + UnwindSafe + RefUnwindSafe + 'static>(_: &T) {}
     fn sent<T: Send>(_: &T) {}
+    fn unwinds<T: UnwindSafe>(_: &T) {}
     let (cache, _) = over_ram(&small());
     shared(&cache);
     sent(&cache.get_async(b"key"));
     sent(&cache.get_or_lease_async(b"key"));
     let Lookup::Miss(lease) = cache.get_or_lease(b"key").unwrap() else { panic!("it is empty") };
     sent(&lease);
+    unwinds(&lease);
+    let change = cache.begin_change(b"key");
+    sent(&change);
+    unwinds(&change);
+    shared(&small());
+    shared(&Clock::system());
 }
