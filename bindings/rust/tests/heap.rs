@@ -26,13 +26,15 @@ fn main() {
     let allocate = || {
         let block = black_box(vec![1u8; 20_000]);
         all.wait();
-        block.as_ptr() as usize
+        block
     };
-    let blocks: Vec<usize> = thread::scope(|scope| {
+    // (they are held until the heap is looked at, which shrinks where its end is free)
+    let blocks: Vec<Vec<u8>> = thread::scope(|scope| {
         let threads: Vec<_> = (0..THREADS).map(|_| scope.spawn(allocate)).collect();
         threads.into_iter().map(|one| one.join().expect("no thread panics")).collect()
     });
     let (begin, end) = first_heap();
-    assert!(blocks.iter().all(|block| (begin..end).contains(block)), "{blocks:x?} aren't all in {begin:x}..{end:x}");
+    let places: Vec<usize> = blocks.iter().map(|block| block.as_ptr() as usize).collect();
+    assert!(places.iter().all(|place| (begin..end).contains(place)), "{places:x?} aren't all in {begin:x}..{end:x}");
     println!("{THREADS} threads, one heap");
 }
