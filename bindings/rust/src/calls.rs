@@ -1,3 +1,4 @@
+use crate::held::copied;
 use crate::wakes::Wakes;
 use crate::{Engine, Error, Refused, Reply};
 use std::collections::HashMap;
@@ -25,6 +26,9 @@ pub(crate) struct Calls {
     waiting: HashMap<u64, Call>,
     // replies that the engine owes, also to calls that were given up
     owed: usize,
+    // gets that were given up before they were answered, by their keys, and their keys: the next get of the key goes on with its
+    left: HashMap<Box<[u8]>, u64>,
+    keys: HashMap<u64, Box<[u8]>>,
     // jobs of which an operation failed, and whether that whose replies come now is one
     failed: Vec<u64>,
     is_faulty: bool,
@@ -89,15 +93,46 @@ impl Calls {
         }
     }
 
-    /// Gives the call up. Its reply is dropped when it comes. What is handed back is to be dropped without the lock.
+    /// Gives the get of this key up. Its reply is dropped when it comes, unless another get goes on with it. What is handed back is
+    /// to be dropped without the lock.
     #[must_use]
-    pub fn give_up(&mut self, call: u64, wakes: &mut Wakes) -> Option<Call> {
+    pub fn give_up(&mut self, call: u64, key: &[u8], wakes: &mut Wakes) -> Option<Call> {
         let given_up = self.waiting.remove(&call)?;
         if given_up.answer.is_none() {
             self.given_up += 1;
             wakes.forget();
+            let _ = self.leave(call, key); // (out of memory, the next get of the key begins one of its own)
         }
         Some(given_up)
+    }
+
+    fn leave(&mut self, call: u64, key: &[u8]) -> Result<(), Refused> {
+        if self.left.contains_key(key) {
+            return Ok(());
+        }
+        self.left.try_reserve(1).map_err(|_| Refused::NO_MEMORY)?;
+        self.keys.try_reserve(1).map_err(|_| Refused::NO_MEMORY)?;
+        let (by_key, of_call) = (copied(key)?, copied(key)?);
+        self.left.insert(by_key.into_boxed_slice(), call);
+        self.keys.insert(call, of_call.into_boxed_slice());
+        Ok(())
+    }
+
+    /// The get of this key that was given up and that the engine hasn't answered yet: a get may go on with it. (A change of the key
+    /// answers it. So nothing was changed since it began.)
+    pub fn go_on(&mut self, key: &[u8], engine: &mut Engine) -> Option<u64> {
+        if self.left.is_empty() {
+            return None;
+        }
+        let call = self.left.remove(key)?;
+        self.keys.remove(&call);
+        let reply = engine.take_reply(call);
+        if matches!(reply, Err(Refused::NO_MEMORY)) {
+            return None; // (it is still owed)
+        }
+        self.owed -= 1;
+        // (one that was answered was so before now, and maybe before a change)
+        matches!(reply, Err(Refused::NOT_READY)).then_some(call)
     }
 
     /// Notes a result that was handed in for this job: whether its operation failed, and whether the job is over. Its replies are
@@ -133,8 +168,9 @@ impl Calls {
     }
 
     fn answer(&mut self, number: u64, answer: Answer, wakes: &mut Wakes) {
-        if let Some(call) = self.waiting.get_mut(&number) {
-            call.answer(number, answer, wakes);
+        match self.waiting.get_mut(&number) {
+            Some(call) => call.answer(number, answer, wakes),
+            None => drop(self.keys.remove(&number).and_then(|key| self.left.remove(&key))),
         }
     }
 

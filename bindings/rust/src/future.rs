@@ -85,7 +85,7 @@ impl Future for GetAsync<'_> {
 impl Drop for GetAsync<'_> {
     fn drop(&mut self) {
         if let Some((shard, call)) = self.call {
-            self.cache.shards().give_up(shard, call);
+            self.cache.shards().give_up(shard, self.key, call);
         }
     }
 }
@@ -233,10 +233,10 @@ impl Future for LeaseAsync<'_> {
 
 impl Drop for LeaseAsync<'_> {
     fn drop(&mut self) {
-        let Begun { shards, shard, .. } = self.begun;
+        let Begun { shards, shard, key, .. } = self.begun;
         match self.waits {
             Waits::Nothing => {}
-            Waits::Flash { call, .. } => shards.give_up(shard, call),
+            Waits::Flash { call, .. } => shards.give_up(shard, key, call),
             Waits::Load { load, task } => drop(shards.leave_load(shard, shards.lock(shard), load, Some(task))),
         }
     }

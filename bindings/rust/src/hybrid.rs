@@ -111,7 +111,7 @@ impl HybridCache {
     /// to wait for that.
     pub fn get_timeout(&self, key: &[u8], limit: Duration) -> Result<Option<Value>, Error> {
         let until = Instant::now().checked_add(limit);
-        self.find(key, |shards, shard, state, call| shards.wait_for(shard, state, call, until))
+        self.find(key, |shards, shard, state, call| shards.wait_for(shard, state, (key, call), until))
     }
 
     /// The same as a future, for any executor: a filler makes its read, and wakes the task, unless nobody has to wait for that

@@ -77,6 +77,9 @@ impl State {
     /// The value under the key. A miss of memory is counted by its reason.
     pub fn get(&mut self, key: &[u8]) -> Result<Found, Refused> {
         self.reserve()?;
+        if let Some(call) = self.calls.go_on(key, &mut self.engine) {
+            return Ok(Found::Waits(call));
+        }
         let found = self.engine.get(key)?;
         self.count_expired(key, matches!(found, Found::Miss));
         Ok(found)
@@ -85,6 +88,9 @@ impl State {
     /// The same, copied to the head of `out`.
     pub fn get_into(&mut self, key: &[u8], out: &mut [u8]) -> Result<Copied, Refused> {
         self.reserve()?;
+        if let Some(call) = self.calls.go_on(key, &mut self.engine) {
+            return Ok(Copied::Waits(call));
+        }
         let copied = self.engine.get_into(key, out)?;
         self.count_expired(key, copied == Copied::Miss);
         Ok(copied)
@@ -154,8 +160,8 @@ impl State {
 
     /// Gives the call up. What is handed back is to be dropped without the lock.
     #[must_use]
-    pub fn give_up(&mut self, call: u64) -> Option<Call> {
-        self.calls.give_up(call, &mut self.wakes)
+    pub fn give_up(&mut self, call: u64, key: &[u8]) -> Option<Call> {
+        self.calls.give_up(call, key, &mut self.wakes)
     }
 
     fn count_expired(&mut self, key: &[u8], is_miss: bool) {
@@ -388,9 +394,15 @@ impl Shards {
         }
     }
 
-    /// Waits for the answer of a call that begins to wait, until this moment at most. The fillers make the reads for which this
-    /// thread would have to wait.
-    pub fn wait_for<'a>(&'a self, shard: usize, mut state: Locked<'a>, call: u64, until: Option<Instant>) -> Answer {
+    /// Waits for the answer of a get of this key that begins to wait, until this moment at most. The fillers make the reads for which
+    /// this thread would have to wait.
+    pub fn wait_for<'a>(
+        &'a self,
+        shard: usize,
+        mut state: Locked<'a>,
+        (key, call): (&[u8], u64),
+        until: Option<Instant>,
+    ) -> Answer {
         state.begin(call);
         state = self.fill_now(shard, state, call);
         self.fillers.ring(shard);
@@ -400,7 +412,7 @@ impl Shards {
             }
             let left = until.map(|until| until.saturating_duration_since(Instant::now()));
             if left == Some(Duration::ZERO) {
-                let given_up = state.give_up(call);
+                let given_up = state.give_up(call, key);
                 drop(state);
                 drop(given_up);
                 return Err(Error::TimedOut);
@@ -444,8 +456,8 @@ impl Shards {
     }
 
     /// Gives a call up.
-    pub fn give_up(&self, shard: usize, call: u64) {
-        let given_up: Option<Call> = self.lock(shard).give_up(call);
+    pub fn give_up(&self, shard: usize, key: &[u8], call: u64) {
+        let given_up: Option<Call> = self.lock(shard).give_up(call, key);
         drop(given_up);
     }
 

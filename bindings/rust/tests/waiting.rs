@@ -6,7 +6,7 @@ use std::io;
 use std::mem;
 use std::pin::{pin, Pin};
 use std::sync::atomic::{AtomicBool, AtomicIsize, AtomicUsize, Ordering::SeqCst};
-use std::sync::{mpsc, Arc, Barrier, Condvar, Mutex};
+use std::sync::{mpsc, Arc, Barrier, Condvar, Mutex, OnceLock};
 use std::task::{Context, Poll, Wake, Waker};
 use std::thread::{self, Thread};
 use std::time::{Duration, Instant};
@@ -120,42 +120,55 @@ fn block_on<T>(future: impl Future<Output = T>, most: Duration) -> Option<T> {
     None
 }
 
-// The time that the last of 64 callers takes who miss a key at once, of whom each does this.
-fn last_of_64(call: impl Fn(&HybridCache) + Sync) -> Duration {
-    let (cache, start) = (in_memory(LONG), Barrier::new(64));
-    thread::scope(|scope| {
+// The time until the last of 64 callers is answered who miss a key at once, of whom each does this: from when 63 wait for the first
+// one's load, and that begins.
+fn last_of_64(call: impl Fn(&HybridCache, &Database) + Sync) -> Duration {
+    let (cache, database) = (in_memory(LONG), Database(OnceLock::new()));
+    let last = thread::scope(|scope| {
         let one = || {
-            start.wait();
-            let begin = Instant::now();
-            call(&cache);
-            begin.elapsed()
+            call(&cache, &database);
+            Instant::now()
         };
         let all: Vec<_> = (0..64).map(|_| scope.spawn(one)).collect();
         all.into_iter().map(|one| one.join().unwrap()).max().unwrap()
-    })
+    });
+    last - *database.0.get().unwrap()
 }
 
-// A load takes so long.
+// A slow database, which is first asked then.
+struct Database(OnceLock<Instant>);
+
 const LOAD: Duration = Duration::from_millis(1000);
 
-fn load<T, E>(answer: Result<T, E>) -> Result<T, E> {
-    thread::sleep(LOAD);
-    answer
+impl Database {
+    fn load<T, E>(&self, cache: &HybridCache, answer: Result<T, E>) -> Result<T, E> {
+        self.0.get_or_init(|| {
+            while cache.stats().waits_for_loads < 63 {
+                thread::yield_now();
+            }
+            Instant::now()
+        });
+        thread::sleep(LOAD);
+        answer
+    }
 }
 
 #[test]
 fn what_a_load_comes_to_is_handed_to_all_within_one_load_and_a_half() {
     let _alone = ALONE.lock();
     let long = vec![1; 1_100_000];
-    let times = [
-        last_of_64(|cache| drop(cache.get_or_load(b"key", 60, || load(Ok::<_, &str>("row"))))),
-        last_of_64(|cache| drop(cache.get_or_load(b"key", 60, || load(Err::<&str, _>("no such row"))))),
-        last_of_64(|cache| drop(cache.get_or_load(b"key", 60, || load(Ok::<_, &str>(&long[..]))))),
-        last_of_64(|cache| match block_on(cache.get_or_lease_async(b"key"), LONG).unwrap().unwrap() {
-            Lookup::Miss(lease) => load(Ok::<_, &str>(())).map(|()| lease.fail("no database")).unwrap(),
+    let row = |answer: Result<&[u8], &str>| {
+        last_of_64(|cache, database| drop(cache.get_or_load(b"key", 60, || database.load(cache, answer))))
+    };
+    let by_task =
+        last_of_64(|cache, database| match block_on(cache.get_or_lease_async(b"key"), LONG).unwrap().unwrap() {
+            Lookup::Miss(lease) => {
+                let failed = database.load(cache, Err::<(), _>("no database")).unwrap_err();
+                lease.fail(failed);
+            }
             looked => assert!(matches!(looked, Lookup::Failed(why) if why == "no database")),
-        }),
-    ];
+        });
+    let times = [row(Ok(b"row")), row(Err("no such row")), row(Ok(&long)), by_task];
     assert!(times.iter().all(|time| *time < LOAD * 3 / 2), "{times:?}");
 }
 
@@ -163,11 +176,14 @@ fn what_a_load_comes_to_is_handed_to_all_within_one_load_and_a_half() {
 fn who_waited_for_one_load_loads_by_himself_next() {
     let _alone = ALONE.lock();
     // the key is changed within each load
-    let change = |cache: &HybridCache| {
-        cache.delete(b"key").unwrap();
-        load(Ok::<_, Error>("row"))
-    };
-    let time = last_of_64(|cache| drop(cache.get_or_load(b"key", 60, || change(cache))));
+    let time = last_of_64(|cache, database| {
+        let load = || {
+            let row = database.load(cache, Ok::<_, Error>("row"));
+            cache.delete(b"key").unwrap();
+            row
+        };
+        assert!(cache.get_or_load(b"key", 60, load).is_ok());
+    });
     assert!(time < LOAD * 22 / 10, "{time:?}");
 }
 
@@ -316,6 +332,63 @@ fn a_load_that_was_handed_on_keeps_nothing() {
     }
     // (what threads keep for themselves, and tables that have grown)
     assert!(BYTES.load(SeqCst) - before < 20_000, "{} bytes are kept", BYTES.load(SeqCst) - before);
+}
+
+// The kilobytes of this process that are in memory.
+fn resident() -> i64 {
+    let said = std::fs::read_to_string("/proc/self/statm").expect("Linux tells it");
+    said.split(' ').nth(1).and_then(|pages| pages.parse::<i64>().ok()).expect("pages") * 4
+}
+
+#[test]
+fn gets_that_were_given_up_leave_nothing_while_the_device_hangs() {
+    let _alone = ALONE.lock();
+    let (cache, shut) = with_flash(1);
+    shut(true);
+    let waker = Waker::from(Arc::new(Counted(Arc::new(AtomicUsize::new(1)))));
+    let give_up = |number: u8| {
+        let key = [number];
+        match number % 2 {
+            0 => assert!(pin!(cache.get_async(&key)).poll(&mut Context::from_waker(&waker)).is_pending()),
+            _ => assert!(matches!(cache.get_timeout(&key, Duration::ZERO), Err(Error::TimedOut))),
+        }
+    };
+    (0..80).for_each(give_up);
+    let before = resident();
+    (0..100_000u32).for_each(|turn| give_up((turn % 80) as u8));
+    let kept = resident() - before;
+    assert!(kept < 4_000, "{kept} kB are kept");
+    // what was changed meanwhile isn't found as it was before
+    cache.set(&[0], b"new", 0).unwrap();
+    cache.delete(&[1]).unwrap();
+    cache.add(&[200], b"added", 0).unwrap();
+    assert_eq!(cache.get_timeout(&[0], LONG).unwrap().as_deref(), Some(&b"new"[..]));
+    assert_eq!(cache.get_timeout(&[1], Duration::from_millis(50)).unwrap_or_default(), None);
+    // who gets a key next is answered by the get that was given up, or by one of his own
+    let gets = thread::scope(|scope| {
+        let all: Vec<_> = (2..80)
+            .map(|number| {
+                (
+                    number,
+                    scope.spawn({
+                        let cache = &cache;
+                        move || cache.get_timeout(&[number], LONG)
+                    }),
+                )
+            })
+            .collect();
+        while cache.stats().waiting < 78 {
+            thread::yield_now();
+        }
+        shut(false);
+        all.into_iter().map(|(number, get)| (number, get.join().unwrap().unwrap())).collect::<Vec<_>>()
+    });
+    for (number, found) in gets {
+        assert_eq!(found.as_deref(), Some(&[number; 300][..]), "key {number}");
+    }
+    cache.flush().unwrap();
+    assert_eq!((cache.stats().waiting, cache.get(&[1]).unwrap()), (0, None));
+    assert_eq!(cache.get(&[0]).unwrap().as_deref(), Some(&b"new"[..]));
 }
 
 // A task that closes the cache where it is woken, a while later.
