@@ -153,6 +153,11 @@ impl Loads {
         (!left.is_zero()).then_some(left)
     }
 
+    /// What the load came to, if it is over.
+    pub fn outcome(&self, number: u64) -> Option<Outcome> {
+        self.loads.get(&number)?.outcome
+    }
+
     /// Whether somebody waits for the load.
     pub fn is_awaited(&self, number: u64) -> bool {
         self.loads.get(&number).is_some_and(|load| load.waiting > 0)

@@ -475,7 +475,12 @@ impl Shards {
     }
 
     /// Waits for the load no more: what it came to, where it is over.
-    pub fn leave_load(&self, shard: usize, mut state: Locked<'_>, load: u64, task: Option<u64>) -> Waited {
+    pub fn leave_load(&self, shard: usize, state: Locked<'_>, load: u64, task: Option<u64>) -> Waited {
+        // (it is read before it is left, since the last one who leaves takes it away)
+        let is_told = state.loads.outcome(load) == Some(Outcome::Told);
+        drop(state);
+        let told = if is_told { self.tellings.read((shard, load)) } else { None };
+        let mut state = self.lock(shard);
         let State { loads, wakes, .. } = &mut *state;
         let waker = task.and_then(|task| loads.forget_task(load, task, wakes));
         let (outcome, is_last) = loads.leave(load);
@@ -484,13 +489,16 @@ impl Shards {
         match outcome {
             Some(Outcome::NotBegun) => Waited::Look { was_loaded: false },
             Some(Outcome::Absent) => Waited::Came(Lookup::Absent),
-            Some(Outcome::Told) => self.read_telling((shard, load), is_last),
+            Some(Outcome::Told) => self.told((shard, load), told, is_last),
             Some(Outcome::Look) | None => Waited::Look { was_loaded: true },
         }
     }
 
-    fn read_telling(&self, load: (usize, u64), is_last: bool) -> Waited {
-        let told = if is_last { self.tellings.take(load) } else { self.tellings.read(load) };
+    fn told(&self, load: (usize, u64), read: Option<Told>, is_last: bool) -> Waited {
+        let told = read.or_else(|| self.tellings.read(load));
+        if is_last {
+            drop(self.tellings.take(load));
+        }
         match told {
             Some(Told::Row(row)) => Waited::Came(Lookup::Hit(Value::from(row))),
             Some(Told::Failed(why)) => Waited::Came(Lookup::Failed(why)),
