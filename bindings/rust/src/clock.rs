@@ -38,7 +38,9 @@ impl Clock {
         Clock(Arc::new(second))
     }
 
-    pub(crate) fn now(&self) -> u64 {
+    /// The second that it is.
+    #[must_use]
+    pub fn now(&self) -> u64 {
         (self.0)()
     }
 }
