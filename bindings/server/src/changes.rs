@@ -41,6 +41,10 @@ pub async fn store(
     let before = if asked.how == How::Set { None } else { change.find().await };
     let stored = match (asked.how, before) {
         (How::Set, _) | (How::Add, None) | (How::Replace, Some(_)) => Item::new(head(), value),
+        (How::CompareAndSet, Some(_)) if change.is_barred() => {
+            counters.leases_refused.one();
+            return Ok(Stored::Exists);
+        }
         (How::CompareAndSet, Some(before)) => match compared(asked, beside, &before.head, head(), counters) {
             Some(head) => Item::new(head, value),
             None => return Ok(Stored::Exists),
@@ -88,7 +92,7 @@ fn joined(change: &Change<'_>, how: How, before: &Item, value: &[u8]) -> Option<
     if before.value().len() + value.len() > LONGEST_VALUE {
         return None;
     }
-    let head = Head { unique: change.next_unique(), used: moments::now(), ..before.head };
+    let head = Head { unique: change.unique(), used: moments::now(), ..before.head };
     Some(match how {
         How::Prepend => Item::joined(head, value, before.value()),
         _ => Item::joined(head, before.value(), value),
@@ -126,7 +130,7 @@ pub async fn count(change: &Change<'_>, direction: Direction, delta: u64, unique
         Direction::Up => counters.incr_hits.one(),
         Direction::Down => counters.decr_hits.one(),
     }
-    let head = Head { unique: change.next_unique(), ..before.head };
+    let head = Head { unique: change.unique(), ..before.head };
     Counted::Now { value, item: Item::new(head, &padded(value, before.value().len())) }
 }
 

@@ -95,6 +95,10 @@ counters! {
     leases_taken,
     /// Stores by a cas unique that were refused, since the item had changed or was gone.
     leases_refused,
+    /// Bars that were set.
+    bars_set,
+    /// Bars that ended by their limit.
+    bars_ended,
 }
 
 #[cfg(test)]

@@ -1,4 +1,5 @@
 //! What a line of a meta command asks for: its key, and its flags.
+use crate::bars::LONGEST;
 use crate::base64;
 use crate::parse::{length_of, signed32, unsigned32, unsigned64, LONGEST_KEY};
 use crate::request::{Fault, BAD_FORMAT};
@@ -52,8 +53,10 @@ pub struct Flags<'a> {
     pub client_flags: u32,
     /// J: what counting begins with.
     pub initial: u64,
-    /// D: what is added, or taken away.
+    /// D: what is added, or taken away; of a delete, the number of the bar that it ends.
     pub delta: Option<u64>,
+    /// B: the seconds for which a bar is set.
+    pub bar: Option<u32>,
 }
 
 impl<'a> Flags<'a> {
@@ -113,6 +116,7 @@ impl<'a> Flags<'a> {
                 self.initial = initial.unwrap_or_default();
                 wrong
             }
+            b'B' => kept(&mut self.bar, unsigned32(token).filter(|it| (1..=LONGEST).contains(it)), BAD_TOKEN),
             b'F' => {
                 self.client_flags = unsigned32(token).unwrap_or_default();
                 unsigned32(token).is_none().then_some(BAD_FORMAT)
@@ -185,6 +189,9 @@ fn plain<'a>(
 fn with_flags<'a>(verb: Verb, key: &'a [u8], given: &[&'a [u8]]) -> Result<Meta<'a>, &'static str> {
     let mut key = Cow::Borrowed(key);
     let flags = Flags::read(&mut key, given)?;
+    if flags.bar.is_some() && (verb != Verb::Delete || flags.delta.is_some()) {
+        return Err("CLIENT_ERROR invalid flag");
+    }
     Ok(Meta { verb, key, flags })
 }
 

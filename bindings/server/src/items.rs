@@ -1,4 +1,5 @@
 //! The items of the cache, found by anyone, and changed under the lock of their key.
+use crate::bars::Bars;
 use crate::head::{Head, Item};
 use crate::locks::{KeyLock, KeyLocks};
 use crate::moments::{self, Expiry};
@@ -7,6 +8,7 @@ use kilambosetry::{Error, HybridCache, Refused};
 use std::sync::atomic::{AtomicU32, AtomicU64, Ordering::SeqCst};
 use std::sync::{Mutex, PoisonError};
 use std::time::{Duration, SystemTime, UNIX_EPOCH};
+use tokio::task::JoinHandle;
 
 // How often what frees a key is tried again where the cache is out of memory, and after how long.
 const TRIES: usize = 100;
@@ -20,6 +22,7 @@ pub struct Items {
     // the unique of the last change
     last: AtomicU64,
     flushed: Flushed,
+    bars: Bars,
     // how long a find waits for flash
     patience: Duration,
 }
@@ -48,7 +51,8 @@ impl Items {
         // A unique of this run is greater than those of earlier ones: a lease of a server that was started anew meanwhile is none.
         let started = SystemTime::now().duration_since(UNIX_EPOCH).map_or(0, |time| time.as_nanos() as u64);
         let last = AtomicU64::new(started);
-        Items { cache, locks: KeyLocks::default(), last, flushed: Flushed::default(), patience }
+        let (flushed, bars) = (Flushed::default(), Bars::default());
+        Items { cache, locks: KeyLocks::default(), last, flushed, bars, patience }
     }
 
     #[must_use]
@@ -56,18 +60,28 @@ impl Items {
         &self.cache
     }
 
-    /// A number that no change had before.
-    pub fn next_unique(&self) -> u64 {
+    // A number that no change had before.
+    fn next_unique(&self) -> u64 {
         self.last.fetch_add(1, SeqCst) + 1
     }
 
     /// Waits until nobody else changes the key.
     pub async fn change<'a>(&'a self, key: &'a [u8]) -> Change<'a> {
-        Change { items: self, key, _lock: self.locks.lock(key).await }
+        let lock = self.locks.lock(key).await;
+        Change { items: self, key, unique: self.next_unique(), lock }
+    }
+
+    /// How many bars stand.
+    #[must_use]
+    pub fn bars(&self) -> usize {
+        self.bars.count()
     }
 
     /// The item under the key. What the cache can't tell in time, or since it is out of memory, is a miss.
     pub async fn find(&self, key: &[u8]) -> Option<Item> {
+        if self.locks.is_hidden(key) {
+            return None;
+        }
         let found = within(self.patience, self.cache.get_async(key)).await.ok()?;
         let item = Item::read(found.ok()??.into_vec())?;
         let now = moments::now();
@@ -80,11 +94,17 @@ impl Items {
         if is_due(self.flushed.due.load(SeqCst), now) {
             let _turn = self.flushed.turn.lock().unwrap_or_else(PoisonError::into_inner);
             if is_due(self.flushed.due.load(SeqCst), now) {
-                self.flushed.before.store(self.next_unique(), SeqCst);
-                self.flushed.due.store(0, SeqCst);
+                self.end_all();
             }
         }
         self.flushed.before.load(SeqCst)
+    }
+
+    // Whose unique is a later one finds nothing that is flushed: until that is told, nothing is found at all.
+    fn end_all(&self) {
+        self.flushed.before.store(u64::MAX, SeqCst);
+        self.flushed.before.store(self.next_unique(), SeqCst);
+        self.flushed.due.store(0, SeqCst);
     }
 
     /// Ends all items, now or in a moment that comes. The last call counts.
@@ -93,10 +113,7 @@ impl Items {
         let _turn = self.flushed.turn.lock().unwrap_or_else(PoisonError::into_inner);
         match when {
             Expiry::At(second) if second > moments::now() => self.flushed.due.store(second, SeqCst),
-            _ => {
-                self.flushed.before.store(self.next_unique(), SeqCst);
-                self.flushed.due.store(0, SeqCst);
-            }
+            _ => self.end_all(),
         }
     }
 }
@@ -110,7 +127,9 @@ fn is_due(second: u32, now: u32) -> bool {
 pub struct Change<'a> {
     items: &'a Items,
     key: &'a [u8],
-    _lock: KeyLock<'a>,
+    // taken before anything is found, so that a flush that isn't seen by then is a later one
+    unique: u64,
+    lock: KeyLock<'a>,
 }
 
 impl Change<'_> {
@@ -121,12 +140,30 @@ impl Change<'_> {
 
     /// The head of an item that is stored now.
     pub fn new_head(&self, flags: u32, expiry: Expiry) -> Head {
-        Head { unique: self.items.next_unique(), expiry, used: moments::now(), flags, ..Head::default() }
+        Head { unique: self.unique, expiry, used: moments::now(), flags, ..Head::default() }
     }
 
-    /// A number that no change had before.
-    pub fn next_unique(&self) -> u64 {
-        self.items.next_unique()
+    /// Its number, which no change had before.
+    #[must_use]
+    pub fn unique(&self) -> u64 {
+        self.unique
+    }
+
+    /// Whether a client is changing the key's row.
+    #[must_use]
+    pub fn is_barred(&self) -> bool {
+        self.items.bars.stands(self.key)
+    }
+
+    /// Sets a bar, which `limit` ends by itself: whether there was room for it.
+    #[must_use]
+    pub fn bar(&self, limit: JoinHandle<()>) -> bool {
+        self.items.bars.raise(self.key, self.unique, limit)
+    }
+
+    /// Ends the bar of this number, if it stands.
+    pub fn end_bar(&self, number: u64) {
+        self.items.bars.lower(self.key, number);
     }
 
     /// Stores the item. Where it can't be stored, the key has none any more: so nothing older is found.
@@ -135,7 +172,10 @@ impl Change<'_> {
             Some(0) => return self.remove().await,
             left => left.unwrap_or(0),
         };
-        let Err(error) = self.items.cache.set(self.key, item.to_store(), seconds) else { return Ok(()) };
+        let Err(error) = self.items.cache.set(self.key, item.to_store(), seconds) else {
+            self.lock.show();
+            return Ok(());
+        };
         self.remove().await?;
         Err(match error {
             Error::Refused(Refused::VALUE_TOO_LONG | Refused::NO_ROOM) => NotKept::TooLarge,
@@ -144,14 +184,16 @@ impl Change<'_> {
     }
 
     /// Takes the key out of the cache, from memory and flash. Where the cache is out of memory even for that, it is tried for
-    /// half a second, and then refused.
+    /// half a second, and then refused: the key is a miss from then on, until it is stored or taken out.
     pub async fn remove(&self) -> Result<(), NotKept> {
         for _ in 0..TRIES {
             if self.items.cache.delete(self.key).is_ok() {
+                self.lock.show();
                 return Ok(());
             }
             tokio::time::sleep(PAUSE).await;
         }
+        self.lock.hide();
         Err(NotKept::NoMemory)
     }
 }

@@ -5,6 +5,7 @@
 #![forbid(unsafe_code)]
 
 mod answers;
+mod bars;
 mod base64;
 mod changes;
 mod classic;

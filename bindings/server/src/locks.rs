@@ -1,20 +1,31 @@
 //! A lock for each key that is being changed, so that what reads and then writes is done as one.
-use std::collections::hash_map::{Entry, HashMap, RandomState};
+use std::collections::hash_map::{HashMap, RandomState};
 use std::collections::VecDeque;
 use std::hash::BuildHasher;
+use std::sync::atomic::{AtomicUsize, Ordering::SeqCst};
 use std::sync::{Mutex, MutexGuard, PoisonError};
 use tokio::sync::oneshot;
 
 const STRIPES: usize = 256;
 
-// The keys that are locked, each with those who wait for it, in their order.
-type Keys = HashMap<Box<[u8]>, VecDeque<oneshot::Sender<()>>>;
+// The keys that are locked or hidden.
+type Keys = HashMap<Box<[u8]>, Key>;
+
+#[derive(Debug, Default)]
+struct Key {
+    is_locked: bool,
+    // those who wait for it, in their order
+    waiting: VecDeque<oneshot::Sender<()>>,
+    is_hidden: bool,
+}
 
 /// The keys that are being changed. No two keys wait for each other; the stripes are only held to look a key up.
 #[derive(Debug)]
 pub struct KeyLocks {
     stripes: Box<[Mutex<Keys>]>,
     hasher: RandomState,
+    // how many keys are hidden
+    hidden: AtomicUsize,
 }
 
 /// A key that is locked, until this is dropped. Those who wait have it in the order in which they came.
@@ -30,7 +41,7 @@ pub struct KeyLock<'a> {
 impl Default for KeyLocks {
     fn default() -> KeyLocks {
         let stripes = (0..STRIPES).map(|_| Mutex::default()).collect();
-        KeyLocks { stripes, hasher: RandomState::new() }
+        KeyLocks { stripes, hasher: RandomState::new(), hidden: AtomicUsize::new(0) }
     }
 }
 
@@ -46,6 +57,12 @@ impl KeyLocks {
         lock
     }
 
+    /// Whether what is under the key isn't to be found.
+    #[must_use]
+    pub fn is_hidden(&self, key: &[u8]) -> bool {
+        self.hidden.load(SeqCst) > 0 && self.stripe(key).get(key).is_some_and(|key| key.is_hidden)
+    }
+
     fn stripe(&self, key: &[u8]) -> MutexGuard<'_, Keys> {
         let stripe = self.hasher.hash_one(key) as usize % STRIPES;
         self.stripes[stripe].lock().unwrap_or_else(PoisonError::into_inner)
@@ -53,34 +70,63 @@ impl KeyLocks {
 
     // Takes the key where it is free, or else a place in the row.
     fn ask(&self, key: &[u8]) -> Option<oneshot::Receiver<()>> {
-        match self.stripe(key).entry(key.into()) {
-            Entry::Vacant(free) => {
-                free.insert(VecDeque::new());
-                None
-            }
-            Entry::Occupied(mut taken) => {
-                let (tell, told) = oneshot::channel();
-                taken.get_mut().push_back(tell);
-                Some(told)
-            }
+        let mut stripe = self.stripe(key);
+        let key = stripe.entry(key.into()).or_default();
+        if !key.is_locked {
+            key.is_locked = true;
+            return None;
         }
+        let (tell, told) = oneshot::channel();
+        key.waiting.push_back(tell);
+        Some(told)
     }
 
     // Hands the key on to the first in the row who still waits.
     fn pass_on(&self, key: &[u8]) {
         let mut stripe = self.stripe(key);
-        while let Some(next) = stripe.get_mut(key).and_then(VecDeque::pop_front) {
+        let Some(state) = stripe.get_mut(key) else { return };
+        while let Some(next) = state.waiting.pop_front() {
             if next.send(()).is_ok() {
                 return;
             }
         }
-        stripe.remove(key);
+        state.is_locked = false;
+        if !state.is_hidden {
+            stripe.remove(key);
+        }
+    }
+
+    // (no memory is taken for it: the key has its place as long as it is locked)
+    fn set_hidden(&self, key: &[u8], is_hidden: bool) {
+        if !is_hidden && self.hidden.load(SeqCst) == 0 {
+            return;
+        }
+        let mut stripe = self.stripe(key);
+        let Some(state) = stripe.get_mut(key).filter(|state| state.is_hidden != is_hidden) else { return };
+        state.is_hidden = is_hidden;
+        if is_hidden {
+            self.hidden.fetch_add(1, SeqCst);
+        } else {
+            self.hidden.fetch_sub(1, SeqCst);
+        }
     }
 
     // How many keys are locked.
     #[cfg(test)]
     fn count(&self) -> usize {
         self.stripes.iter().map(|stripe| stripe.lock().unwrap_or_else(PoisonError::into_inner).len()).sum()
+    }
+}
+
+impl KeyLock<'_> {
+    /// What is under the key isn't found any more, until it is shown.
+    pub fn hide(&self) {
+        self.locks.set_hidden(self.key, true);
+    }
+
+    /// What is under the key is found, if it was hidden.
+    pub fn show(&self) {
+        self.locks.set_hidden(self.key, false);
     }
 }
 
@@ -123,6 +169,24 @@ mod tests {
         drop(second); // gives up when it has been handed the key
         let Poll::Ready(last) = polled(fourth.as_mut()) else { panic!("it is its turn") };
         drop(last);
+        assert_eq!(locks.count(), 0);
+    }
+
+    #[test]
+    fn a_key_stays_hidden_until_it_is_shown() {
+        let locks = KeyLocks::default();
+        let locked = || match polled(pin!(locks.lock(b"key"))) {
+            Poll::Ready(lock) => lock,
+            Poll::Pending => panic!("it is free"),
+        };
+        locked().hide();
+        assert!(locks.is_hidden(b"key") && !locks.is_hidden(b"other"));
+        let lock = locked();
+        lock.hide();
+        assert!(locks.is_hidden(b"key"));
+        lock.show();
+        assert!(!locks.is_hidden(b"key"));
+        drop(lock);
         assert_eq!(locks.count(), 0);
     }
 }

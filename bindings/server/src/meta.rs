@@ -9,6 +9,7 @@ use crate::moments::{self, Expiry};
 use crate::request::{Direction, How, Store};
 use crate::server::Worker;
 use std::io;
+use std::time::Duration;
 
 /// Does what a meta command asks for, with the value that came with it.
 pub async fn run<S: Stream>(
@@ -20,7 +21,10 @@ pub async fn run<S: Stream>(
     match meta.verb {
         Verb::Get => get(worker, meta, answers).await?,
         Verb::Set { .. } => set(worker, meta, value, answers).await,
-        Verb::Delete => delete(worker, meta, answers).await,
+        Verb::Delete => match meta.flags.bar {
+            Some(seconds) => bar(worker, meta, seconds, answers).await,
+            None => delete(worker, meta, answers).await,
+        },
         Verb::Arithmetic => arithmetic(worker, meta, answers).await,
         Verb::Debug => debug(worker, meta, answers).await,
         Verb::NoOp => answers.line(b"MN"),
@@ -273,6 +277,9 @@ async fn delete<S: Stream>(worker: &Worker, meta: &Meta<'_>, answers: &mut Answe
         // (what flash couldn't tell in time goes too)
         None => (b"NF", change.remove().await),
     };
+    if let (Some(number), false, Ok(())) = (flags.delta, is_other, done) {
+        change.end_bar(number);
+    }
     drop(change);
     match code {
         b"HD" if flags.has(b'I') => {}
@@ -286,12 +293,42 @@ async fn delete<S: Stream>(worker: &Worker, meta: &Meta<'_>, answers: &mut Answe
     }
 }
 
+// Sets a bar: until it is ended by a delete of its number, or its seconds are over, nothing that was loaded is stored under the key.
+async fn bar<S: Stream>(worker: &Worker, meta: &Meta<'_>, seconds: u32, answers: &mut Answers<S>) {
+    let change = worker.server.items.change(&meta.key).await;
+    let number = change.unique();
+    let limit = end_bar(worker.clone(), meta.key.to_vec(), number, Duration::from_secs(seconds.into()));
+    if !change.bar(tokio::spawn(limit)) {
+        return answers.line(b"SERVER_ERROR too many bars");
+    }
+    drop(change);
+    worker.counters.bars_set.one();
+    answers.piece(b"HD");
+    for word in meta.flags.given() {
+        match word[0] {
+            b'B' => tell_number(b" B", number, answers),
+            _ => meta.echo(word, meta.flags.is_binary(), answers),
+        }
+    }
+    answers.end_line();
+}
+
+// Ends a bar once its time is up: whether the row was changed isn't known, so what is there goes.
+async fn end_bar(worker: Worker, key: Vec<u8>, number: u64, limit: Duration) {
+    tokio::time::sleep(limit).await;
+    let change = worker.server.items.change(&key).await;
+    // (where even that is refused, the key is a miss)
+    let _ = change.remove().await;
+    worker.counters.bars_ended.one();
+    change.end_bar(number);
+}
+
 // Marks the item as stale: the next who finds it is to store it anew, and what was loaded before isn't stored any more.
 async fn invalidate(change: &Change<'_>, flags: &Flags<'_>, mut item: Item) -> Result<(), NotKept> {
     if let Some(time) = flags.time {
         item.head.expiry = Expiry::of(time, moments::now());
     }
-    item.head.unique = change.next_unique();
+    item.head.unique = change.unique();
     item.head.marks.is_stale = true;
     item.head.marks.is_won = false;
     change.store(&mut item).await

@@ -45,6 +45,7 @@ fn general(server: &Server, tell: &mut dyn FnMut(&str, &dyn Display)) {
     tell("accepting_conns", &1);
     tell("threads", &server.config.threads);
     tell("in_flight_free", &server.in_flight.left());
+    tell("bars", &server.items.bars());
     for (name, value) in of_cache(&stats) {
         tell(name, &value);
     }

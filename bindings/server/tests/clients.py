@@ -135,5 +135,32 @@ class Spread(Suite, unittest.TestCase):
         assert [it.end() for it in cls.servers] == [0, 0, 0]
 
 
+class Dead(unittest.TestCase):
+    """A server that is away, to the clients that docs/SERVER.md names: its keys are misses, and no other server has them."""
+
+    def test_no_key_is_handed_to_another_server(self):
+        servers = [kilambosetryd() for _ in range(3)]
+        addresses = [("127.0.0.1", it.port) for it in servers]
+        options = {"retry_attempts": 10**9, "retry_timeout": 0, "default_noreply": False, "no_delay": True}
+        reads = HashClient(addresses, ignore_exc=True, **options)
+        deletes = HashClient(addresses, **options)
+        keys = [f"key{it}" for it in range(30)]
+        self.assertEqual(servers[0].end(), 0)
+        for key in keys:
+            reads.set(key, b"one")
+        refused = [key for key in keys if reads.get(key) is None]
+        self.assertTrue(0 < len(refused) < len(keys), refused)
+        with self.assertRaises(OSError):
+            for key in refused:
+                deletes.delete(key)
+        servers[0] = kilambosetryd(port=servers[0].port)
+        for key in keys:
+            reads.set(key, b"two")
+        self.assertEqual([reads.get(key) for key in keys], [b"two"] * len(keys))
+        self.assertEqual(servers[0].end(), 0)
+        self.assertEqual([reads.get(key) for key in keys], [None if key in refused else b"two" for key in keys])
+        self.assertEqual([it.end() for it in servers[1:]], [0, 0])
+
+
 if __name__ == "__main__":
     unittest.main()
