@@ -9,13 +9,11 @@ use std::{env, fs, io::Write};
 const HEADER: &str = concat!(env!("CARGO_MANIFEST_DIR"), "/../c/kilambosetry.h");
 const LIBRARY: &str = include_str!("../src/library.rs");
 
-fn header() -> String {
-    let text = fs::read_to_string(HEADER).expect("the header is beside the crate");
-    // without its comments
-    text.split("/*")
-        .enumerate()
-        .map(|(at, part)| if at == 0 { part } else { part.split_once("*/").unwrap().1 })
-        .collect()
+// The header, without its comments; none in a packed crate.
+fn header() -> Option<String> {
+    let text = fs::read_to_string(HEADER).ok()?;
+    let parts = text.split("/*").enumerate();
+    Some(parts.map(|(at, part)| if at == 0 { part } else { part.split_once("*/").unwrap().1 }).collect())
 }
 
 // The types of a list of parameters, in C's words.
@@ -80,7 +78,10 @@ fn plain(types: &[String]) -> Vec<String> {
 
 #[test]
 fn each_call_is_one_of_the_header() {
-    let header = header();
+    let Some(header) = header() else {
+        println!("skipped: a packed crate has no header");
+        return;
+    };
     let mut declared = calls(&header, "uint8_t kilambosetry_", c_types);
     declared.extend(calls(&header, "void kilambosetry_", c_types));
     let used = calls(LIBRARY, "pub fn kilambosetry_", rust_types);
@@ -143,8 +144,9 @@ fn each_type_lies_in_memory_as_in_c() {
         fault
     );
     compare!(Usage, "usage_t", limit_bytes, limit_items, bytes, items, open_bytes, open_items);
-    let Some(said) = sizes_in_c(&lines) else {
-        println!("skipped: no cc");
+    let said = header().and_then(|_| sizes_in_c(&lines));
+    let Some(said) = said else {
+        println!("skipped: no cc, or no header");
         return;
     };
     let said: Vec<usize> = said.lines().map(|line| line.parse().unwrap()).collect();

@@ -793,6 +793,30 @@ fn a_ticket_is_good_for_its_cache_alone() {
     assert_eq!(shards.set_leased(ticket, 0, b"a", b"value", 0), Ok(Kept::Stored));
 }
 
+#[test]
+fn a_ticket_knows_its_shard_and_outlasts_no_cache() {
+    let (pools, flash) = ([Pool { bytes: 1 << 20, items: 1000 }], small().flash_numbers.unwrap());
+    let shard = || Engine::new_shard(&pools, &flash, 4).unwrap();
+    let mut shards = [shard(), shard()];
+    // the first has seen many changes, and the other few
+    (0..1000u64).for_each(|number| shards[0].set(0, &key(number), b"", 0).unwrap());
+    let early = shards[1].ticket().unwrap();
+    let late = shards[0].ticket().unwrap();
+    shards[1].delete(b"key").unwrap();
+    for ticket in [early, late] {
+        assert_eq!(shards[1].set_leased(ticket, 0, b"key", b"old", 0), Ok(Kept::Stale));
+    }
+    // one that is opened anew counts from the beginning, and knows none of before
+    shards[0] = shard();
+    assert_eq!(shards[0].set_leased(late, 0, b"key", b"old", 0), Ok(Kept::Stale));
+    let cache = in_memory(LONG);
+    let lease = lease(&cache, b"key");
+    let _ = cache.close();
+    let anew = in_memory(LONG);
+    assert_eq!(lease.store(b"old", 0), Err(Error::Closed));
+    assert!(anew.get(b"key").unwrap().is_none());
+}
+
 // Unparks the thread that waits for a future.
 struct Unparks(Thread);
 
