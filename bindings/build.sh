@@ -163,6 +163,13 @@ if has cargo; then
     fi
     (cd "$here/rust" && CARGO_TARGET_DIR="$out/target" RUSTDOCFLAGS="-D warnings" cargo doc --offline --quiet --no-deps)
     echo "the crate's pages: no warning"
+    if has cargo-fmt && has cargo-clippy; then
+        (cd "$here/rust" && cargo fmt --check)
+        (cd "$here/rust" && CARGO_TARGET_DIR="$out/target" cargo clippy --offline --quiet --all-targets -- -D warnings)
+        echo "the crate's code: no warning"
+    else
+        echo "skipped: no cargo fmt, or no cargo clippy"
+    fi
     # the code of README.md: it is the example's, word for word, and does what it says
     sed -n '/^```rust$/,/^```$/{/^```/!p;}' "$here/../README.md" >"$out/readme.txt"
     sed -n '/^fn open/,/^fn main/p' "$here/rust/examples/readme.rs" | sed '/^fn main/d' | sed '$d' | cmp - "$out/readme.txt"
