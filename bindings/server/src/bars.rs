@@ -33,7 +33,7 @@ impl Bars {
     /// Sets a bar of this number: whether there was room for it.
     pub fn raise(&self, key: &[u8], number: u64, limit: JoinHandle<()>) -> bool {
         let mut standing = self.standing();
-        if standing.count == MOST {
+        if standing.count == MOST || standing.of.try_reserve(1).is_err() {
             limit.abort();
             return false;
         }

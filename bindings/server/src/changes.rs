@@ -55,16 +55,21 @@ pub async fn store(
             return Ok(Stored::NotFound);
         }
         (How::Append | How::Prepend, Some(before)) if is_other(asked, &before.head) => return Ok(Stored::Exists),
-        (How::Append | How::Prepend, Some(before)) => match joined(change, asked.how, &before, value) {
-            Some(item) => item,
-            None => return Ok(Stored::No),
-        },
+        (How::Append | How::Prepend, Some(before)) if before.value().len() + value.len() > LONGEST_VALUE => {
+            return Ok(Stored::No);
+        }
+        (How::Append | How::Prepend, Some(before)) => joined(change, asked.how, &before, value),
         (How::Add, Some(_)) | (How::Replace | How::Append | How::Prepend, None) => return Ok(Stored::No),
     };
     put(change, stored).await
 }
 
-async fn put(change: &Change<'_>, mut item: Item) -> Result<Stored, NotKept> {
+// (where there is no memory for the item, the key loses what it had, as where there is none for it in the cache)
+async fn put(change: &Change<'_>, item: Option<Item>) -> Result<Stored, NotKept> {
+    let Some(mut item) = item else {
+        change.remove().await?;
+        return Err(NotKept::NoMemory);
+    };
     let unique = item.head.unique;
     change.store(&mut item).await.map(|()| Stored::Yes(unique))
 }
@@ -87,16 +92,13 @@ fn compared(asked: &Store<'_>, beside: Beside, before: &Head, head: Head, counte
     Some(if is_same { head } else { Head { expiry: before.expiry, marks, ..head } })
 }
 
-// The item with the value behind or before its own. None: that would be too long.
+// The item with the value behind or before its own.
 fn joined(change: &Change<'_>, how: How, before: &Item, value: &[u8]) -> Option<Item> {
-    if before.value().len() + value.len() > LONGEST_VALUE {
-        return None;
-    }
     let head = Head { unique: change.unique(), used: moments::now(), ..before.head };
-    Some(match how {
+    match how {
         How::Prepend => Item::joined(head, value, before.value()),
         _ => Item::joined(head, before.value(), value),
-    })
+    }
 }
 
 /// What counting came to. The item isn't stored yet.
@@ -110,6 +112,7 @@ pub enum Counted {
     /// The item has another unique.
     Exists,
     NotANumber,
+    NoMemory,
 }
 
 /// Counts the number under the key up or down. A unique other than 0 must be the item's.
@@ -131,14 +134,21 @@ pub async fn count(change: &Change<'_>, direction: Direction, delta: u64, unique
         Direction::Down => counters.decr_hits.one(),
     }
     let head = Head { unique: change.unique(), ..before.head };
-    Counted::Now { value, item: Item::new(head, &padded(value, before.value().len())) }
+    match padded(head, value, before.value().len()) {
+        Some(item) => Counted::Now { value, item },
+        None => Counted::NoMemory,
+    }
 }
 
-// The number's digits. As memcached does, a number that has lost digits keeps its length, by spaces.
-fn padded(value: u64, length: usize) -> Vec<u8> {
-    let mut digits = itoa::Buffer::new().format(value).as_bytes().to_vec();
-    digits.resize(length.max(digits.len()), b' ');
-    digits
+// An item of the number's digits. As memcached does, a number that has lost digits keeps its length, by spaces.
+fn padded(head: Head, value: u64, length: usize) -> Option<Item> {
+    let mut digits = itoa::Buffer::new();
+    let digits = digits.format(value).as_bytes();
+    let mut spaces = Vec::new();
+    let missing = length.saturating_sub(digits.len());
+    spaces.try_reserve_exact(missing).ok()?;
+    spaces.resize(missing, b' ');
+    Item::joined(head, digits, &spaces)
 }
 
 #[cfg(test)]
@@ -147,7 +157,8 @@ mod tests {
 
     #[test]
     fn a_number_that_loses_digits_keeps_its_length() {
-        assert_eq!(padded(9, 2), b"9 ");
-        assert_eq!(padded(100, 2), b"100");
+        let value = |number, length| padded(Head::default(), number, length).unwrap().value().to_vec();
+        assert_eq!(value(9, 2), b"9 ");
+        assert_eq!(value(100, 2), b"100");
     }
 }

@@ -1,8 +1,9 @@
 //! The classic text commands.
 use crate::answers::{Answers, Stream};
 use crate::changes::{self, Beside, Counted, Stored};
+use crate::counters::Counters;
 use crate::head::Item;
-use crate::items::NotKept;
+use crate::items::{NotKept, Wait};
 use crate::moments::{self, Expiry};
 use crate::request::{Command, Direction, Keys, Request, Store};
 use crate::server::{Worker, VERSION};
@@ -10,18 +11,24 @@ use crate::{meta, stats};
 use std::io;
 use tokio::task;
 
-// Behind so many keys of a get the other connections of the thread have their turn.
-const KEYS_AT_ONCE: usize = 256;
+/// Behind so many keys of a get the other connections of the thread have their turn.
+pub const KEYS_AT_ONCE: usize = 256;
 
 pub const NO_MEMORY: &str = "SERVER_ERROR out of memory storing object";
 pub const NOT_A_NUMBER: &str = "CLIENT_ERROR cannot increment or decrement non-numeric value";
 
-/// What is answered where an item wasn't stored.
+/// What is answered where an item wasn't stored, which is counted.
 #[must_use]
-pub fn words_of(why: NotKept) -> &'static str {
+pub fn refused(counters: &Counters, why: NotKept) -> &'static str {
     match why {
-        NotKept::TooLarge => "SERVER_ERROR object too large for cache",
-        NotKept::NoMemory => NO_MEMORY,
+        NotKept::TooLarge => {
+            counters.store_too_large.one();
+            "SERVER_ERROR object too large for cache"
+        }
+        NotKept::NoMemory => {
+            counters.store_no_memory.one();
+            NO_MEMORY
+        }
     }
 }
 
@@ -63,11 +70,13 @@ async fn get<S: Stream>(
     with_unique: bool,
     answers: &mut Answers<S>,
 ) -> io::Result<()> {
+    let mut wait = worker.server.items.wait();
     for (number, key) in keys.iter().enumerate() {
         if number % KEYS_AT_ONCE == KEYS_AT_ONCE - 1 {
+            worker.counters.conn_yields.one();
             task::yield_now().await;
         }
-        let found = worker.server.items.find(key).await;
+        let found = worker.server.items.find_within(key, &mut wait).await;
         let counters = &worker.counters;
         counters.cmd_get.one();
         counters.get_hits.one_or(found.is_some(), &counters.get_misses);
@@ -84,8 +93,9 @@ async fn get_and_touch<S: Stream>(
     time: i32,
     answers: &mut Answers<S>,
 ) -> io::Result<()> {
+    let mut wait = worker.server.items.wait();
     for key in keys.iter() {
-        let found = touched(worker, key, time).await;
+        let found = touched(worker, key, time, &mut wait).await;
         tell(key, found, with_unique, answers).await?;
     }
     answers.line(b"END");
@@ -116,11 +126,11 @@ async fn tell<S: Stream>(
 }
 
 // The item under the key, which ends at another time from now on.
-async fn touched(worker: &Worker, key: &[u8], time: i32) -> Option<Item> {
+async fn touched(worker: &Worker, key: &[u8], time: i32, wait: &mut Wait) -> Option<Item> {
     let counters = &worker.counters;
     counters.cmd_touch.one();
     let change = worker.server.items.change(key).await;
-    let found = change.find().await;
+    let found = change.find_within(wait).await;
     counters.touch_hits.one_or(found.is_some(), &counters.touch_misses);
     let mut item = found?;
     item.head.expiry = Expiry::of(time, moments::now());
@@ -130,7 +140,7 @@ async fn touched(worker: &Worker, key: &[u8], time: i32) -> Option<Item> {
 }
 
 async fn touch(worker: &Worker, key: &[u8], time: i32) -> &'static str {
-    match touched(worker, key, time).await {
+    match touched(worker, key, time, &mut worker.server.items.wait()).await {
         Some(_) => "TOUCHED",
         None => "NOT_FOUND",
     }
@@ -143,7 +153,7 @@ async fn store(worker: &Worker, asked: &Store<'_>, value: &[u8]) -> &'static str
         Ok(Stored::No) => "NOT_STORED",
         Ok(Stored::Exists) => "EXISTS",
         Ok(Stored::NotFound) => "NOT_FOUND",
-        Err(why) => words_of(why),
+        Err(why) => refused(&worker.counters, why),
     }
 }
 
@@ -183,6 +193,7 @@ async fn count<S: Stream>(
             "NOT_FOUND"
         }
         Counted::NotANumber | Counted::Exists => NOT_A_NUMBER,
+        Counted::NoMemory => "SERVER_ERROR out of memory",
     };
     answers.line_unless(is_quiet, text.as_bytes());
     Ok(())

@@ -42,11 +42,11 @@ pub struct Config {
     pub shards: u8,
 
     /// Threads that read flash
-    #[arg(long, value_name = "COUNT", default_value_t = 4)]
+    #[arg(long, value_name = "COUNT", default_value_t = 4, value_parser = clap::value_parser!(u64).range(..=1024))]
     pub fillers: u64,
 
     /// Threads that write flash
-    #[arg(long, value_name = "COUNT", default_value_t = 2)]
+    #[arg(long, value_name = "COUNT", default_value_t = 2, value_parser = clap::value_parser!(u64).range(..=1024))]
     pub writers: u64,
 
     /// The address to listen on: that of all who may speak to it, since there are no passwords
@@ -70,8 +70,8 @@ pub struct Config {
     pub threads: u16,
 
     /// Connections that may be open at once
-    #[arg(short, long, value_name = "COUNT", default_value_t = 1024)]
-    pub connections: usize,
+    #[arg(short, long, value_name = "COUNT", default_value_t = 1024, value_parser = clap::value_parser!(u32).range(1..))]
+    pub connections: u32,
 
     /// Megabytes of values that are being received, and of answers that wait, of all connections together
     #[arg(long, value_name = "MEGABYTES", default_value_t = 256)]
@@ -84,6 +84,10 @@ pub struct Config {
     /// A connection is closed that stands still so long in the midst of a command, or with an answer that it doesn't take
     #[arg(long, value_name = "SECONDS", default_value_t = 60)]
     pub stall: u64,
+
+    /// A connection is closed whose command hasn't come whole, or whose answer wasn't taken, within so long
+    #[arg(long, value_name = "SECONDS", default_value_t = 300)]
+    pub command: u64,
 
     /// What flash hasn't answered within so long is a miss
     #[arg(long, value_name = "MILLISECONDS", default_value_t = 1000)]
@@ -102,7 +106,7 @@ impl Config {
             memory: self.memory.saturating_mul(MEGABYTE),
             flash: self.flash_size.saturating_mul(MEGABYTE),
             mean_key: self.mean_key,
-            mean_value: self.mean_value + HEAD as u64,
+            mean_value: self.mean_value.saturating_add(HEAD as u64),
             shards: self.shards,
             writers: self.writers,
             fillers: self.fillers,
@@ -122,7 +126,11 @@ impl Config {
     #[must_use]
     pub fn patience(&self) -> Patience {
         let idle = (self.idle > 0).then(|| Duration::from_secs(self.idle));
-        Patience { idle, stall: Duration::from_secs(self.stall.max(1)) }
+        Patience {
+            idle,
+            stall: Duration::from_secs(self.stall.max(1)),
+            command: Duration::from_secs(self.command.max(1)),
+        }
     }
 
     #[must_use]
@@ -151,7 +159,23 @@ impl Config {
             ("udpport", "0".to_string()),
             ("inter", self.listen.to_string()),
             ("domain_socket", path(&self.unix)),
+            ("verbosity", "0".to_string()),
             ("evictions", "on".to_string()),
+            ("umask", "700".to_string()),
+            ("stat_key_prefix", ":".to_string()),
+            ("detail_enabled", "no".to_string()),
+            ("reqs_per_event", crate::classic::KEYS_AT_ONCE.to_string()),
+            ("tcp_backlog", crate::listen::BACKLOG.to_string()),
+            ("binding_protocol", "ascii".to_string()),
+            ("auth_enabled_sasl", "no".to_string()),
+            ("auth_enabled_ascii", "no".to_string()),
+            ("ssl_enabled", "no".to_string()),
+            ("slab_reassign", "no".to_string()),
+            ("slab_automove", "0".to_string()),
+            ("lru_crawler", "no".to_string()),
+            ("lru_maintainer_thread", "no".to_string()),
+            ("lru_segmented", "no".to_string()),
+            ("track_sizes", "no".to_string()),
             ("num_threads", self.threads.to_string()),
             ("cas_enabled", "yes".to_string()),
             ("item_size_max", crate::head::LONGEST_VALUE.to_string()),
@@ -161,6 +185,7 @@ impl Config {
             ("shutdown_command", "no".to_string()),
             ("idle_timeout", self.idle.to_string()),
             ("stall_timeout", self.stall.to_string()),
+            ("command_timeout", self.command.to_string()),
             ("drain_timeout", self.drain.to_string()),
             ("flash", path(&self.flash)),
             ("flash_bytes", self.flash_size.saturating_mul(MEGABYTE).to_string()),

@@ -1,20 +1,21 @@
 //! A connection: commands are read, done in their order, and their answers written together.
 use crate::answers::{Answers, Stream, KEPT};
-use crate::classic::{self, words_of};
+use crate::buffer::Buffer;
+use crate::classic::{self, refused};
 use crate::flags::Verb;
 use crate::head::LONGEST_VALUE;
 use crate::items::NotKept;
 use crate::limits::Share;
+use crate::meta::how_of;
 use crate::parse::{line_of, Received};
 use crate::request::{Command, How, Request};
 use crate::server::Worker;
-use crate::within::within;
-use bytes::{Buf, BytesMut};
+use crate::within::{within, TimeIsUp};
 use std::future::{poll_fn, Future};
 use std::io;
 use std::pin::pin;
 use std::task::Poll;
-use std::time::Duration;
+use std::time::{Duration, Instant};
 use tokio::sync::watch;
 
 // So many bytes are read at once, where no more are known to come.
@@ -26,15 +27,29 @@ const LINGER: Duration = Duration::from_millis(100);
 #[derive(Debug)]
 pub struct Connection<S> {
     worker: Worker,
-    received: BytesMut,
+    received: Buffer,
     answers: Answers<S>,
-    // of the bytes in flight, for a body that is being received
+    // of the bytes in flight, for what is being received
     share: Share,
     // bytes of a body that are to be passed over
     passed_over: usize,
+    // whether nothing has come yet
+    is_new: bool,
+    // since when the command at the head of what was received is waited for
+    begun: Option<Instant>,
     // whether the server is about to end
     ends: watch::Receiver<bool>,
     is_last: bool,
+}
+
+// What became of waiting for more.
+enum Came {
+    // as much has come as was wanted
+    All,
+    // no more will come
+    End,
+    // there is no room for more
+    NoRoom,
 }
 
 // What comes of the command at the head of what was received.
@@ -52,9 +67,10 @@ impl<S: Stream> Connection<S> {
         let in_flight = &worker.server.in_flight;
         let share = Share::none_of(in_flight);
         let counters = worker.counters.clone();
-        let answers = Answers::new(stream, in_flight, worker.server.patience.stall, counters);
+        let answers = Answers::new(stream, in_flight, worker.server.patience, counters);
         let is_last = *ends.borrow();
-        Connection { worker, received: BytesMut::new(), answers, share, passed_over: 0, ends, is_last }
+        let received = Buffer::default();
+        Connection { worker, received, answers, share, passed_over: 0, is_new: true, begun: None, ends, is_last }
     }
 
     /// Serves the client until it or the server ends.
@@ -69,8 +85,11 @@ impl<S: Stream> Connection<S> {
     async fn answer_all(&mut self) -> io::Result<()> {
         while let Some(wanted) = self.answer_received().await? {
             self.answers.flush().await?;
-            if !self.receive(wanted).await? {
-                return Ok(());
+            match self.receive(wanted).await? {
+                Came::All => {}
+                Came::End => return Ok(()),
+                Came::NoRoom if self.refuse_received().await => {}
+                Came::NoRoom => break,
             }
         }
         self.answers.flush().await
@@ -86,8 +105,14 @@ impl<S: Stream> Connection<S> {
                 self.give_back();
                 return Ok(Some(1));
             }
+            if std::mem::take(&mut self.is_new) && !is_text(self.received.bytes()[0]) {
+                return Ok(None);
+            }
             match self.answer_next().await? {
-                Next::Took(bytes) => self.received.advance(bytes),
+                Next::Took(bytes) => {
+                    self.received.advance(bytes);
+                    self.begun = None;
+                }
                 Next::Wants(bytes) => return Ok(Some(bytes)),
                 Next::Ends => return Ok(None),
             }
@@ -99,12 +124,16 @@ impl<S: Stream> Connection<S> {
     fn give_back(&mut self) {
         self.share.clear();
         if self.received.capacity() > KEPT {
-            self.received = BytesMut::new();
+            self.received = Buffer::default();
         }
     }
 
     async fn answer_next(&mut self) -> io::Result<Next> {
-        let Connection { worker, received, answers, share, passed_over, .. } = self;
+        let Connection { worker, received, answers, passed_over, .. } = self;
+        let received = received.bytes();
+        if !answers.has_room_for_line() {
+            return Ok(Next::Ends);
+        }
         let (line, length) = match line_of(received) {
             Received::Line(line, length) => (line, length),
             Received::Part => return Ok(Next::Wants(received.len() + 1)),
@@ -124,8 +153,8 @@ impl<S: Stream> Connection<S> {
             return Ok(Next::Took(length));
         };
         let whole = length + value + 2;
-        if let Some(why) = refusal_of(value, whole, received.len(), share) {
-            refuse(worker, &request, why, answers).await;
+        if value > LONGEST_VALUE {
+            refuse(worker, &request, NotKept::TooLarge, answers).await;
             *passed_over = value + 2;
             return Ok(Next::Took(length));
         }
@@ -139,18 +168,48 @@ impl<S: Stream> Connection<S> {
         Ok(Next::Took(whole))
     }
 
-    // Waits until there are so many bytes. No: no more will come.
-    async fn receive(&mut self, wanted: usize) -> io::Result<bool> {
+    // Refuses the command of which no more can be received, and passes its value over. No: the connection is to be closed.
+    async fn refuse_received(&mut self) -> bool {
+        let Connection { worker, received, answers, passed_over, .. } = self;
+        let Received::Line(line, length) = line_of(received.bytes()) else {
+            worker.counters.in_flight_refused.one();
+            answers.line(b"SERVER_ERROR out of memory reading request");
+            return false;
+        };
+        let Some(Ok(request)) = Request::of(line) else { return false };
+        let Some(value) = value_of(&request) else { return false };
+        refuse(worker, &request, NotKept::NoMemory, answers).await;
+        *passed_over = value + 2;
+        received.advance(length);
+        self.begun = None;
+        true
+    }
+
+    // Waits until there are so many bytes.
+    async fn receive(&mut self, wanted: usize) -> io::Result<Came> {
         while self.received.len() < wanted {
-            let missing = wanted - self.received.len();
-            self.received.reserve(missing.max(READ));
+            if !self.make_room(wanted - self.received.len()) {
+                return Ok(Came::NoRoom);
+            }
             let read = self.read().await?;
             if read == 0 {
-                return Ok(false);
+                return Ok(Came::End);
             }
             self.worker.counters.bytes_read.add(read as u64);
         }
-        Ok(true)
+        Ok(Came::All)
+    }
+
+    // Makes room for what comes next: where little has come, for little, however much is to come. No: too many bytes are in flight,
+    // or there is no memory.
+    fn make_room(&mut self, missing: usize) -> bool {
+        self.received.compact();
+        if self.received.room() >= missing.min(READ) {
+            return true;
+        }
+        let more = missing.clamp(READ, self.received.len().max(READ));
+        let length = self.received.len() + more;
+        (length <= KEPT || self.share.grow_to(length)) && self.received.try_reserve(more).is_ok()
     }
 
     async fn read(&mut self) -> io::Result<usize> {
@@ -159,16 +218,24 @@ impl<S: Stream> Connection<S> {
             return self.read_what_is_there().await;
         }
         let patience = self.worker.server.patience;
-        let limit = if is_between { patience.idle } else { Some(patience.stall) };
+        let limit = if is_between { patience.idle } else { Some(self.left_of_command().min(patience.stall)) };
         let Some(limit) = limit else { return self.read_or_end().await };
-        match within(limit, self.read_or_end()).await {
-            Ok(read) => read,
-            Err(_) => {
-                let counters = &self.worker.counters;
-                if is_between { &counters.idle_kicks } else { &counters.stall_kicks }.one();
-                Ok(0)
-            }
-        }
+        let read = match limit {
+            // (a client of which something has come each time it is looked at)
+            Duration::ZERO => Err(TimeIsUp),
+            limit => within(limit, self.read_or_end()).await,
+        };
+        read.unwrap_or_else(|TimeIsUp| {
+            let counters = &self.worker.counters;
+            if is_between { &counters.idle_kicks } else { &counters.stall_kicks }.one();
+            Ok(0)
+        })
+    }
+
+    // How long the command at the head of what was received may still take to come whole.
+    fn left_of_command(&mut self) -> Duration {
+        let begun = *self.begun.get_or_insert_with(Instant::now);
+        self.worker.server.patience.command.saturating_sub(begun.elapsed())
     }
 
     // Reads, and once the server is about to end no more than has come by then, but for the rest of a command.
@@ -201,7 +268,9 @@ impl<S: Stream> Connection<S> {
         let passed = async {
             loop {
                 self.received.clear();
-                self.received.reserve(READ);
+                if self.received.try_reserve(READ).is_err() {
+                    return;
+                }
                 if !matches!(self.answers.read_into(&mut self.received).await, Ok(1..)) {
                     return;
                 }
@@ -223,32 +292,28 @@ fn value_of(request: &Request<'_>) -> Option<usize> {
     }
 }
 
-// Why a value isn't taken, if it isn't: it is too long, or too many bytes are in flight for it to be received whole.
-fn refusal_of(value: usize, whole: usize, received: usize, share: &mut Share) -> Option<NotKept> {
-    if value > LONGEST_VALUE {
-        return Some(NotKept::TooLarge);
-    }
-    let has_room = received >= whole || whole <= KEPT || share.grow_to(whole);
-    (!has_room).then_some(NotKept::NoMemory)
+// Whether the first byte of a connection may be one of a command. Another begins another protocol: memcached's binary one, or TLS,
+// whose clients wait for an answer.
+fn is_text(byte: u8) -> bool {
+    matches!(byte, b' '..=b'~' | b'\t' | b'\r' | b'\n')
 }
 
-// Answers that a value isn't stored, which is then passed over. What its key had is gone where it was to be replaced: else it would
-// be older than what the client believes to be there.
+// Answers that a value isn't stored, which is then passed over. What its key had is gone where it was to be replaced whatever it is:
+// else it would be older than what the client believes to be there.
 async fn refuse<S: Stream>(worker: &Worker, request: &Request<'_>, why: NotKept, answers: &mut Answers<S>) {
     let counters = &worker.counters;
-    match why {
-        NotKept::TooLarge => counters.store_too_large.one(),
-        NotKept::NoMemory => counters.in_flight_refused.one(),
+    if why == NotKept::NoMemory {
+        counters.in_flight_refused.one();
     }
     let key = match &request.command {
-        Command::Store(store) if store.how == How::Set => Some(store.key),
-        Command::Meta(meta) => Some(&*meta.key),
+        Command::Store(store) if matches!(store.how, How::Set | How::Replace) => Some(store.key),
+        Command::Meta(meta) if matches!(how_of(&meta.flags), How::Set | How::Replace) => Some(&*meta.key),
         _ => None,
     };
     if let Some(key) = key {
         let _ = worker.server.items.change(key).await.remove().await;
     }
-    answers.line_unless(request.is_quiet, words_of(why).as_bytes());
+    answers.line_unless(request.is_quiet, refused(counters, why).as_bytes());
 }
 
 fn refuse_chunk<S: Stream>(worker: &Worker, request: &Request<'_>, answers: &mut Answers<S>) {

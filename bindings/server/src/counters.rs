@@ -80,6 +80,8 @@ counters! {
     touch_misses,
     store_too_large,
     store_no_memory,
+    /// Times that a get of many keys let other connections have their turn.
+    conn_yields,
     bytes_read,
     bytes_written,
     total_connections,

@@ -85,19 +85,21 @@ pub struct Item {
 }
 
 impl Item {
+    /// An item; none, where there is no memory for it.
     #[must_use]
-    pub fn new(head: Head, value: &[u8]) -> Item {
+    pub fn new(head: Head, value: &[u8]) -> Option<Item> {
         Item::joined(head, value, &[])
     }
 
     /// An item whose value is two pieces.
     #[must_use]
-    pub fn joined(head: Head, first: &[u8], second: &[u8]) -> Item {
-        let mut bytes = Vec::with_capacity(HEAD + first.len() + second.len());
+    pub fn joined(head: Head, first: &[u8], second: &[u8]) -> Option<Item> {
+        let mut bytes = Vec::new();
+        bytes.try_reserve_exact(HEAD + first.len() + second.len()).ok()?;
         bytes.resize(HEAD, 0);
         bytes.extend_from_slice(first);
         bytes.extend_from_slice(second);
-        Item { head, bytes }
+        Some(Item { head, bytes })
     }
 
     /// The item that the cache holds as these bytes.
@@ -129,12 +131,12 @@ mod tests {
             let marks = Marks::of(mark);
             assert_eq!(marks.byte(), mark);
             let head = Head { unique: u64::MAX - 3, expiry: Expiry::At(77), used: 5, flags: u32::MAX, marks };
-            let mut item = Item::joined(head, b"one", b" two");
+            let mut item = Item::joined(head, b"one", b" two").unwrap();
             assert_eq!(item.value(), b"one two");
             let stored = item.to_store().to_vec();
             assert_eq!(Item::read(stored).unwrap(), item);
         }
-        let mut forever = Item::new(Head::default(), b"");
+        let mut forever = Item::new(Head::default(), b"").unwrap();
         let again = Item::read(forever.to_store().to_vec()).unwrap();
         assert_eq!(again.head.expiry, Expiry::Never);
         assert_eq!(Item::read(vec![0; HEAD - 1]), None);

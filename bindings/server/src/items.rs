@@ -5,7 +5,10 @@ use crate::locks::{KeyLock, KeyLocks};
 use crate::moments::{self, Expiry};
 use crate::within::within;
 use kilambosetry::{Error, HybridCache, Refused};
-use std::sync::atomic::{AtomicU32, AtomicU64, Ordering::SeqCst};
+use std::sync::atomic::{
+    AtomicU32, AtomicU64,
+    Ordering::{Relaxed, SeqCst},
+};
 use std::sync::{Mutex, PoisonError};
 use std::time::{Duration, SystemTime, UNIX_EPOCH};
 use tokio::task::JoinHandle;
@@ -25,6 +28,9 @@ pub struct Items {
     bars: Bars,
     // how long a find waits for flash
     patience: Duration,
+    // finds that met an item that was over
+    found_flushed: AtomicU64,
+    found_expired: AtomicU64,
 }
 
 // What `flush_all` ended.
@@ -36,6 +42,10 @@ struct Flushed {
     due: AtomicU32,
     turn: Mutex<()>,
 }
+
+/// How long a command's finds wait for flash: once it didn't answer one in time, none of the others waits.
+#[derive(Debug)]
+pub struct Wait(Duration);
 
 /// Why an item wasn't stored. What its key had is gone.
 #[derive(Clone, Copy, Debug, PartialEq, Eq)]
@@ -52,7 +62,8 @@ impl Items {
         let started = SystemTime::now().duration_since(UNIX_EPOCH).map_or(0, |time| time.as_nanos() as u64);
         let last = AtomicU64::new(started);
         let (flushed, bars) = (Flushed::default(), Bars::default());
-        Items { cache, locks: KeyLocks::default(), last, flushed, bars, patience }
+        let (found_flushed, found_expired) = (AtomicU64::new(0), AtomicU64::new(0));
+        Items { cache, locks: KeyLocks::default(), last, flushed, bars, patience, found_flushed, found_expired }
     }
 
     #[must_use]
@@ -71,22 +82,55 @@ impl Items {
         Change { items: self, key, unique: self.next_unique(), lock }
     }
 
+    /// Finds that met an item that was flushed.
+    #[must_use]
+    pub fn found_flushed(&self) -> u64 {
+        self.found_flushed.load(Relaxed)
+    }
+
+    /// Finds that met an item whose time was over, in the cache or here.
+    #[must_use]
+    pub fn found_expired(&self) -> u64 {
+        self.cache.stats().misses_expired + self.found_expired.load(Relaxed)
+    }
+
     /// How many bars stand.
     #[must_use]
     pub fn bars(&self) -> usize {
         self.bars.count()
     }
 
+    /// How a command's finds wait for flash.
+    #[must_use]
+    pub fn wait(&self) -> Wait {
+        Wait(self.patience)
+    }
+
     /// The item under the key. What the cache can't tell in time, or since it is out of memory, is a miss.
     pub async fn find(&self, key: &[u8]) -> Option<Item> {
+        self.find_within(key, &mut self.wait()).await
+    }
+
+    /// The same for one of the keys of a command.
+    pub async fn find_within(&self, key: &[u8], wait: &mut Wait) -> Option<Item> {
         if self.locks.is_hidden(key) {
             return None;
         }
-        let found = within(self.patience, self.cache.get_async(key)).await.ok()?;
+        let Ok(found) = within(wait.0, self.cache.get_async(key)).await else {
+            *wait = Wait(Duration::ZERO);
+            return None;
+        };
         let item = Item::read(found.ok()??.into_vec())?;
         let now = moments::now();
-        let is_gone = item.head.expiry.is_past(now) || item.head.unique < self.first_kept(now);
-        (!is_gone).then_some(item)
+        if item.head.unique < self.first_kept(now) {
+            self.found_flushed.fetch_add(1, Relaxed);
+            return None;
+        }
+        if item.head.expiry.is_past(now) {
+            self.found_expired.fetch_add(1, Relaxed);
+            return None;
+        }
+        Some(item)
     }
 
     // Items of earlier changes were flushed.
@@ -136,6 +180,11 @@ impl Change<'_> {
     /// The item under the key.
     pub async fn find(&self) -> Option<Item> {
         self.items.find(self.key).await
+    }
+
+    /// The same for one of the keys of a command.
+    pub async fn find_within(&self, wait: &mut Wait) -> Option<Item> {
+        self.items.find_within(self.key, wait).await
     }
 
     /// The head of an item that is stored now.

@@ -7,12 +7,14 @@
 mod answers;
 mod bars;
 mod base64;
+mod buffer;
 mod changes;
 mod classic;
 pub mod config;
 mod connection;
 pub mod counters;
 mod flags;
+pub mod handles;
 pub mod head;
 pub mod items;
 pub mod limits;

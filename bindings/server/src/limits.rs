@@ -10,6 +10,8 @@ pub struct Patience {
     pub idle: Option<Duration>,
     /// In the midst of a command, or with an answer that it doesn't take.
     pub stall: Duration,
+    /// For a whole command, or the answers that wait at once.
+    pub command: Duration,
 }
 
 /// The bytes of bodies that are being received, and of answers that wait, of all connections together.

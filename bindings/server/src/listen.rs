@@ -7,10 +7,10 @@ use crate::within::within;
 use std::fs::{self, Permissions};
 use std::future::Future;
 use std::io::{self, Write};
-use std::net::SocketAddr;
+use std::net::{IpAddr, Ipv4Addr, SocketAddr};
 use std::os::unix::fs::{DirBuilderExt, FileTypeExt, PermissionsExt};
 use std::os::unix::net as unix;
-use std::path::Path;
+use std::path::{Path, PathBuf};
 use std::process;
 use std::sync::atomic::{AtomicUsize, Ordering::Relaxed};
 use std::sync::Arc;
@@ -24,12 +24,27 @@ use tokio::task::JoinSet;
 // After an accept that failed, say since the process is out of file handles.
 const PAUSE: Duration = Duration::from_millis(100);
 
+/// So many clients may wait to be let in, as memcached has it: whoever comes then waits for a second and more.
+pub const BACKLOG: i32 = 1024;
+// The longest path of a unix socket.
+const LONGEST_PATH: usize = 107;
+
 /// The sockets of a server, open.
 #[derive(Debug)]
 pub struct Sockets {
     tcp: Option<std::net::TcpListener>,
-    unix: Option<unix::UnixListener>,
+    unix: Option<(unix::UnixListener, Name)>,
     metrics: Option<std::net::TcpListener>,
+}
+
+// The name of a unix socket, which goes as this is dropped.
+#[derive(Debug)]
+struct Name(PathBuf);
+
+impl Drop for Name {
+    fn drop(&mut self) {
+        let _ = fs::remove_file(&self.0);
+    }
 }
 
 // A client that has come.
@@ -44,7 +59,7 @@ type Admitted = (Client, OwnedSemaphorePermit);
 impl Sockets {
     /// Opens the sockets that the command line names.
     pub fn open(config: &Config) -> io::Result<Sockets> {
-        let tcp = |port| std::net::TcpListener::bind((config.listen, port));
+        let tcp = |port| open_tcp(config.listen, port);
         // (whoever is let in by the port finds the others open)
         Ok(Sockets {
             unix: config.unix.as_deref().map(open_unix).transpose()?,
@@ -55,7 +70,7 @@ impl Sockets {
 
     /// A socket on a port of this machine that is free.
     pub fn on_any_port() -> io::Result<Sockets> {
-        let tcp = std::net::TcpListener::bind(("127.0.0.1", 0))?;
+        let tcp = open_tcp(Ipv4Addr::LOCALHOST.into(), 0)?;
         Ok(Sockets { tcp: Some(tcp), unix: None, metrics: None })
     }
 
@@ -68,7 +83,11 @@ impl Sockets {
 
 // A socket of this name for the server's user alone. That of a server that has ended is in the way. It is made in a folder that
 // nobody else may enter, and has its rights before it has its name: no other user can connect in between.
-fn open_unix(path: &Path) -> io::Result<unix::UnixListener> {
+fn open_unix(path: &Path) -> io::Result<(unix::UnixListener, Name)> {
+    if path.as_os_str().len() > LONGEST_PATH {
+        let text = format!("the path of the unix socket has more than {LONGEST_PATH} bytes");
+        return Err(io::Error::new(io::ErrorKind::InvalidInput, text));
+    }
     let is_socket = fs::symlink_metadata(path).is_ok_and(|it| it.file_type().is_socket());
     if is_socket && unix::UnixStream::connect(path).is_err() {
         fs::remove_file(path)?;
@@ -80,13 +99,21 @@ fn open_unix(path: &Path) -> io::Result<unix::UnixListener> {
     made
 }
 
+fn open_tcp(address: IpAddr, port: u16) -> io::Result<std::net::TcpListener> {
+    let listener = std::net::TcpListener::bind((address, port))?;
+    // (who listens already has a longer queue from then on)
+    rustix::net::listen(&listener, BACKLOG)?;
+    Ok(listener)
+}
+
 // (a link is refused where the name is taken, by a server that lives or by another file)
-fn bind_within(inner: &Path, path: &Path) -> io::Result<unix::UnixListener> {
+fn bind_within(inner: &Path, path: &Path) -> io::Result<(unix::UnixListener, Name)> {
     let listener = unix::UnixListener::bind(inner)?;
+    rustix::net::listen(&listener, BACKLOG)?;
     let named = fs::set_permissions(inner, Permissions::from_mode(0o700)).and_then(|()| fs::hard_link(inner, path));
     fs::remove_file(inner)?;
     match named {
-        Ok(()) => Ok(listener),
+        Ok(()) => Ok((listener, Name(path.to_path_buf()))),
         Err(error) if error.kind() == io::ErrorKind::AlreadyExists => {
             Err(io::Error::new(io::ErrorKind::AddrInUse, format!("{} is there already", path.display())))
         }
@@ -132,10 +159,10 @@ fn listen(server: &Arc<Server>, sockets: Sockets, workers: &Arc<Workers>) -> io:
         let listener = TcpListener::from_std(tcp)?;
         listening.spawn(accept_tcp(Arc::clone(server), listener, Arc::clone(workers)));
     }
-    if let Some(unix) = sockets.unix {
+    if let Some((unix, name)) = sockets.unix {
         unix.set_nonblocking(true)?;
         let listener = UnixListener::from_std(unix)?;
-        listening.spawn(accept_unix(Arc::clone(server), listener, Arc::clone(workers)));
+        listening.spawn(accept_unix(Arc::clone(server), listener, name, Arc::clone(workers)));
     }
     if let Some(tcp) = sockets.metrics {
         tcp.set_nonblocking(true)?;
@@ -157,7 +184,7 @@ async fn accept_tcp(server: Arc<Server>, listener: TcpListener, workers: Arc<Wor
     }
 }
 
-async fn accept_unix(server: Arc<Server>, listener: UnixListener, workers: Arc<Workers>) {
+async fn accept_unix(server: Arc<Server>, listener: UnixListener, _name: Name, workers: Arc<Workers>) {
     loop {
         match listener.accept().await.and_then(|(stream, _)| stream.into_std()) {
             Ok(stream) => admit(&server, Client::Unix(stream), &workers),

@@ -3,12 +3,13 @@
 
 use clap::Parser;
 use kilambosetryd::config::Config;
+use kilambosetryd::handles;
 use kilambosetryd::listen::{serve, Sockets};
 use kilambosetryd::server::Server;
 use std::error::Error;
 use std::io::{self, Write};
 use std::process::exit;
-use tokio::runtime::Builder;
+use tokio::runtime::{Builder, Runtime};
 use tokio::signal::unix::{signal, Signal, SignalKind};
 
 fn main() {
@@ -22,14 +23,20 @@ fn main() {
     }
 }
 
-fn run(config: Config) -> Result<(), Box<dyn Error>> {
+fn run(mut config: Config) -> Result<(), Box<dyn Error>> {
+    let runtime = Builder::new_current_thread().enable_all().build()?;
+    let _file_too_long = ignore_file_too_long(&runtime)?;
+    let connections = handles::raised_for(config.connections, config.threads);
+    if connections < config.connections {
+        say(&format!("{connections} connections and no more: the process may have no more file handles"));
+        config.connections = connections;
+    }
     let cache = config.open()?;
     let sockets = Sockets::open(&config)?;
     for (name, value) in config.named() {
         say(&format!("{name} {value}"));
     }
     say(&cache.numbers().to_string());
-    let runtime = Builder::new_current_thread().enable_all().build()?;
     let server = Server::new(config, cache);
     let has_drained = runtime.block_on(async {
         let told = [signal(SignalKind::terminate())?, signal(SignalKind::interrupt())?];
@@ -39,6 +46,12 @@ fn run(config: Config) -> Result<(), Box<dyn Error>> {
     say(&server.items.cache().stats().to_string());
     say(if has_drained { "ended" } else { "ended, and not all connections had their answers in time" });
     Ok(())
+}
+
+// Where a file may not become as long as the flash (`ulimit -f`), the system's error tells so, and no signal ends the process.
+fn ignore_file_too_long(runtime: &Runtime) -> io::Result<Signal> {
+    let _within = runtime.enter();
+    signal(SignalKind::from_raw(rustix::process::Signal::Xfsz as i32))
 }
 
 // Waits until the process is told to end.

@@ -1,7 +1,7 @@
 //! The meta commands.
 use crate::answers::{Answers, Stream};
 use crate::changes::{self, Beside, Counted, Stored};
-use crate::classic::{count_miss, words_of, NOT_A_NUMBER};
+use crate::classic::{count_miss, refused, NOT_A_NUMBER};
 use crate::flags::{Flags, Meta, Verb};
 use crate::head::{Head, Item, Marks, HEAD};
 use crate::items::{Change, NotKept};
@@ -10,6 +10,8 @@ use crate::request::{Direction, How, Store};
 use crate::server::Worker;
 use std::io;
 use std::time::Duration;
+
+const NO_MEMORY: &str = "SERVER_ERROR out of memory";
 
 /// Does what a meta command asks for, with the value that came with it.
 pub async fn run<S: Stream>(
@@ -116,7 +118,7 @@ async fn change(worker: &Worker, meta: &Meta<'_>) -> Option<Told> {
     let is_new = found.is_none();
     let item = match (found, meta.flags.vivify) {
         (Some(item), _) => item,
-        (None, Some(_)) => stub(&change, &meta.flags),
+        (None, Some(_)) => stub(&change, &meta.flags)?,
         (None, None) => return None,
     };
     let mut told = told(&meta.flags, item, is_new);
@@ -132,7 +134,7 @@ async fn change(worker: &Worker, meta: &Meta<'_>) -> Option<Told> {
 }
 
 // The empty item that is stored where there is none. When it ends is told, and set, as the flags come.
-fn stub(change: &Change<'_>, flags: &Flags<'_>) -> Item {
+fn stub(change: &Change<'_>, flags: &Flags<'_>) -> Option<Item> {
     let marks = Marks { is_binary: flags.is_binary(), ..Marks::default() };
     Item::new(Head { marks, ..change.new_head(0, Expiry::Never) }, b"")
 }
@@ -252,7 +254,7 @@ async fn set<S: Stream>(worker: &Worker, meta: &Meta<'_>, value: &[u8], answers:
         Ok(Stored::No) => (b"NS", 0),
         Ok(Stored::Exists) => (b"EX", 0),
         Ok(Stored::NotFound) => (b"NF", 0),
-        Err(why) => return answers.line(words_of(why).as_bytes()),
+        Err(why) => return answers.line(refused(&worker.counters, why).as_bytes()),
     };
     answers.piece(code);
     for word in flags.given() {
@@ -287,7 +289,7 @@ async fn delete<S: Stream>(worker: &Worker, meta: &Meta<'_>, answers: &mut Answe
         _ => counters.delete_misses.one(),
     }
     match done {
-        Err(why) => answers.line(words_of(why).as_bytes()),
+        Err(why) => answers.line(refused(&worker.counters, why).as_bytes()),
         Ok(()) if code == b"HD" && flags.is_quiet() => {}
         Ok(()) => meta.short(code, answers),
     }
@@ -340,8 +342,9 @@ async fn arithmetic<S: Stream>(worker: &Worker, meta: &Meta<'_>, answers: &mut A
     let change = worker.server.items.change(&meta.key).await;
     let delta = flags.delta.unwrap_or(1);
     let counted = changes::count(&change, direction, delta, flags.unique.unwrap_or_default(), &worker.counters).await;
-    let (value, mut item, is_new) = match counted {
-        Counted::Now { value, item } => (value, item, false),
+    let (value, item, is_new) = match counted {
+        Counted::Now { value, item } => (value, Some(item), false),
+        Counted::NoMemory => (0, None, false),
         Counted::NotFound => match flags.vivify {
             Some(_) => (flags.initial, first(&change, meta), true),
             None => {
@@ -352,10 +355,11 @@ async fn arithmetic<S: Stream>(worker: &Worker, meta: &Meta<'_>, answers: &mut A
         Counted::Exists => return meta.short(b"EX", answers),
         Counted::NotANumber => return answers.line(NOT_A_NUMBER.as_bytes()),
     };
+    let Some(mut item) = item else { return answers.line(NO_MEMORY.as_bytes()) };
     let before = item.head.expiry;
     item.head.expiry = expiry_until(flags, 0, before, is_new);
     if change.store(&mut item).await.is_err() {
-        return answers.line(b"SERVER_ERROR out of memory");
+        return answers.line(NO_MEMORY.as_bytes());
     }
     item.head.expiry = before;
     if is_new || !flags.is_quiet() {
@@ -364,7 +368,7 @@ async fn arithmetic<S: Stream>(worker: &Worker, meta: &Meta<'_>, answers: &mut A
 }
 
 // The item that counting begins with.
-fn first(change: &Change<'_>, meta: &Meta<'_>) -> Item {
+fn first(change: &Change<'_>, meta: &Meta<'_>) -> Option<Item> {
     let marks = Marks { is_binary: meta.flags.is_binary(), ..Marks::default() };
     let head = Head { marks, ..change.new_head(0, Expiry::Never) };
     Item::new(head, itoa::Buffer::new().format(meta.flags.initial).as_bytes())

@@ -1,33 +1,36 @@
 //! The page for Prometheus.
 use crate::server::Server;
 use crate::within::within;
+use std::collections::VecDeque;
 use std::fmt::Write;
 use std::io;
 use std::sync::Arc;
 use std::time::Duration;
 use tokio::io::{AsyncReadExt, AsyncWriteExt};
 use tokio::net::{TcpListener, TcpStream};
-use tokio::sync::Semaphore;
+use tokio::task::JoinHandle;
 
 const LONGEST_REQUEST: usize = 8 * 1024;
 const PATIENCE: Duration = Duration::from_secs(5);
 const MOST_AT_ONCE: usize = 16;
 const PAUSE: Duration = Duration::from_millis(100);
 
-/// Serves the page until this is dropped.
+/// Serves the page until this is dropped: to the last who came, so that those who say nothing keep nobody out.
 pub async fn serve(server: Arc<Server>, listener: TcpListener) {
-    let free = Arc::new(Semaphore::new(MOST_AT_ONCE));
+    let mut served: VecDeque<JoinHandle<()>> = VecDeque::new();
     loop {
-        let Ok(permit) = Arc::clone(&free).acquire_owned().await else { return };
         let Ok((stream, _)) = listener.accept().await else {
             tokio::time::sleep(PAUSE).await;
             continue;
         };
+        if served.len() == MOST_AT_ONCE {
+            // (most have long ended)
+            served.pop_front().iter().for_each(JoinHandle::abort);
+        }
         let server = Arc::clone(&server);
-        tokio::spawn(async move {
+        served.push_back(tokio::spawn(async move {
             let _ = within(PATIENCE, answer(&server, stream)).await;
-            drop(permit);
-        });
+        }));
     }
 }
 
@@ -38,8 +41,10 @@ async fn answer(server: &Server, mut stream: TcpStream) -> io::Result<()> {
             return Ok(());
         }
     }
-    let (status, text) = match request.split(|byte| *byte == b'\r').next() {
-        Some(line) if line.starts_with(b"GET /metrics ") => ("200 OK", page(server)),
+    let line = request.split(|byte| *byte == b'\r').next().unwrap_or_default();
+    let (method, path) = method_and_path(line);
+    let (status, text) = match (method, path) {
+        (b"GET" | b"HEAD", b"/metrics") => ("200 OK", page(server)),
         _ => ("404 Not Found", "The page is /metrics\n".to_string()),
     };
     let kind = "text/plain; version=0.0.4";
@@ -47,8 +52,17 @@ async fn answer(server: &Server, mut stream: TcpStream) -> io::Result<()> {
     let head =
         format!("HTTP/1.1 {status}\r\nContent-Type: {kind}\r\nContent-Length: {length}\r\nConnection: close\r\n\r\n");
     stream.write_all(head.as_bytes()).await?;
-    stream.write_all(text.as_bytes()).await?;
+    if method != b"HEAD" {
+        stream.write_all(text.as_bytes()).await?;
+    }
     stream.shutdown().await
+}
+
+// (what follows a question mark asks for nothing else)
+fn method_and_path(line: &[u8]) -> (&[u8], &[u8]) {
+    let mut words = line.split(|byte| *byte == b' ');
+    let (method, target) = (words.next().unwrap_or_default(), words.next().unwrap_or_default());
+    (method, target.split(|byte| *byte == b'?').next().unwrap_or_default())
 }
 
 /// The cache's counts, and the server's own.

@@ -38,7 +38,7 @@ impl Server {
             items: Items::new(cache, config.flash_wait()),
             in_flight: InFlight::new(config.in_flight_bytes()),
             patience: config.patience(),
-            free_connections: Arc::new(Semaphore::new(config.connections)),
+            free_connections: Arc::new(Semaphore::new(config.connections as usize)),
             started: Instant::now(),
             counters: (0..config.threads).map(|_| Arc::default()).collect(),
             config,
@@ -69,6 +69,6 @@ impl Server {
     /// Connections that are open.
     #[must_use]
     pub fn open_connections(&self) -> usize {
-        self.config.connections.saturating_sub(self.free_connections.available_permits())
+        (self.config.connections as usize).saturating_sub(self.free_connections.available_permits())
     }
 }

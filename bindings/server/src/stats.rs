@@ -4,8 +4,8 @@ use crate::moments;
 use crate::server::{Server, Worker, VERSION};
 use kilambosetry::{Losses, Stats};
 use std::fmt::Display;
-use std::io;
 use std::process;
+use std::{fs, io};
 
 /// Answers the command `stats`.
 pub fn answer<S: Stream>(worker: &Worker, kind: &[u8], answers: &mut Answers<S>) -> io::Result<()> {
@@ -41,14 +41,51 @@ fn general(server: &Server, tell: &mut dyn FnMut(&str, &dyn Display)) {
     for (name, sum) in server.sums().named() {
         tell(name, &sum);
     }
+    tell("get_expired", &server.items.found_expired());
+    tell("get_flushed", &server.items.found_flushed());
+    tell("connection_structures", &server.open_connections());
+    let (user, system) = times();
+    tell("rusage_user", &user);
+    tell("rusage_system", &system);
     tell("limit_maxbytes", &server.config.options().memory);
     tell("accepting_conns", &1);
     tell("threads", &server.config.threads);
+    NONE.iter().for_each(|name| tell(name, &0));
     tell("in_flight_free", &server.in_flight.left());
     tell("bars", &server.items.bars());
     for (name, value) in of_cache(&stats) {
         tell(name, &value);
     }
+}
+
+// Rows of memcached's that agents read, and that are 0: it stops listening for nobody, has no passwords, no table of its own that grows and no
+// slabs, and doesn't keep which items were found before they went.
+const NONE: [&str; 12] = [
+    "listen_disabled_num",
+    "time_in_listen_disabled_us",
+    "auth_cmds",
+    "auth_errors",
+    "hash_power_level",
+    "hash_bytes",
+    "hash_is_expanding",
+    "slab_reassign_running",
+    "slabs_moved",
+    "expired_unfetched",
+    "evicted_unfetched",
+    "evicted_active",
+];
+
+// The seconds of the process, its own and those of the system for it, as far as the system tells them.
+fn times() -> (String, String) {
+    let text = fs::read_to_string("/proc/self/stat").unwrap_or_default();
+    // (the name of the program, in parentheses, may have spaces)
+    let mut words = text.rsplit(')').next().unwrap_or_default().split_ascii_whitespace().skip(11);
+    let ticks = rustix::param::clock_ticks_per_second();
+    let mut seconds = || {
+        let count = words.next().and_then(|word| word.parse().ok()).unwrap_or(0_u64);
+        format!("{}.{:06}", count / ticks, count % ticks * 1_000_000 / ticks)
+    };
+    (seconds(), seconds())
 }
 
 // What the cache tells: in memcached's words first, where they mean the same.
@@ -59,6 +96,7 @@ fn of_cache(stats: &Stats) -> Vec<(&'static str, u64)> {
         ("total_items", stats.stored),
         ("bytes", stats.memory_bytes),
         ("evictions", evictions(&stats.losses)),
+        ("reclaimed", stats.losses.expired),
         ("items_limit_bytes", stats.memory_limit_bytes),
         ("hits_from_memory", stats.hits_from_memory),
         ("hits_from_flash", stats.hits_from_flash),

@@ -70,7 +70,7 @@ def has_a_unix_socket():
     path = os.path.join(folder, "socket")
     with socket.socket(socket.AF_UNIX) as old:
         old.bind(path)
-    with kilambosetryd("--unix", path):
+    with kilambosetryd("--unix", path) as server:
         assert os.stat(path).st_mode & 0o777 == 0o700
         with socket.socket(socket.AF_UNIX) as client:
             client.connect(path)
@@ -82,6 +82,11 @@ def has_a_unix_socket():
             client.sendall(b"mn\r\n")
             assert client.recv(100) == b"MN\r\n"
         assert os.listdir(folder) == ["socket"], os.listdir(folder)
+        assert server.end() == 0
+        assert not os.listdir(folder), "its name is left behind"
+    long = os.path.join(folder, "s" * 108)
+    ran = subprocess.run([binary(), "--port", "0", "--unix", long], capture_output=True, timeout=20, check=False)
+    assert ran.returncode == 1 and b"more than 107 bytes" in ran.stderr, ran
     shutil.rmtree(folder)
 
 
@@ -129,6 +134,81 @@ def has_a_page():
             raise AssertionError("it has another page")
         except urllib.error.HTTPError as error:
             assert error.code == 404
+        assert urllib.request.urlopen(f"http://127.0.0.1:{port}/metrics?x=1").status == 200
+        head = urllib.request.Request(f"http://127.0.0.1:{port}/metrics", method="HEAD")
+        assert urllib.request.urlopen(head).read() == b""
+        # clients that say nothing keep nobody out
+        silent = [socket.create_connection(("127.0.0.1", port)) for _ in range(40)]
+        assert urllib.request.urlopen(f"http://127.0.0.1:{port}/metrics", timeout=4).status == 200
+        for client in silent:
+            client.close()
+
+
+def under(limits, port, *words):
+    """Starts the server under these limits of `prlimit`."""
+    return Server(["prlimit", *limits, binary(), "--port", str(port), *map(str, words)], port)
+
+
+def clients_let_in(port, most):
+    """Returns how many clients are answered at once, of so many that come, and what the next is told."""
+    clients = []
+    for _ in range(most):
+        client = Client(port)
+        line, _ = client.ask(b"mn")
+        if line != b"MN":
+            return len(clients), line
+        clients.append(client)
+    return len(clients), b""
+
+
+def raises_its_handles():
+    """It has a handle for each connection that it lets in: it raises its limit, or lets fewer in and says so."""
+    port = free_port()
+    with under(["--nofile=128:4096"], port, "--connections", 300) as server:
+        assert clients_let_in(port, 301) == (300, b"ERROR Too many open connections"), server.said()
+        assert "no more file handles" not in server.said()
+    if os.getuid() == 0:
+        # (a user who may not raise the limit itself)
+        copy = os.path.join(tempfile.mkdtemp(), "kilambosetryd")
+        shutil.copy(binary(), copy)
+        os.chmod(os.path.dirname(copy), 0o755)
+        words = ["setpriv", "--reuid=nobody", "--clear-groups", copy, "--port", str(port), "--connections", "300"]
+    else:
+        words = [binary(), "--port", str(port), "--connections", "300"]
+    with Server(["prlimit", "--nofile=200:200", *words], port) as server:
+        said = [line for line in server.said().splitlines() if "file handles" in line]
+        assert len(said) == 1, server.said()
+        count = int(said[0].split()[0])
+        assert f"maxconns {count}" in server.said()
+        assert 0 < count < 200 and clients_let_in(port, 300) == (count, b"ERROR Too many open connections"), said
+
+
+def has_a_long_queue():
+    """A thousand clients that come at once are let in at once, also where it is busy."""
+    with open("/proc/sys/net/core/somaxconn", encoding="ascii") as it:
+        if int(it.read()) < 1024:
+            print("skipped: this system's queues are shorter than 1,024")
+            return
+    with kilambosetryd() as server:
+        server.process.send_signal(signal.SIGSTOP)
+        clients = [socket.socket() for _ in range(600)]
+        for client in clients:
+            client.settimeout(10)
+            client.connect(("127.0.0.1", server.port))
+        server.process.send_signal(signal.SIGCONT)
+        for client in clients:
+            client.sendall(b"mn\r\n")
+            assert client.recv(100) == b"MN\r\n"
+            client.close()
+
+
+def is_told_that_its_file_is_too_long():
+    """Where a file may not be as long as the flash, that is an error of its start, and no signal ends it."""
+    folder = tempfile.mkdtemp()
+    words = [binary(), "--port", str(free_port()), "--flash", os.path.join(folder, "flash"), "--flash-size", "50"]
+    ran = subprocess.run(["prlimit", "--fsize=1000000", *words], capture_output=True, timeout=20, check=False)
+    assert ran.returncode == 1 and b"File too large" in ran.stderr, ran
+    shutil.rmtree(folder)
 
 
 def stats_of(client):
@@ -171,7 +251,10 @@ def has_flash():
 
 def refuses():
     """It says what is wrong with its command line, and ends with another status than 0."""
-    for words in (["--shards", "17"], ["--memory", "0"], ["--port", "x"], ["--flash", "/"], ["--threads", "0"]):
+    most = str(2**64 - 1)
+    many = (["--connections", str(2**61)], ["--connections", "0"], ["--mean-value", most], ["--fillers", most], ["--memory", most])
+    wrong = (["--shards", "17"], ["--memory", "0"], ["--port", "x"], ["--flash", "/"], ["--threads", "0"])
+    for words in wrong + many:
         ran = subprocess.run([binary(), *words, "--metrics-port", "0"], capture_output=True, timeout=20, check=False)
         assert ran.returncode in (1, 2) and ran.stderr, (words, ran)
 
@@ -206,8 +289,9 @@ def main():
     """Tries all of it."""
     drains(signal.SIGTERM)
     drains(signal.SIGINT)
-    sockets = (has_a_unix_socket, has_a_socket_of_its_own_from_the_first, has_a_page)
-    for check in (ends_in_the_midst_of_a_load, *sockets, has_flash, refuses, runs_as_a_plain_user, is_capable):
+    sockets = (has_a_unix_socket, has_a_socket_of_its_own_from_the_first, has_a_page, has_a_long_queue)
+    limits = (raises_its_handles, is_told_that_its_file_is_too_long)
+    for check in (ends_in_the_midst_of_a_load, *sockets, has_flash, *limits, refuses, runs_as_a_plain_user, is_capable):
         check()
     print("the program: does what it says")
 

@@ -8,7 +8,7 @@ use std::ffi::c_void;
 use std::ptr;
 use std::sync::atomic::{AtomicBool, AtomicUsize, Ordering::SeqCst};
 use std::sync::Mutex;
-use support::{fill, over, Client, Hanging};
+use support::{fill, in_memory, over, Client, Hanging};
 
 extern "C" {
     fn __libc_malloc(size: usize) -> *mut c_void;
@@ -19,8 +19,9 @@ extern "C" {
 
 // Whether the library is refused all memory.
 static REFUSES: AtomicBool = AtomicBool::new(false);
-// Rust's allocations of so many bytes and more are refused.
-static REFUSED_FROM: AtomicUsize = AtomicUsize::new(usize::MAX);
+// How many large allocations of Rust are made until one is refused; none is, where it is 0.
+static UNTIL: AtomicUsize = AtomicUsize::new(0);
+const LARGE: usize = 30_000;
 // The tests run one after the other, since they share these.
 static ALONE: Mutex<()> = Mutex::new(());
 
@@ -45,7 +46,7 @@ struct Rust;
 // SAFETY: blocks are those of the system's C library, with the alignment that is asked for.
 unsafe impl GlobalAlloc for Rust {
     unsafe fn alloc(&self, layout: Layout) -> *mut u8 {
-        if layout.size() >= REFUSED_FROM.load(SeqCst) {
+        if layout.size() >= LARGE && UNTIL.fetch_update(SeqCst, SeqCst, |left| left.checked_sub(1)) == Ok(1) {
             return ptr::null_mut();
         }
         __libc_memalign(layout.align().max(16), layout.size()).cast()
@@ -77,5 +78,58 @@ fn a_key_whose_delete_was_refused_is_a_miss_until_one_is_answered() {
         assert_eq!(client.ask(&format!("set {key} 0 0 3\r\nnew\r\n")), "STORED");
         assert_eq!(client.value(key).as_deref(), Some("new"));
     }
+    assert!(running.stop());
+}
+
+// Does what `does` does, and refuses it one large allocation: the first, then the second, until there is none more. How many there were.
+fn each_refused(mut does: impl FnMut()) -> usize {
+    for refused in 1.. {
+        UNTIL.store(refused, SeqCst);
+        does();
+        if UNTIL.swap(0, SeqCst) > 0 {
+            return refused - 1;
+        }
+    }
+    unreachable!()
+}
+
+#[test]
+fn no_allocation_of_a_size_that_a_client_chooses_ends_the_process() {
+    let _alone = ALONE.lock().unwrap();
+    let running = in_memory(&[]);
+    let (long, longer) = ("x".repeat(300_000), "y".repeat(300_000));
+    let number = format!("7{}", " ".repeat(299_999));
+    let mut client = Client::of(&running);
+    for (stored, command, least) in [
+        ("old", format!("set key 0 0 300000\r\n{long}\r\n"), 2),
+        ("old", format!("ms key 300000\r\n{long}\r\n"), 2),
+        (&long, format!("append key 0 0 300000\r\n{longer}\r\n"), 2),
+        (&long, "get key\r\n".to_string(), 1),
+        (&long, "mg key v\r\n".to_string(), 1),
+        (&number, "incr key 1\r\n".to_string(), 2),
+        (&number, "ma key D1\r\n".to_string(), 2),
+        (&long, format!("get {} key\r\n", "none ".repeat(12_000)), 2),
+    ] {
+        let refused = each_refused(|| {
+            let until = UNTIL.swap(0, SeqCst);
+            assert_eq!(client.ask(&format!("set key 0 0 {}\r\n{stored}\r\n", stored.len())), "STORED");
+            UNTIL.store(until, SeqCst);
+            let mut other = Client::of(&running);
+            let answer = other.ask(&command);
+            let until = UNTIL.swap(0, SeqCst);
+            let is_known = ["", "STORED", "NOT_STORED", "HD", "8", "END", "EN"].contains(&&*answer)
+                || ["VALUE key 0 ", "VA ", "SERVER_ERROR out of memory", "NOT_FOUND", "NF"]
+                    .iter()
+                    .any(|known| answer.starts_with(known));
+            assert!(is_known, "{:.20}: {answer:.100}", command);
+            if command.contains(" 300000\r\n") {
+                // whether it was stored or not, the older one is gone
+                assert!(client.value("key").as_deref() != Some("old"), "{:.20}: {answer}", command);
+            }
+            UNTIL.store(until, SeqCst);
+        });
+        assert!(refused >= least, "{:.20}: {refused} large allocations", command);
+    }
+    assert_eq!(client.ask("mn\r\n"), "MN");
     assert!(running.stop());
 }

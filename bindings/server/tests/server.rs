@@ -1,6 +1,7 @@
 //! The server over a socket: what hangs holds up nobody else, what reads and writes is one, and it ends when it is told to.
 mod support;
 
+use std::collections::HashMap;
 use std::io::Write;
 use std::sync::Mutex;
 use std::thread;
@@ -180,6 +181,58 @@ fn items_end_at_their_time_and_as_a_flush_says() {
     assert!(running.stop());
 }
 
+// What agents read of `stats` (Telegraf's, Datadog's and collectd's plugins, and the exporter for Prometheus, without slabs).
+const ROWS: &str = "accepting_conns auth_cmds auth_errors bytes bytes_read bytes_written cas_badval cas_hits cas_misses cmd_flush cmd_get \
+    cmd_set cmd_touch conn_yields connection_structures curr_connections curr_items decr_hits decr_misses delete_hits delete_misses \
+    evicted_active evicted_unfetched evictions expired_unfetched get_expired get_flushed get_hits get_misses hash_bytes \
+    hash_is_expanding hash_power_level incr_hits incr_misses limit_maxbytes listen_disabled_num max_connections pid pointer_size \
+    reclaimed rejected_connections rusage_system rusage_user slab_reassign_running slabs_moved store_no_memory store_too_large threads \
+    time time_in_listen_disabled_us total_connections total_items touch_hits touch_misses uptime version";
+const SETTINGS: &str = "auth_enabled_ascii auth_enabled_sasl binding_protocol cas_enabled detail_enabled domain_socket dump_enabled evictions \
+    flush_enabled idle_timeout inter item_size_max lru_crawler lru_maintainer_thread lru_segmented maxbytes maxconns maxconns_fast \
+    num_threads reqs_per_event shutdown_command slab_automove slab_reassign ssl_enabled stat_key_prefix tcp_backlog tcpport \
+    track_sizes udpport umask verbosity";
+
+// The rows that a command tells.
+fn rows(client: &mut Client, command: &str) -> HashMap<String, String> {
+    client.send(&format!("{command}\r\n"));
+    let lines = std::iter::from_fn(|| Some(client.line()).filter(|line| line != "END"));
+    lines
+        .map(|line| {
+            let mut words = line.splitn(3, ' ').skip(1);
+            (words.next().unwrap().to_string(), words.next().unwrap().to_string())
+        })
+        .collect()
+}
+
+#[test]
+fn stats_have_the_rows_that_agents_read() {
+    let running = in_memory(&[]);
+    let mut client = Client::of(&running);
+    for (command, names) in [("stats", ROWS), ("stats settings", SETTINGS)] {
+        let told = rows(&mut client, command);
+        let missing: Vec<_> = names.split_ascii_whitespace().filter(|name| !told.contains_key(*name)).collect();
+        assert!(missing.is_empty(), "{command} lacks {missing:?}");
+    }
+    assert_eq!(client.ask("set key 0 0 1\r\nx\r\n"), "STORED");
+    assert_eq!(client.ask("set brief 0 1 1\r\nx\r\n"), "STORED");
+    thread::sleep(Duration::from_millis(2100));
+    assert_eq!(client.value("brief"), None);
+    assert_eq!(client.ask("flush_all\r\n"), "OK");
+    assert_eq!(client.value("key"), None);
+    client.send(&format!("get {}\r\n", "none ".repeat(1000)));
+    assert_eq!(client.line(), "END");
+    let told = rows(&mut client, "stats");
+    for (name, value) in
+        [("get_expired", "1"), ("get_flushed", "1"), ("conn_yields", "3"), ("connection_structures", "1")]
+    {
+        assert_eq!(told[name], value, "{name}");
+    }
+    let used: f64 = ["rusage_user", "rusage_system"].iter().map(|name| told[*name].parse::<f64>().unwrap()).sum();
+    assert!(used > 0.0);
+    assert!(running.stop());
+}
+
 #[test]
 fn a_line_and_a_value_may_come_in_pieces() {
     let running = in_memory(&[]);
@@ -206,7 +259,7 @@ fn what_is_too_much_is_refused_and_harms_nothing_else() {
     assert_eq!(client.value("key"), None); // what is there would be older than the client believes
                                            // two bodies at once are more than may be in flight
     let mut slow = Client::of(&running);
-    slow.send("set slow 0 0 900000\r\nx");
+    slow.send(&format!("set slow 0 0 900000\r\n{}", &body[..800_000]));
     thread::sleep(Duration::from_millis(200));
     let answer = client.ask(&format!("set key 0 0 500000\r\n{}\r\n", &body[..500_000]));
     assert_eq!(answer, "SERVER_ERROR out of memory storing object");

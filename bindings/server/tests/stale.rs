@@ -19,7 +19,7 @@ fn items() -> Items {
 
 async fn put(items: &Items, key: &[u8], value: &[u8]) {
     let change = items.change(key).await;
-    let mut item = Item::new(change.new_head(0, Head::default().expiry), value);
+    let mut item = Item::new(change.new_head(0, Head::default().expiry), value).unwrap();
     change.store(&mut item).await.unwrap();
 }
 
@@ -28,7 +28,7 @@ async fn renew(items: &Items, key: &[u8], between: impl FnOnce()) {
     let change = items.change(key).await;
     let Some(found) = change.find().await else { return };
     between();
-    let mut item = Item::new(change.new_head(0, found.head.expiry), found.value());
+    let mut item = Item::new(change.new_head(0, found.head.expiry), found.value()).unwrap();
     change.store(&mut item).await.unwrap();
 }
 

@@ -27,6 +27,15 @@ impl Client {
         self.0.get_mut().write_all(text.as_bytes()).unwrap();
     }
 
+    /// Sends what the server may have no ear for any more.
+    pub fn try_send(&mut self, text: &str) {
+        self.try_send_bytes(text.as_bytes());
+    }
+
+    pub fn try_send_bytes(&mut self, bytes: &[u8]) {
+        let _ = self.0.get_mut().write_all(bytes);
+    }
+
     pub fn line(&mut self) -> String {
         let mut line = String::new();
         self.0.read_line(&mut line).unwrap();
