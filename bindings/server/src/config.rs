@@ -25,6 +25,14 @@ pub struct Config {
     #[arg(long, value_name = "MEGABYTES", default_value_t = 1000)]
     pub flash_size: u64,
 
+    /// Takes a file or device of flash that has anything and is no cache's: what it has is lost
+    #[arg(long)]
+    pub overwrite: bool,
+
+    /// The flash is a file without a name in the folder that is given, of which nothing is left at the end
+    #[arg(long)]
+    pub unnamed: bool,
+
     /// Reads and writes the flash past the system's copies of its pages
     #[arg(long)]
     pub direct: bool,
@@ -42,11 +50,11 @@ pub struct Config {
     pub shards: u8,
 
     /// Threads that read flash
-    #[arg(long, value_name = "COUNT", default_value_t = 4, value_parser = clap::value_parser!(u64).range(..=1024))]
+    #[arg(long, value_name = "COUNT", default_value_t = 4)]
     pub fillers: u64,
 
     /// Threads that write flash
-    #[arg(long, value_name = "COUNT", default_value_t = 2, value_parser = clap::value_parser!(u64).range(..=1024))]
+    #[arg(long, value_name = "COUNT", default_value_t = 2)]
     pub writers: u64,
 
     /// The address to listen on: that of all who may speak to it, since there are no passwords
@@ -111,6 +119,8 @@ impl Config {
             writers: self.writers,
             fillers: self.fillers,
             direct: self.direct,
+            overwrite: self.overwrite,
+            unnamed: self.unnamed,
             ..Options::default()
         }
     }

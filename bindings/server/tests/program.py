@@ -249,6 +249,27 @@ def has_flash():
     shutil.rmtree(folder)
 
 
+def looks_whose_its_flash_is():
+    """It takes no file that has anything and is no cache's, unless it is told to; and leaves none where its flash has no name."""
+    folder = tempfile.mkdtemp()
+    path = os.path.join(folder, "flash")
+    with open(path, "wb") as it:
+        it.write(b"somebody's" * 1000)
+    words = ["--flash-size", 50]
+    ran = subprocess.run([binary(), "--port", "0", "--flash", path, "--flash-size", "50"], capture_output=True, timeout=20, check=False)
+    assert ran.returncode == 1 and ran.stderr, ran
+    with open(path, "rb") as it:
+        assert it.read() == b"somebody's" * 1000
+    for more in (["--flash", path, "--overwrite"], ["--flash", path]):
+        with kilambosetryd(*words, *more) as server:
+            assert server.end() == 0
+    os.remove(path)
+    with kilambosetryd(*words, "--flash", folder, "--unnamed") as server:
+        assert Client(server.port).ask(b"mn") == (b"MN", None)
+        assert not os.listdir(folder)
+    shutil.rmtree(folder)
+
+
 def refuses():
     """It says what is wrong with its command line, and ends with another status than 0."""
     most = str(2**64 - 1)
@@ -291,7 +312,8 @@ def main():
     drains(signal.SIGINT)
     sockets = (has_a_unix_socket, has_a_socket_of_its_own_from_the_first, has_a_page, has_a_long_queue)
     limits = (raises_its_handles, is_told_that_its_file_is_too_long)
-    for check in (ends_in_the_midst_of_a_load, *sockets, has_flash, *limits, refuses, runs_as_a_plain_user, is_capable):
+    flash = (has_flash, looks_whose_its_flash_is)
+    for check in (ends_in_the_midst_of_a_load, *sockets, *flash, *limits, refuses, runs_as_a_plain_user, is_capable):
         check()
     print("the program: does what it says")
 
