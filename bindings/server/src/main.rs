@@ -9,8 +9,11 @@ use kilambosetryd::server::Server;
 use std::error::Error;
 use std::io::{self, Write};
 use std::process::exit;
-use tokio::runtime::{Builder, Runtime};
+use tokio::runtime::Builder;
 use tokio::signal::unix::{signal, Signal, SignalKind};
+
+// Where a file may not become as long as the flash (`ulimit -f`), the system's error tells so, and this signal ends nothing.
+const FILE_TOO_LONG: i32 = rustix::process::Signal::Xfsz as i32;
 
 fn main() {
     match run(Config::parse()) {
@@ -25,7 +28,11 @@ fn main() {
 
 fn run(mut config: Config) -> Result<(), Box<dyn Error>> {
     let runtime = Builder::new_current_thread().enable_all().build()?;
-    let _file_too_long = ignore_file_too_long(&runtime)?;
+    let within = runtime.enter();
+    // (who finds a socket open may tell the process to end)
+    let told = [signal(SignalKind::terminate())?, signal(SignalKind::interrupt())?];
+    let _file_too_long = signal(SignalKind::from_raw(FILE_TOO_LONG))?;
+    drop(within);
     let connections = handles::raised_for(config.connections, config.threads);
     if connections < config.connections {
         say(&format!("{connections} connections and no more: the process may have no more file handles"));
@@ -39,19 +46,12 @@ fn run(mut config: Config) -> Result<(), Box<dyn Error>> {
     say(&cache.numbers().to_string());
     let server = Server::new(config, cache);
     let has_drained = runtime.block_on(async {
-        let told = [signal(SignalKind::terminate())?, signal(SignalKind::interrupt())?];
         say("ready");
         serve(server.clone(), sockets, end(told)).await
     })?;
     say(&server.items.cache().stats().to_string());
     say(if has_drained { "ended" } else { "ended, and not all connections had their answers in time" });
     Ok(())
-}
-
-// Where a file may not become as long as the flash (`ulimit -f`), the system's error tells so, and no signal ends the process.
-fn ignore_file_too_long(runtime: &Runtime) -> io::Result<Signal> {
-    let _within = runtime.enter();
-    signal(SignalKind::from_raw(rustix::process::Signal::Xfsz as i32))
 }
 
 // Waits until the process is told to end.

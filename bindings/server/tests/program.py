@@ -19,7 +19,7 @@ VALUE = b"VALUE key 0 5\r\nvalue\r\nEND\r\n"
 
 def drains(number):
     """A pipelined client has all its answers when the process is told to end, which it does with status 0."""
-    with kilambosetryd("--threads", 2) as server:
+    with kilambosetryd("--threads", 2, "--drain", 60) as server:
         idle, client = Client(server.port), Client(server.port)
         assert client.ask(b"set key 0 0 5\r\nvalue") == (b"STORED", None)
         client.send(b"get key\r\n" * 20_000)
@@ -28,7 +28,7 @@ def drains(number):
         while client.more():
             pass
         assert client.buffer == VALUE * 20_000, len(client.buffer)
-        assert server.process.wait(10) == 0, server.said()
+        assert server.process.wait(60) == 0, server.said()
         assert server.said().rstrip().endswith("ended")
         assert not idle.more()
 
@@ -262,6 +262,7 @@ def looks_whose_its_flash_is():
         assert it.read() == b"somebody's" * 1000
     for more in (["--flash", path, "--overwrite"], ["--flash", path]):
         with kilambosetryd(*words, *more) as server:
+            assert Client(server.port).ask(b"mn") == (b"MN", None)
             assert server.end() == 0
     os.remove(path)
     with kilambosetryd(*words, "--flash", folder, "--unnamed") as server:
