@@ -187,7 +187,7 @@ impl<'a> LeaseAsync<'a> {
                 }
             }
         }
-        let lease = self.cache.lease(state, &mut self.begun);
+        let lease = self.cache.lease(state, &mut self.begun)?;
         Poll::Ready(Ok(Lookup::Miss(lease)))
     }
 

@@ -3,7 +3,7 @@ use crate::hybrid::held_of;
 use crate::loads::{Begins, Outcome};
 use crate::shards::{Locked, Shards};
 use crate::told::Told;
-use crate::{Error, Found, Held, HybridCache, Kept, LeaseAsync, LoadError, Loaded, Ticket, Value};
+use crate::{Error, Found, Held, HybridCache, Kept, LeaseAsync, LoadError, Loaded, Refused, Ticket, Value};
 use std::fmt;
 
 /// What a get comes to that hands out a lease where it misses: [`HybridCache::get_or_lease`].
@@ -186,10 +186,10 @@ impl HybridCache {
                     return Ok(found);
                 }
             };
-            let Begins::Anothers(load) = begins else { return Ok(Lookup::Miss(self.lease(state, &mut begun))) };
-            if !may_wait {
-                return Ok(Lookup::Miss(self.lease(state, &mut begun)));
-            }
+            let load = match begins {
+                Begins::Anothers(load) if may_wait => load,
+                _ => return Ok(Lookup::Miss(self.lease(state, &mut begun)?)),
+            };
             match shards.wait_for_load(begun.shard, state, load)? {
                 Waited::Look { was_loaded } => may_wait = !was_loaded,
                 Waited::Came(Lookup::Absent) if !tells_absent => may_wait = false,
@@ -239,16 +239,14 @@ impl HybridCache {
     }
 
     // The ticket comes behind the miss, and before the load.
-    pub(crate) fn lease(&self, mut state: Locked<'_>, begun: &mut Begun<'_>) -> Lease {
-        let shards = begun.shards;
+    pub(crate) fn lease(&self, mut state: Locked<'_>, begun: &mut Begun<'_>) -> Result<Lease, Refused> {
+        let key = copied(begun.key)?;
         state.loads.begun += 1;
         // (a bar that is due ends here: what is loaded from now on is of behind it)
         state.is_barred(begun.key);
-        let key = copied(begun.key).unwrap_or_default();
-        // (without its key it stores nothing)
-        let ticket = if key.is_empty() { None } else { state.engine.ticket() };
-        shards.leave(begun.shard, state);
-        Lease { cache: self.clone(), shard: begun.shard, key, ticket, load: begun.load.take() }
+        let ticket = state.engine.ticket();
+        begun.shards.leave(begun.shard, state);
+        Ok(Lease { cache: self.clone(), shard: begun.shard, key, ticket, load: begun.load.take() })
     }
 
     /// What was found: a value, or that it is known that there is none.
@@ -329,7 +327,7 @@ impl Lease {
             None => Ok(Kept::Stale),
         };
         match kept {
-            Ok(Kept::Stored) => state.end_load(&self.key),
+            Ok(Kept::Stored) => state.end_loads(&self.key, self.load.take()),
             Ok(Kept::Stale) => state.loads.stale += 1,
             Err(_) => state.loads.refused += 1,
         }

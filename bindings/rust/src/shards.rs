@@ -143,6 +143,14 @@ impl State {
         self.loads.end(key, &mut self.wakes);
     }
 
+    /// The same of what was stored by this load, which another may have taken over meanwhile.
+    pub fn end_loads(&mut self, key: &[u8], load: Option<u64>) {
+        self.end_load(key);
+        if let Some(load) = load {
+            self.loads.finish(key, load, Outcome::Look, &mut self.wakes);
+        }
+    }
+
     /// A task waits for a load.
     pub fn join_load(&mut self, load: u64, waker: &mut Option<Waker>) -> Option<(u64, Instant)> {
         self.loads.join_task(load, waker, &mut self.wakes)
@@ -475,34 +483,27 @@ impl Shards {
     }
 
     /// Waits for the load no more: what it came to, where it is over.
-    pub fn leave_load(&self, shard: usize, state: Locked<'_>, load: u64, task: Option<u64>) -> Waited {
-        // (it is read before it is left, since the last one who leaves takes it away)
-        let is_told = state.loads.outcome(load) == Some(Outcome::Told);
-        drop(state);
-        let told = if is_told { self.tellings.read((shard, load)) } else { None };
-        let mut state = self.lock(shard);
+    pub fn leave_load<'a>(&'a self, shard: usize, mut state: Locked<'a>, load: u64, task: Option<u64>) -> Waited {
+        let mut told = None;
+        if state.loads.outcome(load) == Some(Outcome::Told) {
+            drop(state);
+            told = self.tellings.read((shard, load)); // (it is kept until the last one leaves)
+            state = self.lock(shard);
+        }
         let State { loads, wakes, .. } = &mut *state;
         let waker = task.and_then(|task| loads.forget_task(load, task, wakes));
         let (outcome, is_last) = loads.leave(load);
         drop(state);
         drop(waker);
-        match outcome {
-            Some(Outcome::NotBegun) => Waited::Look { was_loaded: false },
-            Some(Outcome::Absent) => Waited::Came(Lookup::Absent),
-            Some(Outcome::Told) => self.told((shard, load), told, is_last),
-            Some(Outcome::Look) | None => Waited::Look { was_loaded: true },
+        if outcome == Some(Outcome::Told) && is_last {
+            drop(self.tellings.take((shard, load)));
         }
-    }
-
-    fn told(&self, load: (usize, u64), read: Option<Told>, is_last: bool) -> Waited {
-        let told = read.or_else(|| self.tellings.read(load));
-        if is_last {
-            drop(self.tellings.take(load));
-        }
-        match told {
-            Some(Told::Row(row)) => Waited::Came(Lookup::Hit(Value::from(row))),
-            Some(Told::Failed(why)) => Waited::Came(Lookup::Failed(why)),
-            None => Waited::Look { was_loaded: true },
+        match (outcome, told) {
+            (Some(Outcome::NotBegun), _) => Waited::Look { was_loaded: false },
+            (Some(Outcome::Absent), _) => Waited::Came(Lookup::Absent),
+            (_, Some(Told::Row(row))) => Waited::Came(Lookup::Hit(Value::from(row))),
+            (_, Some(Told::Failed(why))) => Waited::Came(Lookup::Failed(why)),
+            (_, None) => Waited::Look { was_loaded: true },
         }
     }
 

@@ -68,7 +68,8 @@ impl Wakes {
     /// Whom to wake now, without the lock. There may be more.
     pub fn take(&mut self) -> Woken {
         let mut woken = Woken { threads: std::mem::take(&mut self.threads), ..Woken::default() };
-        woken.tasks.iter_mut().for_each(|task| *task = self.tasks.pop());
+        let some = self.tasks.len().min(woken.tasks.len());
+        woken.tasks[..some].iter_mut().for_each(|task| *task = self.tasks.pop());
         woken.is_all = self.tasks.is_empty();
         woken
     }
