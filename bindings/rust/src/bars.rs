@@ -39,7 +39,7 @@ impl Bars {
     /// then, and ends with another delete.
     pub fn lower(&mut self, key: &[u8], until: Option<Instant>) {
         let Some(bar) = self.standing.get_mut(key) else { return };
-        bar.changes -= 1;
+        bar.changes = bar.changes.saturating_sub(1);
         bar.until = bar.until.max(until);
         if bar.changes == 0 && bar.until.is_none() {
             self.standing.remove(key);

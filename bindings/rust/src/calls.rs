@@ -55,9 +55,9 @@ impl Calls {
         wakes.wait();
     }
 
-    /// How many calls wait.
+    /// How many calls wait for their answer.
     pub fn len(&self) -> usize {
-        self.waiting.len()
+        self.waiting.values().filter(|call| call.answer.is_none()).count()
     }
 
     /// Whether replies may come.
@@ -68,6 +68,11 @@ impl Calls {
     /// Whether the call still waits.
     pub fn is_open(&self, call: u64) -> bool {
         self.waiting.get(&call).is_some_and(|call| call.answer.is_none())
+    }
+
+    /// Whether the call waits, or its answer isn't taken yet.
+    pub fn is_listed(&self, call: u64) -> bool {
+        self.waiting.contains_key(&call)
     }
 
     /// The call's answer, once it is there.
@@ -97,11 +102,20 @@ impl Calls {
     /// to be dropped without the lock.
     #[must_use]
     pub fn give_up(&mut self, call: u64, key: &[u8], wakes: &mut Wakes) -> Option<Call> {
+        let given_up = self.forget(call, wakes)?;
+        if given_up.answer.is_none() {
+            let _ = self.leave(call, key); // (out of memory, the next get of the key begins one of its own)
+        }
+        Some(given_up)
+    }
+
+    /// Gives a call up with which no other goes on.
+    #[must_use]
+    pub fn forget(&mut self, call: u64, wakes: &mut Wakes) -> Option<Call> {
         let given_up = self.waiting.remove(&call)?;
         if given_up.answer.is_none() {
             self.given_up += 1;
             wakes.forget();
-            let _ = self.leave(call, key); // (out of memory, the next get of the key begins one of its own)
         }
         Some(given_up)
     }

@@ -64,6 +64,26 @@ impl HybridCache {
         }
         change
     }
+
+    // Deletes the key, and lowers a bar on it.
+    pub(crate) fn end_change(&self, shard: usize, key: &[u8], is_known: bool) {
+        while let Err(Error::Refused(Refused::NO_MEMORY)) = self.try_end_change(shard, key, is_known) {
+            thread::sleep(PAUSE);
+        }
+    }
+
+    fn try_end_change(&self, shard: usize, key: &[u8], is_known: bool) -> Result<(), Error> {
+        let shards = self.shards();
+        let until = (!is_known).then(|| after(shards.unknown_for));
+        let mut state = shards.enter(shard)?;
+        let deleted = state.delete(key);
+        if deleted.is_ok() {
+            state.bars.lower(key, until);
+        }
+        shards.leave(shard, state);
+        deleted?;
+        Ok(())
+    }
 }
 
 impl Change {
@@ -86,26 +106,16 @@ impl Change {
         Ok(())
     }
 
-    // Deletes the key, and lowers the bar.
-    fn delete(&self, key: &[u8]) -> Result<(), Error> {
-        let shards = self.cache.shards();
-        let until = (!self.is_known).then(|| after(shards.unknown_for));
-        let mut state = shards.enter(self.shard)?;
-        let deleted = state.delete(key);
-        if deleted.is_ok() {
-            state.bars.lower(key, until);
-        }
-        shards.leave(self.shard, state);
-        deleted?;
-        Ok(())
+    // Leaves the bar to whoever ends it by `end_change`, and answers whether there is one.
+    pub(crate) fn leave(mut self) -> bool {
+        self.key.take().is_some()
     }
 }
 
 impl Drop for Change {
     fn drop(&mut self) {
-        let Some(key) = self.key.take() else { return };
-        while let Err(Error::Refused(Refused::NO_MEMORY)) = self.delete(&key) {
-            thread::sleep(PAUSE);
+        if let Some(key) = self.key.take() {
+            self.cache.end_change(self.shard, &key, self.is_known);
         }
     }
 }

@@ -461,7 +461,7 @@ impl Engine {
     }
 
     // The operation for which the job waits. A page that is to be written isn't copied here, where a lock may be held.
-    fn operation(&mut self, job: u64) -> Result<Operation, Refused> {
+    pub(crate) fn operation(&mut self, job: u64) -> Result<Operation, Refused> {
         let mut operation = library::Operation { page: 0, writes: false };
         let mut page = Held::none();
         // SAFETY: all are valid for the call, and nothing that is written overlaps.

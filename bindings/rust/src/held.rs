@@ -3,15 +3,16 @@ use crate::{done, Refused};
 
 /// A value that was read, or a page of flash, held in the library without a copy. It stays as it is, whatever becomes of the
 /// cache, and is freed when it is dropped. The library copies bytes out of it and lends none: so it has no `Deref`, which
-/// [`Value`](crate::Value) has.
+/// [`Value`](crate::Value) has. It is the library's handle, so that a caller in C may be handed one.
 #[derive(Debug)]
+#[repr(transparent)]
 pub struct Held(pub(crate) Handle);
 
 // SAFETY: the library proves that what a handle holds may change threads, and each call takes the handle alone.
 unsafe impl Send for Held {}
 
 impl Held {
-    // A handle that holds nothing.
+    /// A handle that holds nothing.
     pub(crate) fn none() -> Held {
         Held(Handle::none())
     }

@@ -1,7 +1,7 @@
-use crate::calls::Answer;
 use crate::checked::{Checked, PageDevice};
 use crate::engine::Copied;
 use crate::future::GetAsync;
+use crate::loads::after;
 use crate::numbers::Numbers;
 use crate::shards::{Locked, Shards, State, ABSENT};
 use crate::{Added, Error, Found, Held, OpenError, Options, PageFile, Refused, Reply, Stats, Value};
@@ -104,14 +104,23 @@ impl HybridCache {
 
     /// The value under the key. Where flash alone may have it, the thread waits until it was looked for there.
     pub fn get(&self, key: &[u8]) -> Result<Option<Value>, Error> {
-        self.find(key, |shards, shard, state, call| shards.fill_for(shard, state, call))
+        self.shards().value_of_any(self.find(key, None)?)
     }
 
     /// The same for so long at most, and then [`Error::TimedOut`]: the call is given up. A filler makes its read, unless nobody has
     /// to wait for that.
     pub fn get_timeout(&self, key: &[u8], limit: Duration) -> Result<Option<Value>, Error> {
-        let until = Instant::now().checked_add(limit);
-        self.find(key, |shards, shard, state, call| shards.wait_for(shard, state, (key, call), until))
+        self.shards().value_of_any(self.find(key, Some(after(limit)))?)
+    }
+
+    /// As [`get`](HybridCache::get), with no copy of the value.
+    pub fn read(&self, key: &[u8]) -> Result<Option<Held>, Error> {
+        Ok(self.shards().row_of(self.find(key, None)?))
+    }
+
+    /// As [`get_timeout`](HybridCache::get_timeout), with no copy of the value.
+    pub fn read_timeout(&self, key: &[u8], limit: Duration) -> Result<Option<Held>, Error> {
+        Ok(self.shards().row_of(self.find(key, Some(after(limit)))?))
     }
 
     /// The same as a future, for any executor: a filler makes its read, and wakes the task, unless nobody has to wait for that
@@ -121,22 +130,14 @@ impl HybridCache {
         GetAsync::new(self, key)
     }
 
-    fn find<'a>(
-        &'a self,
-        key: &[u8],
-        wait: impl FnOnce(&'a Shards, usize, Locked<'a>, u64) -> Answer,
-    ) -> Result<Option<Value>, Error> {
+    fn find(&self, key: &[u8], until: Option<Instant>) -> Result<Option<Held>, Error> {
         let (shards, shard) = self.locate(key);
         let mut state = shards.enter(shard)?;
-        let held = match state.get(key)? {
-            Found::Hit(held) => {
-                drop(state);
-                Some(held)
-            }
-            Found::Miss => None,
-            Found::Waits(call) => held_of(wait(shards, shard, state, call)?),
-        };
-        shards.value_of_any(held)
+        match state.get(key)? {
+            Found::Hit(held) => Ok(Some(held)),
+            Found::Miss => Ok(None),
+            Found::Waits(call) => Ok(held_of(shards.answer_of(shard, state, (key, call), until)?)),
+        }
     }
 
     /// Copies the value under the key to the head of `out`, and answers its length. Where that is more than `out` has, nothing

@@ -1,10 +1,11 @@
 use crate::held::copied;
 use crate::hybrid::held_of;
-use crate::loads::{Begins, Outcome};
+use crate::loads::{after, Begins, Outcome};
 use crate::shards::{Locked, Shards};
 use crate::told::Told;
 use crate::{Error, Found, Held, HybridCache, Kept, LeaseAsync, LoadError, Loaded, Refused, Ticket, Value};
 use std::fmt;
+use std::time::{Duration, Instant};
 
 /// What a get comes to that hands out a lease where it misses: [`HybridCache::get_or_lease`].
 #[derive(Debug)]
@@ -36,13 +37,13 @@ pub enum Lookup {
 /// ```
 #[must_use = "where it is dropped, its load has failed"]
 pub struct Lease {
-    cache: HybridCache,
-    shard: usize,
-    key: Vec<u8>,
+    pub(crate) cache: HybridCache,
+    pub(crate) shard: usize,
+    pub(crate) key: Vec<u8>,
     // none once the numbers are used up
-    ticket: Option<Ticket>,
+    pub(crate) ticket: Option<Ticket>,
     // the number of the load; none, where nobody waits for it
-    load: Option<u64>,
+    pub(crate) load: Option<u64>,
 }
 
 /// A key that may be to be loaded. Where it is dropped before a lease has taken it over, nobody has begun to load it.
@@ -125,7 +126,7 @@ impl HybridCache {
         ttl: u32,
         load: impl FnOnce() -> Result<V, E>,
     ) -> Result<Value, LoadError<E>> {
-        let lease = match self.look(key, false) {
+        let lease = match self.look(key, false, None) {
             Ok(Lookup::Hit(value)) => return Ok(value),
             Ok(Lookup::Failed(why)) => return Err(LoadError::Elsewhere(why)),
             Ok(Lookup::Miss(lease)) => Some(lease),
@@ -156,7 +157,7 @@ impl HybridCache {
         key: &[u8],
         load: impl FnOnce() -> Result<Loaded, E>,
     ) -> Result<Option<Value>, LoadError<E>> {
-        let lease = match self.look(key, true) {
+        let lease = match self.look(key, true, None) {
             Ok(Lookup::Hit(value)) => return Ok(Some(value)),
             Ok(Lookup::Absent) => return Ok(None),
             Ok(Lookup::Failed(why)) => return Err(LoadError::Elsewhere(why)),
@@ -169,16 +170,21 @@ impl HybridCache {
     /// The value under the key, or else a lease for who loads it otherwise than [`get_or_load`](HybridCache::get_or_load) does.
     /// It waits as that does, for flash and for one load of another.
     pub fn get_or_lease(&self, key: &[u8]) -> Result<Lookup, Error> {
-        self.look(key, true)
+        self.look(key, true, None)
+    }
+
+    /// The same for so long at most, and then [`Error::TimedOut`]: load the value then, and don't store it.
+    pub fn get_or_lease_timeout(&self, key: &[u8], limit: Duration) -> Result<Lookup, Error> {
+        self.look(key, true, Some(after(limit)))
     }
 
     // The value, or a lease. Where it is known that there is no such row, that is told, or else it is a miss.
-    fn look(&self, key: &[u8], tells_absent: bool) -> Result<Lookup, Error> {
+    fn look(&self, key: &[u8], tells_absent: bool, until: Option<Instant>) -> Result<Lookup, Error> {
         let shards = self.shards();
         let mut begun = Begun::new(shards, key);
         let mut may_wait = true;
         loop {
-            let (state, begins) = match self.get_or_begin(&mut begun, tells_absent)? {
+            let (state, begins) = match self.get_or_begin(&mut begun, tells_absent, until)? {
                 Sought::Again => continue,
                 Sought::Missed(state, begins) => (state, begins),
                 Sought::Found(found) => {
@@ -190,7 +196,7 @@ impl HybridCache {
                 Begins::Anothers(load) if may_wait => load,
                 _ => return Ok(Lookup::Miss(self.lease(state, &mut begun)?)),
             };
-            match shards.wait_for_load(begun.shard, state, load)? {
+            match shards.wait_for_load(begun.shard, state, load, until)? {
                 Waited::Look { was_loaded } => may_wait = !was_loaded,
                 Waited::Came(Lookup::Absent) if !tells_absent => may_wait = false,
                 Waited::Came(came) => return Ok(came),
@@ -199,7 +205,12 @@ impl HybridCache {
     }
 
     // Gets the key, and begins its load where that misses.
-    fn get_or_begin<'a>(&'a self, begun: &mut Begun<'a>, tells_absent: bool) -> Result<Sought<'a>, Error> {
+    fn get_or_begin<'a>(
+        &'a self,
+        begun: &mut Begun<'a>,
+        tells_absent: bool,
+        until: Option<Instant>,
+    ) -> Result<Sought<'a>, Error> {
         let (shards, shard) = (begun.shards, begun.shard);
         let mut state = shards.enter(shard)?;
         let mut was_ours = true;
@@ -214,7 +225,7 @@ impl HybridCache {
             }
             Found::Waits(call) => {
                 was_ours = begun.begin(&mut state).is_ours();
-                held_of(shards.fill_for(shard, state, call)?)
+                held_of(shards.answer_of(shard, state, (begun.key, call), until)?)
             }
         };
         if let Some(held) = held {
@@ -300,10 +311,15 @@ impl Lease {
     pub fn store_absent(mut self, ttl: u32) -> Result<Kept, Error> {
         let absent = self.cache.shards().absent;
         let kept = self.try_store(&absent, ttl);
-        if let Some(load) = self.load.take() {
-            self.cache.shards().finish_load(self.shard, &self.key, load, Outcome::Absent);
-        }
+        self.finish(Outcome::Absent);
         kept
+    }
+
+    /// The load is over, and came to this.
+    pub(crate) fn finish(&mut self, outcome: Outcome) {
+        if let Some(load) = self.load.take() {
+            self.cache.shards().finish_load(self.shard, &self.key, load, outcome);
+        }
     }
 
     // Keeps what was loaded. (What can't be stored is served all the same.)

@@ -43,6 +43,8 @@
 
 mod bars;
 mod bell;
+#[doc(hidden)]
+pub mod border;
 mod buffer;
 mod calls;
 mod change;

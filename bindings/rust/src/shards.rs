@@ -25,6 +25,8 @@ use std::time::{Duration, Instant};
 
 // How long one waits for memory, before one tries again.
 pub(crate) const PAUSE: Duration = Duration::from_millis(5);
+// How often one tries again for an operation's memory: for a second. Then the operation has failed.
+const TRIES: usize = 200;
 
 /// What a shard's lock holds.
 pub(crate) struct State {
@@ -47,7 +49,7 @@ pub(crate) struct State {
 
 // A job that somebody would have had to wait for: for the device, or for memory.
 enum Left {
-    Operation(u64, Operation),
+    Take(Take),
     Result(u64, Came),
 }
 
@@ -385,6 +387,20 @@ impl Shards {
         self.sleep(shard, state, call, most)
     }
 
+    /// Waits for the answer of a get of this key that begins to wait: until this moment at most, or else for as long as it takes.
+    pub fn answer_of<'a>(
+        &'a self,
+        shard: usize,
+        state: Locked<'a>,
+        (key, call): (&[u8], u64),
+        until: Option<Instant>,
+    ) -> Answer {
+        match until {
+            None => self.fill_for(shard, state, call),
+            Some(until) => self.wait_for(shard, state, (key, call), until),
+        }
+    }
+
     /// Waits for the answer of a call that begins to wait, and makes the reads that are to be made meanwhile: its own, and
     /// those of who waits longer. Where another thread makes it, it sleeps.
     pub fn fill_for<'a>(&'a self, shard: usize, mut state: Locked<'a>, call: u64) -> Answer {
@@ -402,28 +418,44 @@ impl Shards {
         }
     }
 
-    /// Waits for the answer of a get of this key that begins to wait, until this moment at most. The fillers make the reads for which
-    /// this thread would have to wait.
-    pub fn wait_for<'a>(
-        &'a self,
-        shard: usize,
-        mut state: Locked<'a>,
-        (key, call): (&[u8], u64),
-        until: Option<Instant>,
-    ) -> Answer {
-        state.begin(call);
-        state = self.fill_now(shard, state, call);
-        self.fillers.ring(shard);
-        loop {
-            if let Some(answer) = state.calls.take(call) {
-                return answer;
-            }
-            let left = until.map(|until| until.saturating_duration_since(Instant::now()));
-            if left == Some(Duration::ZERO) {
+    // Waits for the answer of a get of this key that begins to wait, until this moment at most. The fillers make the reads for which
+    // this thread would have to wait.
+    fn wait_for<'a>(&'a self, shard: usize, state: Locked<'a>, (key, call): (&[u8], u64), until: Instant) -> Answer {
+        let state = self.begin_waiting(shard, state, call);
+        match self.wait_on(shard, state, call, Some(until)) {
+            Ok(answer) => answer,
+            Err(mut state) => {
                 let given_up = state.give_up(call, key);
                 drop(state);
                 drop(given_up);
-                return Err(Error::TimedOut);
+                Err(Error::TimedOut)
+            }
+        }
+    }
+
+    /// Begins a call that waits, and makes its reads as far as nobody has to wait for one. The fillers make the others.
+    pub fn begin_waiting<'a>(&'a self, shard: usize, mut state: Locked<'a>, call: u64) -> Locked<'a> {
+        state.begin(call);
+        state = self.fill_now(shard, state, call);
+        self.fillers.ring(shard);
+        state
+    }
+
+    /// Waits for the answer of a call that waits, until this moment at most: the shard again, where there is none by then.
+    pub fn wait_on<'a>(
+        &'a self,
+        shard: usize,
+        mut state: Locked<'a>,
+        call: u64,
+        until: Option<Instant>,
+    ) -> Result<Answer, Locked<'a>> {
+        loop {
+            if let Some(answer) = state.calls.take(call) {
+                return Ok(answer);
+            }
+            let left = until.map(|until| until.saturating_duration_since(Instant::now()));
+            if left == Some(Duration::ZERO) {
+                return Err(state);
             }
             state = self.sleep_for_call(shard, state, call, left);
         }
@@ -432,15 +464,13 @@ impl Shards {
     /// Begins a call that waits: its answer, where nobody has to wait for its reads. Else the fillers make them, and the task is
     /// woken.
     pub fn begin<'a>(&'a self, shard: usize, mut state: Locked<'a>, call: u64, waker: Waker) -> Poll<Answer> {
-        state.begin(call);
-        state = self.fill_now(shard, state, call);
+        state = self.begin_waiting(shard, state, call);
         if let Some(answer) = state.calls.take(call) {
             return Poll::Ready(answer);
         }
         let before = state.calls.task(call, waker);
         drop(state);
         drop(before);
-        self.fillers.ring(shard);
         Poll::Pending
     }
 
@@ -469,17 +499,36 @@ impl Shards {
         drop(given_up);
     }
 
-    /// Waits until the load is over, or has taken too long.
-    pub fn wait_for_load<'a>(&'a self, shard: usize, mut state: Locked<'a>, load: u64) -> Result<Waited, Error> {
+    /// Forgets a call.
+    pub fn forget(&self, shard: usize, call: u64) {
+        let mut state = self.lock(shard);
+        let State { calls, wakes, .. } = &mut *state;
+        let forgotten = calls.forget(call, wakes);
+        drop(state);
+        drop(forgotten);
+    }
+
+    /// Waits until the load is over, or has taken too long, until this moment at most.
+    pub fn wait_for_load<'a>(
+        &'a self,
+        shard: usize,
+        mut state: Locked<'a>,
+        load: u64,
+        until: Option<Instant>,
+    ) -> Result<Waited, Error> {
         state.loads.join(load);
+        let mut error = Error::Closed;
         while !state.closed {
-            match state.loads.left(load) {
-                None => return Ok(self.leave_load(shard, state, load, None)),
-                left => state = self.sleep(shard, state, load, left),
+            let Some(left) = state.loads.left(load) else { return Ok(self.leave_load(shard, state, load, None)) };
+            let own = until.map_or(left, |until| until.saturating_duration_since(Instant::now()));
+            if own.is_zero() {
+                error = Error::TimedOut;
+                break;
             }
+            state = self.sleep(shard, state, load, Some(left.min(own)));
         }
         self.leave_load(shard, state, load, None);
-        Err(Error::Closed)
+        Err(error)
     }
 
     /// Waits for the load no more: what it came to, where it is over.
@@ -541,7 +590,15 @@ impl Shards {
         Ok((!self.is_absent(&value)).then_some(value))
     }
 
-    /// The same of what may be held.
+    /// What is held, unless it says that there is none.
+    pub fn row_of(&self, held: Option<Held>) -> Option<Held> {
+        let mut held = held?;
+        let mut bytes = [0; ABSENT];
+        let says_absent = held.length() == ABSENT && held.copy(0, &mut bytes) == ABSENT && self.is_absent(&bytes);
+        (!says_absent).then_some(held)
+    }
+
+    /// The value of what may be held.
     pub fn value_of_any(&self, held: Option<Held>) -> Result<Option<Value>, Error> {
         Ok(held.map_or(Ok(None), |held| self.value_of(held))?)
     }
@@ -561,6 +618,7 @@ impl Shards {
                 Take::Work(job, operation) => (job, Some(operation)),
             };
             self.leave(shard, state);
+            let operation = operation.or_else(|| self.ask_again(shard, job));
             let mut came = operation.map_or(Came::Failed, |operation| self.operate(shard, operation));
             (take, state) = self.hand_in(shard, job, &mut came);
         }
@@ -579,10 +637,13 @@ impl Shards {
                 Take::Work(job, operation) => (job, Some(operation)),
             };
             self.leave(shard, state);
-            let came = operation.map_or(Ok(Came::Failed), |operation| self.operate_now(shard, operation));
+            let came = match operation {
+                Some(operation) => self.operate_now(shard, operation).map_err(|operation| Take::Work(job, operation)),
+                None => Err(Take::Untold(job)),
+            };
             state = self.lock(shard);
             let left = match came {
-                Err(operation) => Left::Operation(job, operation),
+                Err(take) => Left::Take(take),
                 Ok(mut came) => match state.finish(job, &mut came) {
                     Err(Refused::NO_MEMORY) => Left::Result(job, came),
                     next => {
@@ -600,7 +661,7 @@ impl Shards {
     // Goes on with what a task left.
     fn resume<'a>(&'a self, shard: usize, state: Locked<'a>, left: Left) {
         match left {
-            Left::Operation(job, operation) => self.complete(shard, state, Take::Work(job, operation)),
+            Left::Take(take) => self.complete(shard, state, take),
             Left::Result(job, mut came) => {
                 drop(state);
                 let (take, state) = self.hand_in(shard, job, &mut came);
@@ -624,10 +685,27 @@ impl Shards {
         }
     }
 
+    // What there may be memory for later, where it comes in time.
+    fn tried<T>(&self, shard: usize, mut take: impl FnMut() -> Option<T>) -> Option<T> {
+        for _ in 0..TRIES {
+            let taken = take();
+            if taken.is_some() || self.lock(shard).closed {
+                return taken;
+            }
+            thread::sleep(PAUSE);
+        }
+        None
+    }
+
+    // The operation of a job, which couldn't be told for want of memory.
+    fn ask_again(&self, shard: usize, job: u64) -> Option<Operation> {
+        self.tried(shard, || self.lock(shard).engine.operation(job).ok())
+    }
+
     fn operate(&self, shard: usize, operation: Operation) -> Came {
         let came = match operation {
-            Operation::Read(page) => self.read(self.place_of(shard, page)),
-            Operation::Write(page, bytes) => self.write(self.place_of(shard, page), bytes),
+            Operation::Read(page) => self.read(shard, self.place_of(shard, page)),
+            Operation::Write(page, bytes) => self.write(shard, self.place_of(shard, page), bytes),
         };
         came.unwrap_or(Came::Failed)
     }
@@ -638,7 +716,11 @@ impl Shards {
         let page = self.place_of(shard, *page);
         let read = |out: &mut [u8]| {
             let is_read = device.read_now(page, out)?;
-            Some(if is_read { Held::copy_of(out).map_or(Came::Failed, Came::Page) } else { Came::Failed })
+            if is_read {
+                Held::copy_of(out).ok().map(Came::Page)
+            } else {
+                Some(Came::Failed)
+            }
         };
         with_page(self.page, read).flatten().ok_or(operation)
     }
@@ -648,16 +730,17 @@ impl Shards {
         shard as u32 * self.pages + page
     }
 
-    fn read(&self, page: u32) -> Option<Came> {
+    fn read(&self, shard: usize, page: u32) -> Option<Came> {
         let device = self.device.as_ref()?;
-        let read = |out: &mut [u8]| device.read(page, out).then(|| Held::copy_of(out).ok()).flatten();
-        with_page(self.page, read)?.map(Came::Page)
+        let held = |out: &mut [u8]| self.tried(shard, || Held::copy_of(out).ok());
+        let read = |out: &mut [u8]| if device.read(page, out) { held(out) } else { None };
+        self.tried(shard, || with_page(self.page, read))?.map(Came::Page)
     }
 
-    fn write(&self, page: u32, mut bytes: Held) -> Option<Came> {
+    fn write(&self, shard: usize, page: u32, mut bytes: Held) -> Option<Came> {
         let device = self.device.as_ref()?;
-        let write = |out: &mut [u8]| bytes.copy(0, out) == out.len() && device.write(page, out);
-        with_page(self.page, write)?.then_some(Came::Written)
+        let mut write = |out: &mut [u8]| bytes.copy(0, out) == out.len() && device.write(page, out);
+        self.tried(shard, || with_page(self.page, &mut write))?.then_some(Came::Written)
     }
 
     /// A filler, until the end. It does one job of a shard, and then goes to the next: a job that leaves more to do rings again.
