@@ -117,37 +117,55 @@ makes() {
     shift
     cc -o "$out/tried" "$out/tried.c" "$@" >"$out/tried.log" 2>&1
 }
-# Makes a program of the service's sources: its name, and further words.
+# The service's library, static and shared. Both have the calls of the library below too.
+service_library() {
+    (cd "$here/service" && CARGO_TARGET_DIR="$out/target" cargo build --offline --quiet --release)
+    cp "$out/target/release/libkilambosetry_service.a" "$out/lib/"
+    # (unquoted: words)
+    cc -shared -o "$out/lib/libkilambosetry_service.so" -Wl,-soname,libkilambosetry_service.so -Wl,-z,defs \
+        -Wl,--version-script="$here/service/exports.map" \
+        -Wl,--whole-archive "$out/lib/libkilambosetry_service.a" -Wl,--no-whole-archive $system
+    sed "s|@prefix@|${PREFIX:-$out}|" "$here/c/kilambosetry_service.pc.in" >"$out/lib/pkgconfig/kilambosetry_service.pc"
+}
+# What Rust's own library needs of the system.
+system=$(sed -n 's/^Libs.private: //p' "$here/c/kilambosetry_service.pc.in")
+# Makes a program over the service: its name, and further words.
 service() {
     made=$1
     shift
-    cc -std=c11 -Wall -Wextra -Wpedantic -Werror -O1 -g -pthread -I"$out/include" -o "$out/$made" "$here/c/kilambosetry_service.c" "$@" \
-        "$out/lib/libkilambosetry.a"
+    cc -std=c11 -Wall -Wextra -Wpedantic -Wconversion -Wshadow -Werror -O1 -g -pthread -I"$out/include" -o "$out/$made" "$@"
 }
-refusing=-Wl,--wrap=malloc,--wrap=calloc,--wrap=realloc,--wrap=pread,--wrap=pwrite
+static="$out/lib/libkilambosetry_service.a $system"
+shared="-L$out/lib -lkilambosetry_service -Wl,-rpath,$out/lib"
+refusing=-Wl,--wrap=malloc,--wrap=calloc,--wrap=realloc,--wrap=pread64,--wrap=pwrite64,--wrap=preadv2
+
+export KILAMBOSETRY_LIB="$out/lib" # (and not the one of dist/)
 
 echo "== the service in C"
 if ! has cc; then
     echo "skipped: no cc"
-elif ! makes "#include <pthread.h>" -pthread; then
-    echo "skipped: no POSIX threads"
+elif ! has cargo; then
+    echo "skipped: no cargo, which builds the service's library"
 else
-    service service-checks "$here/c/service_checks.c" $refusing
+    service_library
+    service service-checks "$here/c/service_checks.c" $refusing $static
     "$out/service-checks" "$out"
-    under_valgrind "no error, nothing lost" --fair-sched=yes $all_leaks "$out/service-checks" "$out" 16
-    under_valgrind "no race, no lock taken in another order" --tool=helgrind --fair-sched=yes --suppressions="$here/c/helgrind.supp" \
-        "$out/service-checks" "$out" 80
-    if makes "" -fsanitize=thread -pthread && "$out/tried"; then
-        service service-races -fsanitize=thread "$here/c/service_checks.c" $refusing
-        "$out/service-races" "$out" 8
-        echo "thread sanitizer: no race in the service's own code"
+    under_valgrind "no error, nothing lost" --fair-sched=yes $all_leaks "$out/service-checks" "$out" 32
+    if makes "" -fsanitize=address,undefined && "$out/tried"; then
+        service service-sanitized "$here/c/service_checks.c" -fsanitize=address,undefined -fno-sanitize-recover=all $refusing $static
+        "$out/service-sanitized" "$out" 16
+        echo "address and undefined behaviour sanitizer: no error, nothing lost"
     else
-        echo "skipped: no thread sanitizer"
+        echo "skipped: no address sanitizer"
     fi
     if makes "#include <sqlite3.h>" -lsqlite3; then
-        service profiles "$here/examples/c/profiles.c" "$here/examples/c/database.c" -lsqlite3
+        profiles="$here/examples/c/profiles.c $here/examples/c/database.c -lsqlite3"
+        service profiles $profiles $static
         on_folder "$out/profiles"
         on_folder under_valgrind "no error, nothing lost" $all_leaks "$out/profiles"
+        service profiles-shared $profiles $shared
+        on_folder "$out/profiles-shared"
+        echo "the example over the shared library: the same"
     else
         echo "skipped: no SQLite for the example (Debian's libsqlite3-dev)"
     fi
@@ -156,7 +174,6 @@ rm -f "$out"/tried*
 [ "$what" != --c ] || exit 0
 
 echo "== Cargo"
-export KILAMBOSETRY_LIB="$out/lib" # (and not the one of dist/)
 if has cargo; then
     if [ "$what" != --short ]; then
         (cd "$here/rust" && CARGO_TARGET_DIR="$out/target" cargo test --offline --quiet)

@@ -3,16 +3,20 @@
  *
  *     service_checks [FOLDER [N]]     FOLDER is for its files, and /tmp where none is named; loads are an Nth as long
  *
- * It is linked with --wrap for malloc, calloc, realloc, pread and pwrite, so that it can refuse and shorten them. */
+ * It is linked with --wrap for malloc, calloc, realloc, pread64, pwrite64 and preadv2, so that it can refuse and shorten those of the
+ * service's library too. */
 #define _GNU_SOURCE
 #include "kilambosetry_service.h"
 
 #include <errno.h>
 #include <pthread.h>
+#include <signal.h>
 #include <stdio.h>
 #include <stdlib.h>
 #include <string.h>
 #include <sys/stat.h>
+#include <sys/uio.h>
+#include <sys/wait.h>
 #include <time.h>
 #include <unistd.h>
 
@@ -83,13 +87,15 @@ static uint64_t refuse(uint64_t at, uint32_t each) {
 void *__real_malloc(size_t size);
 void *__real_calloc(size_t many, size_t size);
 void *__real_realloc(void *at, size_t size);
-ssize_t __real_pread(int fd, void *out, size_t len, off_t at);
-ssize_t __real_pwrite(int fd, const void *bytes, size_t len, off_t at);
+ssize_t __real_pread64(int fd, void *out, size_t len, off_t at);
+ssize_t __real_pwrite64(int fd, const void *bytes, size_t len, off_t at);
+ssize_t __real_preadv2(int fd, const struct iovec *parts, int many, off_t at, int flags);
 void *__wrap_malloc(size_t size);
 void *__wrap_calloc(size_t many, size_t size);
 void *__wrap_realloc(void *at, size_t size);
-ssize_t __wrap_pread(int fd, void *out, size_t len, off_t at);
-ssize_t __wrap_pwrite(int fd, const void *bytes, size_t len, off_t at);
+ssize_t __wrap_pread64(int fd, void *out, size_t len, off_t at);
+ssize_t __wrap_pwrite64(int fd, const void *bytes, size_t len, off_t at);
+ssize_t __wrap_preadv2(int fd, const struct iovec *parts, int many, off_t at, int flags);
 
 void *__wrap_malloc(size_t size) { return is_refused() ? NULL : __real_malloc(size); }
 void *__wrap_calloc(size_t many, size_t size) { return is_refused() ? NULL : __real_calloc(many, size); }
@@ -109,21 +115,32 @@ static int next_manner(void) {
     return now;
 }
 
-ssize_t __wrap_pread(int fd, void *out, size_t len, off_t at) {
+ssize_t __wrap_pread64(int fd, void *out, size_t len, off_t at) {
     int now = next_manner();
     if (now == PIECES && errno == EINTR) return -1;
     if (now == CUT) return 0;
-    return __real_pread(fd, out, now == PIECES && len > 100 ? 100 : len, at);
+    return __real_pread64(fd, out, now == PIECES && len > 100 ? 100 : len, at);
 }
 
-ssize_t __wrap_pwrite(int fd, const void *bytes, size_t len, off_t at) {
+/* (a read for which nobody waits: it is made anew by the other, where it isn't whole) */
+ssize_t __wrap_preadv2(int fd, const struct iovec *parts, int many, off_t at, int flags) {
+    struct iovec only = parts[0];
+    int now = next_manner();
+    CHECK(many == 1);
+    if (now == PIECES && errno == EINTR) return -1;
+    if (now == CUT) return 0;
+    if (now == PIECES && only.iov_len > 100) only.iov_len = 100;
+    return __real_preadv2(fd, &only, 1, at, flags);
+}
+
+ssize_t __wrap_pwrite64(int fd, const void *bytes, size_t len, off_t at) {
     int now = next_manner();
     if (now == PIECES && errno == EINTR) return -1;
     if (now == FULL) {
         errno = ENOSPC;
         return -1;
     }
-    return __real_pwrite(fd, bytes, now == PIECES && len > 100 ? 100 : len, at);
+    return __real_pwrite64(fd, bytes, now == PIECES && len > 100 ? 100 : len, at);
 }
 
 static void set_manner(int wanted) {
@@ -169,7 +186,9 @@ static bool read_device(void *context, uint32_t page, uint8_t *out, size_t len) 
 
 static bool write_device(void *context, uint32_t page, const uint8_t *bytes, size_t len) {
     struct device *it = context;
+    sigset_t blocked;
     CHECK(page < PAGES && len == PAGE);
+    CHECK(pthread_sigmask(SIG_BLOCK, NULL, &blocked) == 0 && sigismember(&blocked, SIGTERM) == 1); /* (it is a writer of the cache) */
     pthread_mutex_lock(&it->lock);
     it->operations++;
     bool done = !is_one_of(it->fails);
@@ -215,9 +234,9 @@ static uint64_t tell_second(void *context) {
     return now;
 }
 
-static void pass(uint64_t seconds) {
+static void set_second(uint64_t now) {
     pthread_mutex_lock(&second_lock);
-    second += seconds;
+    second = now;
     pthread_mutex_unlock(&second_lock);
 }
 
@@ -236,6 +255,17 @@ static kilambosetry_service_options small_options(void) {
 static kilambosetry_service *open_small(void) {
     kilambosetry_service_options options = small_options();
     kilambosetry_service *service = NULL;
+    CHECK(kilambosetry_service_open_over(&service, &of_device, &options, NULL) == KILAMBOSETRY_DONE && service != NULL);
+    return service;
+}
+
+/* The same with one shard, so that it is known which of its first 60 items memory has, and which flash has alone. */
+static kilambosetry_service *open_tiny(void) {
+    static const kilambosetry_pool pool = {4000, 16};
+    kilambosetry_service_options options = small_options();
+    kilambosetry_service *service = NULL;
+    options.shards = options.writers = options.fillers = 1;
+    options.pool = &pool;
     CHECK(kilambosetry_service_open_over(&service, &of_device, &options, NULL) == KILAMBOSETRY_DONE && service != NULL);
     return service;
 }
@@ -289,7 +319,8 @@ static void check_numbers(void) {
     kilambosetry_service_numbers numbers;
     CHECK(kilambosetry_service_count(&options, true, &numbers, NULL) == KILAMBOSETRY_DONE);
     CHECK(numbers.items_bytes <= options.memory && numbers.pages * 4096 <= options.flash && numbers.flash.bits == 64);
-    CHECK(numbers.memory_bytes > numbers.items_bytes && numbers.digests_bytes == numbers.pages * 8);
+    CHECK(numbers.memory_bytes > numbers.items_bytes + numbers.leases_bytes && numbers.digests_bytes == numbers.pages * 8);
+    CHECK(numbers.leases_bytes > 0 && numbers.shards == 8);
     CHECK(numbers.pool.items == 4 * (options.memory / (1024 + 282)) && numbers.flash.small_max == 0);
     CHECK(kilambosetry_service_count(&options, false, &numbers, NULL) == KILAMBOSETRY_DONE && numbers.pages == 0);
     unlink(file);
@@ -298,7 +329,7 @@ static void check_numbers(void) {
     bad.fillers = 1025, check_bad_number(bad, "fillers"), bad = options;
     bad.mean_key = 0, check_bad_number(bad, "mean_key"), bad = options;
     bad.mean_value = 1048577, check_bad_number(bad, "mean_value"), bad = options;
-    bad.patience = 0, check_bad_number(bad, "patience"), bad = options;
+    bad.shards = 300, check_bad_number(bad, "shards"), bad = options;
     bad.page = 1000, check_bad_number(bad, "page"), bad = options;
     bad.flash = 1000, check_bad_number(bad, "flash"), bad = options;
     bad.memory = 1000, check_bad_number(bad, "memory"), bad = options;
@@ -307,6 +338,9 @@ static void check_numbers(void) {
     CHECK(KILAMBOSETRY_IS_REFUSAL(KILAMBOSETRY_CLOSED) && KILAMBOSETRY_IS_REFUSAL(KILAMBOSETRY_KEY_EMPTY));
     CHECK(!KILAMBOSETRY_IS_REFUSAL(KILAMBOSETRY_DONE) && !KILAMBOSETRY_IS_REFUSAL(KILAMBOSETRY_MISS));
     CHECK(!KILAMBOSETRY_IS_REFUSAL(KILAMBOSETRY_TIMED_OUT) && !KILAMBOSETRY_IS_REFUSAL(KILAMBOSETRY_LEASED));
+    CHECK(!KILAMBOSETRY_IS_REFUSAL(KILAMBOSETRY_LOAD_FAILED) && !KILAMBOSETRY_IS_REFUSAL(KILAMBOSETRY_ABSENT));
+    CHECK(strcmp(kilambosetry_service_strerror(KILAMBOSETRY_FAULT), "Fault") == 0);
+    CHECK(strcmp(kilambosetry_service_strerror(KILAMBOSETRY_ABSENT), "Absent") == 0);
 }
 
 static void check_opening(void) {
@@ -323,15 +357,25 @@ static void check_opening(void) {
     CHECK(kilambosetry_service_open(&other, file, &options, &why) == KILAMBOSETRY_IN_USE && other == NULL);
     kilambosetry_service_close(service);
     struct stat found;
-    CHECK(stat(file, &found) == 0 && (found.st_mode & 0777) == 0600 && found.st_size == 4 * 160 * PAGE);
-    CHECK(try_open(file, &options, NULL) == KILAMBOSETRY_DONE); /* it is of that length */
+    enum { LENGTH = 4096 + 4 * 160 * PAGE }; /* a head, and the pages */
+    CHECK(stat(file, &found) == 0 && (found.st_mode & 0777) == 0600 && found.st_size == LENGTH);
+    CHECK(try_open(file, &options, NULL) == KILAMBOSETRY_DONE); /* it is ours */
     CHECK(truncate(file, 1000) == 0);
-    CHECK(try_open(file, &options, &why) == KILAMBOSETRY_OTHER_LENGTH && why.given == 1000 && why.least == 4 * 160 * PAGE);
+    CHECK(try_open(file, &options, &why) == KILAMBOSETRY_NOT_OURS);
     CHECK(stat(file, &found) == 0 && found.st_size == 1000);
+    options.overwrite = true;
+    CHECK(try_open(file, &options, &why) == KILAMBOSETRY_DONE && stat(file, &found) == 0 && found.st_size == LENGTH);
+    options.overwrite = false;
+    CHECK(try_open(file, &options, &why) == KILAMBOSETRY_DONE);
     unlink(file);
     CHECK(try_open("/dev/null", &options, &why) == KILAMBOSETRY_OTHER_KIND);
     CHECK(try_open("/no/such/folder/file", &options, &why) == KILAMBOSETRY_SYSTEM && why.system == ENOENT);
     CHECK(try_open("/", &options, &why) == KILAMBOSETRY_SYSTEM && why.system == EISDIR);
+    options.unnamed = true; /* (in the folder of the files) */
+    *strrchr(file, '/') = 0;
+    CHECK(try_open(file, &options, &why) == KILAMBOSETRY_DONE || why.system == EOPNOTSUPP);
+    file[strlen(file)] = '/';
+    CHECK(access(file, F_OK) != 0);
     kilambosetry_service_close(NULL);
 }
 
@@ -399,7 +443,7 @@ static void check_calls(void) {
     CHECK(kilambosetry_service_get(service, BYTES("a"), out, 16, &len, FOREVER) == KILAMBOSETRY_DONE && memcmp(out, "one", 3) == 0);
     CHECK(kilambosetry_service_read(service, BYTES("a"), &value, FOREVER) == KILAMBOSETRY_DONE && value.full);
     CHECK(kilambosetry_service_add(service, BYTES("a"), BYTES("two"), 0) == KILAMBOSETRY_EXISTS);
-    pass(30);
+    set_second(1030);
     CHECK(kilambosetry_service_get(service, BYTES("a"), out, 16, &len, FOREVER) == KILAMBOSETRY_MISS);
     CHECK(kilambosetry_value_length(&value, &len) == KILAMBOSETRY_DONE && len == 3);
     CHECK(kilambosetry_service_read(service, BYTES("a"), &value, FOREVER) == KILAMBOSETRY_MISS && !value.full);
@@ -525,38 +569,56 @@ static void check_file(bool direct) {
 
 /* ---- time limits ---- */
 
+/* Begins a get of the first item from this one on that flash has alone, and answers its number. (What is read pushes another out of
+ * memory, and that one may push another out of flash.) */
+static unsigned begin_on_flash(kilambosetry_service *service, unsigned number, kilambosetry_begun *begun) {
+    kilambosetry_value value = KILAMBOSETRY_NONE;
+    uint8_t key[32], status = KILAMBOSETRY_MISS;
+    while (status != KILAMBOSETRY_WAITS && number < 60) {
+        status = kilambosetry_service_begin(service, key, key_of(number++, key), &value, begun);
+        kilambosetry_value_free(&value);
+    }
+    CHECK(status == KILAMBOSETRY_WAITS && begun->waits);
+    return number - 1;
+}
+
 static void check_limits(void) {
-    kilambosetry_service *service = open_small();
+    kilambosetry_service *service = open_tiny();
     kilambosetry_service_stats stats;
     kilambosetry_value value = KILAMBOSETRY_NONE;
-    kilambosetry_begun begun = KILAMBOSETRY_NOT_BEGUN, other = KILAMBOSETRY_NOT_BEGUN;
+    kilambosetry_begun begun = KILAMBOSETRY_NOT_BEGUN, other = KILAMBOSETRY_NOT_BEGUN, ended;
     uint8_t key[32], out[1024];
-    size_t len = 0, key_len = key_of(0, key);
-    fill_up(service, 200);
+    size_t len = 0;
+    fill_up(service, 60);
     set_device(true, 0, 0);
+    unsigned number = begin_on_flash(service, 0, &begun);
+    size_t key_len = key_of(number, key);
+    kilambosetry_service_forget(service, &begun);
     int64_t before = now_ms();
     CHECK(kilambosetry_service_get(service, key, key_len, out, sizeof out, &len, 0) == KILAMBOSETRY_TIMED_OUT);
     CHECK(kilambosetry_service_get(service, key, key_len, out, sizeof out, &len, 50) == KILAMBOSETRY_TIMED_OUT);
     CHECK(now_ms() - before >= 50);
-    CHECK(kilambosetry_service_begin(service, key, key_len, &value, &begun) == KILAMBOSETRY_WAITS && begun.waits != NULL);
+    CHECK(kilambosetry_service_begin(service, key, key_len, &value, &begun) == KILAMBOSETRY_WAITS && begun.waits);
     CHECK(kilambosetry_service_begin(service, key, key_len, &value, &other) == KILAMBOSETRY_WAITS);
-    CHECK(kilambosetry_service_end(service, &begun, &value, 0) == KILAMBOSETRY_TIMED_OUT && begun.waits != NULL);
+    CHECK(kilambosetry_service_end(service, &begun, &value, 0) == KILAMBOSETRY_TIMED_OUT && begun.waits);
     kilambosetry_service_tell(service, &stats);
-    CHECK(stats.given_up == 2 && stats.waiting == 2 && hanging() == 1); /* one read for all */
+    CHECK(stats.given_up == 3 && stats.waiting == 2 && hanging() == 1); /* one read for all */
     kilambosetry_service_forget(service, &other);
     kilambosetry_service_forget(service, &other);
     set_device(false, 0, 0);
-    CHECK(kilambosetry_service_end(service, &begun, &value, FOREVER) == KILAMBOSETRY_DONE && value.full && begun.waits == NULL);
+    ended = begun;
+    CHECK(kilambosetry_service_end(service, &begun, &value, FOREVER) == KILAMBOSETRY_DONE && value.full && !begun.waits);
+    CHECK(kilambosetry_service_end(service, &ended, &value, FOREVER) == KILAMBOSETRY_UNKNOWN_CALL && value.full);
     CHECK(kilambosetry_service_end(service, &begun, &value, FOREVER) == KILAMBOSETRY_EMPTY && value.full);
-    CHECK(kilambosetry_value_copy(&value, 0, out, sizeof out, &len) == KILAMBOSETRY_DONE && version_of(0, out, len) == 1);
+    CHECK(kilambosetry_value_copy(&value, 0, out, sizeof out, &len) == KILAMBOSETRY_DONE && version_of(number, out, len) == 1);
     CHECK(kilambosetry_service_get(service, key, key_len, out, sizeof out, &len, 10000) == KILAMBOSETRY_DONE);
-    CHECK(kilambosetry_service_begin(service, key, key_len, &value, &begun) == KILAMBOSETRY_DONE && begun.waits == NULL);
+    CHECK(kilambosetry_service_begin(service, key, key_len, &value, &begun) == KILAMBOSETRY_DONE && !begun.waits);
     kilambosetry_service_tell(service, &stats);
-    CHECK(stats.given_up == 3 && stats.waiting == 0);
-    key_len = key_of(1, key);
+    CHECK(stats.given_up == 4 && stats.waiting == 0);
+    key_len = key_of(begin_on_flash(service, 1, &begun), key);
     CHECK(kilambosetry_service_get(service, key, key_len, out, 1, &len, 10000) == KILAMBOSETRY_SHORT && len > 1);
-    key_len = key_of(2, key);
-    CHECK(kilambosetry_service_begin(service, key, key_len, &value, &begun) == KILAMBOSETRY_WAITS);
+    kilambosetry_service_forget(service, &begun);
+    begin_on_flash(service, 2, &begun);
     for (stats.waiting = 1; stats.waiting > 0; sleep_ms(1)) kilambosetry_service_tell(service, &stats);
     kilambosetry_service_forget(service, &begun); /* its value is there, and dropped */
     kilambosetry_value_free(&value);
@@ -587,7 +649,13 @@ static void check_leases(void) {
     CHECK(kilambosetry_service_get(service, BYTES("b"), out, 16, &len, 0) == KILAMBOSETRY_DONE && memcmp(out, "new", 3) == 0);
     CHECK(kilambosetry_service_get_or_lease(service, BYTES("e"), out, 16, &len, &lease, 0) == KILAMBOSETRY_LEASED);
     CHECK(kilambosetry_service_store(service, &lease, BYTES("f"), BYTES("e"), 0) == KILAMBOSETRY_STALE); /* it is another key's */
+    kilambosetry_service *another = open_small();
+    CHECK(kilambosetry_service_store(another, &lease, BYTES("e"), BYTES("e"), 0) == KILAMBOSETRY_STALE); /* and another cache's */
+    CHECK(kilambosetry_service_give_up(another, &lease, BYTES("e")) == KILAMBOSETRY_EMPTY && lease.full);
+    CHECK(kilambosetry_service_get(another, BYTES("e"), out, 16, &len, 0) == KILAMBOSETRY_MISS);
+    kilambosetry_service_close(another);
     CHECK(kilambosetry_service_give_up(service, &lease, BYTES("e")) == KILAMBOSETRY_DONE);
+    CHECK(kilambosetry_service_give_up(service, &lease, BYTES("e")) == KILAMBOSETRY_EMPTY);
     /* one is handed out at a time, and given back */
     CHECK(kilambosetry_service_get_or_lease(service, BYTES("c"), out, 16, &len, &lease, 0) == KILAMBOSETRY_LEASED);
     CHECK(kilambosetry_service_get_or_lease(service, BYTES("c"), out, 16, &len, &other, 20) == KILAMBOSETRY_TIMED_OUT && !other.full);
@@ -600,28 +668,85 @@ static void check_leases(void) {
     CHECK(kilambosetry_service_store(service, &lease, BYTES("d"), long_value, 4096, 0) == KILAMBOSETRY_NO_ROOM);
     CHECK(kilambosetry_service_get_or_lease(service, BYTES("d"), out, 16, &len, &other, 0) == KILAMBOSETRY_LEASED);
     kilambosetry_service_tell(service, &stats);
-    CHECK(stats.leases == 7 && stats.stale == 3 && stats.load_waits <= 1);
+    CHECK(stats.leases == 7 && stats.stale == 1 && stats.refused_stores == 1 && stats.load_waits == 1);
     kilambosetry_service_close(service);
 }
 
-/* A loader that never comes back: another has its turn once patience is up, and its own store is stale then. */
+/* With no patience nobody waits for another's load. */
+static void check_no_patience(void) {
+    kilambosetry_service_options options = small_options();
+    kilambosetry_service *service = NULL;
+    kilambosetry_lease lease = KILAMBOSETRY_NO_LEASE, other = KILAMBOSETRY_NO_LEASE;
+    kilambosetry_value value = KILAMBOSETRY_NONE;
+    options.patience = 0;
+    CHECK(kilambosetry_service_open_in_memory(&service, &options, NULL) == KILAMBOSETRY_DONE);
+    CHECK(kilambosetry_service_read_or_lease(service, BYTES("a"), &value, &lease, FOREVER) == KILAMBOSETRY_LEASED);
+    CHECK(kilambosetry_service_read_or_lease(service, BYTES("a"), &value, &other, FOREVER) == KILAMBOSETRY_LEASED && !value.full);
+    CHECK(kilambosetry_service_store(service, &lease, BYTES("a"), BYTES("one"), 0) == KILAMBOSETRY_DONE);
+    CHECK(kilambosetry_service_store(service, &other, BYTES("a"), BYTES("two"), 0) == KILAMBOSETRY_STALE);
+    CHECK(kilambosetry_service_read_or_lease(service, BYTES("a"), &value, &lease, FOREVER) == KILAMBOSETRY_DONE && value.full);
+    kilambosetry_value_free(&value);
+    kilambosetry_service_close(service);
+}
+
+/* A bar stands on a key from before a commit to behind the delete: nothing that was loaded is stored, whenever it was. */
+static void check_changes(void) {
+    kilambosetry_service_options options = small_options();
+    kilambosetry_service *service = NULL, *another = open_small();
+    kilambosetry_lease before = KILAMBOSETRY_NO_LEASE, lease = KILAMBOSETRY_NO_LEASE;
+    kilambosetry_change change = KILAMBOSETRY_NO_CHANGE, other = KILAMBOSETRY_NO_CHANGE;
+    uint8_t out[16], long_key[256] = {0};
+    size_t len = 0;
+    options.unknown_for = 2;
+    CHECK(kilambosetry_service_open_over(&service, &of_device, &options, NULL) == KILAMBOSETRY_DONE);
+    CHECK(kilambosetry_service_get_or_lease(service, BYTES("a"), out, 16, &len, &before, 0) == KILAMBOSETRY_LEASED);
+    CHECK(kilambosetry_service_begin_change(service, &change, BYTES("a")) == KILAMBOSETRY_DONE && change.full);
+    CHECK(kilambosetry_service_store(service, &before, BYTES("a"), BYTES("old"), 0) == KILAMBOSETRY_STALE);
+    CHECK(kilambosetry_service_get_or_lease(service, BYTES("a"), out, 16, &len, &lease, 0) == KILAMBOSETRY_LEASED);
+    CHECK(kilambosetry_service_store(service, &lease, BYTES("a"), BYTES("old"), 0) == KILAMBOSETRY_STALE);
+    CHECK(kilambosetry_service_end_change(service, &change, BYTES("b"), true) == KILAMBOSETRY_EMPTY && change.full);
+    CHECK(kilambosetry_service_end_change(another, &change, BYTES("a"), true) == KILAMBOSETRY_EMPTY && change.full);
+    CHECK(kilambosetry_service_begin_change(service, &other, BYTES("a")) == KILAMBOSETRY_DONE); /* (two at once) */
+    CHECK(kilambosetry_service_set(service, BYTES("a"), BYTES("set"), 0) == KILAMBOSETRY_DONE);
+    CHECK(kilambosetry_service_end_change(service, &change, BYTES("a"), true) == KILAMBOSETRY_DONE && !change.full);
+    CHECK(kilambosetry_service_end_change(service, &change, BYTES("a"), true) == KILAMBOSETRY_EMPTY);
+    CHECK(kilambosetry_service_get_or_lease(service, BYTES("a"), out, 16, &len, &lease, 0) == KILAMBOSETRY_LEASED); /* (deleted) */
+    CHECK(kilambosetry_service_store(service, &lease, BYTES("a"), BYTES("old"), 0) == KILAMBOSETRY_STALE);
+    /* it isn't known whether the row was changed */
+    CHECK(kilambosetry_service_end_change(service, &other, BYTES("a"), false) == KILAMBOSETRY_DONE);
+    CHECK(kilambosetry_service_get_or_lease(service, BYTES("a"), out, 16, &len, &lease, 0) == KILAMBOSETRY_LEASED);
+    CHECK(kilambosetry_service_store(service, &lease, BYTES("a"), BYTES("old"), 0) == KILAMBOSETRY_STALE);
+    sleep_ms(2100);
+    CHECK(kilambosetry_service_get_or_lease(service, BYTES("a"), out, 16, &len, &lease, 0) == KILAMBOSETRY_LEASED);
+    CHECK(kilambosetry_service_store(service, &lease, BYTES("a"), BYTES("new"), 0) == KILAMBOSETRY_DONE);
+    CHECK(kilambosetry_service_begin_change(service, &change, long_key, 256) == KILAMBOSETRY_EMPTY && !change.full);
+    CHECK(kilambosetry_service_end_change(service, &change, long_key, 256, true) == KILAMBOSETRY_EMPTY);
+    kilambosetry_service_shut(service);
+    CHECK(kilambosetry_service_begin_change(service, &change, BYTES("a")) == KILAMBOSETRY_CLOSED && !change.full);
+    kilambosetry_service_close(service);
+    kilambosetry_service_close(another);
+}
+
+/* A loader that never comes back: another has its turn once patience is up, and its own store is stale then. The clock of times to
+ * live, which is set back meanwhile, has no part in it. */
 static void check_lost_loader(void) {
     kilambosetry_service_options options = small_options();
     kilambosetry_service *service = NULL;
     kilambosetry_lease lost = KILAMBOSETRY_NO_LEASE, lease = KILAMBOSETRY_NO_LEASE;
     uint8_t out[16];
     size_t len = 0;
-    options.clock = NULL; /* the system's */
     options.patience = 2;
     CHECK(kilambosetry_service_open_over(&service, &of_device, &options, NULL) == KILAMBOSETRY_DONE);
     CHECK(kilambosetry_service_get_or_lease(service, BYTES("a"), out, 16, &len, &lost, FOREVER) == KILAMBOSETRY_LEASED);
     int64_t before = now_ms();
+    set_second(500);
     CHECK(kilambosetry_service_get_or_lease(service, BYTES("a"), out, 16, &len, &lease, 100) == KILAMBOSETRY_TIMED_OUT);
     CHECK(kilambosetry_service_get_or_lease(service, BYTES("a"), out, 16, &len, &lease, FOREVER) == KILAMBOSETRY_LEASED);
     CHECK(now_ms() - before >= 900 && now_ms() - before < 20000);
     CHECK(kilambosetry_service_store(service, &lease, BYTES("a"), BYTES("new"), 0) == KILAMBOSETRY_DONE);
     CHECK(kilambosetry_service_store(service, &lost, BYTES("a"), BYTES("old"), 0) == KILAMBOSETRY_STALE);
     CHECK(kilambosetry_service_get(service, BYTES("a"), out, 16, &len, 0) == KILAMBOSETRY_DONE && memcmp(out, "new", 3) == 0);
+    set_second(1000);
     kilambosetry_service_close(service);
 }
 
@@ -697,13 +822,17 @@ struct client {
     uint64_t hits, stores, stale, wrong, old, refused;
 };
 
-/* First the database, then the cache: a delete that is refused is tried again. */
+/* Before the commit a bar, and a delete behind it: of a change that was begun, or for who begins none, again where it is refused. */
 static void change(struct client *it, unsigned number, const uint8_t *key, size_t key_len) {
+    kilambosetry_change change = KILAMBOSETRY_NO_CHANGE;
+    bool begins = random_of(&it->state, 2) == 0;
+    if (begins) CHECK(kilambosetry_service_begin_change(it->service, &change, key, key_len) == KILAMBOSETRY_DONE);
     pthread_mutex_lock(&rows[number].lock);
     uint32_t version = ++rows[number].version;
     pthread_mutex_unlock(&rows[number].lock);
     uint8_t status = KILAMBOSETRY_NO_MEMORY;
-    while (KILAMBOSETRY_IS_REFUSAL(status)) status = kilambosetry_service_delete(it->service, key, key_len);
+    if (begins) CHECK(kilambosetry_service_end_change(it->service, &change, key, key_len, true) == KILAMBOSETRY_DONE);
+    else while (KILAMBOSETRY_IS_REFUSAL(status)) status = kilambosetry_service_delete(it->service, key, key_len);
     pthread_mutex_lock(&rows[number].lock);
     if (rows[number].said < version) rows[number].said = version;
     pthread_mutex_unlock(&rows[number].lock);
@@ -865,11 +994,11 @@ static void shut_under(kilambosetry_service *service, void *(*wait)(void *), con
 }
 
 static void check_shutting(void) {
-    kilambosetry_service *service = open_small();
+    kilambosetry_service *service = open_tiny();
     kilambosetry_lease lease = KILAMBOSETRY_NO_LEASE;
     uint8_t out[16];
     size_t len;
-    fill_up(service, 200);
+    fill_up(service, 60);
     set_device(true, 0, 0);
     shut_under(service, wait_for_page, "key-0", true);
     service = open_small();
@@ -877,7 +1006,154 @@ static void check_shutting(void) {
     shut_under(service, wait_for_lease, "nobody", false);
 }
 
+/* ---- loads that aren't stored: what they come to is handed to all who wait ---- */
+
+struct asker {
+    kilambosetry_service *service;
+    uint8_t status;
+    size_t len;
+    uint8_t out[8000];
+};
+
+static void *ask(void *of) {
+    struct asker *it = of;
+    kilambosetry_lease lease = KILAMBOSETRY_NO_LEASE;
+    it->status = kilambosetry_service_get_or_lease(it->service, BYTES("key"), it->out, sizeof it->out, &it->len, &lease, FOREVER);
+    return NULL;
+}
+
+enum { ASKERS = 8 };
+static struct asker askers[ASKERS];
+
+/* All of them wait for a load, whose loader does this then; and each has this answer. */
+static void check_handed_on(const char *what, uint8_t expected, const uint8_t *bytes, size_t len) {
+    kilambosetry_service *service = open_small();
+    kilambosetry_lease lease = KILAMBOSETRY_NO_LEASE;
+    pthread_t threads[ASKERS];
+    uint8_t out[16];
+    size_t out_len = 0;
+    CHECK(kilambosetry_service_get_or_lease(service, BYTES("key"), out, 16, &out_len, &lease, 0) == KILAMBOSETRY_LEASED);
+    for (unsigned i = 0; i < ASKERS; i++) {
+        askers[i].service = service;
+        askers[i].len = 0;
+        CHECK(pthread_create(&threads[i], NULL, ask, &askers[i]) == 0);
+    }
+    wait_until(service, 0, ASKERS);
+    if (strcmp(what, "fails") == 0) {
+        CHECK(kilambosetry_service_fail(service, &lease, BYTES("key"), "the database is down") == KILAMBOSETRY_DONE && !lease.full);
+    } else if (strcmp(what, "is given up") == 0) {
+        CHECK(kilambosetry_service_give_up(service, &lease, BYTES("key")) == KILAMBOSETRY_DONE);
+    } else if (strcmp(what, "finds none") == 0) {
+        CHECK(kilambosetry_service_store_absent(service, &lease, BYTES("key"), 10) == KILAMBOSETRY_DONE);
+    } else {
+        CHECK(kilambosetry_service_store(service, &lease, BYTES("key"), bytes, len, 0) == KILAMBOSETRY_NO_ROOM);
+    }
+    for (unsigned i = 0; i < ASKERS; i++) {
+        pthread_join(threads[i], NULL);
+        CHECK(askers[i].status == expected && askers[i].len == len && memcmp(askers[i].out, bytes, len) == 0);
+    }
+    kilambosetry_service_close(service);
+}
+
+static void check_loads(void) {
+    static uint8_t row[5000];
+    memset(row, 7, sizeof row);
+    check_handed_on("fails", KILAMBOSETRY_LOAD_FAILED, BYTES("the database is down"));
+    check_handed_on("is given up", KILAMBOSETRY_LOAD_FAILED, BYTES("the load was given up"));
+    check_handed_on("finds none", KILAMBOSETRY_ABSENT, BYTES(""));
+    check_handed_on("is too long", KILAMBOSETRY_DONE, row, sizeof row);
+}
+
+/* That there is no such row is kept, for its time to live, until the row is changed; and no get shows how. */
+static void check_absent(void) {
+    kilambosetry_service *service = open_small();
+    kilambosetry_lease lease = KILAMBOSETRY_NO_LEASE;
+    kilambosetry_change change = KILAMBOSETRY_NO_CHANGE;
+    kilambosetry_value value = KILAMBOSETRY_NONE;
+    kilambosetry_begun begun = KILAMBOSETRY_NOT_BEGUN;
+    uint8_t out[64] = {0};
+    size_t len = 0;
+    CHECK(kilambosetry_service_get_or_lease(service, BYTES("a"), out, 64, &len, &lease, 0) == KILAMBOSETRY_LEASED);
+    CHECK(kilambosetry_service_store_absent(service, &lease, BYTES("a"), 10) == KILAMBOSETRY_DONE && !lease.full);
+    CHECK(kilambosetry_service_get_or_lease(service, BYTES("a"), out, 64, &len, &lease, 0) == KILAMBOSETRY_ABSENT && !lease.full);
+    CHECK(kilambosetry_service_get(service, BYTES("a"), out, 64, &len, FOREVER) == KILAMBOSETRY_MISS);
+    CHECK(kilambosetry_service_get(service, BYTES("a"), out, 64, &len, 1000) == KILAMBOSETRY_MISS);
+    CHECK(kilambosetry_service_read(service, BYTES("a"), &value, FOREVER) == KILAMBOSETRY_MISS && !value.full);
+    CHECK(kilambosetry_service_begin(service, BYTES("a"), &value, &begun) == KILAMBOSETRY_MISS && !value.full && !begun.waits);
+    for (unsigned i = 0; i < sizeof out; i++) CHECK(out[i] == 0);
+    set_second(1010);
+    CHECK(kilambosetry_service_get_or_lease(service, BYTES("a"), out, 64, &len, &lease, 0) == KILAMBOSETRY_LEASED);
+    CHECK(kilambosetry_service_store_absent(service, &lease, BYTES("a"), 10) == KILAMBOSETRY_DONE);
+    CHECK(kilambosetry_service_begin_change(service, &change, BYTES("a")) == KILAMBOSETRY_DONE);
+    CHECK(kilambosetry_service_end_change(service, &change, BYTES("a"), true) == KILAMBOSETRY_DONE);
+    CHECK(kilambosetry_service_get_or_lease(service, BYTES("a"), out, 64, &len, &lease, 0) == KILAMBOSETRY_LEASED);
+    CHECK(kilambosetry_service_delete(service, BYTES("a")) == KILAMBOSETRY_MISS);
+    CHECK(kilambosetry_service_store_absent(service, &lease, BYTES("a"), 10) == KILAMBOSETRY_STALE);
+    CHECK(kilambosetry_service_store_absent(service, &lease, BYTES("a"), 10) == KILAMBOSETRY_STALE); /* it is spent */
+    set_second(1000);
+    kilambosetry_service_close(service);
+}
+
+/* ---- closing amid a flush ---- */
+
+static void *flush(void *of) {
+    struct waiter *it = of;
+    it->status = kilambosetry_service_flush(it->service);
+    return NULL;
+}
+
+/* A flush that waits while the cache is closed is over before the cache is freed. */
+static void check_closing_amid_a_flush(void) {
+    for (unsigned i = 0; i < 20; i++) {
+        kilambosetry_service *service = open_small();
+        struct waiter waiters[4];
+        pthread_t threads[4];
+        uint8_t key[32], row[1024];
+        pthread_mutex_lock(&device.lock); /* (it keeps the writers) */
+        for (unsigned number = 0; number < 100; number++) {
+            CHECK(kilambosetry_service_set(service, key, key_of(number, key), row, row_of(number, 1, row), 0) == KILAMBOSETRY_DONE);
+        }
+        for (unsigned at = 0; at < 4; at++) {
+            waiters[at] = (struct waiter){service, "", 0};
+            CHECK(pthread_create(&threads[at], NULL, flush, &waiters[at]) == 0);
+        }
+        sleep_ms(5);
+        pthread_mutex_unlock(&device.lock);
+        if (i % 2 == 0) sleep_ms(1);
+        kilambosetry_service_shut(service); /* (so that those which come late still find it) */
+        for (unsigned at = 0; i % 4 < 2 && at < 4; at++) pthread_join(threads[at], NULL);
+        kilambosetry_service_close(service);
+        for (unsigned at = 0; i % 4 >= 2 && at < 4; at++) pthread_join(threads[at], NULL);
+        for (unsigned at = 0; at < 4; at++) {
+            CHECK(waiters[at].status == KILAMBOSETRY_DONE || waiters[at].status == KILAMBOSETRY_CLOSED);
+        }
+    }
+}
+
 /* ---- memory that is refused ---- */
+
+/* A change, and a load of what was changed: whatever is refused, the load's lease is spent, and nothing is stored amid the change. */
+static void change_and_load(kilambosetry_service *service, const uint8_t *key, size_t key_len) {
+    kilambosetry_change change = KILAMBOSETRY_NO_CHANGE;
+    kilambosetry_lease lease = KILAMBOSETRY_NO_LEASE;
+    kilambosetry_value value = KILAMBOSETRY_NONE;
+    uint8_t row[1024], out[1024];
+    size_t len = 0, row_len = row_of(1, 2, row);
+    CHECK(kilambosetry_service_begin_change(service, &change, key, key_len) == KILAMBOSETRY_DONE);
+    uint8_t status = kilambosetry_service_read_or_lease(service, key, key_len, &value, &lease, FOREVER);
+    CHECK(status == KILAMBOSETRY_LEASED || status == KILAMBOSETRY_NO_MEMORY);
+    status = kilambosetry_service_store(service, &lease, key, key_len, row, row_len, 0);
+    CHECK((status == KILAMBOSETRY_STALE || status == KILAMBOSETRY_NO_MEMORY) && !lease.full);
+    CHECK(kilambosetry_service_end_change(service, &change, key, key_len, true) == KILAMBOSETRY_DONE && !change.full);
+    status = kilambosetry_service_get_or_lease(service, key, key_len, out, sizeof out, &len, &lease, 30000);
+    CHECK(status == KILAMBOSETRY_LEASED || status == KILAMBOSETRY_NO_MEMORY);
+    status = kilambosetry_service_store(service, &lease, key, key_len, row, row_len, 0);
+    CHECK((status == KILAMBOSETRY_DONE || status == KILAMBOSETRY_STALE || status == KILAMBOSETRY_NO_MEMORY) && !lease.full);
+    status = kilambosetry_service_get_or_lease(service, key, key_len, out, sizeof out, &len, &lease, 30000);
+    CHECK(status == KILAMBOSETRY_DONE || status == KILAMBOSETRY_LEASED || status == KILAMBOSETRY_NO_MEMORY);
+    if (status == KILAMBOSETRY_DONE) CHECK(version_of(1, out, len) == 2);
+    kilambosetry_service_give_up(service, &lease, key, key_len);
+}
 
 /* A short day: whatever is refused, nothing is wrong, and what isn't refused goes on. */
 static void live(kilambosetry_service *service) {
@@ -905,20 +1181,16 @@ static void live(kilambosetry_service *service) {
     while (KILAMBOSETRY_IS_REFUSAL(kilambosetry_service_delete(service, key, key_len))) sleep_ms(1);
     status = kilambosetry_service_get(service, key, key_len, out, sizeof out, &len, FOREVER);
     CHECK(status == KILAMBOSETRY_MISS || status == KILAMBOSETRY_NO_MEMORY);
+    change_and_load(service, key, key_len);
 }
 
 /* Four gets wait for one page, and one allocation from then on is refused: all are answered, though nobody else calls. */
 static void check_replies(void) {
-    static const kilambosetry_pool pool = {4000, 16};
-    kilambosetry_service_options options = small_options();
     kilambosetry_service_stats stats;
-    options.shards = 1;
-    options.pool = &pool;
     for (uint64_t at = 1; at < 60; at += part > 8 ? 8 : 1) {
-        kilambosetry_service *service = NULL;
+        kilambosetry_service *service = open_tiny();
         pthread_t threads[4];
         struct waiter waiters[4];
-        CHECK(kilambosetry_service_open_over(&service, &of_device, &options, NULL) == KILAMBOSETRY_DONE);
         fill_up(service, 60);
         for (unsigned i = 30; i < 60; i++) {
             uint8_t key[32];
@@ -948,25 +1220,53 @@ static void check_replies(void) {
     }
 }
 
-static void check_memory(void) {
-    static const kilambosetry_pool pool = {4000, 16};
+/* Opens a cache in a process of its own, with one allocation refused, and answers how that ended. */
+static int open_refused(uint64_t at) {
     kilambosetry_service_options options = small_options();
-    uint64_t at = 1, before = 1, opened = 0;
-    options.shards = options.writers = options.fillers = 1;
-    options.pool = &pool;
-    for (; at <= before; at += part) {
-        kilambosetry_service *service = NULL;
+    kilambosetry_service *service = NULL;
+    int how = 0;
+    fflush(stdout);
+    pid_t child = fork();
+    if (child == 0) {
+        if (freopen("/dev/null", "w", stderr) == NULL) _exit(3);
         refuse(at, 0);
         uint8_t status = kilambosetry_service_open_over(&service, &of_device, &options, NULL);
-        CHECK(status == KILAMBOSETRY_DONE || (status == KILAMBOSETRY_NO_MEMORY && service == NULL)
-              || status == KILAMBOSETRY_SYSTEM);
-        if (service != NULL) live(service);
-        opened += service != NULL;
+        uint64_t many = refuse(0, 0);
         kilambosetry_service_close(service);
-        before = refuse(0, 0);
-        if (status != KILAMBOSETRY_DONE) before = UINT64_MAX;
+        if ((status == KILAMBOSETRY_DONE) != (service != NULL)) _exit(2);
+        if (status == KILAMBOSETRY_DONE) _exit(many < at ? 0 : 1);
+        _exit(status == KILAMBOSETRY_NO_MEMORY || status == KILAMBOSETRY_SYSTEM ? 1 : 2);
     }
-    CHECK(opened > 5);
+    CHECK(child > 0 && waitpid(child, &how, 0) == child);
+    return how;
+}
+
+/* As a cache is opened, an allocation that is refused refuses that, or ends the process, and nothing else. (Before any thread is begun
+ * here: a fork has one alone.) */
+static void check_opening_memory(void) {
+    unsigned refused = 0, ended = 0;
+    int how = 256;
+    for (uint64_t at = 1; how != 0 && at < 2000; at += part) {
+        how = open_refused(at);
+        bool is_ended = WIFSIGNALED(how) && WTERMSIG(how) == SIGABRT, is_refused = WIFEXITED(how) && WEXITSTATUS(how) <= 1;
+        CHECK(is_ended || is_refused);
+        refused += is_refused && how != 0;
+        ended += is_ended;
+    }
+    CHECK(how == 0 && refused > 0);
+    printf("of the allocations of opening %u refused it, and %u ended the process\n", refused, ended);
+}
+
+static void check_memory(void) {
+    uint64_t at = 1, before = 1;
+    for (; at <= before; at += part) {
+        kilambosetry_service *service = open_tiny();
+        refuse(at, 0);
+        live(service);
+        before = refuse(0, 0);
+        kilambosetry_service_close(service);
+    }
+    CHECK(at > 100);
     printf("each of %llu allocations was refused\n", (unsigned long long)at);
     kilambosetry_service *service = open_small();
     refuse(0, 40);
@@ -984,6 +1284,7 @@ int main(int len, char **words) {
     if (part == 0) part = 1;
     setvbuf(stdout, NULL, _IOLBF, 0);
     for (unsigned i = 0; i < ROWS; i++) pthread_mutex_init(&rows[i].lock, NULL);
+    check_opening_memory();
     check_numbers();
     check_opening();
     check_calls();
@@ -995,10 +1296,15 @@ int main(int len, char **words) {
     check_file(true);
     check_limits();
     check_leases();
+    check_no_patience();
+    check_changes();
     check_lost_loader();
     check_stampede();
     check_threads();
     check_shutting();
+    check_loads();
+    check_absent();
+    check_closing_amid_a_flush();
     check_replies();
     check_memory();
     printf("%d checks, %d failed\n", checks, failures);

@@ -9,26 +9,31 @@
 
 static kilambosetry_service *cache = NULL;
 
-/* The user's name: from the cache, or from the database, and then it is cached for an hour. */
+/* The user's name: from the cache, or from the database, and then it is cached for an hour. That there is no such user is cached for
+ * ten seconds. */
 static bool name_of(int user, char *name, size_t name_len, size_t *len) {
     const uint8_t *key = (const uint8_t *)&user;
     kilambosetry_lease lease = KILAMBOSETRY_NO_LEASE;
     uint8_t status = kilambosetry_service_get_or_lease(cache, key, sizeof user, (uint8_t *)name, name_len, len, &lease, 1000);
     if (status == KILAMBOSETRY_DONE) return true;
-    bool found = database_load(user, name, name_len, len); /* (whatever the cache said, the database has it) */
+    if (status == KILAMBOSETRY_ABSENT || status == KILAMBOSETRY_LOAD_FAILED) return false;
+    bool found = database_load(user, name, name_len, len); /* (whatever else the cache said, the database has it) */
     if (status != KILAMBOSETRY_LEASED) return found;
-    if (!found) kilambosetry_service_give_up(cache, &lease, key, sizeof user);
     /* it isn't stored where the user was renamed meanwhile, and that is no fault */
-    else kilambosetry_service_store(cache, &lease, key, sizeof user, (const uint8_t *)name, *len, 3600);
+    if (found) kilambosetry_service_store(cache, &lease, key, sizeof user, (const uint8_t *)name, *len, 3600);
+    else kilambosetry_service_store_absent(cache, &lease, key, sizeof user, 10);
     return found;
 }
 
-/* First the database, then the cache. A delete that is refused is tried again, since the old name would still be served. */
+/* A change is begun before the commit, and ended behind it, whatever came of that. A database that can't say whether it has committed
+ * would be told of by the last word. */
 static bool rename_user(int user, const char *name) {
-    if (!database_store(user, name)) return false;
-    uint8_t status = KILAMBOSETRY_NO_MEMORY;
-    while (status == KILAMBOSETRY_NO_MEMORY) status = kilambosetry_service_delete(cache, (const uint8_t *)&user, sizeof user);
-    return !KILAMBOSETRY_IS_REFUSAL(status);
+    const uint8_t *key = (const uint8_t *)&user;
+    kilambosetry_change change = KILAMBOSETRY_NO_CHANGE;
+    kilambosetry_service_begin_change(cache, &change, key, sizeof user);
+    bool stored = database_store(user, name);
+    kilambosetry_service_end_change(cache, &change, key, sizeof user, true);
+    return stored;
 }
 
 int main(int words, char **word) {
@@ -49,7 +54,8 @@ int main(int words, char **word) {
     right = rename_user(7, "Ada") && name_of(7, name, sizeof name, &len) && len == 3 && memcmp(name, "Ada", 3) == 0;
     right = right && name_of(7, name, sizeof name, &len) && rename_user(7, "Grace"); /* (it comes from the cache, and changes) */
     right = right && name_of(7, name, sizeof name, &len) && len == 5 && memcmp(name, "Grace", 5) == 0;
-    right = right && !name_of(8, name, sizeof name, &len);
+    right = right && !name_of(8, name, sizeof name, &len) && !name_of(8, name, sizeof name, &len);
+    right = right && rename_user(8, "Alan") && name_of(8, name, sizeof name, &len) && len == 4;
     kilambosetry_service_tell(cache, &stats);
     printf("%s: %d hit, %d loads\n", right ? "right" : "WRONG", (int)stats.hits_from_memory, (int)stats.leases);
     kilambosetry_service_close(cache);

@@ -1,0 +1,42 @@
+use crate::inside::Inside;
+use crate::status::answered;
+use kilambosetry::{Error, HybridCache};
+
+/// What C has a pointer to.
+pub struct Service {
+    pub cache: HybridCache,
+    inside: Inside,
+}
+
+impl Service {
+    pub fn new(cache: HybridCache) -> Service {
+        Service { cache, inside: Inside::default() }
+    }
+
+    /// Makes a call, unless the cache is shut, and answers its status.
+    pub fn call(&self, work: impl FnOnce(&HybridCache) -> Result<u8, Error>) -> u8 {
+        answered(|| {
+            let _call = self.inside.enter().ok_or(Error::Closed)?;
+            work(&self.cache)
+        })
+    }
+
+    /// Asks something that may be asked when the cache is shut, too.
+    pub fn ask(&self, work: impl FnOnce(&HybridCache)) {
+        answered(|| {
+            let _call = self.inside.count();
+            work(&self.cache);
+            Ok(0)
+        });
+    }
+
+    /// Ends the cache, and waits for all that is under way.
+    pub fn shut(&self) {
+        self.inside.shut();
+        answered(|| {
+            self.cache.clone().close();
+            Ok(0)
+        });
+        self.inside.wait();
+    }
+}

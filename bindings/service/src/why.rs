@@ -1,0 +1,53 @@
+use crate::status::{BAD_NUMBER, IN_USE, NOT_OURS, OTHER_KIND, SYSTEM, TOO_SMALL};
+use kilambosetry::{OpenError, Refused};
+use std::ffi::{c_char, CStr};
+use std::ptr;
+
+// The names of numbers, as C has them.
+const NAMES: [&CStr; 8] = [c"memory", c"flash", c"mean_key", c"mean_value", c"shards", c"writers", c"fillers", c"page"];
+
+/// Why a cache isn't opened: `kilambosetry_why`.
+#[repr(C)]
+pub struct Why {
+    pub name: *const c_char,
+    pub given: u64,
+    pub least: u64,
+    pub most: u64,
+    pub system: i32,
+}
+
+impl Default for Why {
+    fn default() -> Why {
+        Why { name: ptr::null(), given: 0, least: 0, most: 0, system: 0 }
+    }
+}
+
+impl Why {
+    /// Notes why, and answers the status of that.
+    pub fn note(&mut self, error: OpenError) -> u8 {
+        match error {
+            OpenError::Number { name, given, least, most } => self.note_number(name, given, least, most),
+            OpenError::Page(given) => self.note_number("page", given, 512, 4096),
+            OpenError::Refused(refused) => refused.number(),
+            OpenError::NoMemory => Refused::NO_MEMORY.number(),
+            OpenError::InUse => IN_USE,
+            OpenError::OtherKind => OTHER_KIND,
+            OpenError::NotOurs => NOT_OURS,
+            OpenError::TooSmall { found, wanted } => {
+                *self = Why { given: found, least: wanted, ..Why::default() };
+                TOO_SMALL
+            }
+            OpenError::Io(error) => {
+                self.system = error.raw_os_error().unwrap_or(0);
+                SYSTEM
+            }
+            _ => SYSTEM,
+        }
+    }
+
+    fn note_number(&mut self, name: &str, given: u64, least: u64, most: u64) -> u8 {
+        let name = NAMES.iter().find(|known| known.to_bytes() == name.as_bytes());
+        *self = Why { name: name.map_or(ptr::null(), |name| name.as_ptr()), given, least, most, system: 0 };
+        BAD_NUMBER
+    }
+}
