@@ -148,6 +148,8 @@ elif ! has cargo; then
     echo "skipped: no cargo, which builds the service's library"
 else
     service_library
+    (cd "$here/service" && CARGO_TARGET_DIR="$out/target" cargo test --offline --quiet --release)
+    echo "the service's types and calls: those of its header"
     service service-checks "$here/c/service_checks.c" $refusing $static
     "$out/service-checks" "$out"
     under_valgrind "no error, nothing lost" --fair-sched=yes $all_leaks "$out/service-checks" "$out" 32
@@ -181,9 +183,11 @@ if has cargo; then
     (cd "$here/rust" && CARGO_TARGET_DIR="$out/target" RUSTDOCFLAGS="-D warnings" cargo doc --offline --quiet --no-deps)
     echo "the crate's pages: no warning"
     if has cargo-fmt && has cargo-clippy; then
-        (cd "$here/rust" && cargo fmt --check)
-        (cd "$here/rust" && CARGO_TARGET_DIR="$out/target" cargo clippy --offline --quiet --all-targets -- -D warnings)
-        echo "the crate's code: no warning"
+        for package in rust service; do
+            (cd "$here/$package" && cargo fmt --check)
+            (cd "$here/$package" && CARGO_TARGET_DIR="$out/target" cargo clippy --offline --quiet --all-targets -- -D warnings)
+        done
+        echo "the crate's code, and that of the service for C: no warning"
     else
         echo "skipped: no cargo fmt, or no cargo clippy"
     fi
