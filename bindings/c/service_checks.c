@@ -1284,7 +1284,7 @@ int main(int len, char **words) {
     if (part == 0) part = 1;
     setvbuf(stdout, NULL, _IOLBF, 0);
     for (unsigned i = 0; i < ROWS; i++) pthread_mutex_init(&rows[i].lock, NULL);
-    check_opening_memory();
+    if (part < 32) check_opening_memory(); /* (not under valgrind: what a process leaves that is ended would be lost) */
     check_numbers();
     check_opening();
     check_calls();
