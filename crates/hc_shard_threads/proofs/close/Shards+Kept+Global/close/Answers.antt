@@ -12,7 +12,7 @@ use Rattle.hc_shard_threads.proofs.Shutting.{next-of, each-push, failed-more, cl
 use Rattle.hc_shard_threads.proofs.close.Shards+Kept+Global.close.Goals as goal
 
 pub returns-in_default-close-clause-err : goal.returns-in_default-close-clause-err
-returns-in_default-close-clause-err g c =
+returns-in_default-close-clause-err c =
     let l = c.loop-lane in
     let shards = c.count-shards.result in
     let lane = c.in-Some.lane in
@@ -30,7 +30,7 @@ returns-in_default-close-clause-err g c =
     )
 
 pub loop-lane-preserved : goal.loop-lane-preserved
-loop-lane-preserved g c =
+loop-lane-preserved c =
     let l = c.loop-lane in
     let inv = l.invariant in
     let shards = c.count-shards.result in
@@ -61,13 +61,13 @@ loop-lane-preserved g c =
     }
 
 pub returns-then-not-are_of-clause-err : goal.returns-then-not-are_of-clause-err
-returns-then-not-are_of-clause-err g c = (refl, λ all. c.are_of.ensures.some c.if-not-are_of.true (subst (λ (n : ℕ). All (IsOf n) c.args.clients.now) (sym c.count-shards.ensures.value) all))
+returns-then-not-are_of-clause-err c = (refl, λ all. c.are_of.ensures.some c.if-not-are_of.true (subst (λ (n : ℕ). All (IsOf n) c.args.clients.now) (sym c.count-shards.ensures.value) all))
 
 pub columns_of-requires : goal.columns_of-requires
-columns_of-requires g c = c.are_of.ensures.all c.if-not-are_of.false
+columns_of-requires c = c.are_of.ensures.all c.if-not-are_of.false
 
 pub loop-lane-init : goal.loop-lane-init
-loop-lane-init g c =
+loop-lane-init c =
     let share = share_of c.args.self in
     let gives = c.into_iter-lane-iterator.ensures.into_iter_gives in
     let none = c.in-Ok-with_capacity.ensures.items in
@@ -85,19 +85,19 @@ loop-lane-init g c =
     }
 
 pub index-requires : goal.index-requires
-index-requires g c =
+index-requires c =
     let l = c.loop-lane in
     let next = next-of c.count-shards.result l.shard (share_of c.args.self) c.in-Some.lane (into_iter_items l.lane-iterator) (into_iter_items c.next.new.self) l.invariant.lanes c.in-Some.ensures.steps.0 in
     index-in c.from-in-loop-lane.result l.shard c.count-shards.result (length c.in-Ok.columns.items) _ c.from-in-loop-lane.ensures next.below c.in-Ok.ensures.count c.in-Ok.columns.ok.0
 
 pub overflow_add-shard : goal.overflow_add-shard
-overflow_add-shard g c =
+overflow_add-shard c =
     let l = c.loop-lane in
     let next = next-of c.count-shards.result l.shard (share_of c.args.self) c.in-Some.lane (into_iter_items l.lane-iterator) (into_iter_items c.next.new.self) l.invariant.lanes c.in-Some.ensures.steps.0 in
     omega (arith, next.below, c.count-shards.type_inv)
 
 pub returns-clause-ok : goal.returns-clause-ok
-returns-clause-ok g c =
+returns-clause-ok c =
     let l = c.loop-lane in
     let all : l.shard ≡ c.args.self.shards = all-closed c.count-shards.result l.shard _ (share_of c.args.self) (into_iter_items l.lane-iterator) l.invariant.lanes l.invariant.counted c.in-None.ensures.steps.0 l.invariant.few ∙ c.count-shards.ensures.value in
     record {

@@ -9,7 +9,7 @@ use Rattle.hc_shard_threads.proofs.close.Shards+Kept+Global.close.Given as goal
 
 -- the shards before this one have their reports, and those that are left are as they were
 abbrev pub invariant-loop-lane : goal.invariant-loop-lane
-invariant-loop-lane g l = record {
+invariant-loop-lane l = record {
   lanes : into_iter_items l.lane-iterator ≡ replicate (l.shards - l.shard) (share_of l.fn.self);
   counted : length (into_iter_items l.lane-iterator) ≡ into_iter_len l.lane-iterator;
   count : length l.reports.items ≡ l.shard;

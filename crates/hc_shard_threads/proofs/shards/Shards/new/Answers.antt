@@ -1,6 +1,6 @@
 use Rattle.std.proofs.Common.{◌≡◌, None, replicate, refl, sym, ◌∙◌, ap, subst}
 use Rattle.hc_shards.specs.Shards.{Sharded, share_of, sharded_wrong}
-use Rattle.hc_shard_threads.proofs.shards.Shards.with_digest.Goals as goal
+use Rattle.hc_shard_threads.proofs.shards.Shards.new.Goals as goal
 
 pub invariant_of-result : goal.invariant_of-result
 invariant_of-result g c =
