@@ -1,5 +1,5 @@
 //! Links the static library: from the folder that KILAMBOSETRY_LIB names, or else the one that `tools/dist` names: that of `dist/`,
-//! or one that was built here later. A packed crate has that of `dist/` in it, with its MANIFEST.
+//! or one that was built here later.
 use std::env;
 use std::path::{Path, PathBuf};
 use std::process::Command;
@@ -8,13 +8,7 @@ fn main() {
     println!("cargo:rerun-if-env-changed=KILAMBOSETRY_LIB");
     let folder = env::var_os("KILAMBOSETRY_LIB").map(PathBuf::from).or_else(|| {
         let crate_folder = env::var_os("CARGO_MANIFEST_DIR").expect("cargo names the crate's folder");
-        let top = Path::new(&crate_folder).join("../..");
-        let packed = Path::new(&crate_folder).join("lib");
-        if top.join("tools/dist").exists() {
-            folder_here(&top)
-        } else {
-            Some(packed)
-        }
+        folder_here(&Path::new(&crate_folder).join("../.."))
     });
     if let Some(folder) = folder {
         println!("cargo:rustc-link-search=native={}", folder.display());
