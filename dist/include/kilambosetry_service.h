@@ -1,9 +1,9 @@
 /* Kilambosetry for C: the cache of a service, for any number of threads, with its flash in a file.
  *
- * It is C11 and POSIX threads over `kilambosetry.h`: link `kilambosetry_service.c` beside the static library. The cache is cut
- * into shards, and a call locks its key's shard alone. No lock is held while a device reads or writes. Threads of its own write
- * what is evicted. A page that comes back otherwise than it was written is a miss. Nothing outlasts the cache: it begins empty,
- * whatever the file has.
+ * It is the cache of the Cargo crate, `HybridCache`, behind calls for C: link `libkilambosetry_service.a`, or the shared library of
+ * that name. Both have the calls of `kilambosetry.h` too. The cache is cut into shards, and a call locks its key's shard alone. No
+ * lock is held while a device reads or writes. Threads of its own write what is evicted. A page that comes back otherwise than it
+ * was written is a miss. Nothing outlasts the cache: it begins empty, whatever the file has.
  *
  *     kilambosetry_service_options options = KILAMBOSETRY_SERVICE_OPTIONS;
  *     kilambosetry_service *cache;
@@ -19,9 +19,11 @@
  *     ...
  *     kilambosetry_service_close(cache);
  *
- * Who changes a row first changes the database and then calls `kilambosetry_service_delete`, again where it is refused. Who
- * loads takes a lease, and stores by that alone. Then no get answers what is older than a change whose delete was answered
- * before the get began.
+ * Who changes a row begins a change of its key before the commit, and ends it once that is answered. Who loads takes a lease, and
+ * stores by that alone. Then no get answers what is older than a change that was ended before the get began.
+ *
+ * Where memory is refused, a call is, and the cache goes on. But as a cache is opened, some small allocations that are refused end
+ * the process, as they end any program in Rust.
  *
  * What the caller owes, since nothing can check it: valid pointers, not null but where it is said, also where a length is 0;
  * nothing that a call writes overlaps anything else; no call from a signal handler, nor in a forked child, nor one that begins
@@ -41,18 +43,27 @@ typedef struct kilambosetry_service kilambosetry_service;
 /* What these calls answer beside the statuses of kilambosetry.h. */
 enum {
     KILAMBOSETRY_BAD_NUMBER = 64,   /* one of the options is outside its limits: `kilambosetry_why` says which */
-    KILAMBOSETRY_IN_USE = 65,       /* another has the file open, in this process or in another one */
-    KILAMBOSETRY_OTHER_LENGTH = 66, /* the file isn't empty, and has another length: remove it, if it is an old flash */
+    KILAMBOSETRY_IN_USE = 65,       /* another has the file open, in this process or in another one, or the device is in use */
+    KILAMBOSETRY_NOT_OURS = 66,     /* the file or block device has something, and is no flash of a cache's: see `overwrite` */
     KILAMBOSETRY_OTHER_KIND = 67,   /* it is neither a file nor a block device */
     KILAMBOSETRY_TOO_SMALL = 68,    /* the block device has fewer bytes than the flash */
     KILAMBOSETRY_SYSTEM = 69,       /* the system refused to open the file or to start a thread: `kilambosetry_why` has errno */
     KILAMBOSETRY_CLOSED = 70,       /* the cache was shut */
+    KILAMBOSETRY_FAULT = 71,        /* a fault in the library's own code: what the call did isn't known. It is on stderr */
     KILAMBOSETRY_TIMED_OUT = 110,   /* the time limit passed first: the call is given up */
-    KILAMBOSETRY_LEASED = 111       /* a miss: the caller is to load the value */
+    KILAMBOSETRY_LEASED = 111,      /* a miss: the caller is to load the value */
+    KILAMBOSETRY_LOAD_FAILED = 112, /* another was loading the value, and its load failed */
+    KILAMBOSETRY_ABSENT = 113       /* it is known that there is no such row */
 };
 
 /* A word for a status, of this header or of kilambosetry.h. */
-const char *kilambosetry_service_strerror(uint8_t status);
+static inline const char *kilambosetry_service_strerror(uint8_t status) {
+    static const char *const opening[] = {"BadNumber", "InUse", "NotOurs", "OtherKind", "TooSmall", "System", "Closed", "Fault"};
+    static const char *const others[] = {"TimedOut", "Leased", "LoadFailed", "Absent"};
+    if (status >= KILAMBOSETRY_BAD_NUMBER && status <= KILAMBOSETRY_FAULT) return opening[status - KILAMBOSETRY_BAD_NUMBER];
+    if (status >= KILAMBOSETRY_TIMED_OUT && status <= KILAMBOSETRY_ABSENT) return others[status - KILAMBOSETRY_TIMED_OUT];
+    return kilambosetry_strerror(status);
+}
 
 /* A time limit, in milliseconds, that never passes. So is any other that is less than 0. */
 #define KILAMBOSETRY_FOREVER ((int64_t)-1)
@@ -67,10 +78,13 @@ typedef struct {
     uint64_t mean_value; /* the mean bytes of a value: 1 to 1048576 */
     uint64_t shards;     /* shards, each with a lock: 1 to 16 */
     uint64_t writers;    /* threads that write what left memory, and make room for it: 1 to 1024 */
-    uint64_t fillers;    /* threads that read for calls with a time limit: 1 to 1024 */
+    uint64_t fillers;    /* threads that read for calls with a time limit, and for gets that are begun: 1 to 1024 */
     uint64_t page;       /* bytes of a page of flash: 512, 1024, 2048 or 4096 */
-    uint64_t patience;   /* seconds after which a lease is another's, where its value wasn't stored: 1 to 86400 */
+    uint64_t patience;   /* seconds that one waits for another's load, and after which its lease is another's; with 0 none waits */
+    uint64_t unknown_for; /* seconds that a commit may take effect after its change was ended without that being known */
     bool direct;         /* reads and writes go past the system's copies of pages (O_DIRECT); a page is then one of the disk's */
+    bool overwrite;      /* a file or block device is taken that has something and isn't ours, and what it has is lost */
+    bool unnamed;        /* the path is a folder's, and the flash a file there without a name: it goes as the process ends */
     const kilambosetry_pool *pool;          /* the limits of all shards together, in place of those of `memory`; or null */
     const kilambosetry_flash *flash_numbers; /* the numbers of a shard's flash, in place of those of `flash`; or null */
     uint64_t (*clock)(void *context);       /* a clock of seconds; the system's, where it is null. It waits for nothing */
@@ -79,7 +93,7 @@ typedef struct {
 
 /* 64 MB of memory, 1 GB of flash, keys of 24 bytes, values of 1000. */
 #define KILAMBOSETRY_SERVICE_OPTIONS \
-    {64000000, 1000000000, 24, 1000, 8, 2, 2, 4096, 10, false, NULL, NULL, NULL, NULL}
+    {64000000, 1000000000, 24, 1000, 8, 2, 2, 4096, 10, 60, false, false, false, NULL, NULL, NULL, NULL}
 
 /* What the options come to, for all shards together, and the memory that it takes once all is full. */
 typedef struct {
@@ -89,6 +103,7 @@ typedef struct {
     uint64_t pages;         /* pages of flash */
     uint64_t items;         /* items of the mean length that memory holds */
     uint64_t items_bytes;   /* bytes of memory that these take */
+    uint64_t leases_bytes;  /* kept for leases, whether or not there are any */
     uint64_t index_bytes;   /* of the index of large items on flash */
     uint64_t buckets_bytes; /* kept for buckets */
     uint64_t buffers_bytes; /* of the regions that are being filled */
@@ -100,8 +115,8 @@ typedef struct {
 /* Why a cache isn't opened. */
 typedef struct {
     const char *name; /* of BAD_NUMBER, which one; else null */
-    uint64_t given;   /* of BAD_NUMBER what it is; of OTHER_LENGTH and TOO_SMALL the bytes that are there */
-    uint64_t least;   /* of BAD_NUMBER the least that it may be; of the others the bytes that there would have to be */
+    uint64_t given;   /* of BAD_NUMBER what it is; of TOO_SMALL the bytes that are there */
+    uint64_t least;   /* of BAD_NUMBER the least that it may be; of TOO_SMALL the bytes that there would have to be */
     uint64_t most;    /* of BAD_NUMBER the most */
     int system;       /* of SYSTEM, errno */
 } kilambosetry_why;
@@ -123,8 +138,8 @@ typedef struct {
 /* ---- opening and closing */
 
 /* Opens an empty cache with its flash in this file, or on this block device. A file is made where there is none, readable and
- * writable for its owner alone. It is locked as long as the cache is open. Where it is refused, `*service` is null. `why` may be
- * null. */
+ * writable for its owner alone. It is locked as long as the cache is open. What has something and isn't ours is refused, and left
+ * alone; so is a block device that is mounted, or otherwise in use. Where it is refused, `*service` is null. `why` may be null. */
 uint8_t kilambosetry_service_open(kilambosetry_service **service, const char *path,
                                   const kilambosetry_service_options *options, kilambosetry_why *why);
 
@@ -141,11 +156,12 @@ uint8_t kilambosetry_service_open_in_memory(kilambosetry_service **service, cons
  * under way, and for the cache's threads. What isn't written yet never is. The counts can still be asked for. */
 void kilambosetry_service_shut(kilambosetry_service *service);
 
-/* The same, and frees it. Calls that wait are answered CLOSED first; no other may be under way. Null is left as it is. */
+/* The same, and frees it. Calls that wait are answered CLOSED, and are over, first; none may begin any more. Null is left as it
+ * is. */
 void kilambosetry_service_close(kilambosetry_service *service);
 
 /* ---- the calls. A limit is in milliseconds. Where a call has none, its thread makes its read of flash itself; else a filler
- * does, since a read can't be given up once it is begun. */
+ * does, since a read can't be given up once it is begun, unless the system has the page in memory. */
 
 /* Copies the value under the key to the head of `out`, and tells its length: DONE; MISS, where there is none; SHORT, where `out`
  * is shorter than the value: then the length alone is told. */
@@ -156,12 +172,13 @@ uint8_t kilambosetry_service_get(kilambosetry_service *service, const uint8_t *k
 uint8_t kilambosetry_service_read(kilambosetry_service *service, const uint8_t *key, size_t key_len,
                                   kilambosetry_value *value, int64_t limit);
 
-/* Stores a copy of the value under the key, in place of what the key has, for `ttl` seconds from now (0: for good). */
+/* Stores a copy of the value under the key, in place of what the key has, for `ttl` seconds from now (0: for good). A row of a
+ * database isn't stored by this, nor by an add, but by who loads it: two who set a key may do so in another order than they
+ * committed. */
 uint8_t kilambosetry_service_set(kilambosetry_service *service, const uint8_t *key, size_t key_len, const uint8_t *value,
                                  size_t value_len, uint32_t ttl);
 
-/* The same where the key has no unexpired value, and else EXISTS. It waits where flash may have one. What was loaded before is
- * never stored by it. */
+/* The same where the key has no unexpired value, and else EXISTS. It waits where flash may have one. */
 uint8_t kilambosetry_service_add(kilambosetry_service *service, const uint8_t *key, size_t key_len, const uint8_t *value,
                                  size_t value_len, uint32_t ttl);
 
@@ -174,46 +191,87 @@ uint8_t kilambosetry_service_flush(kilambosetry_service *service);
 
 /* ---- loads: one for each key at a time, and none that is stored after a change */
 
-/* What a miss hands out to who is to load the value. It is of this key alone. */
+/* What a miss hands out to who is to load the value. It is of this key alone, and of the cache that handed it out. It is a note, and
+ * owns nothing: one that is lost holds up others until `patience` is up, and no more. */
 typedef struct {
+    uint64_t cache; /* the number of its shard, which no other cache of the process has */
     uint64_t ticket;
+    uint64_t load;
     uint64_t key; /* a digest of it */
     bool full;    /* false: nothing can be stored by it */
 } kilambosetry_lease;
 
-#define KILAMBOSETRY_NO_LEASE {0, 0, false}
+#define KILAMBOSETRY_NO_LEASE {0, 0, 0, 0, false}
 
-/* As `kilambosetry_service_get`, and where there is no value, LEASED: the caller is to load it now, and to call either
- * `kilambosetry_service_store` or `kilambosetry_service_give_up`. While one has the lease of a key, others that ask for it wait,
- * for `patience` at most, and then one of them has it. TIMED_OUT: load the value, and don't store it. */
+/* As `kilambosetry_service_get`, and where there is no value, LEASED: the caller is to load it now, and to spend the lease by one of
+ * the four calls below. While one has the lease of a key, others that ask for it wait, for one load and for no second one, and for
+ * `patience` at most; then they load it themselves. What that load came to is handed to all who wait: the row, also one that isn't
+ * stored; ABSENT; or LOAD_FAILED, and then the head of `out` has as much of the text of why as fits, and `len` tells how much.
+ * ABSENT too where `kilambosetry_service_store_absent` has kept that. TIMED_OUT, and each refusal: load the value, and don't store
+ * it. */
 uint8_t kilambosetry_service_get_or_lease(kilambosetry_service *service, const uint8_t *key, size_t key_len, uint8_t *out,
                                           size_t out_len, size_t *len, kilambosetry_lease *lease, int64_t limit);
 
-/* The same by a handle to the value. */
+/* The same by a handle, to a copy of the value, or of the text of why the load failed. */
 uint8_t kilambosetry_service_read_or_lease(kilambosetry_service *service, const uint8_t *key, size_t key_len,
                                            kilambosetry_value *value, kilambosetry_lease *lease, int64_t limit);
 
-/* Stores what was loaded, as `kilambosetry_service_set` does, unless the key was changed since the lease was handed out: then
- * STALE, and nothing is stored. (Now and then it is STALE for the change of another key.) The lease is spent, whatever comes. */
+/* Stores what was loaded, as `kilambosetry_service_set` does, unless the key was changed since the lease was handed out, or is being
+ * changed: then STALE, and nothing is stored. (Now and then it is STALE for the change of another key.) What isn't stored is handed
+ * to who waits for it. The lease is spent, whatever comes. With a lease that is spent, or is of another key or another cache, it is
+ * STALE, and that lease is left as it is. */
 uint8_t kilambosetry_service_store(kilambosetry_service *service, kilambosetry_lease *lease, const uint8_t *key,
                                    size_t key_len, const uint8_t *value, size_t value_len, uint32_t ttl);
 
-/* Gives the lease back: the load failed, or there is no such row. The next who asks has it. */
+/* The same where there is no such row, which is kept for `ttl` seconds from now (0: for good): a get of the key is a MISS then, and
+ * a call that would hand out a lease is ABSENT. */
+uint8_t kilambosetry_service_store_absent(kilambosetry_service *service, kilambosetry_lease *lease, const uint8_t *key,
+                                          size_t key_len, uint32_t ttl);
+
+/* The load has failed: who waits for it is told why. EMPTY, where the lease is spent, or is of another key or another cache. */
+uint8_t kilambosetry_service_fail(kilambosetry_service *service, kilambosetry_lease *lease, const uint8_t *key, size_t key_len,
+                                  const char *why);
+
+/* The load is given up: who waits for it is told that, as a failure. EMPTY as above. */
 uint8_t kilambosetry_service_give_up(kilambosetry_service *service, kilambosetry_lease *lease, const uint8_t *key,
                                      size_t key_len);
 
+/* ---- changes of rows */
+
+/* A change that was begun. It is of this key alone, and of the cache that began it, is ended once, and copied by nobody. */
+typedef struct {
+    uint64_t cache;
+    uint64_t key;
+    bool full; /* false: there is none */
+} kilambosetry_change;
+
+#define KILAMBOSETRY_NO_CHANGE {0, 0, false}
+
+/* Begins a change of a key's row, before the commit: from now on nothing that was loaded is stored under the key. Where there is no
+ * memory for that, it waits for some. EMPTY, where the cache can't have such a key: the commit may be made all the same. */
+uint8_t kilambosetry_service_begin_change(kilambosetry_service *service, kilambosetry_change *change, const uint8_t *key,
+                                          size_t key_len);
+
+/* Ends it once the commit is answered, whatever came of that: the key is deleted, so that no get from then on finds an older row.
+ * Where there is no memory for that, it waits for some. `is_known`: whether it is known if the row was changed. Where it isn't, as
+ * where an answer was lost, what is loaded isn't stored for `unknown_for` seconds more, and then the key is deleted again. EMPTY,
+ * where the change was ended, or is of another key or another cache. A change that is never ended bars its key for good. */
+uint8_t kilambosetry_service_end_change(kilambosetry_service *service, kilambosetry_change *change, const uint8_t *key,
+                                        size_t key_len, bool is_known);
+
 /* ---- gets that are begun now and ended later, for a thread that does other things meanwhile */
 
-/* A get that waits. It is of the service that began it, is ended before that is closed, and copied by nobody. */
+/* A get that waits. It is of the cache that began it, and copied by nobody. */
 typedef struct {
-    void *waits; /* null, where none waits */
+    uint64_t call;
     uint8_t shard;
+    bool waits; /* false: none waits */
 } kilambosetry_begun;
 
-#define KILAMBOSETRY_NOT_BEGUN {NULL, 0}
+#define KILAMBOSETRY_NOT_BEGUN {0, 0, false}
 
 /* As `kilambosetry_service_read`, but where it would wait it answers WAITS, and `begun` has the get. A filler makes its read.
- * Each one that waits is ended by one of the two calls below. */
+ * Each one that waits is ended by one of the two calls below, or its answer is kept until the cache is closed. */
 uint8_t kilambosetry_service_begin(kilambosetry_service *service, const uint8_t *key, size_t key_len,
                                    kilambosetry_value *value, kilambosetry_begun *begun);
 
@@ -237,6 +295,7 @@ typedef struct {
     uint64_t deletes;          /* deletes, whether or not there was an item */
     uint64_t leases;           /* leases that were handed out */
     uint64_t stale;            /* loads that weren't stored, since the key was changed */
+    uint64_t refused_stores;   /* loads that weren't stored, since the store was refused */
     uint64_t load_waits;       /* calls that waited for another's load */
     kilambosetry_losses_t losses; /* items that were forgotten, by the reason */
     uint64_t memory_items;
