@@ -292,8 +292,8 @@ fn a_load_that_never_comes_back_is_taken_over() {
         });
         // (and not once each has waited twice as long)
         assert!(begin.elapsed() >= patience && begin.elapsed() < 2 * patience, "{:?}", begin.elapsed());
-        // (three, where the machine is slow)
-        assert!((2..=3).contains(&cache.stats().loads), "{}", cache.stats());
+        // (who has waited for one load makes the next himself, where nobody was quicker)
+        assert!((2..=9).contains(&cache.stats().loads), "{}", cache.stats());
         // (and where it comes back after all, what it has is no longer good)
         assert_eq!(hangs.store(b"old", 0), Ok(Kept::Stale));
         assert_eq!(cache.get(b"key").unwrap().as_deref(), Some(&b"row"[..]));
