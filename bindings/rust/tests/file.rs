@@ -4,6 +4,8 @@ use std::fs::{self, File, OpenOptions};
 use std::os::unix::fs::FileExt;
 use std::path::{Path, PathBuf};
 use std::process::Command;
+use std::thread;
+use std::time::Duration;
 
 // A folder of this test's own, which is removed in the end.
 struct Folder(PathBuf);
@@ -35,8 +37,19 @@ fn length(options: &Options) -> u64 {
     4096 + options.numbers().unwrap().flash_bytes()
 }
 
+// (a program that another test starts has a copy of the file until it begins)
+fn opened(path: &Path, options: &Options) -> Result<HybridCache, OpenError> {
+    for _ in 0..500 {
+        match HybridCache::open(path, options) {
+            Err(OpenError::InUse) => thread::sleep(Duration::from_millis(20)),
+            opened => return opened,
+        }
+    }
+    Err(OpenError::InUse)
+}
+
 fn is_taken(path: &Path, options: &Options) -> bool {
-    match HybridCache::open(path, options) {
+    match opened(path, options) {
         Ok(cache) => {
             for number in 0..400u32 {
                 cache.set(&number.to_be_bytes(), &[7; 400], 0).unwrap();
@@ -61,7 +74,7 @@ fn what_has_something_and_is_not_ours_is_refused_and_left_alone() {
     for thesis in [&b"my thesis"[..], &[0; 9], &[0; 4096], &whole, &flash, &[whole.clone(), whole.clone()].concat()] {
         fs::write(&file, thesis).unwrap();
         for options in [options.clone(), Options { direct: true, ..options.clone() }] {
-            assert!(matches!(HybridCache::open(&file, &options), Err(OpenError::NotOurs)), "{} bytes", thesis.len());
+            assert!(matches!(opened(&file, &options), Err(OpenError::NotOurs)), "{} bytes", thesis.len());
             assert!(fs::read(&file).unwrap() == thesis);
         }
         assert!(is_taken(&file, &Options { overwrite: true, ..options.clone() }));
@@ -72,7 +85,7 @@ fn what_has_something_and_is_not_ours_is_refused_and_left_alone() {
     image.set_len(64 << 20).unwrap();
     image.write_all_at(b"my thesis", 32 << 20).unwrap();
     assert!(!is_taken(&file, &options));
-    assert!(HybridCache::open(&file, &options).unwrap_err().to_string().contains("no flash of a cache"));
+    assert!(opened(&file, &options).unwrap_err().to_string().contains("no flash of a cache"));
 }
 
 #[test]
@@ -103,7 +116,7 @@ fn its_head_says_whose_it_is() {
     let folder = Folder::new("head");
     let (file, options) = (folder.file("flash"), small());
     let head = |file: &Path| {
-        drop(HybridCache::open(file, &options).unwrap());
+        drop(opened(file, &options).unwrap());
         let mut head = [0; 4096];
         File::open(file).unwrap().read_exact_at(&mut head, 0).unwrap();
         head
