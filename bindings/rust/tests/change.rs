@@ -204,8 +204,9 @@ fn bars_that_are_over_are_forgotten() {
 // Eight threads read and change rows, and now and then an answer is lost, or the commit comes late.
 #[test]
 fn no_read_is_older_than_a_change_that_was_answered_whatever_came_of_others() {
-    const ROWS: usize = 200;
-    let options = Options { unknown_for: Duration::from_millis(20), ..Options::default() };
+    const ROWS: usize = 2000;
+    const UNKNOWN: Duration = Duration::from_millis(2); // (so that most rows have no bar at most times)
+    let options = Options { unknown_for: UNKNOWN, ..Options::default() };
     let cache = HybridCache::in_memory(&options).unwrap();
     let rows: Vec<AtomicU64> = (0..ROWS).map(|_| AtomicU64::new(0)).collect();
     let known: Vec<AtomicU64> = (0..ROWS).map(|_| AtomicU64::new(0)).collect();
@@ -236,4 +237,11 @@ fn no_read_is_older_than_a_change_that_was_answered_whatever_came_of_others() {
     thread::scope(|scope| (0..8).for_each(|thread| drop(scope.spawn(move || serve(thread)))));
     assert_eq!(stale.into_inner(), 0);
     assert!(cache.stats().stored > 1000, "{}", cache.stats());
+    // once all bars are over each row is kept again
+    thread::sleep(UNKNOWN);
+    for (at, row) in rows.iter().enumerate() {
+        let row = row.load(SeqCst).to_be_bytes();
+        assert_eq!(cache.get_or_load(&at.to_be_bytes(), 0, || Ok::<_, Error>(row)).unwrap()[..], row);
+        assert_eq!(cache.get(&at.to_be_bytes()).unwrap().as_deref(), Some(&row[..]));
+    }
 }
