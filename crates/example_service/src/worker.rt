@@ -1,7 +1,8 @@
 // The worker of a cache: it takes jobs, does their operations on the device, and hands in what came of them.
 use crate::metered::Metered;
 use hc_core::{Core, Counting, IoResult, Order, Refusal, Take, Unfinished};
-use hc_paged::{Checked, Device, FileDevice, OpenError, SipHash, open, operate};
+use hc_file::{FileDevice, OpenError, open};
+use hc_paged::{Checked, Device, SipHash, operate};
 use std::alloc::Global;
 use std::fs::File;
 use std::io::{self, ErrorKind};

@@ -1,13 +1,7 @@
 -- What the devices of this crate say of their operations.
-use Rattle.std.specs.Prelude.{◌≡◌, ◌<◌, ℕ, List, Some, None, length}
+use Rattle.std.specs.Prelude.{◌≡◌, ℕ, List, Some, None}
 use Rattle.hc_flash.specs.Operations.{Order, Read, Write, IoResult, Page, Written, Failed}
-use Rattle.hc_paged.specs.Devices.{OnFile, mark_at}
-
--- a device in a file gives and takes whole pages, inside of it
-abbrev pub GivesPages : OnFile → Order → IoResult → Type 0
-GivesPages device (Read page) (Page bytes) = (page < device.pages) × (length bytes ≡ device.page_size)
-GivesPages device (Write page bytes) Written = (page < device.pages) × (length bytes ≡ device.page_size)
-GivesPages device order came = Unit {0}
+use Rattle.hc_paged.specs.Devices.{mark_at}
 
 -- what is known of the other pages is as it was
 abbrev pub OthersStay : List ℕ → ℕ → List ℕ → Type 0

@@ -2,9 +2,9 @@
 ghost use Rattle.std.specs.Prelude.{◌≡◌, ◌+◌, ◌*◌, ◌<◌, ◌≤◌, ◌⊎◌, ℕ, IfOk, OnOk, IsErrOf, length};
 ghost use Rattle.hc_flash.specs.Answers.{failures_in};
 
-use crate::device::Device;
 use bytes::Bytes;
 use hc_flash::FlashError;
+use hc_paged::Device;
 use std::alloc::{Allocator, Global};
 use std::fs::File;
 use std::marker::Model;
@@ -28,7 +28,7 @@ pub struct FileDevice<T: FileExt + Drop, A: Allocator = Global> {
 }
 
 impl<T: FileExt + Drop, A: Allocator> Model for FileDevice<T, A> {
-    ghost use Rattle.hc_paged.specs.Devices.{OnFile};
+    ghost use Rattle.hc_file.specs.Devices.{OnFile};
 
     ghost Value = { OnFile };
 
@@ -85,7 +85,7 @@ impl<A: Allocator + Clone> FileDevice<File, A> {
 }
 
 impl<T: FileExt + Drop, A: Allocator + Clone> Device<A> for FileDevice<T, A> {
-    ghost use Rattle.hc_paged.specs.Operations.{GivesPages};
+    ghost use Rattle.hc_file.specs.Operations.{GivesPages};
 
     ghost failed = { λ device. device.failed };
 

@@ -1,0 +1,8 @@
+//! A device of pages in a file or on a block device, and how it is opened.
+#![tactic(auto)]
+
+mod file;
+mod opening;
+
+pub use file::FileDevice;
+pub use opening::{OpenError, open};
