@@ -2,6 +2,7 @@
 ghost use Rattle.std.specs.Prelude.{◌≡◌, ◌+◌, ◌*◌, ◌<◌, ◌≤◌, ◌⊎◌, ℕ, IfOk, OnOk, IsErrOf, length};
 ghost use Rattle.hc_flash.specs.Answers.{failures_in};
 
+use crate::head::HEAD;
 use bytes::Bytes;
 use hc_flash::FlashError;
 use hc_paged::Device;
@@ -24,6 +25,8 @@ pub struct FileDevice<T: FileExt + Drop, A: Allocator = Global> {
     file: T,
     pages: u32,
     page_size: u32,
+    // whether a head stands before the first page
+    has_head: bool,
     failures: u64,
 }
 
@@ -36,7 +39,8 @@ impl<T: FileExt + Drop, A: Allocator> Model for FileDevice<T, A> {
 }
 
 impl<T: FileExt + Drop, A: Allocator + Clone> FileDevice<T, A> {
-    /// The first pages of this file, so many, of `page_size` bytes each. Nothing of the file is looked at: `open` does that.
+    /// The first pages of this file, so many, of `page_size` bytes each. Nothing of the file is looked at, and no head stands
+    /// before them: `open` sees whose a file is.
     pub fn new(alloc: A, file: T, pages: u32, page_size: u32) -> FileDevice<T, A>
         ensures { result ≡ record { pages = pages; page_size = page_size; failed = 0 } }
     {
@@ -45,6 +49,21 @@ impl<T: FileExt + Drop, A: Allocator + Clone> FileDevice<T, A> {
             file,
             pages,
             page_size,
+            has_head: false,
+            failures: 0,
+        }
+    }
+
+    /// The pages behind the head of this file.
+    pub(crate) fn behind_head(alloc: A, file: T, pages: u32, page_size: u32) -> FileDevice<T, A>
+        ensures { result ≡ record { pages = pages; page_size = page_size; failed = 0 } }
+    {
+        FileDevice {
+            alloc,
+            file,
+            pages,
+            page_size,
+            has_head: true,
             failures: 0,
         }
     }
@@ -53,9 +72,10 @@ impl<T: FileExt + Drop, A: Allocator + Clone> FileDevice<T, A> {
 impl<T: FileExt + Drop, A: Allocator> FileDevice<T, A> {
     /// Where a page begins in the file, in bytes.
     fn offset(&self, page: u32) -> u64
-        ensures { result ≡ page * self.now.page_size }
+        ensures { (page * self.now.page_size ≤ result) × (result ≤ page * self.now.page_size + 4096) }
     {
-        u64::from(page) * u64::from(self.page_size)
+        let before = if self.has_head { HEAD } else { 0 };
+        u64::from(page) * u64::from(self.page_size) + before
     }
 
     /// The file.
@@ -66,6 +86,7 @@ impl<T: FileExt + Drop, A: Allocator> FileDevice<T, A> {
             file,
             pages: _,
             page_size: _,
+            has_head: _,
             failures: _,
         } = self;
         file
@@ -80,7 +101,14 @@ impl<A: Allocator + Clone> FileDevice<File, A> {
     {
         let alloc = self.alloc.clone()?;
         let file = self.file.try_clone()?;
-        Ok(FileDevice::new(alloc, file, self.pages, self.page_size))
+        Ok(FileDevice {
+            alloc,
+            file,
+            pages: self.pages,
+            page_size: self.page_size,
+            has_head: self.has_head,
+            failures: 0,
+        })
     }
 }
 

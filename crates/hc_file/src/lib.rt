@@ -2,7 +2,9 @@
 #![tactic(auto)]
 
 mod file;
+mod head;
+mod mounted;
 mod opening;
 
 pub use file::FileDevice;
-pub use opening::{OpenError, open};
+pub use opening::{OpenError, open, overwrite};

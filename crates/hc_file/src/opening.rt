@@ -2,11 +2,13 @@
 ghost use Rattle.std.specs.Prelude.{◌≡◌, ◌*◌, ◌⊎◌, IfOk, IsErrOf};
 
 use crate::file::FileDevice;
+use crate::head::{self, HEAD};
+use crate::mounted::is_mounted;
 use std::alloc::Allocator;
-use std::fs::{File, Files, OpenOptions, TryLockError};
+use std::fs::{File, Files, Metadata, OpenOptions, TryLockError};
 use std::io;
 use std::io::{Seek, SeekFrom};
-use std::os::unix::fs::{FileTypeExt, OpenOptionsExt};
+use std::os::unix::fs::{FileTypeExt, MetadataExt, OpenOptionsExt};
 use thiserror::Error;
 
 /// Why a device wasn't opened.
@@ -18,12 +20,13 @@ pub enum OpenError {
     /// What has this name is neither a file nor a block device.
     #[error("it is neither a file nor a block device")]
     OtherKind,
-    /// It is locked: another has it open as a device, in this process or in another one.
+    /// It is locked: another has it open as a device, in this process or in another one. Or it is a block device with a file
+    /// system that is mounted.
     #[error("it is in use")]
     InUse,
-    /// The file has bytes, and not as many as the device. Who changes a device's size removes the old file first.
-    #[error("the file isn't empty, and has another length")]
-    OtherLength,
+    /// It has something, and nothing in it says that a cache wrote it: it is left as it was. `overwrite` takes it all the same.
+    #[error("it has something that isn't a cache's")]
+    NotOurs,
     /// The block device has fewer bytes than the device.
     #[error("the block device is too small")]
     TooSmall,
@@ -58,33 +61,82 @@ fn lock(file: &File) -> Result<(), OpenError> {
     }
 }
 
-/// Sees that there are so many bytes. An empty file is made so long, and takes room on the disk only as it is written.
-fn fit(file: &mut File, length: u64) -> Result<(), OpenError> {
-    let found = file.metadata()?;
-    if found.file_type().is_block_device() {
-        if file.seek(SeekFrom::End(0))? < length {
-            return Err(OpenError::TooSmall);
-        }
-        return Ok(());
+/// Whether there is anything in what isn't ours. A file that has room on the disk is taken to have something, since a hole in
+/// it can't be told from zeros.
+fn has_anything(file: &File, found: &Metadata, length: u64) -> io::Result<bool> {
+    if found.is_file() {
+        return Ok(length > 0 && (found.blocks() > 0 || head::has_data(file, 0, length.min(HEAD))?));
     }
-    if !found.is_file() {
+    head::has_anything(file, length)
+}
+
+/// Sees that it is ours to write, or taken whatever it has, and has so many bytes. A file gets that length, unless it is one
+/// of ours and has it: it takes room on the disk only as it is written.
+fn take<R: Files<File = File>, A: Allocator + Clone>(
+    rt: &R,
+    alloc: A,
+    file: &mut File,
+    wanted: u64,
+    overwrites: bool,
+) -> Result<(), OpenError> {
+    let found = file.metadata()?;
+    let is_device = found.file_type().is_block_device();
+    if !is_device && !found.is_file() {
         return Err(OpenError::OtherKind);
     }
-    if found.len() == 0 {
-        file.set_len(length)?;
-    } else if found.len() != length {
-        return Err(OpenError::OtherLength);
+    if is_device && is_mounted(rt, alloc, found.rdev())? {
+        return Err(OpenError::InUse);
+    }
+    let length = file.seek(SeekFrom::End(0))?;
+    if is_device && length < wanted {
+        return Err(OpenError::TooSmall);
+    }
+    let is_ours = head::is_ours(file, length)?;
+    if !is_ours && !overwrites && has_anything(file, &found, length)? {
+        return Err(OpenError::NotOurs);
+    }
+    if !is_device && (!is_ours || length != wanted) {
+        file.set_len(0)?;
+        file.set_len(wanted)?;
     }
     Ok(())
+}
+
+/// Opens it so, and writes its head.
+fn open_as<R: Files<File = File>, A: Allocator + Clone>(
+    rt: &R,
+    alloc: A,
+    path: &str,
+    pages: u32,
+    page_size: u32,
+    overwrites: bool,
+) -> Result<FileDevice<File, A>, OpenError>
+    ensures device { IfOk result (λ device. device ≡ record { pages = pages; page_size = page_size; failed = 0 }) }
+    ensures no_page { (pages ≡ 0) ⊎ (page_size ≡ 0) → IsErrOf result OpenError.NoPage }
+{
+    let length = length_of(pages, page_size)?;
+    let mut options = OpenOptions::new();
+    options.read(true).write(true).create(true).mode(0o600);
+    let mut file = options.open(rt, path)?;
+    lock(&file)?;
+    let own = alloc
+        .clone()
+        .map_err(|_| io::Error::from(io::ErrorKind::OutOfMemory))?;
+    take(rt, own, &mut file, HEAD + length, overwrites)?;
+    head::write(&file, pages, page_size)?;
+    Ok(FileDevice::behind_head(alloc, file, pages, page_size))
 }
 
 /// Opens the file or block device of this name as a device of so many pages, of `page_size` bytes each, and locks it for as
 /// long as it is open. The lock is the system's advisory one: it keeps out whoever opens a device so, and nobody else.
 ///
-/// A file that isn't there is made, for its owner alone (mode 0600). One that is there is empty, or as long as the device:
-/// its bytes are written over. So a wrong name overwrites no file of another length; of a block device nothing tells whose
-/// it is. Nothing is synced, and nothing of an earlier run is served: a cache reads no page that it didn't write, and a
-/// `Checked` answers none.
+/// A file that isn't there is made, for its owner alone (mode 0600). One that is there, and a block device, is taken where it
+/// has nothing yet, or a head before its pages says that a cache wrote it (docs/FORMATS.md); such a file of another length is
+/// made anew. Any other is refused with `NotOurs` and left as it was. Of a block device the first and the last MiB are looked
+/// at; one whose file system is mounted is refused with `InUse`.
+///
+/// Nothing is synced, and nothing of an earlier run is served: a cache reads no page that it didn't write, and a `Checked`
+/// answers none.
 pub fn open<R: Files<File = File>, A: Allocator + Clone>(
     rt: &R,
     alloc: A,
@@ -95,11 +147,20 @@ pub fn open<R: Files<File = File>, A: Allocator + Clone>(
     ensures device { IfOk result (λ device. device ≡ record { pages = pages; page_size = page_size; failed = 0 }) }
     ensures no_page { (pages ≡ 0) ⊎ (page_size ≡ 0) → IsErrOf result OpenError.NoPage }
 {
-    let length = length_of(pages, page_size)?;
-    let mut options = OpenOptions::new();
-    options.read(true).write(true).create(true).mode(0o600);
-    let mut file = options.open(rt, path)?;
-    lock(&file)?;
-    fit(&mut file, length)?;
-    Ok(FileDevice::new(alloc, file, pages, page_size))
+    open_as(rt, alloc, path, pages, page_size, false)
+}
+
+/// As `open`, whatever the file or block device has: that is lost. One that is in use is refused all the same. (A disk of whose
+/// partitions one is mounted isn't told: name the partition.)
+pub fn overwrite<R: Files<File = File>, A: Allocator + Clone>(
+    rt: &R,
+    alloc: A,
+    path: &str,
+    pages: u32,
+    page_size: u32,
+) -> Result<FileDevice<File, A>, OpenError>
+    ensures device { IfOk result (λ device. device ≡ record { pages = pages; page_size = page_size; failed = 0 }) }
+    ensures no_page { (pages ≡ 0) ⊎ (page_size ≡ 0) → IsErrOf result OpenError.NoPage }
+{
+    open_as(rt, alloc, path, pages, page_size, true)
 }
