@@ -203,6 +203,7 @@ if has cargo; then
         under_valgrind "no error, nothing lost by the example $name" --fair-sched=yes --leak-check=full --show-leak-kinds=definite \
             --errors-for-leak-kinds=definite "$out/target/release/examples/$name"
     done
+    "$here/package"
     if makes "" -lsqlite3; then
         (cd "$here/examples/rust" && CARGO_TARGET_DIR="$out/target" cargo build --offline --quiet --release)
         on_folder "$out/target/release/profiles"
