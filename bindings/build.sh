@@ -97,7 +97,38 @@ cp "$here"/c/*.h "$out/include/"
 sed "s|@prefix@|${PREFIX:-$out}|" "$here/c/kilambosetry.pc.in" >"$out/lib/pkgconfig/kilambosetry.pc"
 [ "$what" != --library ] || exit 0
 
+# Has each compiler that is here read the C, with all warnings as errors: each source, and each header alone, by C++ too.
+warnings="-Wall -Wextra -Wpedantic -Wconversion -Wshadow -Werror -pthread -I$here/c -c -o /dev/null"
+read_sources() {
+    if ! has "$1"; then
+        echo "skipped: no $1"
+        return
+    fi
+    # (unquoted: words)
+    "$1" -std=c99 -O1 $warnings "$here/c/checks.c"
+    for source in "$here/c/service_checks.c" "$here"/examples/c/*.c; do
+        case $source in */database.c) [ -e /usr/include/sqlite3.h ] || continue ;; esac
+        "$1" -std=c11 -O1 $warnings "$source"
+    done
+    read_headers "$1" c c99
+    read_headers "$1" c c11
+    echo "the C, by $1: no warning"
+}
+read_headers() {
+    if ! has "$1"; then
+        echo "skipped: no $1"
+        return
+    fi
+    for header in "$here"/c/*.h; do
+        echo "#include \"$header\"" | "$1" -x "$2" "-std=$3" $warnings -
+    done
+}
+
 echo "== C"
+read_sources gcc
+read_sources clang
+read_headers g++ c++ c++11
+read_headers clang++ c++ c++11
 if has cc; then
     flags="-I$out/include $out/lib/libkilambosetry.a"
     if has pkg-config && [ -z "${PREFIX-}" ]; then
@@ -175,21 +206,34 @@ fi
 rm -f "$out"/tried*
 [ "$what" != --c ] || exit 0
 
+# Looks through a package's code and pages: its folder, and further words for cargo.
+read_package() (
+    package=$1
+    shift
+    export CARGO_TARGET_DIR="$out/target" RUSTDOCFLAGS="-D warnings"
+    cd "$here/$package"
+    cargo doc --offline --quiet --no-deps "$@"
+    if has cargo-fmt && has cargo-clippy; then
+        cargo fmt --check
+        cargo clippy --offline --quiet --all-targets "$@" -- -D warnings
+        echo "the code and the pages of $package: no warning"
+    else
+        echo "the pages of $package: no warning; skipped: its code, since there is no cargo fmt, or no cargo clippy"
+    fi
+)
+has_lru() { ls -d /usr/share/cargo/registry/lru-0.7* >/dev/null 2>&1; }
+
 echo "== Cargo"
 if has cargo; then
     if [ "$what" != --short ]; then
         (cd "$here/rust" && CARGO_TARGET_DIR="$out/target" cargo test --offline --quiet)
     fi
-    (cd "$here/rust" && CARGO_TARGET_DIR="$out/target" RUSTDOCFLAGS="-D warnings" cargo doc --offline --quiet --no-deps)
-    echo "the crate's pages: no warning"
-    if has cargo-fmt && has cargo-clippy; then
-        for package in rust service; do
-            (cd "$here/$package" && cargo fmt --check)
-            (cd "$here/$package" && CARGO_TARGET_DIR="$out/target" cargo clippy --offline --quiet --all-targets -- -D warnings)
+    for package in rust service examples/rust; do read_package "$package"; done
+    if [ "$what" != --short ]; then
+        if missing=$("$here/server/tests/has-crates"); then read_package server; else echo "skipped: the server's code, for want of crate $missing"; fi
+        for package in speed trial; do
+            if has_lru; then read_package "$package" --all-features; else echo "skipped: the code of $package, for want of crate lru"; fi
         done
-        echo "the crate's code, and that of the service for C: no warning"
-    else
-        echo "skipped: no cargo fmt, or no cargo clippy"
     fi
     # the code of README.md: it is the example's, word for word, and does what it says
     sed -n '/^```rust$/,/^```$/{/^```/!p;}' "$here/../README.md" >"$out/readme.txt"
@@ -212,7 +256,7 @@ if has cargo; then
     fi
     rm -f "$out"/tried*
     if [ "$what" = --speed ]; then
-        if ls -d /usr/share/cargo/registry/lru-0.7* >/dev/null 2>&1; then
+        if has_lru; then
             speed() { (cd "$here/speed" && CARGO_TARGET_DIR="$out/target" cargo run --offline --quiet --release -- "$@"); }
             speed
             speed least 1000
@@ -222,7 +266,7 @@ if has cargo; then
         fi
     fi
     if [ "$what" = --trial ]; then
-        if ls -d /usr/share/cargo/registry/lru-0.7* >/dev/null 2>&1; then
+        if has_lru; then
             trial() { (cd "$here/trial" && CARGO_TARGET_DIR="$out/target" cargo run --offline --quiet --release -- "$@"); }
             for cache in leases sets plain lru; do trial slow $cache 10 20; done
             trial slow leases 10 20 8 harm

@@ -465,7 +465,7 @@ static void check_words(void) {
 /* Shards: which a key is of, what a shard's share is, and what is refused. */
 static void check_shards(void) {
     static const kilambosetry_pool whole[] = {{4096, 40}};
-    kilambosetry_flash flash = {512, 1, 3, 1, 1, 100, 8, 8, 0, 2000};
+    kilambosetry_flash of_shards = {512, 1, 3, 1, 1, 100, 8, 8, 0, 2000};
     kilambosetry_cache shards[2] = {KILAMBOSETRY_NONE, KILAMBOSETRY_NONE};
     kilambosetry_usage_t usage;
     uint8_t out[4];
@@ -485,9 +485,9 @@ static void check_shards(void) {
     CHECK(kilambosetry_set(&shards[kilambosetry_shard_of(BYTES("b"), 2)], 0, BYTES("b"), BYTES("two"), 0) == KILAMBOSETRY_DONE);
     CHECK(kilambosetry_get(&shards[1], BYTES("b"), out, sizeof out, &len) == KILAMBOSETRY_DONE && len == 3);
     CHECK(kilambosetry_get(&shards[0], BYTES("b"), out, sizeof out, &len) == KILAMBOSETRY_MISS);
-    CHECK(kilambosetry_new_shard_with_flash(&shards[0], whole, 1, &flash, 16) == KILAMBOSETRY_DONE);
-    flash.page = 100;
-    CHECK(kilambosetry_new_shard_with_flash(&shards[0], whole, 1, &flash, 16) == KILAMBOSETRY_BAD_PAGE);
+    CHECK(kilambosetry_new_shard_with_flash(&shards[0], whole, 1, &of_shards, 16) == KILAMBOSETRY_DONE);
+    of_shards.page = 100;
+    CHECK(kilambosetry_new_shard_with_flash(&shards[0], whole, 1, &of_shards, 16) == KILAMBOSETRY_BAD_PAGE);
     CHECK(kilambosetry_usage(&shards[0], 0, &usage) == KILAMBOSETRY_DONE && usage.limit_items == 2);
     kilambosetry_free(&shards[0]);
     kilambosetry_free(&shards[1]);

@@ -22,7 +22,8 @@ fn main() {
 
 // The folder, or why there is none. Without one the crate can still be checked, and has its documents.
 fn said(folder: Result<PathBuf, String>) -> Option<PathBuf> {
-    let no_library = |why| println!("cargo:warning=no library to link, since {why}: set KILAMBOSETRY_LIB to its folder");
+    let no_library =
+        |why| println!("cargo:warning=no library to link, since {why}: set KILAMBOSETRY_LIB to its folder");
     folder.map_err(no_library).ok()
 }
 
