@@ -168,7 +168,7 @@ service() {
 }
 static="$out/lib/libkilambosetry_service.a $system"
 shared="-L$out/lib -lkilambosetry_service -Wl,-rpath,$out/lib"
-refusing=-Wl,--wrap=malloc,--wrap=calloc,--wrap=realloc,--wrap=pread64,--wrap=pwrite64,--wrap=preadv2
+refusing=-Wl,--wrap=malloc,--wrap=calloc,--wrap=realloc,--wrap=posix_memalign,--wrap=pread64,--wrap=pwrite64,--wrap=preadv2
 
 export KILAMBOSETRY_LIB="$out/lib" # (and not the one of dist/)
 

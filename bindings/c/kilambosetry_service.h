@@ -22,8 +22,10 @@
  * Who changes a row begins a change of its key before the commit, and ends it once that is answered. Who loads takes a lease, and
  * stores by that alone. Then no get answers what is older than a change that was ended before the get began.
  *
- * Where memory is refused, a call is, and the cache goes on. But as a cache is opened, some small allocations that are refused end
- * the process, as they end any program in Rust.
+ * Where memory is refused, a call is, and the cache goes on, or isn't opened. But each thread that a cache with flash starts as it is
+ * opened (`writers` and `fillers`) takes some small allocations of Rust's standard library, four with Rust 1.95: one that is refused
+ * ends the process (SIGABRT), as in any program in Rust. So does one for a path of 384 bytes or more. A cache in memory starts no
+ * thread.
  *
  * What the caller owes, since nothing can check it: valid pointers, not null but where it is said, also where a length is 0;
  * nothing that a call writes overlaps anything else; no call from a signal handler, nor in a forked child, nor one that begins

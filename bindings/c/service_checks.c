@@ -3,8 +3,8 @@
  *
  *     service_checks [FOLDER [N]]     FOLDER is for its files, and /tmp where none is named; loads are an Nth as long
  *
- * It is linked with --wrap for malloc, calloc, realloc, pread64, pwrite64 and preadv2, so that it can refuse and shorten those of the
- * service's library too. */
+ * It is linked with --wrap for malloc, calloc, realloc, posix_memalign, pread64, pwrite64 and preadv2, so that it can refuse and shorten
+ * those of the service's library too. */
 #define _GNU_SOURCE
 #include "kilambosetry_service.h"
 
@@ -87,12 +87,14 @@ static uint64_t refuse(uint64_t at, uint32_t each) {
 void *__real_malloc(size_t size);
 void *__real_calloc(size_t many, size_t size);
 void *__real_realloc(void *at, size_t size);
+int __real_posix_memalign(void **at, size_t alignment, size_t size);
 ssize_t __real_pread64(int fd, void *out, size_t len, off_t at);
 ssize_t __real_pwrite64(int fd, const void *bytes, size_t len, off_t at);
 ssize_t __real_preadv2(int fd, const struct iovec *parts, int many, off_t at, int flags);
 void *__wrap_malloc(size_t size);
 void *__wrap_calloc(size_t many, size_t size);
 void *__wrap_realloc(void *at, size_t size);
+int __wrap_posix_memalign(void **at, size_t alignment, size_t size);
 ssize_t __wrap_pread64(int fd, void *out, size_t len, off_t at);
 ssize_t __wrap_pwrite64(int fd, const void *bytes, size_t len, off_t at);
 ssize_t __wrap_preadv2(int fd, const struct iovec *parts, int many, off_t at, int flags);
@@ -100,6 +102,9 @@ ssize_t __wrap_preadv2(int fd, const struct iovec *parts, int many, off_t at, in
 void *__wrap_malloc(size_t size) { return is_refused() ? NULL : __real_malloc(size); }
 void *__wrap_calloc(size_t many, size_t size) { return is_refused() ? NULL : __real_calloc(many, size); }
 void *__wrap_realloc(void *at, size_t size) { return is_refused() ? NULL : __real_realloc(at, size); }
+int __wrap_posix_memalign(void **at, size_t alignment, size_t size) {
+    return is_refused() ? ENOMEM : __real_posix_memalign(at, alignment, size);
+}
 
 /* What the file does: gives it in pieces between signals, or is full. */
 enum { WHOLE, PIECES, FULL, CUT };
@@ -1220,9 +1225,23 @@ static void check_replies(void) {
     }
 }
 
-/* Opens a cache in a process of its own, with one allocation refused, and answers how that ended. */
-static int open_refused(uint64_t at) {
+/* What is opened: a cache in memory, or over a device or a file, with so many threads. */
+struct opening {
+    enum { IN_MEMORY, OVER_DEVICE, OVER_FILE } over;
+    unsigned threads;
+    unsigned refused, ended; /* what it came to, of its allocations */
+};
+
+static uint8_t open_as(const struct opening *opening, kilambosetry_service **service) {
     kilambosetry_service_options options = small_options();
+    options.writers = options.fillers = opening->threads / 2;
+    if (opening->over == IN_MEMORY) return kilambosetry_service_open_in_memory(service, &options, NULL);
+    if (opening->over == OVER_DEVICE) return kilambosetry_service_open_over(service, &of_device, &options, NULL);
+    return kilambosetry_service_open(service, file, &options, NULL);
+}
+
+/* Opens a cache in a process of its own, with one allocation refused, and answers how that ended. */
+static int open_refused(const struct opening *opening, uint64_t at) {
     kilambosetry_service *service = NULL;
     int how = 0;
     fflush(stdout);
@@ -1230,7 +1249,7 @@ static int open_refused(uint64_t at) {
     if (child == 0) {
         if (freopen("/dev/null", "w", stderr) == NULL) _exit(3);
         refuse(at, 0);
-        uint8_t status = kilambosetry_service_open_over(&service, &of_device, &options, NULL);
+        uint8_t status = open_as(opening, &service);
         uint64_t many = refuse(0, 0);
         kilambosetry_service_close(service);
         if ((status == KILAMBOSETRY_DONE) != (service != NULL)) _exit(2);
@@ -1241,20 +1260,36 @@ static int open_refused(uint64_t at) {
     return how;
 }
 
-/* As a cache is opened, an allocation that is refused refuses that, or ends the process, and nothing else. (Before any thread is begun
- * here: a fork has one alone.) */
-static void check_opening_memory(void) {
-    unsigned refused = 0, ended = 0;
+/* As a cache is opened, an allocation that is refused refuses that, or ends the process, and nothing else. */
+static void refuse_opening(struct opening *opening) {
     int how = 256;
     for (uint64_t at = 1; how != 0 && at < 2000; at += part) {
-        how = open_refused(at);
+        how = open_refused(opening, at);
         bool is_ended = WIFSIGNALED(how) && WTERMSIG(how) == SIGABRT, is_refused = WIFEXITED(how) && WEXITSTATUS(how) <= 1;
         CHECK(is_ended || is_refused);
-        refused += is_refused && how != 0;
-        ended += is_ended;
+        opening->refused += is_refused && how != 0;
+        opening->ended += is_ended;
     }
-    CHECK(how == 0 && refused > 0);
-    printf("of the allocations of opening %u refused it, and %u ended the process\n", refused, ended);
+    CHECK(how == 0 && opening->refused > 0);
+    unlink(file);
+}
+
+/* The process is ended by what Rust's own library allocates for each thread, which has no other answer, and by nothing else. (Before any
+ * thread is begun here: a fork has one alone.) */
+static void check_opening_memory(void) {
+    struct opening in_memory = {IN_MEMORY, 4, 0, 0}, two = {OVER_DEVICE, 2, 0, 0}, four = {OVER_DEVICE, 4, 0, 0};
+    struct opening of_file = {OVER_FILE, 4, 0, 0};
+    refuse_opening(&in_memory);
+    refuse_opening(&two);
+    refuse_opening(&four);
+    refuse_opening(&of_file);
+    if (part == 1) {
+        CHECK(in_memory.ended == 0);
+        CHECK(four.ended == 2 * two.ended);
+        CHECK(of_file.ended == four.ended || strlen(file) >= 384); /* (a path that is longer is copied) */
+        CHECK(four.ended <= 5 * four.threads); /* (four each, with Rust 1.95) */
+    }
+    printf("of the allocations of opening %u refused it, and %u of %u threads ended the process\n", four.refused, four.ended, four.threads);
 }
 
 static void check_memory(void) {

@@ -4,6 +4,7 @@ use crate::digest::digest_of;
 use crate::held::copied;
 use crate::hybrid::held_of;
 use crate::loads::{after, Outcome};
+use crate::shared;
 use crate::{Error, Found, Held, HybridCache, Lease, Refused, Ticket};
 use std::time::Duration;
 
@@ -48,6 +49,11 @@ pub enum BegunGet {
     Answered(Option<Held>),
     /// It waits. It is to be ended or forgotten.
     Waits(GetNumbers),
+}
+
+/// A box, or a refusal.
+pub fn boxed<T>(value: T) -> Result<Box<T>, Refused> {
+    shared::boxed(value)
 }
 
 /// Frees what the handle holds.

@@ -1,20 +1,26 @@
+use crate::shared::{boxed, Shared};
+use crate::Refused;
+use std::alloc::{self, Layout};
 use std::fmt;
 use std::panic::{RefUnwindSafe, UnwindSafe};
 #[cfg(all(target_os = "linux", target_pointer_width = "64"))]
 use std::sync::atomic::{AtomicU64, Ordering::Relaxed};
-use std::sync::{Arc, OnceLock};
+use std::sync::OnceLock;
 use std::time::{SystemTime, UNIX_EPOCH};
 
 /// A clock of seconds, which each call of a [`HybridCache`](crate::HybridCache) asks. Where it goes back, the cache's stays.
+// (none is the system's)
 #[derive(Clone)]
-pub struct Clock(Arc<dyn Fn() -> u64 + Send + Sync>);
+pub struct Clock(Option<Shared<Own>>);
+
+type Own = Box<dyn Fn() -> u64 + Send + Sync>;
 
 impl Clock {
     /// The system's: the second of the day's date as the process first asked, and the seconds that have passed since. So it neither
     /// goes back nor jumps where the date is set, and goes on while the machine sleeps (on Linux by CLOCK_BOOTTIME).
     #[must_use]
     pub fn system() -> Clock {
-        Clock::new(second)
+        Clock(None)
     }
 
     /// One of your own.
@@ -35,13 +41,22 @@ impl Clock {
     /// ```
     #[must_use]
     pub fn new(second: impl Fn() -> u64 + Send + Sync + 'static) -> Clock {
-        Clock(Arc::new(second))
+        Clock::try_new(second).unwrap_or_else(|_| alloc::handle_alloc_error(Layout::new::<Own>()))
+    }
+
+    /// The same, refused with [`Refused::NO_MEMORY`] where [`new`](Clock::new) ends the process.
+    pub fn try_new(second: impl Fn() -> u64 + Send + Sync + 'static) -> Result<Clock, Refused> {
+        let own: Own = boxed(second)?;
+        Shared::new(own).map(|own| Clock(Some(own)))
     }
 
     /// The second that it is.
     #[must_use]
     pub fn now(&self) -> u64 {
-        (self.0)()
+        match &self.0 {
+            Some(own) => own(),
+            None => second(),
+        }
     }
 }
 

@@ -4,14 +4,14 @@ use crate::future::GetAsync;
 use crate::loads::after;
 use crate::numbers::Numbers;
 use crate::shards::{Locked, Shards, State, ABSENT};
+use crate::shared::{boxed, Shared};
 use crate::{Added, Error, Found, Held, OpenError, Options, PageFile, Refused, Reply, Stats, Value};
 use std::cell::Cell;
-use std::panic::{RefUnwindSafe, UnwindSafe};
 use std::path::Path;
-use std::sync::{Arc, Mutex, OnceLock, PoisonError};
+use std::sync::{Mutex, OnceLock, PoisonError};
 use std::thread::{self, JoinHandle};
 use std::time::{Duration, Instant};
-use std::{fmt, io, process};
+use std::{fmt, process};
 
 /// A cache in memory with flash behind it, for the threads of a service. A clone is another handle to the same cache.
 ///
@@ -40,12 +40,12 @@ use std::{fmt, io, process};
 /// What is loaded otherwise, and stored by `set`, may be older than what was deleted meanwhile.
 #[derive(Clone)]
 pub struct HybridCache {
-    inner: Arc<Inner>,
+    inner: Shared<Inner>,
 }
 
 // What all handles share. The workers end with it.
 struct Inner {
-    shards: Arc<Shards>,
+    shards: Shared<Shards>,
     numbers: Numbers,
     workers: Workers,
     keeps_time: OnceLock<bool>,
@@ -63,13 +63,13 @@ impl HybridCache {
         let page = numbers.flash.map_or(0, |flash| flash.page);
         HybridCache::make(numbers, options, || {
             let file = PageFile::open(path.as_ref(), numbers.pages(), page, options)?;
-            Ok(Some(Box::new(file)))
+            Ok(Some(boxed(file)?))
         })
     }
 
     /// An empty cache with its flash on a device of your own, which has as many pages as `options.numbers()` tells.
     pub fn over(device: impl PageDevice + 'static, options: &Options) -> Result<HybridCache, OpenError> {
-        HybridCache::make(options.numbers()?, options, || Ok(Some(Box::new(device))))
+        HybridCache::make(options.numbers()?, options, || Ok(Some(boxed(device)?)))
     }
 
     /// An empty cache without flash, and without threads: what is evicted is forgotten.
@@ -87,13 +87,13 @@ impl HybridCache {
         shards.device = open()?.map(|device| Checked::new(device, numbers.pages())).transpose()?;
         let has_flash = shards.device.is_some();
         let inner = Inner {
-            shards: Arc::new(shards),
+            shards: Shared::new(shards)?,
             numbers,
             workers: Workers::default(),
             keeps_time: OnceLock::new(),
             process: process::id(),
         };
-        let cache = HybridCache { inner: Arc::new(inner) };
+        let cache = HybridCache { inner: Shared::new(inner)? };
         if has_flash {
             // (where one can't be started, those that were are ended as the cache is dropped)
             (0..options.writers).try_for_each(|_| cache.inner.start("cache-writer", Shards::write_out))?;
@@ -344,13 +344,16 @@ thread_local! {
 }
 
 impl Workers {
-    fn start(&self, name: &str, work: impl FnOnce() + Send + 'static) -> io::Result<()> {
+    // What is kept of it has its place before it is started. (What the standard library allocates for a thread ends the process where
+    // it is refused.)
+    fn start(&self, name: &str, work: impl FnOnce() + Send + 'static) -> Result<(), OpenError> {
         let works = move || {
             WORKS.set(true);
             work();
         };
-        let worker = thread::Builder::new().name(name.to_string()).spawn(works)?;
-        self.running.lock().unwrap_or_else(PoisonError::into_inner).push(worker);
+        let mut running = self.running.lock().unwrap_or_else(PoisonError::into_inner);
+        running.try_reserve(1).map_err(|_| OpenError::NoMemory)?;
+        running.push(thread::Builder::new().name(named(name)?).spawn(works)?);
         Ok(())
     }
 
@@ -365,9 +368,17 @@ impl Workers {
     }
 }
 
+// A thread's name, with a place for the zero that ends it.
+fn named(name: &str) -> Result<String, OpenError> {
+    let mut named = String::new();
+    named.try_reserve_exact(name.len() + 1).map_err(|_| OpenError::NoMemory)?;
+    named.push_str(name);
+    Ok(named)
+}
+
 impl Inner {
-    fn start(&self, name: &str, work: fn(&Shards)) -> io::Result<()> {
-        let shards = Arc::clone(&self.shards);
+    fn start(&self, name: &str, work: fn(&Shards)) -> Result<(), OpenError> {
+        let shards = self.shards.clone();
         self.workers.start(name, move || work(&shards))
     }
 
@@ -385,10 +396,6 @@ impl Drop for Inner {
         self.end();
     }
 }
-
-// What panics in a call (a clock, a device, a task that is woken) does so with the shard as a call leaves it, or its lock free.
-impl UnwindSafe for HybridCache {}
-impl RefUnwindSafe for HybridCache {}
 
 impl fmt::Debug for HybridCache {
     fn fmt(&self, f: &mut fmt::Formatter<'_>) -> fmt::Result {

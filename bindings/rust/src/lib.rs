@@ -69,6 +69,7 @@ mod options;
 mod refused;
 mod sharded;
 mod shards;
+mod shared;
 mod spread;
 mod stats;
 mod timer;

@@ -1,5 +1,5 @@
 use crate::options::{BESIDE_LARGE, INDEX};
-use crate::{Flash, Pool};
+use crate::{Flash, Pool, Refused};
 use std::fmt;
 
 /// What an item is charged beside its key and value, and what it takes of memory beside its charge.
@@ -36,10 +36,13 @@ pub struct Numbers {
 
 impl Numbers {
     // The library's pools: as many as hold so much. Each item is in one of them, by its key.
-    pub(crate) fn pools(&self) -> Vec<Pool> {
+    pub(crate) fn pools(&self) -> Result<Vec<Pool>, Refused> {
         let Pool { bytes, items } = self.pool;
-        let pools = items.div_ceil(MOST_ITEMS).max(bytes.div_ceil(MOST_BYTES)).clamp(1, MOST_POOLS);
-        vec![Pool { bytes: bytes / pools, items: items / pools }; pools as usize]
+        let many = items.div_ceil(MOST_ITEMS).max(bytes.div_ceil(MOST_BYTES)).clamp(1, MOST_POOLS);
+        let mut pools = Vec::new();
+        pools.try_reserve_exact(many as usize).map_err(|_| Refused::NO_MEMORY)?;
+        pools.resize(many as usize, Pool { bytes: bytes / many, items: items / many });
+        Ok(pools)
     }
 
     fn all(&self, of_one: impl Fn(&Flash) -> u64) -> u64 {

@@ -17,6 +17,7 @@ use crate::{
 use std::collections::hash_map::RandomState;
 use std::collections::VecDeque;
 use std::hash::{BuildHasher, Hasher};
+use std::panic::{RefUnwindSafe, UnwindSafe};
 use std::sync::atomic::{AtomicU64, Ordering::Relaxed};
 use std::sync::{Condvar, Mutex, MutexGuard, PoisonError, TryLockError};
 use std::task::{Poll, Waker};
@@ -209,7 +210,7 @@ pub(crate) struct Shard {
 
 /// The shards, and all that their threads share.
 pub(crate) struct Shards {
-    shards: Box<[Shard]>,
+    shards: Vec<Shard>,
     pub device: Option<Checked>,
     page: usize,
     pages: u32,
@@ -225,6 +226,10 @@ pub(crate) struct Shards {
     writers: Bell,
     fillers: Bell,
 }
+
+// What panics in a call (a clock, a device, a task that is woken) does so with the shard as a call leaves it, or its lock free.
+impl UnwindSafe for Shards {}
+impl RefUnwindSafe for Shards {}
 
 /// The length of the value that says that there is no such row.
 pub(crate) const ABSENT: usize = 16;
@@ -244,20 +249,22 @@ pub(crate) type Locked<'a> = MutexGuard<'a, State>;
 impl Shards {
     /// Empty shards with these numbers, over a device that is still to come, where there is flash.
     pub fn new(numbers: &Numbers, options: &Options) -> Result<Shards, Refused> {
-        let pools = numbers.pools();
+        let pools = numbers.pools()?;
         let now = options.clock.now();
-        let made = (0..numbers.shards).map(|_| {
+        let mut shards = Vec::new();
+        shards.try_reserve_exact(usize::from(numbers.shards)).map_err(|_| Refused::NO_MEMORY)?;
+        for _ in 0..numbers.shards {
             let mut engine = match &numbers.flash {
                 Some(flash) => Engine::new_shard(&pools, flash, numbers.shards)?,
                 None => Engine::new_shard_in_memory(&pools, numbers.shards)?,
             };
             engine.tick(now)?;
             let state = Mutex::new(State::new(engine, now));
-            Ok(Shard { state, rings: Rings::default(), quiet: Condvar::new(), lock_waits: AtomicU64::new(0) })
-        });
+            shards.push(Shard { state, rings: Rings::default(), quiet: Condvar::new(), lock_waits: AtomicU64::new(0) });
+        }
         let (page, pages) = numbers.flash.map_or((0, 0), |flash| (flash.page as usize, flash.pages() as u32));
         Ok(Shards {
-            shards: made.collect::<Result<_, Refused>>()?,
+            shards,
             device: None,
             page,
             pages,

@@ -1,6 +1,6 @@
 //! A cache whose own allocations are refused, each in turn: a call answers that it is refused, or what it would have answered, and
 //! a refused call leaves nothing behind. (`memory.rs` refuses those of the library below.)
-use kilambosetry::{Error, Flash, HybridCache, Loaded, Lookup, Options, PageDevice, Pool, Refused};
+use kilambosetry::{Clock, Error, Flash, HybridCache, Loaded, Lookup, OpenError, Options, PageDevice, Pool, Refused};
 use std::alloc::{GlobalAlloc, Layout, System};
 use std::cell::Cell;
 use std::future::Future;
@@ -185,6 +185,29 @@ fn each_refused_allocation_of_each_call_refuses_it_and_nothing_else() {
             assert_eq!(*cache.get_or_load(b"none", 0, || Ok::<_, Error>("row")).unwrap(), *b"row", "{name}, {at}");
         }
         assert!(refused > 0 || matches!(name, "set" | "delete"), "{name} allocates nothing");
+    }
+}
+
+// (a cache with flash starts threads, for which the standard library allocates as it likes: tried from C, in processes of their own)
+#[test]
+fn each_refused_allocation_of_opening_refuses_it() {
+    let hand = Arc::new(AtomicBool::new(false));
+    for at in 1.. {
+        let of_clock = Arc::clone(&hand);
+        UNTIL.set(at);
+        let clock = Clock::try_new(move || u64::from(of_clock.load(SeqCst)));
+        let opened = clock
+            .map_err(OpenError::from)
+            .and_then(|clock| HybridCache::in_memory(&Options { memory: 1_000_000, clock, ..Options::default() }));
+        let is_over = UNTIL.replace(0) > 0;
+        assert_eq!(Arc::strong_count(&hand), 1 + usize::from(opened.is_ok()), "{at}"); // (nothing is leaked)
+        match opened {
+            Ok(cache) => {
+                assert!(is_over && at > 6, "{at}"); // two of the clock, the pools, the shards, and what handles share
+                return cache.set(KEY, b"first", 0).unwrap();
+            }
+            Err(error) => assert!(!is_over && matches!(error, OpenError::NoMemory), "{at}: {error}"),
+        }
     }
 }
 

@@ -3,6 +3,7 @@ use crate::service::Service;
 use crate::signals::without_signals;
 use crate::status::{answered, DONE};
 use crate::why::Why;
+use kilambosetry::border;
 use kilambosetry::{HybridCache, OpenError, Options, PageDevice};
 use std::ffi::{c_char, c_void, CStr, OsStr};
 use std::io;
@@ -56,9 +57,10 @@ fn open(
     *service = ptr::null_mut();
     answered(|| {
         let opened = options.to_options().and_then(|options| without_signals(|| make(&options)));
-        Ok(match opened {
-            Ok(cache) => {
-                *service = Box::into_raw(Box::new(Service::new(cache)));
+        let boxed = opened.and_then(|cache| Ok(border::boxed(Service::new(cache))?));
+        Ok(match boxed {
+            Ok(opened) => {
+                *service = Box::into_raw(opened);
                 DONE
             }
             Err(error) => why.note(error),

@@ -60,7 +60,7 @@ impl ServiceOptions {
         options.unknown_for = Duration::from_secs(self.unknown_for);
         if let Some(clock) = self.clock {
             let context = Context::new(self.clock_context);
-            options.clock = Clock::new(move || clock(context.at()));
+            options.clock = Clock::try_new(move || clock(context.at()))?;
         }
         Ok(options)
     }
