@@ -1,7 +1,8 @@
 /* Checks of the service from C: what its calls answer in one thread and in many, over devices that fail, lie and hang, and where
  * memory is refused. It exits with 1 where a check fails.
  *
- *     service_checks [FOLDER [N]]     FOLDER is for its files, and /tmp where none is named; loads are an Nth as long
+ *     service_checks [FOLDER [N [alone]]]     FOLDER is for its files, and /tmp where none is named; loads are an Nth as long. With
+ *                                             the third word no other process is begun: what one leaves that is ended would be lost
  *
  * It is linked with --wrap for malloc, calloc, realloc, posix_memalign, pread64, pwrite64 and preadv2, so that it can refuse and shorten
  * those of the service's library too. */
@@ -1319,7 +1320,7 @@ int main(int len, char **words) {
     if (part == 0) part = 1;
     setvbuf(stdout, NULL, _IOLBF, 0);
     for (unsigned i = 0; i < ROWS; i++) pthread_mutex_init(&rows[i].lock, NULL);
-    if (part < 32) check_opening_memory(); /* (not under valgrind: what a process leaves that is ended would be lost) */
+    if (len < 4) check_opening_memory();
     check_numbers();
     check_opening();
     check_calls();
