@@ -183,7 +183,7 @@ else
     echo "the service's types and calls: those of its header"
     service service-checks "$here/c/service_checks.c" $refusing $static
     "$out/service-checks" "$out"
-    under_valgrind "no error, nothing lost" --fair-sched=yes $all_leaks "$out/service-checks" "$out" 32
+    under_valgrind "no error, nothing lost" --fair-sched=yes $all_leaks "$out/service-checks" "$out" 32 alone
     if makes "" -fsanitize=address,undefined && "$out/tried"; then
         service service-sanitized "$here/c/service_checks.c" -fsanitize=address,undefined -fno-sanitize-recover=all $refusing $static
         "$out/service-sanitized" "$out" 16
