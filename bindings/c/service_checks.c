@@ -231,13 +231,30 @@ static unsigned hanging(void) {
 
 static pthread_mutex_t second_lock = PTHREAD_MUTEX_INITIALIZER;
 static uint64_t second = 1000;
+static unsigned inside = 0; /* threads that are inside the call that they announced: each asks the clock there */
+static _Thread_local bool is_announced = false;
 
 static uint64_t tell_second(void *context) {
     (void)context;
     pthread_mutex_lock(&second_lock);
     uint64_t now = second;
+    inside += is_announced;
+    is_announced = false;
     pthread_mutex_unlock(&second_lock);
     return now;
+}
+
+/* Waits until so many are, and begins to count anew. */
+static void wait_inside(unsigned many) {
+    bool are_inside = false;
+    for (unsigned i = 0; i < 60000 && !are_inside; i++) {
+        sleep_ms(1);
+        pthread_mutex_lock(&second_lock);
+        are_inside = inside == many;
+        if (are_inside) inside = 0;
+        pthread_mutex_unlock(&second_lock);
+    }
+    CHECK(are_inside);
 }
 
 static void set_second(uint64_t now) {
@@ -1104,6 +1121,7 @@ static void check_absent(void) {
 
 static void *flush(void *of) {
     struct waiter *it = of;
+    is_announced = true;
     it->status = kilambosetry_service_flush(it->service);
     return NULL;
 }
@@ -1123,10 +1141,10 @@ static void check_closing_amid_a_flush(void) {
             waiters[at] = (struct waiter){service, "", 0};
             CHECK(pthread_create(&threads[at], NULL, flush, &waiters[at]) == 0);
         }
-        sleep_ms(5);
+        wait_inside(4); /* (no call may begin once it is closed) */
         pthread_mutex_unlock(&device.lock);
         if (i % 2 == 0) sleep_ms(1);
-        kilambosetry_service_shut(service); /* (so that those which come late still find it) */
+        if (i % 8 < 4) kilambosetry_service_shut(service);
         for (unsigned at = 0; i % 4 < 2 && at < 4; at++) pthread_join(threads[at], NULL);
         kilambosetry_service_close(service);
         for (unsigned at = 0; i % 4 >= 2 && at < 4; at++) pthread_join(threads[at], NULL);
