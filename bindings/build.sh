@@ -3,7 +3,8 @@
 #
 #   bindings/build.sh            library, C checks and examples (under valgrind too, where there is one), cargo test, the server; with rt
 #                                also the example in Rattle
-#   bindings/build.sh --short    the same without `cargo test` of the crate, which is a command by itself
+#   bindings/build.sh --short    the same without `cargo test` of the crate, which is a command by itself, with shorter loads under
+#                                valgrind, and without a look through the code of the packages that need Debian's crates
 #   bindings/build.sh --library  the library alone
 #   bindings/build.sh --c        library and C checks alone
 #   bindings/build.sh --speed    also the comparison with other caches, where Debian's crate `lru` (librust-lru-dev) is installed
@@ -11,7 +12,7 @@
 #   bindings/build.sh --memory   also what a cache with flash keeps in memory, beside what its pool says
 #   bindings/build.sh --server   also the server's long runs: many lines beside memcached and damaged ones, and what it costs
 #
-# What it makes lies in bindings/out, as in a prefix: lib, lib/pkgconfig and include. PREFIX is what the file for pkg-config
+# What it makes lies in bindings/out, as in a prefix: lib, lib/pkgconfig and include; and the Cargo package (bindings/package). PREFIX is what the file for pkg-config
 # names, where the three are to be copied elsewhere. What a machine lacks is skipped, and said so. Without rt the library is the one
 # of dist/.
 set -eu
@@ -183,7 +184,8 @@ else
     echo "the service's types and calls: those of its header"
     service service-checks "$here/c/service_checks.c" $refusing $static
     "$out/service-checks" "$out"
-    under_valgrind "no error, nothing lost" --fair-sched=yes $all_leaks "$out/service-checks" "$out" 32 alone
+    if [ "$what" = --short ]; then loads=32; else loads=1; fi
+    under_valgrind "no error, nothing lost" --fair-sched=yes $all_leaks "$out/service-checks" "$out" "$loads" alone
     if makes "" -fsanitize=address,undefined && "$out/tried"; then
         service service-sanitized "$here/c/service_checks.c" -fsanitize=address,undefined -fno-sanitize-recover=all $refusing $static
         "$out/service-sanitized" "$out" 16
