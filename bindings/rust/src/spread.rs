@@ -22,7 +22,8 @@ impl Spread {
             let words = u128::from_le_bytes(words);
             state = folded(words as u64 ^ state, (words >> 64) as u64 ^ state.rotate_left(32) ^ GOLDEN);
         }
-        state
+        // (of keys of up to 8 bytes the one factor was the same for all: by some numbers keys that differ in few bytes lie together)
+        folded(state, state.rotate_left(32) ^ GOLDEN)
     }
 }
 
@@ -53,6 +54,17 @@ mod tests {
         for word in [0, 1, u64::MAX, GOLDEN, !GOLDEN, GOLDEN.rotate_left(32), 0x243f_6a88_85a3_08d3] {
             let (taken, most) = places(&spread, word);
             assert!(taken == 16 && most < 200, "{word:x}: {taken} of 16, {most} of 1600 at one");
+        }
+    }
+
+    #[test]
+    fn keys_that_differ_in_few_bytes_are_spread_by_every_number() {
+        let keys: Vec<_> = (0..400).map(|number| format!("key{number}").into_bytes()).collect();
+        for seed in 0..2_000u64 {
+            let spread = Spread(folded(seed, GOLDEN));
+            let mut places = [0; 4];
+            keys.iter().for_each(|key| places[(spread.hash(key) >> 62) as usize] += 1);
+            assert!(places.iter().all(|keys| (50..=160).contains(keys)), "{places:?} by {seed}");
         }
     }
 
