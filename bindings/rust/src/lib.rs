@@ -64,6 +64,7 @@ mod leases;
 mod library;
 mod loaded;
 mod loads;
+mod many;
 mod numbers;
 mod options;
 mod refused;

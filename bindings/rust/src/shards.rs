@@ -164,8 +164,8 @@ impl State {
         self.left.try_reserve(self.lent + 1).is_ok()
     }
 
-    // A call waits, in the places that were kept.
-    fn begin(&mut self, call: u64) {
+    /// A call waits, in the places that were kept.
+    pub fn begin(&mut self, call: u64) {
         self.calls.begin(call, &mut self.wakes);
     }
 
@@ -412,13 +412,34 @@ impl Shards {
     /// those of who waits longer. Where another thread makes it, it sleeps.
     pub fn fill_for<'a>(&'a self, shard: usize, mut state: Locked<'a>, call: u64) -> Answer {
         state.begin(call);
+        self.fill_on(shard, state, call)
+    }
+
+    /// The same of a call that waits already.
+    pub fn fill_on<'a>(&'a self, shard: usize, mut state: Locked<'a>, call: u64) -> Answer {
+        loop {
+            match self.fill_until_idle(shard, state, call) {
+                Ok(answer) => return answer,
+                Err((idle, most)) => state = self.sleep_for_call(shard, idle, call, most),
+            }
+        }
+    }
+
+    /// Makes the reads that are to be made until the call is answered: its answer. Where there is none to be made, the shard again,
+    /// and for how long at most one may sleep then.
+    pub fn fill_until_idle<'a>(
+        &'a self,
+        shard: usize,
+        mut state: Locked<'a>,
+        call: u64,
+    ) -> Result<Answer, (Locked<'a>, Option<Duration>)> {
         loop {
             if let Some(answer) = state.calls.take(call) {
-                return answer;
+                return Ok(answer);
             }
             match state.engine.filler_take() {
-                Ok(Take::Idle) => drop(self.sleep_for_call(shard, state, call, None)),
-                Err(_) => drop(self.sleep_for_call(shard, state, call, Some(PAUSE))),
+                Ok(Take::Idle) => return Err((state, None)),
+                Err(_) => return Err((state, Some(PAUSE))),
                 Ok(take) => self.complete(shard, state, take),
             }
             state = self.lock(shard);
@@ -429,6 +450,17 @@ impl Shards {
     // this thread would have to wait.
     fn wait_for<'a>(&'a self, shard: usize, state: Locked<'a>, (key, call): (&[u8], u64), until: Instant) -> Answer {
         let state = self.begin_waiting(shard, state, call);
+        self.wait_or_give_up(shard, state, (key, call), until)
+    }
+
+    /// Waits for the answer of a get of this key that waits, until this moment at most, and gives it up then.
+    pub fn wait_or_give_up<'a>(
+        &'a self,
+        shard: usize,
+        state: Locked<'a>,
+        (key, call): (&[u8], u64),
+        until: Instant,
+    ) -> Answer {
         match self.wait_on(shard, state, call, Some(until)) {
             Ok(answer) => answer,
             Err(mut state) => {
@@ -443,9 +475,19 @@ impl Shards {
     /// Begins a call that waits, and makes its reads as far as nobody has to wait for one. The fillers make the others.
     pub fn begin_waiting<'a>(&'a self, shard: usize, mut state: Locked<'a>, call: u64) -> Locked<'a> {
         state.begin(call);
-        state = self.fill_now(shard, state, call);
-        self.fillers.ring(shard);
+        self.begin_reads(shard, state, call)
+    }
+
+    /// Makes the reads of a call that waits as far as nobody has to wait for one. The fillers make the others.
+    pub fn begin_reads<'a>(&'a self, shard: usize, state: Locked<'a>, call: u64) -> Locked<'a> {
+        let state = self.fill_now(shard, state, call);
+        self.call_filler(shard);
         state
+    }
+
+    /// Calls a filler to the shard.
+    pub fn call_filler(&self, shard: usize) {
+        self.fillers.ring(shard);
     }
 
     /// Waits for the answer of a call that waits, until this moment at most: the shard again, where there is none by then.

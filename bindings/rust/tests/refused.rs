@@ -1,6 +1,8 @@
 //! A cache whose own allocations are refused, each in turn: a call answers that it is refused, or what it would have answered, and
 //! a refused call leaves nothing behind. (`memory.rs` refuses those of the library below.)
-use kilambosetry::{Clock, Error, Flash, HybridCache, Loaded, Lookup, OpenError, Options, PageDevice, Pool, Refused};
+use kilambosetry::{
+    Clock, Error, Flash, HybridCache, Loaded, Lookup, OpenError, Options, PageDevice, Pool, Refused, Value,
+};
 use std::alloc::{GlobalAlloc, Layout, System};
 use std::cell::Cell;
 use std::future::Future;
@@ -139,9 +141,17 @@ fn stored(looked: Lookup) -> Result<bool, Error> {
     }
 }
 
-const CALLS: [(&str, Call); 14] = [
+// Whether the key was found, as the second of two. What is refused of the first is refused of the call.
+fn second(found: Result<Vec<Result<Option<Value>, Error>>, Refused>) -> Result<bool, Error> {
+    let found = found?.into_iter().collect::<Result<Vec<_>, _>>()?;
+    Ok(found[1].is_some())
+}
+
+const CALLS: [(&str, Call); 16] = [
     ("get", |cache, _, _| cache.get(KEY).map(|value| value.is_some())),
     ("get_timeout", |cache, _, _| cache.get_timeout(KEY, Duration::from_secs(60)).map(|value| value.is_some())),
+    ("get_many", |cache, _, _| second(cache.get_many(&[b"other", KEY]))),
+    ("get_many_timeout", |cache, _, _| second(cache.get_many_timeout(&[b"other", KEY], Duration::from_secs(60)))),
     ("get_into", |cache, _, _| cache.get_into(KEY, &mut [0; 64]).map(|length| length == Some(5))),
     ("get_async", |cache, _, waker| block_on(waker, cache.get_async(KEY)).map(|value| value.is_some())),
     ("set", |cache, _, _| cache.set(KEY, b"new", 0).map(|()| true)),
@@ -209,6 +219,27 @@ fn each_refused_allocation_of_opening_refuses_it() {
             Err(error) => assert!(!is_over && matches!(error, OpenError::NoMemory), "{at}: {error}"),
         }
     }
+}
+
+#[test]
+fn a_key_of_many_for_which_there_is_no_memory_takes_nothing_from_the_others() {
+    let wanted: Vec<[u8; 1]> = (0..8).map(|number| [number]).collect();
+    let mut alone = 0;
+    for at in 1.. {
+        let cache = HybridCache::in_memory(&Options { shards: 2, ..Options::default() }).unwrap();
+        wanted.iter().for_each(|key| cache.set(key, b"value", 0).unwrap());
+        UNTIL.set(at);
+        let found = cache.get_many(&wanted);
+        if UNTIL.replace(0) > 0 {
+            break;
+        }
+        let Ok(found) = found else { continue }; // (there was none for the answers)
+        let refused = found.iter().filter(|found| **found == Err(Error::Refused(Refused::NO_MEMORY)));
+        let right = found.iter().filter(|found| found.as_ref().is_ok_and(|value| value.as_deref() == Some(b"value")));
+        assert_eq!((found.len(), refused.count(), right.count()), (8, 1, 7), "{at}");
+        alone += 1;
+    }
+    assert!(alone >= 8, "{alone}");
 }
 
 #[test]
