@@ -174,6 +174,23 @@ uint8_t kilambosetry_service_get(kilambosetry_service *service, const uint8_t *k
 uint8_t kilambosetry_service_read(kilambosetry_service *service, const uint8_t *key, size_t key_len,
                                   kilambosetry_value *value, int64_t limit);
 
+/* One of many keys. What is to be found is set by the caller; the value is empty (KILAMBOSETRY_NONE), or one of an earlier call,
+ * which is freed first. Each value that was found is to be freed. */
+typedef struct {
+    const uint8_t *key;
+    size_t key_len;
+    kilambosetry_value value; /* DONE: what the key has */
+    uint8_t status;           /* as `kilambosetry_service_read` answers of this key: DONE, MISS, TIMED_OUT, or why it is refused */
+} kilambosetry_wanted;
+
+/* Finds many keys, each as `kilambosetry_service_read` does, and tells of each what came of it; the same key may be there twice.
+ * Each shard is locked once for all its keys. All are asked for before the first is waited for, and read from flash side by side.
+ * The limit is one for all: of those that aren't answered by then each is TIMED_OUT and given up, and the others have their
+ * answers. What is refused of one key takes nothing from the others: DONE. Where the whole is refused (NO_MEMORY, CLOSED) each
+ * status is that too. */
+uint8_t kilambosetry_service_read_many(kilambosetry_service *service, kilambosetry_wanted *wanted, size_t count,
+                                       int64_t limit);
+
 /* Stores a copy of the value under the key, in place of what the key has, for `ttl` seconds from now (0: for good). A row of a
  * database isn't stored by this, nor by an add, but by who loads it: two who set a key may do so in another order than they
  * committed. */

@@ -648,6 +648,80 @@ static void check_limits(void) {
     kilambosetry_service_close(service);
 }
 
+/* ---- many keys ---- */
+
+enum { MANY = 64 };
+static kilambosetry_wanted wanted[MANY];
+static uint8_t wanted_keys[MANY][32];
+
+/* Asks for the first keys and their like, in this order, and for some that there aren't. */
+static void want(void) {
+    for (unsigned i = 0; i < MANY; i++) {
+        wanted[i].key = wanted_keys[i];
+        wanted[i].key_len = key_of(i, wanted_keys[i]);
+    }
+}
+
+/* Whether what was found of this key is its row. */
+static bool is_row(unsigned i) {
+    uint8_t out[1024];
+    size_t len = 0;
+    return wanted[i].value.full && kilambosetry_value_copy(&wanted[i].value, 0, out, sizeof out, &len) == KILAMBOSETRY_DONE &&
+           version_of(i, out, len) == 1;
+}
+
+/* How many keys have this status. What is DONE is the key's row, and nothing else has a value. */
+static unsigned having(uint8_t status) {
+    unsigned many = 0;
+    for (unsigned i = 0; i < MANY; i++) {
+        many += wanted[i].status == status;
+        CHECK(wanted[i].status == KILAMBOSETRY_DONE ? is_row(i) : !wanted[i].value.full);
+    }
+    return many;
+}
+
+static void check_many(void) {
+    kilambosetry_service *service = open_small();
+    kilambosetry_service_stats stats;
+    static const uint8_t long_key[256];
+    fill_up(service, 300); /* (so that the first are on flash alone) */
+    want();
+    CHECK(kilambosetry_service_read_many(service, NULL, 0, FOREVER) == KILAMBOSETRY_DONE);
+    CHECK(kilambosetry_service_read_many(service, wanted, MANY, FOREVER) == KILAMBOSETRY_DONE);
+    CHECK(having(KILAMBOSETRY_DONE) == MANY);
+    kilambosetry_service_tell(service, &stats);
+    CHECK(stats.hits_from_flash >= MANY / 2);
+    wanted[3] = wanted[4]; /* (a key twice, by handles of their own) */
+    wanted[3].value = (kilambosetry_value)KILAMBOSETRY_NONE;
+    CHECK(kilambosetry_service_read_many(service, wanted, MANY, 60000) == KILAMBOSETRY_DONE);
+    CHECK(wanted[3].status == KILAMBOSETRY_DONE && wanted[3].value.full && wanted[3].value.at != wanted[4].value.at);
+    kilambosetry_value_free(&wanted[3].value);
+    want();
+    wanted[5].key = long_key; /* refused, and the others aren't */
+    wanted[5].key_len = 256;
+    wanted[6].key_len = 0;
+    CHECK(kilambosetry_service_delete(service, wanted[7].key, wanted[7].key_len) <= KILAMBOSETRY_MISS);
+    CHECK(kilambosetry_service_read_many(service, wanted, MANY, FOREVER) == KILAMBOSETRY_DONE);
+    CHECK(wanted[5].status == KILAMBOSETRY_KEY_TOO_LONG && wanted[6].status == KILAMBOSETRY_KEY_EMPTY);
+    CHECK(having(KILAMBOSETRY_DONE) == MANY - 3 && wanted[7].status == KILAMBOSETRY_MISS);
+    want();
+    fill_up(service, 300);
+    set_device(true, 0, 0);
+    int64_t before = now_ms();
+    CHECK(kilambosetry_service_read_many(service, wanted, MANY, 500) == KILAMBOSETRY_DONE);
+    CHECK(now_ms() - before >= 500 && now_ms() - before < MANY / 2 * 500); /* (once, and not for each) */
+    CHECK(having(KILAMBOSETRY_TIMED_OUT) >= MANY / 2);
+    kilambosetry_service_tell(service, &stats);
+    CHECK(stats.waiting == 0 && stats.given_up >= MANY / 2);
+    set_device(false, 0, 0);
+    CHECK(kilambosetry_service_read_many(service, wanted, MANY, FOREVER) == KILAMBOSETRY_DONE);
+    CHECK(having(KILAMBOSETRY_DONE) == MANY);
+    kilambosetry_service_shut(service);
+    CHECK(kilambosetry_service_read_many(service, wanted, MANY, FOREVER) == KILAMBOSETRY_CLOSED);
+    CHECK(having(KILAMBOSETRY_CLOSED) == MANY);
+    kilambosetry_service_close(service);
+}
+
 /* ---- leases ---- */
 
 static void check_leases(void) {
@@ -1197,8 +1271,13 @@ static void live(kilambosetry_service *service) {
         CHECK(status == KILAMBOSETRY_DONE || status == KILAMBOSETRY_MISS || status == KILAMBOSETRY_NO_MEMORY);
         if (status == KILAMBOSETRY_DONE) CHECK(version_of(i, out, len) == 1);
     }
+    want();
+    uint8_t status = kilambosetry_service_read_many(service, wanted, MANY, FOREVER);
+    CHECK(status == KILAMBOSETRY_DONE || status == KILAMBOSETRY_NO_MEMORY);
+    CHECK(having(KILAMBOSETRY_DONE) + having(KILAMBOSETRY_MISS) + having(KILAMBOSETRY_NO_MEMORY) == MANY);
+    for (unsigned i = 0; i < MANY; i++) kilambosetry_value_free(&wanted[i].value);
     size_t key_len = key_of(1, key);
-    uint8_t status = kilambosetry_service_begin(service, key, key_len, &value, &begun);
+    status = kilambosetry_service_begin(service, key, key_len, &value, &begun);
     if (status == KILAMBOSETRY_WAITS) status = kilambosetry_service_end(service, &begun, &value, 30000);
     CHECK(status == KILAMBOSETRY_DONE || status == KILAMBOSETRY_MISS || status == KILAMBOSETRY_NO_MEMORY);
     kilambosetry_value_free(&value);
@@ -1349,6 +1428,7 @@ int main(int len, char **words) {
     check_file(false);
     check_file(true);
     check_limits();
+    check_many();
     check_leases();
     check_no_patience();
     check_changes();

@@ -6,6 +6,7 @@ mod begun;
 mod calls;
 mod inside;
 mod loads;
+mod many;
 mod opening;
 mod options;
 mod pointers;

@@ -18,10 +18,19 @@ pub unsafe fn bytes<'a>(at: *const u8, len: usize) -> &'a [u8] {
 /// # Safety
 /// It is valid for the length, and nobody else has it during the call.
 pub unsafe fn room<'a>(at: *mut u8, len: usize) -> &'a mut [u8] {
-    match len {
+    // SAFETY: the caller's.
+    unsafe { list(at, len) }
+}
+
+/// The list of a caller, which is read and written.
+///
+/// # Safety
+/// It is valid for so many, and nobody else has it during the call.
+pub unsafe fn list<'a, T>(at: *mut T, count: usize) -> &'a mut [T] {
+    match count {
         0 => &mut [],
         // SAFETY: the caller's.
-        _ => unsafe { slice::from_raw_parts_mut(at, len) },
+        _ => unsafe { slice::from_raw_parts_mut(at, count) },
     }
 }
 

@@ -41,6 +41,7 @@ fn kind(word: &str) -> &str {
         "kilambosetry_pool" | "Pool" => "pool",
         "kilambosetry_flash" | "Flash" => "flash",
         "kilambosetry_losses_t" | "Losses" => "losses",
+        "kilambosetry_value" | "Held" => "value",
         other => panic!("{other} is no type of the header"),
     }
 }
@@ -100,6 +101,7 @@ fn types_are_those_of_the_header() {
         ("lease", "ServiceLease"),
         ("change", "ServiceChange"),
         ("begun", "ServiceBegun"),
+        ("wanted", "ServiceWanted"),
         ("service_stats", "ServiceStats"),
     ];
     let of_c = c_types();
