@@ -70,14 +70,15 @@ async fn get<S: Stream>(
     with_unique: bool,
     answers: &mut Answers<S>,
 ) -> io::Result<()> {
-    let mut wait = worker.server.items.wait();
-    for (number, key) in keys.iter().enumerate() {
-        if number % KEYS_AT_ONCE == KEYS_AT_ONCE - 1 {
-            worker.counters.conn_yields.one();
+    let mut finds = worker.server.finds(keys.iter());
+    let mut number = 0;
+    while let Some((key, found)) = finds.next().await {
+        number += 1;
+        let counters = &worker.counters;
+        if number % KEYS_AT_ONCE == 0 {
+            counters.conn_yields.one();
             task::yield_now().await;
         }
-        let found = worker.server.items.find_within(key, &mut wait).await;
-        let counters = &worker.counters;
         counters.cmd_get.one();
         counters.get_hits.one_or(found.is_some(), &counters.get_misses);
         tell(key, found, with_unique, answers).await?;
@@ -93,9 +94,15 @@ async fn get_and_touch<S: Stream>(
     time: i32,
     answers: &mut Answers<S>,
 ) -> io::Result<()> {
-    let mut wait = worker.server.items.wait();
+    let items = &worker.server.items;
+    let mut finds = worker.server.finds(keys.iter());
+    let are_asked_for = items.longest_on_flash().is_some() && keys.iter().nth(1).is_some();
     for key in keys.iter() {
-        let found = touched(worker, key, time, &mut wait).await;
+        if are_asked_for {
+            // (without the key's lock, so that it is likely in memory once it is touched)
+            finds.next_found().await;
+        }
+        let found = touched(worker, key, time, finds.wait()).await;
         tell(key, found, with_unique, answers).await?;
     }
     answers.line(b"END");

@@ -1,15 +1,17 @@
 //! The items of the cache, found by anyone, and changed under the lock of their key.
 use crate::bars::Bars;
-use crate::head::{Head, Item};
+use crate::finds::{Asked, Found};
+use crate::head::{Head, Item, HEAD, LONGEST_VALUE};
 use crate::locks::{KeyLock, KeyLocks};
 use crate::moments::{self, Expiry};
-use crate::within::within;
-use kilambosetry::{Error, HybridCache, Refused};
+use crate::within::{within, TimeIsUp};
+use kilambosetry::{Error, GetAsync, HybridCache, Refused};
 use std::sync::atomic::{
     AtomicU32, AtomicU64,
     Ordering::{Relaxed, SeqCst},
 };
 use std::sync::{Mutex, PoisonError};
+use std::task::Context;
 use std::time::{Duration, SystemTime, UNIX_EPOCH};
 use tokio::task::JoinHandle;
 
@@ -28,6 +30,8 @@ pub struct Items {
     bars: Bars,
     // how long a find waits for flash
     patience: Duration,
+    // the longest value that flash may have; none, where there is no flash
+    longest_on_flash: Option<usize>,
     // finds that met an item that was over
     found_flushed: AtomicU64,
     found_expired: AtomicU64,
@@ -47,6 +51,23 @@ struct Flushed {
 #[derive(Debug)]
 pub struct Wait(Duration);
 
+impl Wait {
+    /// Whether none waits any more.
+    #[must_use]
+    pub fn is_over(&self) -> bool {
+        self.0.is_zero()
+    }
+
+    /// What the get is answered in time; else it is given up.
+    pub async fn answer_of(&mut self, get: GetAsync<'_>) -> Found {
+        let answer = within(self.0, get).await;
+        answer.unwrap_or_else(|TimeIsUp| {
+            self.0 = Duration::ZERO;
+            Err(Error::TimedOut)
+        })
+    }
+}
+
 /// Why an item wasn't stored. What its key had is gone.
 #[derive(Clone, Copy, Debug, PartialEq, Eq)]
 pub enum NotKept {
@@ -63,7 +84,10 @@ impl Items {
         let last = AtomicU64::new(started);
         let (flushed, bars) = (Flushed::default(), Bars::default());
         let (found_flushed, found_expired) = (AtomicU64::new(0), AtomicU64::new(0));
-        Items { cache, locks: KeyLocks::default(), last, flushed, bars, patience, found_flushed, found_expired }
+        let longest = |admitted| usize::try_from(admitted).unwrap_or(usize::MAX).min(HEAD + LONGEST_VALUE);
+        let longest_on_flash = cache.numbers().flash.map(|flash| longest(flash.admit_max));
+        let locks = KeyLocks::default();
+        Items { cache, locks, last, flushed, bars, patience, longest_on_flash, found_flushed, found_expired }
     }
 
     #[must_use]
@@ -116,10 +140,27 @@ impl Items {
         if self.locks.is_hidden(key) {
             return None;
         }
-        let Ok(found) = within(wait.0, self.cache.get_async(key)).await else {
-            *wait = Wait(Duration::ZERO);
-            return None;
-        };
+        let found = wait.answer_of(self.cache.get_async(key)).await;
+        self.item_of(found)
+    }
+
+    /// Asks for the key, and waits for nothing.
+    pub fn ask<'a>(&'a self, key: &'a [u8], context: &mut Context<'_>) -> Asked<'a> {
+        if self.locks.is_hidden(key) {
+            return Asked::Came(Ok(None));
+        }
+        Asked::of(self.cache.get_async(key), context)
+    }
+
+    /// The longest value that flash may have; none, where there is no flash.
+    #[must_use]
+    pub fn longest_on_flash(&self) -> Option<usize> {
+        self.longest_on_flash
+    }
+
+    /// The item that was found, unless it is over.
+    #[must_use]
+    pub fn item_of(&self, found: Found) -> Option<Item> {
         let item = Item::read(found.ok()??.into_vec())?;
         let now = moments::now();
         if item.head.unique < self.first_kept(now) {

@@ -13,6 +13,7 @@ mod classic;
 pub mod config;
 mod connection;
 pub mod counters;
+mod finds;
 mod flags;
 pub mod handles;
 pub mod head;

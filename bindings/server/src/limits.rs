@@ -18,12 +18,13 @@ pub struct Patience {
 #[derive(Debug)]
 pub struct InFlight {
     left: AtomicUsize,
+    most: usize,
 }
 
 impl InFlight {
     #[must_use]
     pub fn new(most: usize) -> Arc<InFlight> {
-        Arc::new(InFlight { left: AtomicUsize::new(most) })
+        Arc::new(InFlight { left: AtomicUsize::new(most), most })
     }
 
     /// The bytes that are left.
@@ -49,8 +50,30 @@ impl Share {
     /// Has so many bytes in all from now on: whether there were as many. Else it is as it was.
     #[must_use]
     pub fn grow_to(&mut self, bytes: usize) -> bool {
+        self.grow(bytes, 0)
+    }
+
+    /// The same of what could wait: half of all bytes are left to others.
+    #[must_use]
+    pub fn grow_spare(&mut self, bytes: usize) -> bool {
+        self.grow(bytes, self.of.most / 2)
+    }
+
+    /// The same, where it has more, and gives the others back, or less.
+    #[must_use]
+    pub fn set_spare(&mut self, bytes: usize) -> bool {
+        if bytes >= self.bytes {
+            return self.grow_spare(bytes);
+        }
+        self.of.left.fetch_add(self.bytes - bytes, Relaxed);
+        self.bytes = bytes;
+        true
+    }
+
+    fn grow(&mut self, bytes: usize, leaves: usize) -> bool {
         let more = bytes.saturating_sub(self.bytes);
-        let is_granted = self.of.left.fetch_update(Relaxed, Relaxed, |left| left.checked_sub(more)).is_ok();
+        let grant = |left: usize| left.checked_sub(more).filter(|left| *left >= leaves);
+        let is_granted = self.of.left.fetch_update(Relaxed, Relaxed, grant).is_ok();
         if is_granted {
             self.bytes += more;
         }
@@ -85,6 +108,18 @@ mod tests {
         drop(one);
         assert!(other.grow_to(100));
         other.clear();
+        assert_eq!(all.left(), 100);
+    }
+
+    #[test]
+    fn what_could_wait_leaves_half_to_others() {
+        let all = InFlight::new(100);
+        let (mut one, mut other) = (Share::none_of(&all), Share::none_of(&all));
+        assert!(one.grow_spare(50) && !one.grow_spare(51) && !other.grow_spare(1) && other.grow_to(50));
+        assert!(one.set_spare(20) && all.left() == 30 && !one.set_spare(21));
+        other.clear();
+        assert!(one.set_spare(50) && all.left() == 50);
+        drop(one);
         assert_eq!(all.left(), 100);
     }
 }

@@ -1,6 +1,7 @@
 //! What all connections share.
 use crate::config::Config;
 use crate::counters::{Counters, Sums};
+use crate::finds::Finds;
 use crate::items::Items;
 use crate::limits::{InFlight, Patience};
 use kilambosetry::HybridCache;
@@ -48,6 +49,11 @@ impl Server {
     /// The workers, one a thread.
     pub fn workers(self: &Arc<Server>) -> impl Iterator<Item = Worker> + '_ {
         self.counters.iter().map(|counters| Worker { server: Arc::clone(self), counters: Arc::clone(counters) })
+    }
+
+    /// The finds of a command's keys.
+    pub fn finds<'a, K: Iterator<Item = &'a [u8]>>(&'a self, keys: K) -> Finds<'a, K> {
+        Finds::new(&self.items, &self.in_flight, keys)
     }
 
     /// What all workers counted.

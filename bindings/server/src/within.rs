@@ -14,6 +14,7 @@ pub async fn within<F: Future>(limit: Duration, future: F) -> Result<F::Output, 
     let first = poll_fn(|context| Poll::Ready(future.as_mut().poll(context))).await;
     match first {
         Poll::Ready(output) => Ok(output),
+        Poll::Pending if limit.is_zero() => Err(TimeIsUp),
         Poll::Pending => tokio::time::timeout(limit, future).await.map_err(|_| TimeIsUp),
     }
 }

@@ -1,6 +1,7 @@
 //! What a client may take of the server: bytes, and time.
 mod support;
 
+use std::collections::HashMap;
 use std::io::Read;
 use std::thread;
 use std::time::{Duration, Instant};
@@ -122,6 +123,86 @@ fn a_refused_value_takes_the_old_one_only_where_it_was_to_replace_it() {
         assert_eq!(client.line(), "SERVER_ERROR object too large for cache", "{command}");
         assert_eq!(client.value("key").is_some(), stays, "{command}");
     }
+    assert!(running.stop());
+}
+
+// The values that a command for these keys finds, by their keys.
+fn found(client: &mut Client) -> HashMap<String, String> {
+    let mut found = HashMap::new();
+    loop {
+        let line = client.line();
+        if line == "END" {
+            return found;
+        }
+        let key = line.split(' ').nth(1).unwrap().to_string();
+        found.insert(key, client.line());
+    }
+}
+
+#[test]
+fn a_get_of_many_keys_asks_for_all_before_it_waits_for_the_first() {
+    let keys: String = (0..100).map(|key| format!(" key{key}")).collect();
+    for command in ["get", "gets", "gat 0"] {
+        let device = Hanging::default();
+        let running = over(&device, &["--flash-wait", "60000"]);
+        fill(&running, 400);
+        device.hang(true);
+        let mut client = Client::of(&running);
+        client.send(&format!("{command}{keys}\r\n"));
+        // each of the four fillers reads for it
+        wait_until(|| device.waiting() == 4 && running.server.items.cache().stats().waiting > 50);
+        device.hang(false);
+        let found = found(&mut client);
+        for key in 0..100 {
+            assert_eq!(found.get(&format!("key{key}")), Some(&format!("{key:06}")), "{command}");
+        }
+        assert!(running.stop());
+    }
+}
+
+#[test]
+fn a_get_of_many_keys_answers_in_their_order_what_memory_and_flash_have() {
+    let device = Hanging::default();
+    let running = over(&device, &[]);
+    fill(&running, 400);
+    // more than are asked for at once, some twice, and some that there aren't
+    let keys: Vec<_> = (0..600).map(|at| at * 7 % 450).collect();
+    let mut client = Client::of(&running);
+    client.send(&format!("get{}\r\n", keys.iter().map(|key| format!(" key{key}")).collect::<String>()));
+    for key in keys.iter().filter(|key| **key < 400) {
+        assert_eq!(client.line(), format!("VALUE key{key} 0 6"));
+        assert_eq!(client.line(), format!("{key:06}"));
+    }
+    assert_eq!(client.line(), "END");
+    let sums = running.server.sums();
+    assert_eq!((sums.cmd_get, sums.get_hits), (600, keys.iter().filter(|key| **key < 400).count() as u64));
+    assert!(running.stop());
+}
+
+#[test]
+fn what_is_asked_for_ahead_leaves_half_of_the_bytes_in_flight_to_others() {
+    let device = Hanging::default();
+    let running = over(&device, &["--flash-wait", "60000", "--in-flight", "1"]);
+    fill(&running, 600);
+    device.hang(true);
+    let keys: String = (0..300).map(|key| format!(" key{key}")).collect();
+    let mut clients: Vec<_> = (0..8).map(|_| Client::of(&running)).collect();
+    clients.iter_mut().for_each(|client| client.send(&format!("get{keys}\r\n")));
+    // (a value of flash may have 4000 bytes: 125 of them are half a megabyte, and each client has one beside)
+    wait_until(|| running.server.items.cache().stats().waiting == 125 + 8);
+    let left = running.server.in_flight.left();
+    assert!((500_000..510_000).contains(&left), "{left}");
+    let mut other = Client::of(&running);
+    let body = "x".repeat(300_000);
+    // (it comes whole, and the cache has no room for it)
+    let answer = other.ask(&format!("set other 0 0 {}\r\n{body}\r\n", body.len()));
+    assert_eq!(answer, "SERVER_ERROR object too large for cache");
+    assert_eq!(running.server.sums().in_flight_refused, 0);
+    device.hang(false);
+    for client in &mut clients {
+        assert_eq!(found(client).len(), 300);
+    }
+    wait_until(|| running.server.in_flight.left() == 1_000_000);
     assert!(running.stop());
 }
 
