@@ -271,10 +271,12 @@ fn one_key_is_read_once_for_all_that_wait() {
         while cache.stats().waiting < 16 {
             thread::yield_now();
         }
+        // (each has looked by now whether there is something to be read; later a writer may read a bucket)
+        ram.wait_for(1);
+        assert_eq!(ram.made.load(SeqCst), before + 1);
         ram.hang(false);
         all.into_iter().for_each(|one| assert_eq!(*one.join().unwrap(), value(1, 0)[..]));
     });
-    assert_eq!(ram.made.load(SeqCst), before + 1);
     assert_eq!(cache.stats().hits_from_flash, 16);
 }
 
