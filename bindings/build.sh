@@ -263,6 +263,7 @@ if has cargo; then
             speed
             speed least 1000
             speed threads
+            speed many "$out"
         else
             echo "skipped: no crate lru (Debian's librust-lru-dev)"
         fi

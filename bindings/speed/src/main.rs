@@ -6,7 +6,9 @@
 //! written long before, and are read from a list.
 //! `speed least KEYS` makes finds alone, of this cache and of `lru` in turn, in many short rounds, and tells the least of each.
 //! `speed threads` makes finds by threads that share a cache in shards, beside `lru` behind as many mutexes.
+//! `speed many [FOLDER]` makes gets of 100 keys at once, beside gets one after the other, over a file in the folder.
 //! `speed hits KEYS` and `speed replaces KEYS` run 200,000 of these of this cache alone, for a profiler.
+mod many;
 mod threads;
 
 use kilambosetry::{Cache, Pool};
@@ -15,6 +17,7 @@ use std::env;
 use std::ffi::c_void;
 use std::hint::black_box;
 use std::os::raw::c_int;
+use std::path::PathBuf;
 use std::sync::atomic::{AtomicU64, Ordering};
 
 static ALLOCATIONS: AtomicU64 = AtomicU64::new(0);
@@ -262,6 +265,10 @@ fn alone(word: &str, keys: u64) {
 
 fn main() {
     let arguments: Vec<String> = env::args().collect();
+    if arguments.get(1).is_some_and(|word| word == "many") {
+        let folder = arguments.get(2).map_or_else(env::temp_dir, PathBuf::from);
+        return many::table(&folder);
+    }
     if let [_, word] = arguments.as_slice() {
         assert_eq!(word, "threads");
         return threads::tables();
