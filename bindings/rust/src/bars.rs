@@ -1,6 +1,6 @@
 use crate::held::copied;
 use crate::Refused;
-use std::collections::HashMap;
+use std::collections::{HashMap, VecDeque};
 use std::time::Instant;
 
 /// The bar on a key whose row is being changed, or may still come to be.
@@ -8,8 +8,9 @@ use std::time::Instant;
 struct Bar {
     // changes that aren't over
     changes: usize,
-    // until when a change that is over may still be committed
-    until: Option<Instant>,
+    // until when changes that are over may still be committed, the next one first. As each of these moments is over the key is deleted,
+    // also where another change stands still: who asks from then on isn't handed what was loaded before such a commit
+    doubts: VecDeque<Instant>,
 }
 
 /// The bars of a shard. As long as one stands, nothing that was loaded is stored under its key.
@@ -31,34 +32,36 @@ impl Bars {
             return Ok(());
         }
         self.standing.try_reserve(1).map_err(|_| Refused::NO_MEMORY)?;
-        self.standing.insert(copied(key)?.into_boxed_slice(), Bar { changes: 1, until: None });
+        self.standing.insert(copied(key)?.into_boxed_slice(), Bar { changes: 1, ..Bar::default() });
         Ok(())
     }
 
     /// A change of the key is over, and its key was deleted. Where it isn't known whether it was committed, the bar stands until
-    /// then, and ends with another delete.
-    pub fn lower(&mut self, key: &[u8], until: Option<Instant>) {
-        let Some(bar) = self.standing.get_mut(key) else { return };
+    /// then, and ends with another delete. Refused where there is no memory for that; then the change isn't over.
+    pub fn lower(&mut self, key: &[u8], until: Option<Instant>) -> Result<(), Refused> {
+        let Some(bar) = self.standing.get_mut(key) else { return Ok(()) };
+        let now = Instant::now();
+        bar.end_doubts(now, || true);
+        until.map_or(Ok(()), |until| bar.doubt(now, until))?;
         bar.changes = bar.changes.saturating_sub(1);
-        bar.until = bar.until.max(until);
-        if bar.changes == 0 && bar.until.is_none() {
+        if bar.is_over() {
             self.standing.remove(key);
         }
+        Ok(())
     }
 
-    /// Whether a bar stands on the key. One that is due is ended by `delete`, unless that is refused.
+    /// Whether a bar stands on the key. What is due of it is ended by `delete`, unless that is refused.
     pub fn stands(&mut self, key: &[u8], delete: impl FnOnce(&[u8]) -> bool) -> bool {
         if self.standing.is_empty() {
             return false;
         }
-        match self.standing.get(key) {
-            None => false,
-            Some(bar) if bar.is_due(Instant::now()) && delete(key) => {
-                self.standing.remove(key);
-                false
-            }
-            Some(_) => true,
+        let Some(bar) = self.standing.get_mut(key) else { return false };
+        bar.end_doubts(Instant::now(), || delete(key));
+        let is_over = bar.is_over();
+        if is_over {
+            self.standing.remove(key);
         }
+        !is_over
     }
 
     /// Ends those that are due, each time that there are twice as many as were left the last time.
@@ -67,13 +70,39 @@ impl Bars {
             return;
         }
         let now = Instant::now();
-        self.standing.retain(|key, bar| !(bar.is_due(now) && delete(key)));
+        self.standing.retain(|key, bar| {
+            bar.end_doubts(now, || delete(key));
+            !bar.is_over()
+        });
         self.many = 2 * self.standing.len();
     }
 }
 
+// A bar stands longer by a part of so many, so that doubts are few, however many changes fail.
+const PART: u32 = 8;
+
 impl Bar {
-    fn is_due(&self, now: Instant) -> bool {
-        self.changes == 0 && self.until.is_none_or(|until| until <= now)
+    fn is_over(&self) -> bool {
+        self.changes == 0 && self.doubts.is_empty()
+    }
+
+    // A change may still be committed until then.
+    fn doubt(&mut self, now: Instant, until: Instant) -> Result<(), Refused> {
+        let last = self.doubts.back().copied();
+        if last.is_some_and(|last| last >= until) {
+            return Ok(());
+        }
+        self.doubts.try_reserve(1).map_err(|_| Refused::NO_MEMORY)?;
+        let apart = until.saturating_duration_since(now) / PART;
+        self.doubts.push_back(last.map_or(until, |last| until.max(last + apart)));
+        Ok(())
+    }
+
+    // Ends the doubts that are over, where the key can be deleted.
+    fn end_doubts(&mut self, now: Instant, delete: impl FnOnce() -> bool) {
+        let over = self.doubts.partition_point(|until| *until <= now);
+        if over > 0 && delete() {
+            self.doubts.drain(..over);
+        }
     }
 }

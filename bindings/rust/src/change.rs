@@ -76,13 +76,9 @@ impl HybridCache {
         let shards = self.shards();
         let until = (!is_known).then(|| after(shards.unknown_for));
         let mut state = shards.enter(shard)?;
-        let deleted = state.delete(key);
-        if deleted.is_ok() {
-            state.bars.lower(key, until);
-        }
+        let lowered = state.delete(key).and_then(|_| state.bars.lower(key, until));
         shards.leave(shard, state);
-        deleted?;
-        Ok(())
+        Ok(lowered?)
     }
 }
 

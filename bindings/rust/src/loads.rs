@@ -235,7 +235,8 @@ impl Loads {
 
     fn tell(&mut self, number: u64, outcome: Outcome, wakes: &mut Wakes) {
         if let Some(load) = self.loads.get_mut(&number) {
-            load.outcome.get_or_insert(outcome);
+            // (one that was taken over isn't ended by what changes the key: so what it came to isn't handed on)
+            load.outcome.get_or_insert(if load.is_running { outcome } else { Outcome::Look });
             load.wake(number, wakes);
         }
         self.stop(number);

@@ -188,13 +188,10 @@ impl State {
     }
 }
 
-// Whether the key could be deleted.
+// Whether the key could be deleted. (What was loaded before isn't handed on, also where it can't be.)
 fn delete(engine: &mut Engine, loads: &mut Loads, wakes: &mut Wakes, key: &[u8]) -> bool {
-    let is_deleted = engine.delete(key).is_ok();
-    if is_deleted {
-        loads.end(key, wakes);
-    }
-    is_deleted
+    loads.end(key, wakes);
+    engine.delete(key).is_ok()
 }
 
 /// A shard, on lines of the processor's memory of its own.

@@ -1,13 +1,13 @@
 //! Whatever comes of a commit, no row is found from then on that is older than it: its answer is lost, it takes effect later, it
 //! panics, its task is dropped, its delete is refused.
-use kilambosetry::{Error, HybridCache, Kept, Lease, Lookup, Options};
+use kilambosetry::{Error, HybridCache, Kept, Lease, LeaseAsync, Lookup, Options};
 use std::future::{self, Future};
 use std::io;
 use std::panic::{self, AssertUnwindSafe};
-use std::pin::pin;
+use std::pin::{pin, Pin};
 use std::sync::atomic::{AtomicU64, AtomicUsize, Ordering::SeqCst};
 use std::sync::Arc;
-use std::task::{Context, Wake, Waker};
+use std::task::{Context, Poll, Wake, Waker};
 use std::thread;
 use std::time::{Duration, Instant};
 
@@ -173,6 +173,69 @@ fn changes_of_one_key_stand_together() {
     assert_eq!(lease(&cache).store(b"row", 0), Ok(Kept::Stale));
     thread::sleep(UNKNOWN);
     assert_eq!(lease(&cache).store(b"row", 0), Ok(Kept::Stored));
+}
+
+// A task that waits for another's load, and is polled again when the test wants it.
+fn waits<'a>(cache: &'a HybridCache) -> Option<Pin<Box<LeaseAsync<'a>>>> {
+    let mut task = Box::pin(cache.get_or_lease_async(KEY));
+    poll(&mut task).is_pending().then_some(task)
+}
+
+fn poll(task: &mut Pin<Box<LeaseAsync<'_>>>) -> Poll<Result<Lookup, Error>> {
+    task.as_mut().poll(&mut Context::from_waker(&Waker::from(Arc::new(Nothing))))
+}
+
+fn fail(cache: &HybridCache) {
+    assert!(cache.change(KEY, || Err::<(), _>("the answer is lost")).is_err());
+}
+
+#[test]
+fn what_was_loaded_before_a_late_commit_is_handed_to_nobody_who_asks_behind_it_where_another_is_in_doubt() {
+    let (cache, _) = new();
+    let began = Instant::now();
+    fail(&cache);
+    thread::sleep(UNKNOWN / 2);
+    fail(&cache); // another, whose bar stands longer
+    let old = lease(&cache);
+    thread::sleep((began + UNKNOWN * 5 / 4).saturating_duration_since(Instant::now()));
+    // the first is committed, and its time is over
+    let mut asks = waits(&cache).expect("nobody has waited longer than `patience`");
+    assert_eq!(old.store(b"old", 0), Ok(Kept::Stale));
+    assert!(matches!(poll(&mut asks), Poll::Ready(Ok(Lookup::Miss(_)))));
+    thread::sleep(UNKNOWN / 2);
+    assert_eq!(lease(&cache).store(b"row", 0), Ok(Kept::Stored));
+}
+
+#[test]
+fn what_was_loaded_before_a_late_commit_is_handed_to_nobody_who_asks_behind_it_where_its_load_was_taken_over() {
+    let options = Options { unknown_for: UNKNOWN, patience: 3 * UNKNOWN, ..Options::default() };
+    let cache = HybridCache::in_memory(&options).unwrap();
+    // (again, where this thread sleeps longer than it is to)
+    let is_tried = |_: &i32| {
+        fail(&cache);
+        let old = lease(&cache);
+        thread::sleep(UNKNOWN);
+        // it is committed, and its time is over
+        let Some(mut asks) = waits(&cache) else { return false };
+        thread::sleep(3 * UNKNOWN);
+        let next = lease(&cache); // another loads, since that one takes too long
+        assert_eq!(old.store(b"old", 0), Ok(Kept::Stale));
+        assert!(!matches!(poll(&mut asks), Poll::Ready(Ok(Lookup::Hit(_)))));
+        assert_eq!(next.store(b"new", 0), Ok(Kept::Stored));
+        true
+    };
+    assert!((0..20).any(|turn| is_tried(&turn)));
+}
+
+#[test]
+fn doubts_about_many_changes_of_one_key_are_few() {
+    let options = Options { unknown_for: Duration::from_secs(3600), shards: 1, ..Options::default() };
+    let cache = HybridCache::in_memory(&options).unwrap();
+    let begin = Instant::now();
+    (0..200_000).for_each(|_| fail(&cache));
+    // (each costs the same, whatever stands before it)
+    assert!(begin.elapsed() < Duration::from_secs(60), "{:?}", begin.elapsed());
+    assert_eq!(lease(&cache).store(b"row", 0), Ok(Kept::Stale));
 }
 
 #[test]
