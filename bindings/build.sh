@@ -9,6 +9,7 @@
 #   bindings/build.sh --c        library and C checks alone
 #   bindings/build.sh --speed    also the comparison with other caches, where Debian's crate `lru` (librust-lru-dev) is installed
 #   bindings/build.sh --trial    also a service before a slow database, with leases and without, where that crate is installed
+#   bindings/build.sh --stress   also ten minutes of all calls at once over pages that are harmed, and some of it under valgrind
 #   bindings/build.sh --memory   also what a cache with flash keeps in memory, beside what its pool says
 #   bindings/build.sh --server   also the server's long runs: many lines beside memcached and damaged ones, and what it costs
 #
@@ -240,7 +241,11 @@ if has cargo; then
     # the code of README.md: it is the example's, word for word, and does what it says
     sed -n '/^```rust$/,/^```$/{/^```/!p;}' "$here/../README.md" >"$out/readme.txt"
     sed -n '/^fn open/,/^fn main/p' "$here/rust/examples/readme.rs" | sed '/^fn main/d' | sed '$d' | cmp - "$out/readme.txt"
-    example() { (cd "$here/rust" && CARGO_TARGET_DIR="$out/target" cargo run --offline --quiet --release --example "$@"); }
+    example() {
+        named=$1
+        shift
+        (cd "$here/rust" && CARGO_TARGET_DIR="$out/target" cargo run --offline --quiet --release --example "$named" -- "$@")
+    }
     example readme
     echo "the README's code: does what it says"
     example service
@@ -276,6 +281,16 @@ if has cargo; then
         else
             echo "skipped: no crate lru (Debian's librust-lru-dev)"
         fi
+    fi
+    if [ "$what" != --short ]; then
+        seconds=10
+        [ "$what" != --stress ] || seconds=600
+        example stress $seconds
+        echo "the stress: nothing was stale, another's or torn"
+    fi
+    if [ "$what" = --stress ]; then
+        under_valgrind "no error, nothing lost by the example stress" --fair-sched=yes --leak-check=full --show-leak-kinds=definite \
+            --errors-for-leak-kinds=definite "$out/target/release/examples/stress" 60
     fi
     if [ "$what" = --memory ]; then
         (cd "$here/rust" && CARGO_TARGET_DIR="$out/target" cargo run --offline --quiet --release --example resident)
