@@ -1103,62 +1103,94 @@ static void check_shutting(void) {
     shut_under(service, wait_for_lease, "nobody", false);
 }
 
-/* ---- loads that aren't stored: what they come to is handed to all who wait ---- */
+/* ---- loads that aren't stored: what they come to is handed to all who wait, and who loads himself waits for one ---- */
+
+enum { ASKERS = MOST_THREADS };
 
 struct asker {
     kilambosetry_service *service;
+    long ms; /* that a load takes */
     uint8_t status;
     size_t len;
+    int64_t answered;
     uint8_t out[8000];
 };
+
+static struct asker askers[ASKERS];
 
 static void *ask(void *of) {
     struct asker *it = of;
     kilambosetry_lease lease = KILAMBOSETRY_NO_LEASE;
     it->status = kilambosetry_service_get_or_lease(it->service, BYTES("key"), it->out, sizeof it->out, &it->len, &lease, FOREVER);
+    if (it->status == KILAMBOSETRY_LEASED) {
+        sleep_ms(it->ms);
+        kilambosetry_service_store(it->service, &lease, BYTES("key"), BYTES("row"), 0);
+    }
+    it->answered = now_ms();
     return NULL;
 }
 
-enum { ASKERS = 8 };
-static struct asker askers[ASKERS];
+static int sooner(const void *one, const void *other) {
+    int64_t a = ((const struct asker *)one)->answered, b = ((const struct asker *)other)->answered;
+    return (a > b) - (a < b);
+}
 
-/* All of them wait for a load, whose loader does this then; and each has this answer. */
-static void check_handed_on(const char *what, uint8_t expected, const uint8_t *bytes, size_t len) {
+/* Ends the load of a lease. */
+static void end_load(kilambosetry_service *service, kilambosetry_lease *lease, const char *how, const uint8_t *bytes, size_t len) {
+    if (strcmp(how, "fails") == 0) {
+        CHECK(kilambosetry_service_fail(service, lease, BYTES("key"), "the database is down") == KILAMBOSETRY_DONE && !lease->full);
+    } else if (strcmp(how, "is given up") == 0) {
+        CHECK(kilambosetry_service_give_up(service, lease, BYTES("key")) == KILAMBOSETRY_DONE);
+    } else if (strcmp(how, "finds no such row") == 0) {
+        CHECK(kilambosetry_service_store_absent(service, lease, BYTES("key"), 10) == KILAMBOSETRY_DONE);
+    } else if (strcmp(how, "has a row that was changed") == 0) {
+        CHECK(kilambosetry_service_delete(service, BYTES("key")) == KILAMBOSETRY_MISS);
+        CHECK(kilambosetry_service_store(service, lease, BYTES("key"), BYTES("row"), 0) == KILAMBOSETRY_STALE);
+    } else {
+        CHECK(kilambosetry_service_store(service, lease, BYTES("key"), bytes, len, 0) == KILAMBOSETRY_NO_ROOM);
+    }
+}
+
+/* All of them wait for a load, which ends so; and each has this answer, the last one within so many tenths of a load. */
+static void check_handed_on(const char *how, uint8_t expected, const uint8_t *bytes, size_t len, int64_t tenths) {
+    unsigned many = part < 16 ? ASKERS : 8;
+    long ms = part < 16 ? 1000 : 50;
     kilambosetry_service *service = open_small();
     kilambosetry_lease lease = KILAMBOSETRY_NO_LEASE;
     pthread_t threads[ASKERS];
     uint8_t out[16];
     size_t out_len = 0;
     CHECK(kilambosetry_service_get_or_lease(service, BYTES("key"), out, 16, &out_len, &lease, 0) == KILAMBOSETRY_LEASED);
-    for (unsigned i = 0; i < ASKERS; i++) {
+    for (unsigned i = 0; i < many; i++) {
         askers[i].service = service;
+        askers[i].ms = ms;
         askers[i].len = 0;
         CHECK(pthread_create(&threads[i], NULL, ask, &askers[i]) == 0);
     }
-    wait_until(service, 0, ASKERS);
-    if (strcmp(what, "fails") == 0) {
-        CHECK(kilambosetry_service_fail(service, &lease, BYTES("key"), "the database is down") == KILAMBOSETRY_DONE && !lease.full);
-    } else if (strcmp(what, "is given up") == 0) {
-        CHECK(kilambosetry_service_give_up(service, &lease, BYTES("key")) == KILAMBOSETRY_DONE);
-    } else if (strcmp(what, "finds none") == 0) {
-        CHECK(kilambosetry_service_store_absent(service, &lease, BYTES("key"), 10) == KILAMBOSETRY_DONE);
-    } else {
-        CHECK(kilambosetry_service_store(service, &lease, BYTES("key"), bytes, len, 0) == KILAMBOSETRY_NO_ROOM);
-    }
-    for (unsigned i = 0; i < ASKERS; i++) {
-        pthread_join(threads[i], NULL);
+    wait_until(service, 0, many);
+    int64_t began = now_ms();
+    sleep_ms(ms);
+    end_load(service, &lease, how, bytes, len);
+    for (unsigned i = 0; i < many; i++) pthread_join(threads[i], NULL);
+    for (unsigned i = 0; i < many; i++) {
         CHECK(askers[i].status == expected && askers[i].len == len && memcmp(askers[i].out, bytes, len) == 0);
     }
+    qsort(askers, many, sizeof askers[0], sooner);
+    int64_t median = askers[many / 2].answered - began, last = askers[many - 1].answered - began;
+    printf("%u wait for a load of %ld ms that %s: the median is answered behind %d ms, the last behind %d ms\n", many, ms, how,
+           (int)median, (int)last);
+    if (part < 16) CHECK(last * 10 < ms * tenths); /* (under valgrind all take longer) */
     kilambosetry_service_close(service);
 }
 
 static void check_loads(void) {
     static uint8_t row[5000];
     memset(row, 7, sizeof row);
-    check_handed_on("fails", KILAMBOSETRY_LOAD_FAILED, BYTES("the database is down"));
-    check_handed_on("is given up", KILAMBOSETRY_LOAD_FAILED, BYTES("the load was given up"));
-    check_handed_on("finds none", KILAMBOSETRY_ABSENT, BYTES(""));
-    check_handed_on("is too long", KILAMBOSETRY_DONE, row, sizeof row);
+    check_handed_on("fails", KILAMBOSETRY_LOAD_FAILED, BYTES("the database is down"), 15);
+    check_handed_on("is given up", KILAMBOSETRY_LOAD_FAILED, BYTES("the load was given up"), 15);
+    check_handed_on("finds no such row", KILAMBOSETRY_ABSENT, BYTES(""), 15);
+    check_handed_on("has a row that is too long", KILAMBOSETRY_DONE, row, sizeof row, 15);
+    check_handed_on("has a row that was changed", KILAMBOSETRY_LEASED, BYTES(""), 22);
 }
 
 /* That there is no such row is kept, for its time to live, until the row is changed; and no get shows how. */

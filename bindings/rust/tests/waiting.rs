@@ -1,5 +1,7 @@
 //! Who waits for a load, or for the end of a cache, is told in time, and leaves nothing behind: threads, tasks, forked children.
-use kilambosetry::{Error, Flash, HybridCache, Kept, Lease, LoadError, Lookup, Options, PageDevice, Pool};
+use kilambosetry::{
+    Error, Flash, HybridCache, Kept, Lease, LoadError, Loaded, Lookup, Options, PageDevice, Pool, Refused,
+};
 use std::alloc::{GlobalAlloc, Layout, System};
 use std::future::Future;
 use std::io;
@@ -120,19 +122,23 @@ fn block_on<T>(future: impl Future<Output = T>, most: Duration) -> Option<T> {
     None
 }
 
-// The time until the last of 64 callers is answered who miss a key at once, of whom each does this: from when 63 wait for the first
-// one's load, and that begins.
-fn last_of_64(call: impl Fn(&HybridCache, &Database) + Sync) -> Duration {
+// How long the 64 callers wait who miss a key at once, of whom each does this: from when 63 wait for the first one's load, and that
+// begins.
+fn last_of_64(what: &str, call: impl Fn(&HybridCache, &Database) + Sync) -> Duration {
     let (cache, database) = (in_memory(LONG), Database(OnceLock::new()));
-    let last = thread::scope(|scope| {
+    let mut answered: Vec<Instant> = thread::scope(|scope| {
         let one = || {
             call(&cache, &database);
             Instant::now()
         };
         let all: Vec<_> = (0..64).map(|_| scope.spawn(one)).collect();
-        all.into_iter().map(|one| one.join().unwrap()).max().unwrap()
+        all.into_iter().map(|one| one.join().unwrap()).collect()
     });
-    last - *database.0.get().unwrap()
+    answered.sort();
+    let began = *database.0.get().unwrap();
+    let (median, last) = (answered[32] - began, answered[63] - began);
+    println!("{what}: a load takes {LOAD:?}, the median is answered behind {median:.2?}, the last behind {last:.2?}");
+    last
 }
 
 // A slow database, which is first asked then.
@@ -153,22 +159,58 @@ impl Database {
     }
 }
 
+// A task that misses the key loads it: what it does with the lease behind that.
+fn by_task(
+    what: &str,
+    end: impl Fn(&HybridCache, Lease) + Sync,
+    is_right: impl Fn(&Lookup) -> bool + Sync,
+) -> Duration {
+    last_of_64(what, |cache, database| {
+        match block_on(cache.get_or_lease_async(b"key"), LONG).expect("it is woken").unwrap() {
+            Lookup::Miss(lease) => database.load(cache, Ok::<_, Error>(())).map(|()| end(cache, lease)).unwrap(),
+            looked => assert!(is_right(&looked), "{what}: {looked:?}"),
+        }
+    })
+}
+
 #[test]
 fn what_a_load_comes_to_is_handed_to_all_within_one_load_and_a_half() {
     let _alone = ALONE.lock();
     let long = vec![1; 1_100_000];
-    let row = |answer: Result<&[u8], &str>| {
-        last_of_64(|cache, database| drop(cache.get_or_load(b"key", 60, || database.load(cache, answer))))
+    let row = |what, answer: Result<&[u8], &str>| {
+        last_of_64(what, |cache, database| match cache.get_or_load(b"key", 60, || database.load(cache, answer)) {
+            Ok(row) => assert_eq!(Ok(&row[..]), answer),
+            Err(LoadError::Load(why)) => assert_eq!(Err(why), answer),
+            Err(LoadError::Elsewhere(why)) => assert_eq!(Err(why.as_str()), answer),
+            Err(other) => panic!("{other}"),
+        })
     };
-    let by_task =
-        last_of_64(|cache, database| match block_on(cache.get_or_lease_async(b"key"), LONG).unwrap().unwrap() {
-            Lookup::Miss(lease) => {
-                let failed = database.load(cache, Err::<(), _>("no database")).unwrap_err();
-                lease.fail(failed);
-            }
-            looked => assert!(matches!(looked, Lookup::Failed(why) if why == "no database")),
-        });
-    let times = [row(Ok(b"row")), row(Err("no such row")), row(Ok(&long)), by_task];
+    let absent = last_of_64("threads, no such row", |cache, database| {
+        let none = || database.load(cache, Ok::<_, Error>(Loaded::absent(0)));
+        assert_eq!(cache.find_or_load(b"key", none), Ok(None));
+    });
+    let times = [
+        row("threads, a row", Ok(b"row")),
+        row("threads, the database is down", Err("the database is down")),
+        row("threads, a row that is too long", Ok(&long)),
+        absent,
+        by_task(
+            "tasks, a row",
+            |_, it| _ = it.store(b"row", 0),
+            |it| matches!(it, Lookup::Hit(row) if row[..] == *b"row"),
+        ),
+        by_task(
+            "tasks, the database is down",
+            |_, it| it.fail("down"),
+            |it| matches!(it, Lookup::Failed(why) if why == "down"),
+        ),
+        by_task(
+            "tasks, a row that is too long",
+            |_, it| assert_eq!(it.store(&long, 0), Err(Error::Refused(Refused::VALUE_TOO_LONG))),
+            |it| matches!(it, Lookup::Hit(row) if row[..] == long),
+        ),
+        by_task("tasks, no such row", |_, it| _ = it.store_absent(0), |it| matches!(it, Lookup::Absent)),
+    ];
     assert!(times.iter().all(|time| *time < LOAD * 3 / 2), "{times:?}");
 }
 
@@ -176,7 +218,7 @@ fn what_a_load_comes_to_is_handed_to_all_within_one_load_and_a_half() {
 fn who_waited_for_one_load_loads_by_himself_next() {
     let _alone = ALONE.lock();
     // the key is changed within each load
-    let time = last_of_64(|cache, database| {
+    let by_threads = last_of_64("threads, each loads by himself", |cache, database| {
         let load = || {
             let row = database.load(cache, Ok::<_, Error>("row"));
             cache.delete(b"key").unwrap();
@@ -184,7 +226,15 @@ fn who_waited_for_one_load_loads_by_himself_next() {
         };
         assert!(cache.get_or_load(b"key", 60, load).is_ok());
     });
-    assert!(time < LOAD * 22 / 10, "{time:?}");
+    let by_tasks = by_task(
+        "tasks, each loads by himself",
+        |cache, lease| {
+            cache.delete(b"key").unwrap();
+            assert_eq!(lease.store(b"row", 0), Ok(Kept::Stale));
+        },
+        |_| false,
+    );
+    assert!(by_threads < LOAD * 22 / 10 && by_tasks < LOAD * 22 / 10, "{by_threads:?}, {by_tasks:?}");
 }
 
 #[test]
