@@ -307,6 +307,36 @@ fn a_page_is_handed_in_once_and_stays_where_it_is_refused() {
 }
 
 #[test]
+fn a_page_of_another_length_is_no_page() {
+    for length in [0, 1, 511, 513, 4096, 1 << 20] {
+        let (mut cache, mut device) = hybrid();
+        cache.set(0, b"a", b"one", 0).unwrap();
+        cache.set(0, b"b", b"two", 0).unwrap();
+        cache.work(&mut device).unwrap();
+        let call = waiting(cache.get(b"a").unwrap());
+        let Take::Work(job, Operation::Read(_)) = cache.filler_take().unwrap() else { panic!("a is to be read") };
+        assert!(cache.finish(job, &mut Came::Written).is_err()); // (it is no write)
+        let mut came = Came::Page(Held::copy_of(&vec![3; length]).unwrap());
+        assert!(!matches!(cache.finish(job, &mut came), Ok(Take::Work(..))), "{length}");
+        // it is refused, and the job still waits, or it counts as one that failed
+        cache.work(&mut device).unwrap();
+        let _ = cache.finish(job, &mut Came::Failed);
+        assert!(matches!(cache.take_reply(call), Ok(Reply::Miss)), "{length}");
+        cache.set(0, b"c", b"three", 0).unwrap();
+        cache.work(&mut device).unwrap();
+    }
+}
+
+#[test]
+fn bytes_behind_the_end_of_what_is_held_are_none() {
+    let mut held = Held::copy_of(b"hello").unwrap();
+    let mut out = [0; 8];
+    assert_eq!([5, usize::MAX, 2].map(|from| held.copy(from, &mut out)), [0, 0, 3]);
+    assert_eq!(held.copy(0, &mut []), 0);
+    assert_eq!(out, *b"llo\0\0\0\0\0");
+}
+
+#[test]
 fn a_wrong_number_of_the_flash_is_refused() {
     let wrong = Flash { page: 500, ..FLASH };
     let refused = Engine::new(&[Pool { bytes: 1000, items: 1 }], &wrong).unwrap_err();

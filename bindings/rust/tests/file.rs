@@ -1,7 +1,8 @@
 //! Whose a file or block device is, before anything is written to it.
 use kilambosetry::{HybridCache, OpenError, Options};
 use std::fs::{self, File, OpenOptions};
-use std::os::unix::fs::FileExt;
+use std::os::unix::fs::{symlink, FileExt};
+use std::os::unix::net::UnixListener;
 use std::path::{Path, PathBuf};
 use std::process::Command;
 use std::thread;
@@ -86,6 +87,29 @@ fn what_has_something_and_is_not_ours_is_refused_and_left_alone() {
     image.write_all_at(b"my thesis", 32 << 20).unwrap();
     assert!(!is_taken(&file, &options));
     assert!(opened(&file, &options).unwrap_err().to_string().contains("no flash of a cache"));
+}
+
+#[test]
+fn what_is_neither_file_nor_block_device_is_refused() {
+    let folder = Folder::new("kinds");
+    let (fifo, socket, link) = (folder.file("fifo"), folder.file("socket"), folder.file("link"));
+    assert!(Command::new("mkfifo").arg(&fifo).status().unwrap().success());
+    let _listens = UnixListener::bind(&socket).unwrap();
+    let devices = ["/dev/null", "/dev/zero", "/dev/full"].map(PathBuf::from);
+    for path in [&fifo, &folder.0].into_iter().chain(&devices) {
+        for options in [small(), Options { direct: true, overwrite: true, ..small() }] {
+            let refused = opened(path, &options).map(drop);
+            assert!(matches!(refused, Err(OpenError::OtherKind | OpenError::Io(_))), "{path:?}: {refused:?}");
+        }
+    }
+    for path in [socket.as_path(), Path::new(""), Path::new("/no/such/folder/flash"), Path::new("/proc/self/mem")] {
+        let refused = opened(path, &small()).map(drop);
+        assert!(matches!(refused, Err(OpenError::OtherKind | OpenError::Io(_))), "{path:?}: {refused:?}");
+    }
+    // (a link is followed)
+    symlink(folder.file("target"), &link).unwrap();
+    assert!(is_taken(&link, &small()));
+    assert!(folder.file("target").exists());
 }
 
 #[test]
