@@ -12,6 +12,7 @@
 #include <errno.h>
 #include <pthread.h>
 #include <signal.h>
+#include <stdatomic.h>
 #include <stdio.h>
 #include <stdlib.h>
 #include <string.h>
@@ -1052,6 +1053,38 @@ static void *wait_for_page(void *of) {
     return NULL;
 }
 
+static void *wait_for_page_in_time(void *of) {
+    struct waiter *it = of;
+    uint8_t out[1024];
+    size_t len;
+    it->status = kilambosetry_service_get(it->service, BYTES(it->key), out, 1024, &len, 1000000);
+    return NULL;
+}
+
+static void *wait_for_value(void *of) {
+    struct waiter *it = of;
+    kilambosetry_value value = KILAMBOSETRY_NONE;
+    it->status = kilambosetry_service_read(it->service, BYTES(it->key), &value, FOREVER);
+    kilambosetry_value_free(&value);
+    return NULL;
+}
+
+static void *wait_for_end(void *of) {
+    struct waiter *it = of;
+    kilambosetry_value value = KILAMBOSETRY_NONE;
+    kilambosetry_begun begun = KILAMBOSETRY_NOT_BEGUN;
+    it->status = kilambosetry_service_begin(it->service, BYTES(it->key), &value, &begun);
+    if (it->status == KILAMBOSETRY_WAITS) it->status = kilambosetry_service_end(it->service, &begun, &value, FOREVER);
+    kilambosetry_value_free(&value);
+    return NULL;
+}
+
+static void *wait_to_add(void *of) {
+    struct waiter *it = of;
+    it->status = kilambosetry_service_add(it->service, BYTES(it->key), BYTES("row"), 0);
+    return NULL;
+}
+
 /* Lets the device's reads go once the service is shut. */
 static void *open_later(void *of) {
     struct waiter *it = of;
@@ -1091,13 +1124,17 @@ static void shut_under(kilambosetry_service *service, void *(*wait)(void *), con
 }
 
 static void check_shutting(void) {
-    kilambosetry_service *service = open_tiny();
+    void *(*const waits[])(void *) = {wait_for_page, wait_for_page_in_time, wait_for_value, wait_for_end, wait_to_add, wait_for_lease};
+    kilambosetry_service *service = NULL;
     kilambosetry_lease lease = KILAMBOSETRY_NO_LEASE;
     uint8_t out[16];
     size_t len;
-    fill_up(service, 60);
-    set_device(true, 0, 0);
-    shut_under(service, wait_for_page, "key-0", true);
+    for (size_t i = 0; i < sizeof waits / sizeof waits[0]; i++) {
+        service = open_tiny();
+        fill_up(service, 60);
+        set_device(true, 0, 0);
+        shut_under(service, waits[i], "key-0", true);
+    }
     service = open_small();
     CHECK(kilambosetry_service_get_or_lease(service, BYTES("nobody"), out, 16, &len, &lease, FOREVER) == KILAMBOSETRY_LEASED);
     shut_under(service, wait_for_lease, "nobody", false);
@@ -1258,6 +1295,53 @@ static void check_closing_amid_a_flush(void) {
             CHECK(waiters[at].status == KILAMBOSETRY_DONE || waiters[at].status == KILAMBOSETRY_CLOSED);
         }
     }
+}
+
+/* ---- writes that are lost ---- */
+
+static atomic_bool loses = false;
+
+static bool write_or_lose(void *context, uint32_t page, const uint8_t *bytes, size_t len) {
+    return atomic_load(&loses) || write_device(context, page, bytes, len);
+}
+
+/* Values of this word again and again, which begin with their version: whatever the word is, what the device has lost is a miss. */
+static void check_lost_writes_of(uint64_t word) {
+    static const kilambosetry_flash flash = {PAGE, 1, 8, 16, 1, 0, 64, 64, 1, 7000};
+    static const kilambosetry_pool pool = {6000, 100};
+    kilambosetry_service_options options = small_options();
+    kilambosetry_device losing = of_device;
+    kilambosetry_service *service = NULL;
+    kilambosetry_service_stats stats;
+    uint64_t value[400], out[400];
+    options.shards = options.writers = options.fillers = 1;
+    options.pool = &pool;
+    options.flash_numbers = &flash;
+    losing.write = write_or_lose;
+    CHECK(kilambosetry_service_open_over(&service, &losing, &options, NULL) == KILAMBOSETRY_DONE);
+    for (size_t i = 0; i < 400; i++) value[i] = word;
+    for (value[0] = 1; value[0] <= 6; value[0]++) {
+        atomic_store(&loses, value[0] >= 5);
+        for (uint8_t key = 0; key < 12; key++) {
+            CHECK(kilambosetry_service_set(service, &key, 1, (const uint8_t *)value, sizeof value, 0) == KILAMBOSETRY_DONE);
+            CHECK(kilambosetry_service_flush(service) == KILAMBOSETRY_DONE);
+        }
+    }
+    atomic_store(&loses, false);
+    for (uint8_t key = 0; key < 12; key++) {
+        size_t len = 0;
+        uint8_t status = kilambosetry_service_get(service, &key, 1, (uint8_t *)out, sizeof out, &len, FOREVER);
+        CHECK(status == KILAMBOSETRY_MISS || (status == KILAMBOSETRY_DONE && len == sizeof out && out[0] == 6));
+    }
+    kilambosetry_service_tell(service, &stats);
+    CHECK(stats.lies > 0);
+    kilambosetry_service_close(service);
+}
+
+static void check_lost_writes(void) {
+    check_lost_writes_of(UINT64_C(0x9e3779b97f4a7c15)); /* (many hashes have this one) */
+    check_lost_writes_of(UINT64_C(0x9e3779b97f4a7c14));
+    check_lost_writes_of(0);
 }
 
 /* ---- memory that is refused ---- */
@@ -1457,6 +1541,7 @@ int main(int len, char **words) {
     check_queue();
     check_one_thread();
     check_faults();
+    check_lost_writes();
     check_file(false);
     check_file(true);
     check_limits();
