@@ -21,18 +21,22 @@ void database_close(void) {
     users = NULL;
 }
 
-bool database_load(int user, char *name, size_t name_len, size_t *len) {
+enum loaded database_load(int user, char *name, size_t name_len, size_t *len) {
     sqlite3_stmt *query = NULL;
-    bool found = sqlite3_prepare_v2(users, "SELECT name FROM users WHERE number = ?", -1, &query, NULL) == SQLITE_OK
-                 && sqlite3_bind_int(query, 1, user) == SQLITE_OK && sqlite3_step(query) == SQLITE_ROW;
-    if (found) {
-        const void *text = sqlite3_column_blob(query, 0);
-        *len = (size_t)sqlite3_column_bytes(query, 0);
-        found = *len <= name_len;
-        if (found && *len > 0) memcpy(name, text, *len);
+    enum loaded loaded = NOT_LOADED;
+    if (sqlite3_prepare_v2(users, "SELECT name FROM users WHERE number = ?", -1, &query, NULL) == SQLITE_OK
+        && sqlite3_bind_int(query, 1, user) == SQLITE_OK) {
+        int step = sqlite3_step(query);
+        if (step == SQLITE_DONE) loaded = NO_SUCH_USER;
+        if (step == SQLITE_ROW) {
+            const void *text = sqlite3_column_blob(query, 0);
+            *len = (size_t)sqlite3_column_bytes(query, 0);
+            if (*len <= name_len && (text != NULL || *len == 0)) loaded = LOADED;
+            if (loaded == LOADED && *len > 0) memcpy(name, text, *len);
+        }
     }
     sqlite3_finalize(query);
-    return found;
+    return loaded;
 }
 
 bool database_store(int user, const char *name) {

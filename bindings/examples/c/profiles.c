@@ -17,12 +17,13 @@ static bool name_of(int user, char *name, size_t name_len, size_t *len) {
     uint8_t status = kilambosetry_service_get_or_lease(cache, key, sizeof user, (uint8_t *)name, name_len, len, &lease, 1000);
     if (status == KILAMBOSETRY_DONE) return true;
     if (status == KILAMBOSETRY_ABSENT || status == KILAMBOSETRY_LOAD_FAILED) return false;
-    bool found = database_load(user, name, name_len, len); /* (whatever else the cache said, the database has it) */
-    if (status != KILAMBOSETRY_LEASED) return found;
+    enum loaded loaded = database_load(user, name, name_len, len); /* (whatever else the cache said, the database has it) */
+    if (status != KILAMBOSETRY_LEASED) return loaded == LOADED;
     /* it isn't stored where the user was renamed meanwhile, and that is no fault */
-    if (found) kilambosetry_service_store(cache, &lease, key, sizeof user, (const uint8_t *)name, *len, 3600);
-    else kilambosetry_service_store_absent(cache, &lease, key, sizeof user, 10);
-    return found;
+    if (loaded == LOADED) kilambosetry_service_store(cache, &lease, key, sizeof user, (const uint8_t *)name, *len, 3600);
+    else if (loaded == NO_SUCH_USER) kilambosetry_service_store_absent(cache, &lease, key, sizeof user, 10);
+    else kilambosetry_service_fail(cache, &lease, key, sizeof user, "the database failed");
+    return loaded == LOADED;
 }
 
 /* A change is begun before the commit, and ended behind it, whatever came of that. A database that can't say whether it has committed
@@ -56,6 +57,10 @@ int main(int words, char **word) {
     right = right && name_of(7, name, sizeof name, &len) && len == 5 && memcmp(name, "Grace", 5) == 0;
     right = right && !name_of(8, name, sizeof name, &len) && !name_of(8, name, sizeof name, &len);
     right = right && rename_user(8, "Alan") && name_of(8, name, sizeof name, &len) && len == 4;
+    /* while the database can't be asked, a user isn't taken for one that there isn't; and what is cached is found */
+    database_close();
+    right = right && !name_of(9, name, sizeof name, &len) && name_of(7, name, sizeof name, &len);
+    right = right && database_open(database) && database_store(9, "Edsger") && name_of(9, name, sizeof name, &len) && len == 6;
     kilambosetry_service_tell(cache, &stats);
     printf("%s: %d hit, %d loads\n", right ? "right" : "WRONG", (int)stats.hits_from_memory, (int)stats.leases);
     kilambosetry_service_close(cache);

@@ -1,5 +1,6 @@
 //! An engine that threads share, with flash in a file: a lock round it, one thread that writes, and callers that make the
-//! reads for which they wait themselves. No page is read, written or copied under the lock. A `HybridCache` does so by itself.
+//! reads for which they wait themselves. No page is read, written or copied under the lock. Each page has a digest, so that one which
+//! comes back otherwise than it was written is none. A `HybridCache` does so by itself.
 //!
 //! It is also a load, beside which that one, and memcached with extstore, can be measured:
 //!
@@ -13,10 +14,11 @@
 use kilambosetry::{Came, Engine, Flash, Found, Held, HybridCache, Operation, Options, Pool, Refused, Reply, Take};
 use std::env;
 use std::fs::{self, File, OpenOptions};
+use std::hash::{DefaultHasher, Hasher};
 use std::io::{self, BufRead, BufReader, Read, Write};
 use std::os::unix::fs::FileExt;
 use std::os::unix::net::UnixStream;
-use std::sync::atomic::{AtomicBool, Ordering};
+use std::sync::atomic::{AtomicBool, AtomicU64, Ordering};
 use std::sync::{Condvar, Mutex, MutexGuard};
 use std::thread;
 use std::time::{Duration, Instant};
@@ -40,6 +42,9 @@ const FLASH: Flash = Flash {
 struct Shared {
     cache: Mutex<Engine>,
     pages: File,
+    /// Of each page, as it was written last; 0 where that isn't known. (The engine has no other operation of a page out while it is
+    /// written.)
+    digests: Vec<AtomicU64>,
     /// Wakes the writer.
     work: Condvar,
     /// Wakes callers that wait for what another reads.
@@ -55,6 +60,7 @@ impl Shared {
         Ok(Shared {
             cache: Mutex::new(cache),
             pages,
+            digests: (0..FLASH.pages()).map(|_| AtomicU64::new(0)).collect(),
             work: Condvar::new(),
             answered: Condvar::new(),
             ends: AtomicBool::new(false),
@@ -81,13 +87,14 @@ impl Shared {
                 Ok(Reply::Hit(value)) => return Ok(Some(value)),
                 Ok(_) => return Ok(None),
                 Err(Refused::NOT_READY) => {}
-                Err(refused) => return Err(refused),
+                Err(refused) => return give_up(&mut cache, call, refused),
             }
-            cache = match cache.filler_take()? {
-                Take::Work(job, operation) => self.complete(cache, job, Some(operation)),
-                Take::Untold(job) => self.complete(cache, job, None),
-                Take::Finished => cache,
-                Take::Idle => self.answered.wait(cache).unwrap(), // another reads it
+            cache = match cache.filler_take() {
+                Ok(Take::Work(job, operation)) => self.complete(cache, job, Some(operation)),
+                Ok(Take::Untold(job)) => self.complete(cache, job, None),
+                Ok(Take::Finished) => cache,
+                Ok(Take::Idle) => self.answered.wait(cache).unwrap(), // another reads it
+                Err(refused) => return give_up(&mut cache, call, refused),
             };
         }
     }
@@ -121,20 +128,26 @@ impl Shared {
     }
 
     fn operate(&self, operation: Operation) -> Came {
-        let at = |page: u32| u64::from(page) * FLASH.page;
         match operation {
-            Operation::Read(page) => {
-                let mut bytes = [0; FLASH.page as usize];
-                match self.pages.read_exact_at(&mut bytes, at(page)) {
-                    Ok(()) => Held::copy_of(&bytes).map_or(Came::Failed, Came::Page),
-                    Err(_) => Came::Failed,
-                }
-            }
-            Operation::Write(page, mut bytes) => match self.pages.write_all_at(&bytes.to_vec(), at(page)) {
-                Ok(()) => Came::Written,
-                Err(_) => Came::Failed,
-            },
+            Operation::Read(page) => self.read(page).unwrap_or(Came::Failed),
+            Operation::Write(page, bytes) => self.write_page(page, bytes).unwrap_or(Came::Failed),
         }
+    }
+
+    // The page, if it is as it was written.
+    fn read(&self, page: u32) -> Option<Came> {
+        let mut bytes = [0; FLASH.page as usize];
+        self.pages.read_exact_at(&mut bytes, u64::from(page) * FLASH.page).ok()?;
+        let is_same = digest_of(&bytes) == self.digests[page as usize].load(Ordering::SeqCst);
+        Held::copy_of(&bytes).ok().filter(|_| is_same).map(Came::Page)
+    }
+
+    fn write_page(&self, page: u32, mut held: Held) -> Option<Came> {
+        let (bytes, digest) = (held.to_vec(), &self.digests[page as usize]);
+        digest.store(0, Ordering::SeqCst); // (where it fails, nothing is known of the page)
+        self.pages.write_all_at(&bytes, u64::from(page) * FLASH.page).ok()?;
+        digest.store(digest_of(&bytes), Ordering::SeqCst);
+        Some(Came::Written)
     }
 
     // Wakes the writer, where it has work.
@@ -145,19 +158,32 @@ impl Shared {
     }
 
     // The writer, until all ends.
-    fn write(&self) -> Result<(), Refused> {
+    fn write(&self) {
         let mut cache = self.cache.lock().unwrap();
         while !self.ends.load(Ordering::SeqCst) {
-            while cache.reclaim()? {}
-            cache = match cache.writer_take()? {
-                Take::Work(job, operation) => self.complete(cache, job, Some(operation)),
-                Take::Untold(job) => self.complete(cache, job, None),
-                Take::Finished => cache,
-                Take::Idle => self.work.wait_timeout(cache, Duration::from_millis(100)).unwrap().0,
+            while cache.reclaim() == Ok(true) {}
+            cache = match cache.writer_take() {
+                Ok(Take::Work(job, operation)) => self.complete(cache, job, Some(operation)),
+                Ok(Take::Untold(job)) => self.complete(cache, job, None),
+                Ok(Take::Finished) => cache,
+                // (where it is out of memory, it is tried again)
+                Ok(Take::Idle) | Err(_) => self.work.wait_timeout(cache, Duration::from_millis(100)).unwrap().0,
             };
         }
-        Ok(())
     }
+}
+
+// A call whose reply nobody will take is given up, since it would be kept for good.
+fn give_up(cache: &mut Engine, call: u64, refused: Refused) -> Result<Option<Held>, Refused> {
+    cache.forget(call)?;
+    Err(refused)
+}
+
+// By SipHash, of which each word may have any value, and none makes those before it be forgotten. Never 0.
+fn digest_of(page: &[u8]) -> u64 {
+    let mut hasher = DefaultHasher::new();
+    hasher.write(page);
+    hasher.finish().max(1)
 }
 
 const KEYS: u64 = 200_000;
@@ -291,7 +317,7 @@ fn main() -> io::Result<()> {
                 load(|| &shared, threads.parse().unwrap(), seconds.parse().unwrap());
                 shared.ends.store(true, Ordering::SeqCst);
                 shared.work.notify_one();
-                writer.join().unwrap().unwrap();
+                writer.join().unwrap();
             });
             println!("{:?}", shared.cache.lock().unwrap().losses());
             fs::remove_file(path)
