@@ -65,6 +65,7 @@ mod library;
 mod loaded;
 mod loads;
 mod many;
+mod masked;
 mod numbers;
 mod options;
 mod refused;

@@ -5,6 +5,7 @@ use crate::calls::{Answer, Call, Calls};
 use crate::checked::Checked;
 use crate::lease::Waited;
 use crate::loads::{Loads, Outcome};
+use crate::masked::Masked;
 use crate::numbers::Numbers;
 use crate::spread::Spread;
 use crate::timer::Timer;
@@ -31,7 +32,7 @@ const TRIES: usize = 200;
 
 /// What a shard's lock holds.
 pub(crate) struct State {
-    pub engine: Engine,
+    pub engine: Masked,
     pub calls: Calls,
     pub loads: Loads,
     pub bars: Bars,
@@ -57,7 +58,7 @@ enum Left {
 impl State {
     fn new(engine: Engine, now: u64) -> State {
         State {
-            engine,
+            engine: Masked::new(engine),
             calls: Calls::default(),
             loads: Loads::default(),
             bars: Bars::default(),
@@ -189,7 +190,7 @@ impl State {
 }
 
 // Whether the key could be deleted. (What was loaded before isn't handed on, also where it can't be.)
-fn delete(engine: &mut Engine, loads: &mut Loads, wakes: &mut Wakes, key: &[u8]) -> bool {
+fn delete(engine: &mut Masked, loads: &mut Loads, wakes: &mut Wakes, key: &[u8]) -> bool {
     loads.end(key, wakes);
     engine.delete(key).is_ok()
 }

@@ -4,6 +4,7 @@ use kilambosetry::{Flash, HybridCache, Options, PageDevice, Pool};
 use std::io;
 use std::sync::atomic::{AtomicBool, Ordering::SeqCst};
 use std::sync::{Arc, Mutex};
+use std::time::{Duration, Instant};
 
 struct Losing(Mutex<Vec<Vec<u8>>>, Arc<AtomicBool>);
 
@@ -64,6 +65,31 @@ fn a_lost_write_is_a_miss_whatever_the_values() {
             let (stale, lies) = stale(word, key_bytes);
             assert!(stale == 0 && lies > 0, "{word:x}, keys of {key_bytes} bytes: {stale} stale, {lies} lies");
         }
+    }
+}
+
+// How long a hit takes among keys that have this word in their second half: the least of many rounds.
+fn hit(word: u64) -> Duration {
+    const KEYS: u64 = 6000;
+    let options = Options { memory: 64_000_000, mean_value: 100, shards: 1, ..Options::default() };
+    let cache = HybridCache::in_memory(&options).unwrap();
+    let key = |number: u64| [number.wrapping_mul(0x5851_f42d_4c95_7f2d).to_le_bytes(), word.to_le_bytes()].concat();
+    (0..KEYS).for_each(|number| cache.set(&key(number), &[1; 100], 0).unwrap());
+    let round = |_| {
+        let begin = Instant::now();
+        (0..50).for_each(|number| assert!(cache.get(&key(number * (KEYS / 50))).unwrap().is_some()));
+        begin.elapsed() / 50
+    };
+    (0..20).map(round).min().unwrap()
+}
+
+#[test]
+fn a_hit_costs_the_same_whatever_its_key_ends_in() {
+    let other = hit(0x736f_6d65_7073_6575);
+    for word in [GOLDEN, !GOLDEN, 0, u64::MAX] {
+        // (where all come to one place, it costs a hundred times as much)
+        let same = hit(word);
+        assert!(same < 10 * other + Duration::from_micros(5), "{word:x}: {same:?}, and {other:?} else");
     }
 }
 

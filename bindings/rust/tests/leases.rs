@@ -639,27 +639,31 @@ fn a_change_wakes_who_waits_for_a_load() {
     }
 }
 
-// Two keys of one slot: a change of the second makes tickets stale for the first.
-fn of_one_slot() -> ([u8; 8], [u8; 8]) {
-    let mut cache = Cache::new(&[Pool { bytes: 1 << 20, items: 100 }]).unwrap();
+// A key of the slot of this one: a change of it makes tickets stale for this.
+fn of_the_slot_of(cache: &HybridCache, one: &[u8]) -> [u8; 8] {
     let makes_stale = |other: &u64| {
-        let ticket = cache.ticket().unwrap();
-        cache.set(0, &key(*other), b"", 0).unwrap();
-        cache.set_leased(ticket, 0, &key(0), b"", 0) == Ok(Kept::Stale)
+        let lease = lease(cache, one);
+        cache.set(&key(*other), b"", 0).unwrap();
+        let kept = lease.store(b"", 0).unwrap();
+        cache.delete(one).unwrap();
+        kept == Kept::Stale
     };
-    (key(0), key((1..).find(makes_stale).unwrap()))
+    key((1..).find(makes_stale).unwrap())
 }
 
 #[test]
 fn another_key_of_the_slot_refuses_without_need() {
-    let (one, two) = of_one_slot();
     let cache = HybridCache::in_memory(&Options { shards: 1, patience: LONG, ..Options::default() }).unwrap();
+    let one = key(0);
+    let two = of_the_slot_of(&cache, &one);
+    cache.delete(&two).unwrap();
+    let stale = cache.stats().stale_stores;
     let row = cache.get_or_load(&one, 0, || {
         cache.set(&two, b"other", 0).unwrap();
         Ok::<_, Error>("row")
     });
     assert_eq!(row.unwrap().into_vec(), b"row"); // it is served all the same
-    assert_eq!((cache.stats().stale_stores, cache.get(&one).unwrap()), (1, None));
+    assert_eq!((cache.stats().stale_stores - stale, cache.get(&one).unwrap()), (1, None));
     assert_eq!(cache.get(&two).unwrap().as_deref(), Some(&b"other"[..]));
     // the next load of it is stored
     cache.get_or_load::<_, Error>(&one, 0, loads("row")).unwrap();
