@@ -202,7 +202,7 @@ fn what_was_loaded_before_a_late_commit_is_handed_to_nobody_who_asks_behind_it_w
     let mut asks = waits(&cache).expect("nobody has waited longer than `patience`");
     assert_eq!(old.store(b"old", 0), Ok(Kept::Stale));
     assert!(matches!(poll(&mut asks), Poll::Ready(Ok(Lookup::Miss(_)))));
-    thread::sleep(UNKNOWN / 2);
+    thread::sleep(UNKNOWN * 5 / 4); // (that of the second, also where this thread slept longer before it)
     assert_eq!(lease(&cache).store(b"row", 0), Ok(Kept::Stored));
 }
 

