@@ -25,6 +25,8 @@ QUIET = 1.5
 NOISE = random.Random(0).randbytes(1 << 16)
 LONG_OPAQUE = b"O" + b"o" * 32
 TOO_LARGE = b"SERVER_ERROR object too large for cache"
+# The longest value here; memcached's is a little shorter.
+LONGEST = 1_048_555
 # (a number that no server of this run has as a cas unique: lower than all, and higher)
 LOWEST, HIGHEST = b"1", b"18446744073709551615"
 
@@ -58,10 +60,12 @@ class Side:
         """Returns a line with this server's own uniques, each of as many digits: a value of a wrong length may take lines in."""
         return re.sub(rb"<U(\d+)>", lambda it: (self.uniques[int(it[1]) % len(self.uniques)] if self.uniques else b"1").zfill(20), line)
 
-    def send(self, data):
-        """Sends lines, unless the connection is closed while it does."""
+    def send(self, data, cuts):
+        """Sends lines in pieces that are cut at these shares of them, unless the connection is closed while it does."""
+        ends = [int(len(data) * cut) for cut in cuts] + [len(data)]
         try:
-            self.client.send(data)
+            for start, end in zip([0] + ends, ends):
+                self.client.send(data[start:end])
         except ConnectionError:
             pass
 
@@ -81,7 +85,7 @@ def parsed(data):
     """Yields the lines of an answer, each with its value."""
     while data:
         line, _, data = data.partition(b"\r\n")
-        words = line.split()
+        words = line.split(b" ")  # (a key may have tabs)
         length = {b"VALUE": 3, b"VA": 1}.get(words[0]) if words else None
         if length and len(words) > length and words[length].isdigit():
             size = int(words[length])
@@ -181,6 +185,8 @@ class Lines:
 
     def body(self, line, data):
         """Returns a line with its value, whose length may be wrong."""
+        if len(data) > LONGEST and LEAVES_OTHERWISE.match(line):  # (see `known`)
+            data = data[:1_000_000]
         length, end = len(data), b"\r\n"
         chance = self.random.random()
         if chance < 0.01:
@@ -286,6 +292,8 @@ class Lines:
         return self.line(counts) if line.lstrip().startswith(b"mn") or line.startswith(b"quit") else line
 
 
+# Stores whose value, where it is too long, takes the item that is there in one of the two, and leaves it in the other.
+LEAVES_OTHERWISE = re.compile(rb"replace|ms .* (C|M[AEPaep])")
 # Commands behind which the marks of an item (won, stale, in base64) are memcached's no more.
 JOINS = re.compile(rb"(append|prepend|incr|decr|ma|ms .* M[AP])\b")
 
@@ -306,8 +314,11 @@ class Run:
         self.counts = self.lines.random.random() < 0.25
         lines = [self.lines.line(self.counts) for _ in range(BATCH)]
         all_answers = []
+        # (a line of more than 2,048 bytes ends a connection or not, as its end has come or not)
+        is_short = all(len(line.partition(b"\r\n")[0]) < 2000 for line in lines)
+        cuts = sorted(self.lines.random.random() for _ in range(self.lines.one(0, 0, 1, 5) if is_short else 0))
         for side in self.sides:
-            side.send(b"".join(side.written(line) + b"mn\r\n" for line in lines))
+            side.send(b"".join(side.written(line) + b"mn\r\n" for line in lines), cuts)
         for side in self.sides:
             all_answers.append(side.answers(BATCH))
         for at, line in enumerate(lines):
@@ -441,6 +452,21 @@ def known():
             store % b"p" + b"mg p T-1 v t\r\n",
             None,
             b"STORED|VA 1 t0|9",
+        ),
+        (
+            "a replace that is too long takes what there is here, and leaves it in memcached",
+            store % b"r" + b"replace r 0 0 1100000\r\n" + bytes(1_100_000) + b"\r\nmg r v\r\n",
+            b"STORED|" + TOO_LARGE + b"|VA 1|9",
+            b"STORED|" + TOO_LARGE + b"|EN",
+        ),
+        *(
+            (
+                "a meta set that is too long takes what there is in memcached, also where it was to add to it, or compares",
+                store % b"r" + b"ms r 1100000 " + flag + b"\r\n" + bytes(1_100_000) + b"\r\nmg r v\r\n",
+                b"STORED|" + TOO_LARGE + b"|EN",
+                b"STORED|" + TOO_LARGE + b"|VA 1|9",
+            )
+            for flag in (b"MA", b"MP", b"ME", b"C" + LOWEST)
         ),
         (
             "there are no slabs, and no list of items",
