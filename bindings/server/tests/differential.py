@@ -389,6 +389,33 @@ class Run:
             side.client.socket.settimeout(QUIET)
 
 
+# Rows of `stats` and `stats settings` that memcached has, and kilambosetryd hasn't (docs/SERVER.md).
+LACKING = re.compile(
+    "crawler_|direct_reclaims|libevent|log_|lru|malloc_fails|moves_|read_buf_|reserved_fds|response_obj_|round_robin_fallback"
+    "|slab_|unexpected_napi_ids|chunk_size|ext_|growth_factor|hash_algorithm|hashpower_init|hot_|inline_ascii_response|memory_file"
+    "|num_napi_ids|num_threads_per_udp|oldest|ssl_|tail_repair_time|temp|warm_|watcher_logbuf_size|worker_logbuf_size"
+)
+
+
+def check_rows(servers):
+    """Returns how many rows memcached has in its statistics that kilambosetryd hasn't, without its being said."""
+    lacking = 0
+    for command in (b"stats\r\n", b"stats settings\r\n"):
+        names = []
+        for server in servers:
+            client = Client(server.port, 5)
+            client.send(command)
+            names.append(set())
+            while (line := client.line()) != b"END":
+                names[-1].add(line.split()[1].decode())
+            client.close()
+        for name in sorted(names[0] - names[1]):
+            if not LACKING.match(name):
+                print(f"known: {command.strip().decode()} lacks {name}")
+                lacking += 1
+    return lacking
+
+
 def known():
     """Returns the differences that stay: why, lines, and what memcached and kilambosetryd answer to them."""
     store = b"set %s 0 0 1\r\n9\r\n"
@@ -515,6 +542,7 @@ def main():
             if run.counts or run.done % (BATCH * 8) == 0:
                 run.clear()
         wrong = check_known([there, here])
+        wrong += check_rows([there, here])
     print(f"{run.done} lines, seed {seed}: {run.differences} differences, {wrong} of {len(known())} known ones not as they were")
     sys.exit(1 if run.differences or wrong else 0)
 

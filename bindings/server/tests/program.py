@@ -1,5 +1,6 @@
 #!/usr/bin/env python3
 """Tries the program: that it ends when it is told to, its sockets, the page for Prometheus, what it refuses, and memccapable."""
+import glob
 import os
 import shutil
 import signal
@@ -227,6 +228,39 @@ def written(client):
     return stats
 
 
+def keeps_time():
+    """Times to live are kept where the date is set, back and forth: none ends sooner or later for that."""
+    fakes = glob.glob("/usr/lib/*/faketime/libfaketime.so.1")
+    if not fakes:
+        print("skipped: no libfaketime (Debian's faketime)")
+        return
+    folder, port = tempfile.mkdtemp(), free_port()
+    path = os.path.join(folder, "date")
+
+    def set_off(seconds):
+        with open(path + ".new", "w", encoding="ascii") as it:
+            it.write(f"{seconds:+d}\n")
+        os.rename(path + ".new", path)
+
+    set_off(0)
+    fake = [f"LD_PRELOAD={fakes[0]}", f"FAKETIME_TIMESTAMP_FILE={path}", "FAKETIME_NO_CACHE=1", "DONT_FAKE_MONOTONIC=1"]
+    with Server(["env", *fake, binary(), "--port", str(port)], port) as server:
+        client = Client(port)
+        assert client.ask(b"ms lasts 1 T3000\r\nx") == (b"HD", None)
+        steps = (3600, 0, -3600, 86_400, -86_400, 10**8, 0, -(10**8), 0)
+        for number, seconds in enumerate(steps):
+            set_off(seconds)
+            assert client.ask(b"mg lasts v") == (b"VA 1", b"x"), seconds
+            assert client.ask(b"ms brief%d 1 T2\r\nx" % number) == (b"HD", None)
+        time.sleep(3.2)
+        for number, seconds in enumerate(steps):
+            assert client.ask(b"mg brief%d t" % number) == (b"EN", None), seconds
+        line, _ = client.ask(b"mg lasts t")
+        assert 2900 < int(line.removeprefix(b"HD t")) < 3000, line
+        assert server.end() == 0
+    shutil.rmtree(folder)
+
+
 def has_flash():
     """Its flash is a file that is locked, and what leaves memory is found there."""
     folder = tempfile.mkdtemp()
@@ -312,7 +346,7 @@ def main():
     drains(signal.SIGTERM)
     drains(signal.SIGINT)
     sockets = (has_a_unix_socket, has_a_socket_of_its_own_from_the_first, has_a_page, has_a_long_queue)
-    limits = (raises_its_handles, is_told_that_its_file_is_too_long)
+    limits = (raises_its_handles, is_told_that_its_file_is_too_long, keeps_time)
     flash = (has_flash, looks_whose_its_flash_is)
     for check in (ends_in_the_midst_of_a_load, *sockets, *flash, *limits, refuses, runs_as_a_plain_user, is_capable):
         check()
