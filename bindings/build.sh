@@ -11,7 +11,7 @@
 #   bindings/build.sh --trial    also a service before a slow database, with leases and without, where that crate is installed
 #   bindings/build.sh --stress   also ten minutes of all calls at once over pages that are harmed, and some of it under valgrind
 #   bindings/build.sh --memory   also what a cache with flash keeps in memory, beside what its pool says
-#   bindings/build.sh --server   also the server's long runs: many lines beside memcached and damaged ones, crowds, flushes,
+#   bindings/build.sh --server   also the server's long runs: many lines beside memcached and damaged ones, crowds, flushes, little memory,
 #                                and what it costs
 #
 # What it makes lies in bindings/out, as in a prefix: lib, lib/pkgconfig and include; and the Cargo package (bindings/package). PREFIX is what the file for pkg-config

@@ -74,7 +74,12 @@ impl<S: Stream> Answers<S> {
 
     /// Whether there is memory for a line.
     pub fn has_room_for_line(&mut self) -> bool {
-        self.buffer.try_reserve(LINE).is_ok()
+        self.has_room_for_text(LINE)
+    }
+
+    /// Whether there is memory for so many bytes of lines.
+    pub fn has_room_for_text(&mut self, length: usize) -> bool {
+        self.buffer.try_reserve(length).is_ok()
     }
 
     /// Whether an item's value may be answered, with the many bytes that are in flight, and there is memory for it and two lines.

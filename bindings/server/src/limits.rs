@@ -1,4 +1,5 @@
 //! How many bytes may be in flight, and how long one may stand still.
+use std::hint::black_box;
 use std::sync::atomic::{AtomicUsize, Ordering::Relaxed};
 use std::sync::Arc;
 use std::time::Duration;
@@ -12,6 +13,16 @@ pub struct Patience {
     pub stall: Duration,
     /// For a whole command, or the answers that wait at once.
     pub command: Duration,
+}
+
+/// Whether there is memory for so many bytes just now.
+#[must_use]
+pub fn has_memory(bytes: usize) -> bool {
+    let mut tried: Vec<u8> = Vec::new();
+    let has_some = tried.try_reserve_exact(bytes).is_ok();
+    // (else nothing would be asked for)
+    black_box(&tried);
+    has_some
 }
 
 /// The bytes of bodies that are being received, and of answers that wait, of all connections together.
@@ -98,6 +109,11 @@ impl Drop for Share {
 #[cfg(test)]
 mod tests {
     use super::*;
+
+    #[test]
+    fn there_is_memory_for_little_and_not_for_all() {
+        assert!(has_memory(0) && has_memory(100_000) && !has_memory(1 << 60) && !has_memory(usize::MAX));
+    }
 
     #[test]
     fn what_is_in_flight_is_no_more_than_may_be() {

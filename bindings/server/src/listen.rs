@@ -193,20 +193,22 @@ async fn accept_unix(server: Arc<Server>, listener: UnixListener, _name: Name, w
     }
 }
 
-// Hands the client to a worker, unless there are too many.
+// Hands the client to a worker, unless there are too many, or no memory for one more.
 fn admit(server: &Server, client: Client, workers: &Workers) {
     match Arc::clone(&server.free_connections).try_acquire_owned() {
-        Ok(permit) => workers.hand((client, permit)),
-        Err(_) => {
-            server.count_rejected();
-            let text = b"ERROR Too many open connections\r\n";
-            // (its socket doesn't block, and takes a line at once)
-            let _ = match client {
-                Client::Tcp(mut stream) => stream.write_all(text),
-                Client::Unix(mut stream) => stream.write_all(text),
-            };
-        }
+        Ok(permit) if server.has_memory_for_last() => workers.hand((client, permit)),
+        Ok(_) => reject(server, client, b"SERVER_ERROR out of memory\r\n"),
+        Err(_) => reject(server, client, b"ERROR Too many open connections\r\n"),
     }
+}
+
+fn reject(server: &Server, client: Client, text: &[u8]) {
+    server.count_rejected();
+    // (its socket doesn't block, and takes a line at once)
+    let _ = match client {
+        Client::Tcp(mut stream) => stream.write_all(text),
+        Client::Unix(mut stream) => stream.write_all(text),
+    };
 }
 
 // Starts a thread that serves connections, and answers how it gets them.

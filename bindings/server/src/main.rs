@@ -1,5 +1,8 @@
 //! The program: its command line, its start and its end.
-#![forbid(unsafe_code)]
+#![deny(unsafe_code)]
+
+#[allow(unsafe_code)]
+mod reserve;
 
 use clap::Parser;
 use kilambosetryd::config::Config;
@@ -11,6 +14,9 @@ use std::io::{self, Write};
 use std::process::exit;
 use tokio::runtime::Builder;
 use tokio::signal::unix::{signal, Signal, SignalKind};
+
+#[global_allocator]
+static HEAP: reserve::Reserved = reserve::Reserved::new();
 
 // Where a file may not become as long as the flash (`ulimit -f`), the system's error tells so, and this signal ends nothing.
 const FILE_TOO_LONG: i32 = rustix::process::Signal::Xfsz as i32;

@@ -5,6 +5,7 @@ use crate::classic::{count_miss, refused, NOT_A_NUMBER};
 use crate::flags::{Flags, Meta, Verb};
 use crate::head::{Head, Item, Marks, HEAD};
 use crate::items::{Change, NotKept};
+use crate::limits::has_memory;
 use crate::moments::{self, Expiry};
 use crate::request::{Direction, How, Store};
 use crate::server::Worker;
@@ -12,6 +13,8 @@ use std::io;
 use std::time::Duration;
 
 const NO_MEMORY: &str = "SERVER_ERROR out of memory";
+// Where there is no memory for so many bytes, no bar is set: each keeps its key, a task and its place in tables.
+const OF_A_BAR: usize = 16 * 1024;
 
 /// Does what a meta command asks for, with the value that came with it.
 pub async fn run<S: Stream>(
@@ -299,6 +302,9 @@ async fn delete<S: Stream>(worker: &Worker, meta: &Meta<'_>, answers: &mut Answe
 async fn bar<S: Stream>(worker: &Worker, meta: &Meta<'_>, seconds: u32, answers: &mut Answers<S>) {
     let change = worker.server.items.change(&meta.key).await;
     let number = change.unique();
+    if !has_memory(OF_A_BAR) {
+        return answers.line(NO_MEMORY.as_bytes());
+    }
     let limit = end_bar(worker.clone(), meta.key.to_vec(), number, Duration::from_secs(seconds.into()));
     if !change.bar(tokio::spawn(limit)) {
         return answers.line(b"SERVER_ERROR too many bars");

@@ -1,4 +1,5 @@
 //! The page for Prometheus.
+use crate::limits::has_memory;
 use crate::server::Server;
 use crate::within::within;
 use std::collections::VecDeque;
@@ -11,6 +12,8 @@ use tokio::net::{TcpListener, TcpStream};
 use tokio::task::JoinHandle;
 
 const LONGEST_REQUEST: usize = 8 * 1024;
+// A page, as it is made, takes no more; where there is no memory for it, whoever asks has no answer.
+const OF_A_PAGE: usize = 128 * 1024;
 const PATIENCE: Duration = Duration::from_secs(5);
 const MOST_AT_ONCE: usize = 16;
 const PAUSE: Duration = Duration::from_millis(100);
@@ -23,6 +26,9 @@ pub async fn serve(server: Arc<Server>, listener: TcpListener) {
             tokio::time::sleep(PAUSE).await;
             continue;
         };
+        if !has_memory(OF_A_PAGE) {
+            continue;
+        }
         if served.len() == MOST_AT_ONCE {
             // (most have long ended)
             served.pop_front().iter().for_each(JoinHandle::abort);

@@ -3,7 +3,7 @@ use crate::config::Config;
 use crate::counters::{Counters, Sums};
 use crate::finds::Finds;
 use crate::items::Items;
-use crate::limits::{InFlight, Patience};
+use crate::limits::{has_memory, InFlight, Patience};
 use kilambosetry::HybridCache;
 use std::sync::Arc;
 use std::time::Instant;
@@ -11,6 +11,12 @@ use tokio::sync::Semaphore;
 
 /// The version that clients are told: that of the protocol, and the crate's.
 pub const VERSION: &str = concat!("1.6.18-kilambosetry-", env!("CARGO_PKG_VERSION"));
+
+// What a connection takes beside the bytes in flight: its task, and its place in a table of its thread, which doubles.
+const OF_A_TASK: usize = 16 * 1024;
+const OF_A_PLACE: usize = 320;
+// The places of a table's first part.
+const PLACES: usize = 32;
 
 /// What all connections share.
 #[derive(Debug)]
@@ -70,6 +76,13 @@ impl Server {
     /// Counts a client that wasn't let in.
     pub fn count_rejected(&self) {
         self.counters[0].rejected_connections.one();
+    }
+
+    /// Whether there is memory for the last connection that was let in: its thread may have twice as many as others.
+    #[must_use]
+    pub fn has_memory_for_last(&self) -> bool {
+        let of_a_thread = 2 * self.open_connections() / self.counters.len().max(1);
+        has_memory(OF_A_TASK.max((of_a_thread + PLACES) * OF_A_PLACE))
     }
 
     /// Connections that are open.

@@ -1,5 +1,6 @@
 //! What the server tells of itself.
 use crate::answers::{Answers, Stream};
+use crate::limits::has_memory;
 use crate::moments;
 use crate::server::{Server, Worker, VERSION};
 use kilambosetry::{Losses, Stats};
@@ -7,8 +8,15 @@ use std::fmt::Display;
 use std::process;
 use std::{fs, io};
 
+// All rows together, and what makes them, are no longer; the paths of the settings have 4,096 bytes each.
+const LONGEST: usize = 16 * 1024;
+
 /// Answers the command `stats`.
 pub fn answer<S: Stream>(worker: &Worker, kind: &[u8], answers: &mut Answers<S>) -> io::Result<()> {
+    if !has_memory(LONGEST) || !answers.has_room_for_text(LONGEST) {
+        answers.line(b"SERVER_ERROR out of memory writing stats");
+        return Ok(());
+    }
     let mut tell = |name: &str, value: &dyn Display| answers.line(format!("STAT {name} {value}").as_bytes());
     match kind {
         b"" => general(&worker.server, &mut tell),

@@ -126,6 +126,15 @@ class Client:
             return line, self.value(int(line.split()[1]))
         return line, None
 
+    def line_of(self, command):
+        """Sends a command, and returns the line of its answer, or None where the server closes the connection instead."""
+        try:
+            return self.ask(command)[0]
+        except (EOFError, OSError) as error:
+            if isinstance(error, TimeoutError):
+                raise
+            return None
+
     def close(self):
         """Closes the connection."""
         self.socket.close()
