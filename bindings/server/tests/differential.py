@@ -22,9 +22,11 @@ BATCH = 25
 SHOWN = 20
 # So many seconds without an answer mean that there is none: a value of a wrong length has taken the lines behind it in.
 QUIET = 1.5
-NOISE = random.Random(0).randbytes(1 << 16)
+# (where these two bytes are beside digits, only memcached counts: see `known`)
+NOISE = random.Random(0).randbytes(1 << 16).translate(None, b"\0\x0b")
 LONG_OPAQUE = b"O" + b"o" * 32
 TOO_LARGE = b"SERVER_ERROR object too large for cache"
+NO_NUMBER = b"CLIENT_ERROR cannot increment or decrement non-numeric value"
 # The longest value here; memcached's is a little shorter.
 LONGEST = 1_048_555
 # (a number that no server of this run has as a cas unique: lower than all, and higher)
@@ -179,7 +181,7 @@ class Lines:
         if kind < 0.5:
             return self.one(b"12 ", b" 7", b"5 five", b"", b"007", b"+3")
         if kind < 0.503:
-            return bytes(self.one(1_000_000, 1_048_576, 1_100_000))
+            return b"z" * self.one(1_000_000, 1_048_576, 1_100_000)
         size, at = self.random.randrange(200), self.random.randrange(len(NOISE) - 200)
         return NOISE[at : at + size].replace(b"MN", b"mn").replace(b"-", b"_").replace(b"<U", b"<u")
 
@@ -479,6 +481,12 @@ def known():
             store % b"p" + b"mg p T-1 v t\r\n",
             None,
             b"STORED|VA 1 t0|9",
+        ),
+        (
+            "a number is one to memcached where a zero byte follows, or a vertical tab comes first",
+            b"set z 0 0 3\r\n4\0x\r\nincr z 1\r\nset z 0 0 2\r\n\x0b4\r\nincr z 1\r\n",
+            b"STORED|5|STORED|5",
+            b"STORED|" + NO_NUMBER + b"|STORED|" + NO_NUMBER,
         ),
         (
             "a replace that is too long takes what there is here, and leaves it in memcached",
