@@ -5,7 +5,7 @@ use crate::held::copied;
 use crate::hybrid::held_of;
 use crate::loads::{after, Outcome};
 use crate::shared;
-use crate::{Error, Found, Held, HybridCache, Lease, Refused, Ticket};
+use crate::{Error, Found, Held, HybridCache, Lease, Refused};
 use std::time::Duration;
 
 /// What a [`Lease`] is known by, beside its key.
@@ -69,25 +69,26 @@ pub fn numbers_of(mut lease: Lease) -> Option<LeaseNumbers> {
     }
     let ticket = lease.ticket?;
     let load = lease.load.take().unwrap_or(0);
-    Some(LeaseNumbers { cache: ticket.cache, ticket: ticket.number, load, key: digest_of(&lease.key) })
+    let state = lease.cache.shards().lock(lease.shard);
+    let (cache, ticket) = (state.engine.number(), state.engine.number_of(ticket));
+    Some(LeaseNumbers { cache, ticket, load, key: digest_of(&lease.key) })
 }
 
 impl HybridCache {
-    // The number of the key's shard. (It has one until 2^64 changes were made.)
-    fn number_of_shard(&self, key: &[u8]) -> Option<u64> {
-        let shard = self.shards().of(key);
-        let ticket = self.shards().lock(shard).engine.ticket();
-        ticket.map(|now| now.cache)
+    // The number of the key's shard.
+    fn number_of_shard(&self, key: &[u8]) -> u64 {
+        self.shards().lock(self.shards().of(key)).engine.number()
     }
 
     /// The lease of these numbers. `None`: it is another key's, or another cache's. Refused with [`Refused::NO_MEMORY`]; who waits
     /// for its load then looks again.
     pub fn lease_of(&self, key: &[u8], numbers: &LeaseNumbers) -> Result<Option<Lease>, Refused> {
         let LeaseNumbers { cache, ticket, load, key: digest } = *numbers;
-        if digest != digest_of(key) || self.number_of_shard(key) != Some(cache) {
+        if digest != digest_of(key) || self.number_of_shard(key) != cache {
             return Ok(None);
         }
-        let (shard, ticket) = (self.shards().of(key), Some(Ticket { cache, number: ticket }));
+        let shard = self.shards().of(key);
+        let ticket = self.shards().lock(shard).engine.ticket_of(ticket);
         let copy = copied(key);
         if copy.is_err() && load != 0 {
             self.shards().finish_load(shard, key, load, Outcome::Look);
@@ -98,13 +99,13 @@ impl HybridCache {
 
     /// Begins a change that is ended by its numbers. `None`: there is no bar, since the cache can't have the key, or is closed.
     pub fn begin_change_by_numbers(&self, key: &[u8]) -> Option<ChangeNumbers> {
-        let numbers = ChangeNumbers { cache: self.number_of_shard(key)?, key: digest_of(key) };
+        let numbers = ChangeNumbers { cache: self.number_of_shard(key), key: digest_of(key) };
         self.begin_change(key).leave().then_some(numbers)
     }
 
     /// Ends a change, and answers whether it is one of this key and this cache. `is_known`: whether it is known if the row was changed.
     pub fn end_change_by_numbers(&self, key: &[u8], numbers: &ChangeNumbers, is_known: bool) -> bool {
-        let is_ours = numbers.key == digest_of(key) && self.number_of_shard(key) == Some(numbers.cache);
+        let is_ours = numbers.key == digest_of(key) && self.number_of_shard(key) == numbers.cache;
         if is_ours {
             self.end_change(self.shards().of(key), key, is_known);
         }

@@ -1,6 +1,7 @@
+use crate::generations::Generations;
 use crate::held::copied;
 use crate::wakes::Wakes;
-use crate::{Engine, Error, Refused, Reply};
+use crate::{Error, Refused, Reply};
 use std::collections::HashMap;
 use std::task::Waker;
 
@@ -17,6 +18,7 @@ enum Waits {
 #[derive(Default)]
 pub(crate) struct Call {
     waits: Option<Waits>,
+    is_add: bool,
     answer: Option<Answer>,
 }
 
@@ -38,6 +40,8 @@ pub(crate) struct Calls {
     pub from_flash: u64,
     /// Gets that waited and found none, for whose key an operation had failed.
     pub misses_by_fault: u64,
+    /// Gets that waited while the shard was cleared.
+    pub misses_by_clear: u64,
     /// Calls that were given up while they waited.
     pub given_up: u64,
 }
@@ -53,6 +57,13 @@ impl Calls {
         self.owed += 1;
         self.waiting.insert(call, Call::default());
         wakes.wait();
+    }
+
+    /// The call is an add.
+    pub fn note_add(&mut self, call: u64) {
+        if let Some(call) = self.waiting.get_mut(&call) {
+            call.is_add = true;
+        }
     }
 
     /// How many calls wait for their answer.
@@ -134,7 +145,7 @@ impl Calls {
 
     /// The get of this key that was given up and that the engine hasn't answered yet: a get may go on with it. (A change of the key
     /// answers it. So nothing was changed since it began.)
-    pub fn go_on(&mut self, key: &[u8], engine: &mut Engine) -> Option<u64> {
+    pub fn go_on(&mut self, key: &[u8], engine: &mut Generations) -> Option<u64> {
         if self.left.is_empty() {
             return None;
         }
@@ -163,7 +174,7 @@ impl Calls {
     }
 
     /// Hands out the replies that are there.
-    pub fn sweep(&mut self, engine: &mut Engine, wakes: &mut Wakes) {
+    pub fn sweep(&mut self, engine: &mut Generations, wakes: &mut Wakes) {
         let is_faulty = std::mem::take(&mut self.is_faulty);
         self.is_held_up = false;
         while self.owed > 0 {
@@ -186,6 +197,21 @@ impl Calls {
             Some(call) => call.answer(number, answer, wakes),
             None => drop(self.keys.remove(&number).and_then(|key| self.left.remove(&key))),
         }
+    }
+
+    /// The shard is cleared: all that wait have missed (which an add knows by that it is neither stored nor refused), and no reply is
+    /// owed.
+    pub fn clear(&mut self, wakes: &mut Wakes) {
+        for (number, call) in self.waiting.iter_mut().filter(|(_, call)| call.answer.is_none()) {
+            self.misses_by_clear += u64::from(!call.is_add);
+            call.answer(*number, Ok(Reply::Miss), wakes);
+        }
+        self.owed = 0;
+        self.left.clear();
+        self.keys.clear();
+        self.failed.clear();
+        self.is_faulty = false;
+        self.is_held_up = false;
     }
 
     /// Answers all that wait that the cache is closed.

@@ -211,6 +211,26 @@ impl Engine {
         Ok(Engine { cache, page: 0, owed: None, forgotten: VecDeque::new() })
     }
 
+    // No engine: each call is refused.
+    pub(crate) fn none() -> Engine {
+        Engine { cache: Cache::of(Handle::none()), page: 0, owed: None, forgotten: VecDeque::new() }
+    }
+
+    // What tells its tickets from those of others.
+    pub(crate) fn number(&self) -> u64 {
+        self.cache.number
+    }
+
+    // The items in memory, of so many pools.
+    pub(crate) fn items(&mut self, pools: u8) -> u64 {
+        (0..pools).map(|pool| self.usage(pool).unwrap_or_default().items).sum()
+    }
+
+    // How many calls were begun: no call that waits has a higher number.
+    pub(crate) fn calls(&mut self) -> u64 {
+        self.cache.calls()
+    }
+
     fn of(handle: Handle, flash: &Flash) -> Engine {
         Engine { cache: Cache::of(handle), page: flash.page as usize, owed: None, forgotten: VecDeque::new() }
     }

@@ -1,5 +1,6 @@
+use crate::calls::Answer;
 use crate::checked::{Checked, PageDevice};
-use crate::engine::Copied;
+use crate::engine::{Copied, Engine};
 use crate::future::GetAsync;
 use crate::loads::after;
 use crate::numbers::Numbers;
@@ -8,6 +9,7 @@ use crate::shared::{boxed, Shared};
 use crate::{Added, Error, Found, Held, OpenError, Options, PageFile, Refused, Reply, Stats, Value};
 use std::cell::Cell;
 use std::path::Path;
+use std::sync::atomic::Ordering::Relaxed;
 use std::sync::{Mutex, OnceLock, PoisonError};
 use std::thread::{self, JoinHandle};
 use std::time::{Duration, Instant};
@@ -198,22 +200,28 @@ impl HybridCache {
     /// waits until it was looked for there. Don't store by it what was loaded: it may be stored behind a `delete` that came while
     /// it waited.
     pub fn add(&self, key: &[u8], value: &[u8], ttl: u32) -> Result<bool, Error> {
+        loop {
+            match self.try_add(key, value, ttl) {
+                Ok(Reply::Miss) => {} // (the cache was cleared while it waited, and has nothing of it)
+                Err(Error::Refused(Refused::EXISTS)) => return Ok(false),
+                added => return added.map(|_| true),
+            }
+        }
+    }
+
+    fn try_add(&self, key: &[u8], value: &[u8], ttl: u32) -> Answer {
         let (shards, shard) = self.locate(key);
         let mut state = shards.enter(shard)?;
         let added = state.add(shards.pool_of(key), key, value, ttl);
         if added.is_ok() {
             state.end_load(key);
         }
-        let added = match added {
-            Ok(Added::Waits(call)) => shards.fill_for(shard, state, call).map(|_| ()),
+        match added {
+            Ok(Added::Waits(call)) => shards.fill_for_add(shard, state, call),
             stored => {
                 shards.leave(shard, state);
-                stored.map(|_| ()).map_err(Error::Refused)
+                Ok(stored.map(|_| Reply::Stored)?)
             }
-        };
-        match added {
-            Err(Error::Refused(Refused::EXISTS)) => Ok(false),
-            added => added.map(|()| true),
         }
     }
 
@@ -236,7 +244,8 @@ impl HybridCache {
     #[must_use]
     pub fn stats(&self) -> Stats {
         let Inner { shards, numbers, .. } = &*self.inner;
-        let mut stats = Stats { lock_waits: shards.lock_waits(), ..Stats::default() };
+        let clears = shards.clears.load(Relaxed);
+        let mut stats = Stats { lock_waits: shards.lock_waits(), clears, ..Stats::default() };
         for shard in 0..shards.len() {
             add_shard(&mut stats, &mut shards.lock(shard), shards);
         }
@@ -277,6 +286,11 @@ impl HybridCache {
         &self.inner.shards
     }
 
+    // Frees these by a thread of its own, since that takes long where they have many items.
+    pub(crate) fn free(&self, engines: Vec<Engine>) {
+        let _ = self.inner.workers.start("cache-clear", || drop(engines)); // (without a thread they are dropped here)
+    }
+
     // Whether tasks are woken whose loads take too long: the first that waits begins a thread for that.
     pub(crate) fn keeps_time(&self) -> bool {
         let begin = || self.inner.start("cache-timer", Shards::keep_time).is_ok();
@@ -308,12 +322,13 @@ fn add_shard(stats: &mut Stats, state: &mut Locked<'_>, shards: &Shards) {
     stats.hits_from_memory += counts.hits.saturating_sub(from_flash);
     stats.hits_from_flash += from_flash;
     let (expired, fault) = (state.misses_expired, state.calls.misses_by_fault);
-    stats.misses_absent += counts.misses.saturating_sub(expired + fault);
+    stats.misses_absent += counts.misses.saturating_sub(expired + fault) + state.calls.misses_by_clear;
     stats.misses_expired += expired;
     stats.misses_by_fault += fault;
     stats.stored += counts.stored;
     stats.deletes += counts.removes;
     stats.losses += state.engine.losses();
+    stats.cleared_items += state.engine.cleared();
     stats.loads += state.loads.begun;
     stats.waits_for_loads += state.loads.waited;
     stats.stale_stores += state.loads.stale;
@@ -321,7 +336,7 @@ fn add_shard(stats: &mut Stats, state: &mut Locked<'_>, shards: &Shards) {
     stats.waiting += state.calls.len() as u64;
     stats.given_up += state.calls.given_up;
     stats.queue_length += state.engine.queue_length();
-    stats.shards_behind += u64::from(shards.device.is_some() && state.engine.writer_has_work() != Ok(false));
+    stats.shards_behind += u64::from(shards.device.is_some() && state.engine.is_to_be_written());
     for pool in 0..shards.pools() {
         let usage = state.engine.usage(pool).unwrap_or_default();
         stats.memory_items += usage.items;
@@ -352,6 +367,7 @@ impl Workers {
             work();
         };
         let mut running = self.running.lock().unwrap_or_else(PoisonError::into_inner);
+        running.retain(|worker| !worker.is_finished());
         running.try_reserve(1).map_err(|_| OpenError::NoMemory)?;
         running.push(thread::Builder::new().name(named(name)?).spawn(works)?);
         Ok(())

@@ -49,12 +49,14 @@ mod buffer;
 mod calls;
 mod change;
 mod checked;
+mod clear;
 mod clock;
 mod digest;
 mod engine;
 mod errors;
 mod file;
 mod future;
+mod generations;
 mod heap;
 mod held;
 mod hybrid;
@@ -139,6 +141,18 @@ pub struct Counts {
     pub reads: u64,
     /// Pages of flash that were written.
     pub writes: u64,
+}
+
+impl AddAssign for Counts {
+    fn add_assign(&mut self, other: Counts) {
+        self.stored += other.stored;
+        self.hits += other.hits;
+        self.misses += other.misses;
+        self.removes += other.removes;
+        self.losses += other.losses;
+        self.reads += other.reads;
+        self.writes += other.writes;
+    }
 }
 
 /// How many losses came of each reason, together those of [`Counts`]. A loss is an item, or what stood on a page of flash.

@@ -233,6 +233,13 @@ impl Loads {
         self.loads.get(&number).is_some_and(|load| load.outcome == Some(outcome))
     }
 
+    /// All keys were changed: who waits for a load is told, and nobody begins to wait for one of these any more.
+    pub fn end_all(&mut self, wakes: &mut Wakes) {
+        for number in std::mem::take(&mut self.running).into_values() {
+            self.tell(number, Outcome::Look, wakes);
+        }
+    }
+
     fn tell(&mut self, number: u64, outcome: Outcome, wakes: &mut Wakes) {
         if let Some(load) = self.loads.get_mut(&number) {
             // (one that was taken over isn't ended by what changes the key: so what it came to isn't handed on)

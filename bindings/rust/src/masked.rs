@@ -24,6 +24,11 @@ impl Masked {
         Masked { engine, pad, other: [0; MOST] }
     }
 
+    /// The engine.
+    pub fn into_engine(self) -> Engine {
+        self.engine
+    }
+
     // Calls it with the key's other bytes, which are as many, and those of no other key. (One that is too long is refused as it is.)
     #[inline]
     fn with<T>(&mut self, key: &[u8], call: impl FnOnce(&mut Engine, &[u8]) -> T) -> T {

@@ -3,17 +3,17 @@ use crate::bell::Bell;
 use crate::buffer::with_page;
 use crate::calls::{Answer, Call, Calls};
 use crate::checked::Checked;
+use crate::generations::Generations;
 use crate::lease::Waited;
 use crate::loads::{Loads, Outcome};
-use crate::masked::Masked;
 use crate::numbers::Numbers;
 use crate::spread::Spread;
 use crate::timer::Timer;
 use crate::told::{Tellings, Told};
 use crate::wakes::{Rings, Wakes, Woken};
 use crate::{
-    Added, Came, Clock, Copied, Engine, Error, Found, Held, Kept, Lookup, Operation, Options, Refused, Take, Ticket,
-    Value,
+    Added, Came, Clock, Copied, Engine, Error, Found, Held, Kept, Lookup, Operation, Options, Pool, Refused, Take,
+    Ticket, Value,
 };
 use std::collections::hash_map::RandomState;
 use std::collections::VecDeque;
@@ -32,7 +32,7 @@ const TRIES: usize = 200;
 
 /// What a shard's lock holds.
 pub(crate) struct State {
-    pub engine: Masked,
+    pub engine: Generations,
     pub calls: Calls,
     pub loads: Loads,
     pub bars: Bars,
@@ -58,7 +58,7 @@ enum Left {
 impl State {
     fn new(engine: Engine, now: u64) -> State {
         State {
-            engine: Masked::new(engine),
+            engine: Generations::new(engine),
             calls: Calls::default(),
             loads: Loads::default(),
             bars: Bars::default(),
@@ -176,6 +176,16 @@ impl State {
         self.calls.give_up(call, key, &mut self.wakes)
     }
 
+    /// Forgets all that the shard has, and answers the engine that had it, which is to be dropped without the lock. What is loaded
+    /// now is stale. Changes that are under way go on: they are of keys, and not of items.
+    #[must_use]
+    pub fn clear(&mut self, engine: Option<Engine>, pools: u8) -> Engine {
+        let before = self.engine.renew(engine, pools);
+        self.calls.clear(&mut self.wakes);
+        self.loads.end_all(&mut self.wakes);
+        before
+    }
+
     fn count_expired(&mut self, key: &[u8], is_miss: bool) {
         self.misses_expired += u64::from(is_miss && self.engine.is_expired(key) == Ok(true));
     }
@@ -183,6 +193,9 @@ impl State {
     // Hands in what came of an operation. What it answers is known by `leave`, before the lock is free.
     fn finish(&mut self, job: u64, came: &mut Came) -> Result<Take, Refused> {
         let has_failed = matches!(came, Came::Failed);
+        if !self.engine.is_of_now(job) {
+            return self.engine.finish(job, came);
+        }
         let next = self.engine.finish(job, came);
         self.calls.note_result(job, has_failed, matches!(next, Ok(Take::Finished)));
         next
@@ -190,7 +203,7 @@ impl State {
 }
 
 // Whether the key could be deleted. (What was loaded before isn't handed on, also where it can't be.)
-fn delete(engine: &mut Masked, loads: &mut Loads, wakes: &mut Wakes, key: &[u8]) -> bool {
+fn delete(engine: &mut Generations, loads: &mut Loads, wakes: &mut Wakes, key: &[u8]) -> bool {
     loads.end(key, wakes);
     engine.delete(key).is_ok()
 }
@@ -212,7 +225,8 @@ pub(crate) struct Shards {
     pub device: Option<Checked>,
     page: usize,
     pages: u32,
-    pools: u8,
+    pools: Vec<Pool>,
+    numbers: Numbers,
     spread: Spread,
     clock: Clock,
     pub patience: Duration,
@@ -223,6 +237,8 @@ pub(crate) struct Shards {
     pub timer: Timer,
     writers: Bell,
     fillers: Bell,
+    /// How often all were cleared.
+    pub clears: AtomicU64,
 }
 
 // What panics in a call (a clock, a device, a task that is woken) does so with the shard as a call leaves it, or its lock free.
@@ -247,16 +263,11 @@ pub(crate) type Locked<'a> = MutexGuard<'a, State>;
 impl Shards {
     /// Empty shards with these numbers, over a device that is still to come, where there is flash.
     pub fn new(numbers: &Numbers, options: &Options) -> Result<Shards, Refused> {
-        let pools = numbers.pools()?;
-        let now = options.clock.now();
+        let (pools, now) = (numbers.pools()?, options.clock.now());
         let mut shards = Vec::new();
         shards.try_reserve_exact(usize::from(numbers.shards)).map_err(|_| Refused::NO_MEMORY)?;
         for _ in 0..numbers.shards {
-            let mut engine = match &numbers.flash {
-                Some(flash) => Engine::new_shard(&pools, flash, numbers.shards)?,
-                None => Engine::new_shard_in_memory(&pools, numbers.shards)?,
-            };
-            engine.tick(now)?;
+            let engine = new_engine(numbers, &pools, now)?;
             let state = Mutex::new(State::new(engine, now));
             shards.push(Shard { state, rings: Rings::default(), quiet: Condvar::new(), lock_waits: AtomicU64::new(0) });
         }
@@ -266,7 +277,8 @@ impl Shards {
             device: None,
             page,
             pages,
-            pools: pools.len() as u8,
+            pools,
+            numbers: *numbers,
             spread: Spread::new(),
             clock: options.clock.clone(),
             patience: options.patience,
@@ -276,6 +288,7 @@ impl Shards {
             timer: Timer::default(),
             writers: Bell::default(),
             fillers: Bell::default(),
+            clears: AtomicU64::new(0),
         })
     }
 
@@ -284,7 +297,7 @@ impl Shards {
     }
 
     pub fn pools(&self) -> u8 {
-        self.pools
+        self.pools.len() as u8
     }
 
     /// The key's shard, by the upper half of its hash. (That of the library, FNV-1a, goes byte by byte, and takes as long as
@@ -300,9 +313,9 @@ impl Shards {
     /// The key's pool: its items are spread over all of them, where one can't hold as many.
     #[inline]
     pub fn pool_of(&self, key: &[u8]) -> u8 {
-        match self.pools {
+        match self.pools.len() {
             1 => 0,
-            pools => (self.spread.hash(key) as u32 % u32::from(pools)) as u8,
+            pools => (self.spread.hash(key) as u32 % pools as u32) as u8,
         }
     }
 
@@ -333,11 +346,40 @@ impl Shards {
         if state.closed {
             return Err(Error::Closed);
         }
+        if !state.engine.is_there() {
+            self.fill_shard(&mut state)?;
+        }
         if now > state.now {
             state.engine.tick(now)?;
             state.now = now;
         }
         Ok(state)
+    }
+
+    // Makes the engine for which there was no memory as the shard was cleared.
+    #[cold]
+    fn fill_shard(&self, state: &mut Locked<'_>) -> Result<(), Refused> {
+        let engine = new_engine(&self.numbers, &self.pools, state.now)?;
+        state.engine.fill(engine);
+        Ok(())
+    }
+
+    /// Forgets all that the shard has, and answers the engine that had it. Where there is no memory for an empty one, the calls of
+    /// the shard are refused until there is.
+    #[must_use]
+    pub fn clear(&self, shard: usize) -> Option<Engine> {
+        let now = self.clock.now();
+        let empty = new_engine(&self.numbers, &self.pools, now).ok();
+        let mut state = self.lock(shard);
+        if state.closed {
+            return None;
+        }
+        let before = state.clear(empty, self.pools());
+        let now = state.now.max(now);
+        let _ = state.engine.tick(now); // (where there is one, it isn't refused)
+        state.now = now;
+        self.leave(shard, state);
+        Some(before)
     }
 
     /// Lets the shard go after a step that may have answered calls or made work: who waits for that is told.
@@ -410,6 +452,13 @@ impl Shards {
     /// those of who waits longer. Where another thread makes it, it sleeps.
     pub fn fill_for<'a>(&'a self, shard: usize, mut state: Locked<'a>, call: u64) -> Answer {
         state.begin(call);
+        self.fill_on(shard, state, call)
+    }
+
+    /// The same of an add. Where it is a miss, the shard was cleared meanwhile, and nothing is stored.
+    pub fn fill_for_add<'a>(&'a self, shard: usize, mut state: Locked<'a>, call: u64) -> Answer {
+        state.begin(call);
+        state.calls.note_add(call);
         self.fill_on(shard, state, call)
     }
 
@@ -746,7 +795,11 @@ impl Shards {
 
     // The operation of a job, which couldn't be told for want of memory.
     fn ask_again(&self, shard: usize, job: u64) -> Option<Operation> {
-        self.tried(shard, || self.lock(shard).engine.operation(job).ok())
+        let asked = || match self.lock(shard).engine.operation(job) {
+            Err(Refused::NO_MEMORY) => None,
+            told => Some(told.ok()),
+        };
+        self.tried(shard, asked).flatten()
     }
 
     fn operate(&self, shard: usize, operation: Operation) -> Came {
@@ -844,7 +897,7 @@ impl Shards {
     pub fn flush(&self, shard: usize) -> Result<(), Error> {
         let mut state = self.enter(shard)?;
         while !state.closed {
-            if state.writing == 0 && state.engine.writer_has_work() == Ok(false) {
+            if state.writing == 0 && !state.engine.is_to_be_written() {
                 return Ok(());
             }
             self.writers.ring(shard);
@@ -874,8 +927,18 @@ impl Shards {
     }
 }
 
+// An empty engine of one shard, with its clock told.
+fn new_engine(numbers: &Numbers, pools: &[Pool], now: u64) -> Result<Engine, Refused> {
+    let mut engine = match &numbers.flash {
+        Some(flash) => Engine::new_shard(pools, flash, numbers.shards)?,
+        None => Engine::new_shard_in_memory(pools, numbers.shards)?,
+    };
+    engine.tick(now)?;
+    Ok(engine)
+}
+
 // What is to be written next. Regions are made clean first.
-fn take_write(engine: &mut Engine) -> Result<Take, Refused> {
+fn take_write(engine: &mut Generations) -> Result<Take, Refused> {
     while engine.reclaim()? {}
     engine.writer_take()
 }

@@ -29,6 +29,10 @@ pub struct Stats {
     pub stale_stores: u64,
     /// Loaded values that weren't stored, since the store was refused.
     pub refused_stores: u64,
+    /// How often all was forgotten at once ([`clear`](crate::HybridCache::clear)).
+    pub clears: u64,
+    /// Items in memory that were forgotten so, beside those of `losses`. How many flash had isn't known.
+    pub cleared_items: u64,
     /// Items that were forgotten, by the reason.
     pub losses: Losses,
     /// Items in memory.
@@ -115,6 +119,8 @@ impl Stats {
         counter(&mut text, "waits_for_loads", "Calls that waited for another's load.", self.waits_for_loads);
         counter(&mut text, "stale_stores", "Loads not stored: the key was changed.", self.stale_stores);
         counter(&mut text, "refused_stores", "Loads not stored: the store was refused.", self.refused_stores);
+        counter(&mut text, "clears", "Times that all was forgotten.", self.clears);
+        counter(&mut text, "cleared_items", "Items in memory that were forgotten so.", self.cleared_items);
         counters(&mut text, "losses", "Items that were forgotten.", "reason", &self.losses_by_reason());
         counters(&mut text, "device_operations", "Pages read and written.", "operation", &operations);
         counters(&mut text, "device_failures", "Operations that failed.", "operation", &failures);
@@ -166,7 +172,11 @@ impl fmt::Display for Stats {
             self.misses_expired,
             self.misses_by_fault
         )?;
-        writeln!(f, "changes  {} stored, {} deletes", self.stored, self.deletes)?;
+        writeln!(
+            f,
+            "changes  {} stored, {} deletes, {} clears of {} items in memory",
+            self.stored, self.deletes, self.clears, self.cleared_items
+        )?;
         writeln!(
             f,
             "loads    {} begun, {} stale, {} refused, {} waited for another's",

@@ -32,9 +32,17 @@ static ALONE: Mutex<()> = Mutex::new(());
 
 thread_local! {
     static SEED: Cell<u64> = const { Cell::new(1) };
+    // How many allocations this thread makes until one is refused, and whether all of them are from then on; none, where it is 0.
+    static HERE: Cell<(u64, bool)> = const { Cell::new((0, false)) };
 }
 
 fn is_refused() -> bool {
+    let (left, are_all) = HERE.try_with(Cell::get).unwrap_or_default();
+    if left > 0 {
+        let then = if are_all { 1 } else { 0 };
+        HERE.set((if left == 1 { then } else { left - 1 }, are_all));
+        return left == 1;
+    }
     if UNTIL.fetch_update(SeqCst, SeqCst, |left| left.checked_sub(1)) == Ok(1) {
         return true;
     }
@@ -262,4 +270,95 @@ fn a_reply_that_is_out_of_memory_holds_no_other_up() {
     let _alone = ALONE.lock();
     let stuck: Vec<u64> = (1..32).filter(|refused| !are_answered(*refused)).collect();
     assert!(stuck.is_empty(), "calls wait for good where these allocations are refused: {stuck:?}");
+}
+
+// A cache in memory, and one with a few keys on flash alone.
+fn two_caches() -> [HybridCache; 2] {
+    let flash = Flash {
+        page: 512,
+        buckets: 64,
+        regions: 12,
+        region_pages: 8,
+        clean: 2,
+        small_max: 200,
+        queue: 64,
+        bits: 64,
+        admit_min: 1,
+        admit_max: 4000,
+    };
+    let pool = Some(Pool { bytes: 4000, items: 16 });
+    let options = Options { shards: 2, pool, flash_numbers: Some(flash), ..Options::default() };
+    let over = HybridCache::over(Pages(Mutex::default(), Arc::default()), &options).unwrap();
+    [HybridCache::in_memory(&options).unwrap(), over]
+}
+
+fn fill(cache: &HybridCache) {
+    for number in 0..60u8 {
+        cache.set(&[number], &[1; 150], 0).unwrap();
+        cache.flush().unwrap();
+    }
+}
+
+fn is_empty(cache: &HybridCache) -> bool {
+    (0..60u8).all(|number| cache.get(&[number]).unwrap().is_none())
+}
+
+#[test]
+fn a_cache_is_cleared_whichever_allocation_is_refused() {
+    let _alone = ALONE.lock();
+    for cache in two_caches() {
+        for refused in 1..40 {
+            fill(&cache);
+            HERE.set((refused, false));
+            cache.clear();
+            HERE.set((0, false));
+            assert!(is_empty(&cache), "{refused}");
+            cache.set(b"key", b"value", 0).unwrap();
+            assert_eq!(cache.get(b"key").unwrap().as_deref(), Some(&b"value"[..]));
+        }
+    }
+}
+
+#[test]
+fn a_cache_without_memory_for_an_empty_one_is_refused_its_calls_until_there_is() {
+    let _alone = ALONE.lock();
+    for cache in two_caches() {
+        fill(&cache);
+        let stats = cache.stats();
+        HERE.set((1, true));
+        cache.clear();
+        let refused = [cache.get(&[1]).map(drop), cache.set(&[1], &[2], 0), cache.delete(&[1]).map(drop)];
+        let loaded = cache.get_or_load(&[1], 0, || Ok::<_, Infallible>("row"));
+        cache.invalidate(&[1]);
+        let waiting = cache.stats().waiting;
+        HERE.set((0, false));
+        assert_eq!(refused, [Err(Error::Refused(Refused::NO_MEMORY)); 3]);
+        assert_eq!((&loaded.unwrap()[..], waiting), (&b"row"[..], 0));
+        assert!(is_empty(&cache));
+        fill(&cache);
+        assert_eq!(cache.get(&[59]).unwrap().as_deref(), Some(&[1; 150][..]));
+        assert_eq!(cache.stats().stored, 2 * stats.stored);
+    }
+}
+
+#[test]
+fn a_key_is_forgotten_though_there_is_no_memory_to_delete_it() {
+    let _alone = ALONE.lock();
+    let [_, cache] = two_caches();
+    fill(&cache);
+    // (what is to be deleted on flash is kept until its page is written anew, which takes memory)
+    let is_refused = |key: &u8| {
+        let is_there = cache.get(&[*key]).unwrap().is_some();
+        HERE.set((1, true));
+        let deleted = cache.delete(&[*key]);
+        HERE.set((0, false));
+        is_there && deleted == Err(Error::Refused(Refused::NO_MEMORY))
+    };
+    let key = (0..60u8).find(is_refused).expect("a delete that takes memory");
+    assert!(cache.get(&[key]).unwrap().is_some());
+    HERE.set((1, true));
+    cache.invalidate(&[key]);
+    HERE.set((0, false));
+    assert!(cache.get(&[key]).unwrap().is_none());
+    assert!(cache.stats().cleared_items > 0);
 }

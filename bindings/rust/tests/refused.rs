@@ -147,7 +147,7 @@ fn second(found: Result<Vec<Result<Option<Value>, Error>>, Refused>) -> Result<b
     Ok(found[1].is_some())
 }
 
-const CALLS: [(&str, Call); 17] = [
+const CALLS: [(&str, Call); 19] = [
     ("get", |cache, _, _| cache.get(KEY).map(|value| value.is_some())),
     ("get_timeout", |cache, _, _| cache.get_timeout(KEY, Duration::from_secs(60)).map(|value| value.is_some())),
     ("get_many", |cache, _, _| second(cache.get_many(&[b"other", KEY]))),
@@ -165,6 +165,14 @@ const CALLS: [(&str, Call); 17] = [
     ("find_or_load", |cache, _, _| Ok(cache.find_or_load(b"none", || Ok::<_, Error>(Loaded::absent(0))) == Ok(None))),
     ("get_or_lease", |cache, _, _| stored(cache.get_or_lease(b"none")?)),
     ("get_or_lease_async", |cache, _, waker| stored(block_on(waker, cache.get_or_lease_async(KEY))?)),
+    ("invalidate", |cache, _, _| {
+        cache.invalidate(KEY);
+        Ok(cache.get(KEY) == Ok(None))
+    }),
+    ("clear", |cache, _, _| {
+        cache.clear();
+        Ok(cache.get(KEY).is_ok_and(|found| found.is_none()) && cache.stats().clears == 1)
+    }),
     ("change", |cache, _, _| Ok(cache.change(KEY, || Ok::<_, Error>(())).is_ok())),
     ("change in doubt", |cache, _, _| Ok(cache.change(KEY, || Err::<(), _>(Error::TimedOut)).is_err())),
 ];

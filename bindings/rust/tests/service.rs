@@ -892,7 +892,7 @@ fn the_text_for_prometheus_has_its_form() {
             value.parse::<u64>().unwrap();
         }
     }
-    assert_eq!(names.len(), 22);
+    assert_eq!(names.len(), 24);
     for line in [
         "kilambosetry_hits_total{from=\"memory\"} 0\nkilambosetry_hits_total{from=\"flash\"} 1\n",
         "kilambosetry_misses_total{reason=\"absent\"} 1\nkilambosetry_misses_total{reason=\"expired\"} 0\n",
