@@ -3,7 +3,7 @@ use crate::hybrid::held_of;
 use crate::lease::{Begun, Waited};
 use crate::loads::{after, Begins, Outcome};
 use crate::shards::Locked;
-use crate::{Error, Found, HybridCache, Lookup, Value};
+use crate::{Error, Found, Held, HybridCache, Lookup, Value};
 use std::fmt;
 use std::future::Future;
 use std::pin::Pin;
@@ -108,11 +108,14 @@ pub struct LeaseAsync<'a> {
     begun: Begun<'a>,
     waits: Waits,
     may_wait: bool,
+    // where it is known that there is no such row, that is told; else it is a miss
+    tells_absent: bool,
 }
 
 impl<'a> LeaseAsync<'a> {
-    pub(crate) fn new(cache: &'a HybridCache, key: &'a [u8]) -> LeaseAsync<'a> {
-        LeaseAsync { cache, begun: Begun::new(cache.shards(), key), waits: Waits::Nothing, may_wait: true }
+    pub(crate) fn new(cache: &'a HybridCache, key: &'a [u8], tells_absent: bool) -> LeaseAsync<'a> {
+        let begun = Begun::new(cache.shards(), key);
+        LeaseAsync { cache, begun, waits: Waits::Nothing, may_wait: true, tells_absent }
     }
 
     // Gets the key anew.
@@ -123,7 +126,7 @@ impl<'a> LeaseAsync<'a> {
         match state.get(key)? {
             Found::Hit(held) => {
                 drop(state);
-                Poll::Ready(self.cache.found(held))
+                self.found(context, held, true)
             }
             Found::Miss => {
                 let begins = self.begun.begin(&mut state);
@@ -159,11 +162,24 @@ impl<'a> LeaseAsync<'a> {
 
     // The call that waited is answered.
     fn answered(&mut self, context: &Context<'_>, answer: Answer, was_ours: bool) -> Poll<Result<Lookup, Error>> {
-        let Begun { shards, shard, .. } = self.begun;
         self.waits = Waits::Nothing;
-        if let Some(held) = held_of(answer?) {
-            return Poll::Ready(self.cache.found(held));
+        match held_of(answer?) {
+            Some(held) => self.found(context, held, was_ours),
+            None => self.begin(context, was_ours),
         }
+    }
+
+    // Something was found: a value, or that there is no such row.
+    fn found(&mut self, context: &Context<'_>, held: Held, was_ours: bool) -> Poll<Result<Lookup, Error>> {
+        match self.cache.found(held)? {
+            Lookup::Absent if !self.tells_absent => self.begin(context, was_ours),
+            found => Poll::Ready(Ok(found)),
+        }
+    }
+
+    // Nothing was: the load is begun, if that is still to be done.
+    fn begin(&mut self, context: &Context<'_>, was_ours: bool) -> Poll<Result<Lookup, Error>> {
+        let Begun { shards, shard, .. } = self.begun;
         let waker = context.waker().clone();
         let mut state = shards.enter(shard)?;
         let begins = self.begun.begin(&mut state);
@@ -206,6 +222,10 @@ impl<'a> LeaseAsync<'a> {
         }
         self.waits = Waits::Nothing;
         match shards.leave_load(shard, state, load, Some(task)) {
+            Waited::Came(Lookup::Absent) if !self.tells_absent => {
+                self.may_wait = false;
+                self.get(context)
+            }
             Waited::Came(came) => Poll::Ready(Ok(came)),
             Waited::Look { was_loaded } => {
                 self.may_wait = !was_loaded;

@@ -246,7 +246,7 @@ impl HybridCache {
     /// another loads the key, the task is woken once that is over, or [`patience`](crate::Options::patience) is up. (The first
     /// task that waits so begins a thread, which sees to that.)
     pub fn get_or_lease_async<'a>(&'a self, key: &'a [u8]) -> LeaseAsync<'a> {
-        LeaseAsync::new(self, key)
+        LeaseAsync::new(self, key, true)
     }
 
     // The ticket comes behind the miss, and before the load.
@@ -280,6 +280,14 @@ fn loaded<E: fmt::Display>(
 ) -> Result<Loaded, LoadError<E>> {
     // (where it panics, the lease is dropped)
     let loaded = load();
+    settled(lease, loaded)
+}
+
+/// What a load came to is kept by the lease, if there is one; or who waits is told why nothing was loaded.
+pub(crate) fn settled<E: fmt::Display>(
+    lease: Option<Lease>,
+    loaded: Result<Loaded, E>,
+) -> Result<Loaded, LoadError<E>> {
     match (lease, &loaded) {
         (Some(lease), Ok(loaded)) => lease.keep(loaded),
         (Some(lease), Err(error)) => lease.fail(error),

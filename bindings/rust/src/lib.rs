@@ -64,6 +64,7 @@ mod key_value;
 mod lease;
 mod leases;
 mod library;
+mod load_async;
 mod loaded;
 mod loads;
 mod many;
