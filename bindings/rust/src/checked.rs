@@ -2,6 +2,7 @@ use crate::digest::digest_of;
 use crate::Refused;
 use std::fmt;
 use std::io;
+use std::ops::AddAssign;
 use std::panic::{self, AssertUnwindSafe};
 use std::sync::atomic::{AtomicU64, Ordering::Relaxed};
 
@@ -39,6 +40,17 @@ pub struct DeviceCounts {
     pub lies: u64,
     /// Pages of which it is known what they have.
     pub pages: u64,
+}
+
+impl AddAssign for DeviceCounts {
+    fn add_assign(&mut self, other: DeviceCounts) {
+        self.reads += other.reads;
+        self.writes += other.writes;
+        self.read_failures += other.read_failures;
+        self.write_failures += other.write_failures;
+        self.lies += other.lies;
+        self.pages += other.pages;
+    }
 }
 
 #[derive(Default)]

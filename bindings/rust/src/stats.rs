@@ -1,5 +1,7 @@
 use crate::{DeviceCounts, Losses};
 use std::fmt::{self, Write};
+use std::iter::Sum;
+use std::ops::AddAssign;
 
 /// What a [`HybridCache`](crate::HybridCache) did so far, and what it has, of all shards together. Each shard is asked by
 /// itself, so that no two numbers need be of one moment.
@@ -72,9 +74,10 @@ impl Stats {
         self.misses_absent + self.misses_expired + self.misses_by_fault
     }
 
-    // The misses, each with its reason.
-    fn misses_by_reason(&self) -> [(&'static str, u64); 3] {
-        [("absent", self.misses_absent), ("expired", self.misses_expired), ("fault", self.misses_by_fault)]
+    /// Gets that were answered: each has found a value, or none. (One that waits, or was given up, isn't answered.)
+    #[must_use]
+    pub fn gets(&self) -> u64 {
+        self.hits() + self.misses()
     }
 
     // The losses, each with its reason.
@@ -107,57 +110,154 @@ impl Stats {
     /// ```
     #[must_use]
     pub fn to_prometheus(&self) -> String {
-        let mut text = String::new();
-        let hits = [("memory", self.hits_from_memory), ("flash", self.hits_from_flash)];
-        let operations = [("read", self.device.reads), ("write", self.device.writes)];
-        let failures = [("read", self.device.read_failures), ("write", self.device.write_failures)];
-        counters(&mut text, "hits", "Gets that found a value.", "from", &hits);
-        counters(&mut text, "misses", "Gets that found none.", "reason", &self.misses_by_reason());
-        counter(&mut text, "stored", "Values that were stored.", self.stored);
-        counter(&mut text, "deletes", "Deletes.", self.deletes);
-        counter(&mut text, "loads", "Values that were to be loaded.", self.loads);
-        counter(&mut text, "waits_for_loads", "Calls that waited for another's load.", self.waits_for_loads);
-        counter(&mut text, "stale_stores", "Loads not stored: the key was changed.", self.stale_stores);
-        counter(&mut text, "refused_stores", "Loads not stored: the store was refused.", self.refused_stores);
-        counter(&mut text, "clears", "Times that all was forgotten.", self.clears);
-        counter(&mut text, "cleared_items", "Items in memory that were forgotten so.", self.cleared_items);
-        counters(&mut text, "losses", "Items that were forgotten.", "reason", &self.losses_by_reason());
-        counters(&mut text, "device_operations", "Pages read and written.", "operation", &operations);
-        counters(&mut text, "device_failures", "Operations that failed.", "operation", &failures);
-        counter(&mut text, "device_lies", "Pages that came back otherwise than written.", self.device.lies);
-        counter(&mut text, "given_up", "Calls given up while they waited.", self.given_up);
-        counter(&mut text, "lock_waits", "Times that a lock was waited for.", self.lock_waits);
-        gauge(&mut text, "memory_items", "Items in memory.", self.memory_items);
-        gauge(&mut text, "memory_bytes", "Bytes charged to items in memory.", self.memory_bytes);
-        gauge(&mut text, "memory_limit_bytes", "The most bytes charged.", self.memory_limit_bytes);
-        gauge(&mut text, "flash_bytes", "Bytes of written pages.", self.flash_bytes);
-        gauge(&mut text, "flash_limit_bytes", "Bytes of flash.", self.flash_limit_bytes);
-        gauge(&mut text, "queue_length", "Values that wait to be written to flash.", self.queue_length);
-        gauge(&mut text, "shards_behind", "Shards with something to be written.", self.shards_behind);
-        gauge(&mut text, "waiting_calls", "Calls that wait for flash.", self.waiting);
-        text
+        text_of(&[("", self)])
+    }
+
+    /// The same of several caches of a process, each with a name of its own, which the label `cache` tells. (The texts of two
+    /// caches, one behind the other, have each name twice, which Prometheus refuses.)
+    ///
+    /// ```
+    /// use kilambosetry::Stats;
+    ///
+    /// let (mut users, orders) = (Stats::default(), Stats::default());
+    /// users.stored = 3;
+    /// let text = Stats::all_to_prometheus(&[("users", &users), ("orders", &orders)]);
+    /// assert!(text.contains("\nkilambosetry_stored_total{cache=\"users\"} 3\nkilambosetry_stored_total{cache=\"orders\"} 0\n"));
+    /// ```
+    #[must_use]
+    pub fn all_to_prometheus(caches: &[(&str, &Stats)]) -> String {
+        text_of(caches)
     }
 }
 
-fn head(text: &mut String, name: &str, kind: &str, help: &str) {
-    let _ = write!(text, "# HELP kilambosetry_{name} {help}\n# TYPE kilambosetry_{name} {kind}\n");
+// The text of these caches, by their names. One without a name is the only one.
+fn text_of(caches: &[(&str, &Stats)]) -> String {
+    let mut to = Text { caches, text: String::new() };
+    let it = &mut to;
+    it.counters("hits", "Gets that found a value.", "from", |it| {
+        [("memory", it.hits_from_memory), ("flash", it.hits_from_flash)]
+    });
+    it.counters("misses", "Gets that found none.", "reason", |it| {
+        [("absent", it.misses_absent), ("expired", it.misses_expired), ("fault", it.misses_by_fault)]
+    });
+    it.counter("stored", "Values that were stored.", |it| it.stored);
+    it.counter("deletes", "Deletes.", |it| it.deletes);
+    it.counter("loads", "Values that were to be loaded.", |it| it.loads);
+    it.counter("waits_for_loads", "Calls that waited for another's load.", |it| it.waits_for_loads);
+    it.counter("stale_stores", "Loads not stored: the key was changed.", |it| it.stale_stores);
+    it.counter("refused_stores", "Loads not stored: the store was refused.", |it| it.refused_stores);
+    it.counter("clears", "Times that all was forgotten.", |it| it.clears);
+    it.counter("cleared_items", "Items in memory that were forgotten so.", |it| it.cleared_items);
+    it.counters("losses", "Items that were forgotten.", "reason", Stats::losses_by_reason);
+    it.counters("device_operations", "Pages read and written.", "operation", |it| {
+        [("read", it.device.reads), ("write", it.device.writes)]
+    });
+    it.counters("device_failures", "Operations that failed.", "operation", |it| {
+        [("read", it.device.read_failures), ("write", it.device.write_failures)]
+    });
+    it.counter("device_lies", "Pages that came back otherwise than written.", |it| it.device.lies);
+    it.counter("given_up", "Calls given up while they waited.", |it| it.given_up);
+    it.counter("lock_waits", "Times that a lock was waited for.", |it| it.lock_waits);
+    it.gauge("memory_items", "Items in memory.", |it| it.memory_items);
+    it.gauge("memory_bytes", "Bytes charged to items in memory.", |it| it.memory_bytes);
+    it.gauge("memory_limit_bytes", "The most bytes charged.", |it| it.memory_limit_bytes);
+    it.gauge("flash_bytes", "Bytes of written pages.", |it| it.flash_bytes);
+    it.gauge("flash_limit_bytes", "Bytes of flash.", |it| it.flash_limit_bytes);
+    it.gauge("queue_length", "Values that wait to be written to flash.", |it| it.queue_length);
+    it.gauge("shards_behind", "Shards with something to be written.", |it| it.shards_behind);
+    it.gauge("waiting_calls", "Calls that wait for flash.", |it| it.waiting);
+    to.text
 }
 
-fn counter(text: &mut String, name: &str, help: &str, count: u64) {
-    head(text, &format!("{name}_total"), "counter", help);
-    let _ = writeln!(text, "kilambosetry_{name}_total {count}");
+// A text for Prometheus that is being written.
+struct Text<'a> {
+    caches: &'a [(&'a str, &'a Stats)],
+    text: String,
 }
 
-fn counters(text: &mut String, name: &str, help: &str, label: &str, counts: &[(&str, u64)]) {
-    head(text, &format!("{name}_total"), "counter", help);
-    for (of, count) in counts {
-        let _ = writeln!(text, "kilambosetry_{name}_total{{{label}=\"{of}\"}} {count}");
+impl Text<'_> {
+    fn head(&mut self, name: &str, kind: &str, help: &str) {
+        let _ = write!(self.text, "# HELP kilambosetry_{name} {help}\n# TYPE kilambosetry_{name} {kind}\n");
+    }
+
+    // A sample of a cache, with a label of its own (none, where that has no name).
+    fn sample(&mut self, name: &str, cache: &str, (label, of): (&str, &str), value: u64) {
+        let _ = write!(self.text, "kilambosetry_{name}");
+        let labels = [("cache", cache), (label, of)];
+        let mut open = '{';
+        for (label, value) in labels.iter().filter(|(label, value)| !label.is_empty() && !value.is_empty()) {
+            let value = value.replace('\\', "\\\\").replace('"', "\\\"").replace('\n', "\\n");
+            let _ = write!(self.text, "{open}{label}=\"{value}\"");
+            open = ',';
+        }
+        let close = if open == ',' { "}" } else { "" };
+        let _ = writeln!(self.text, "{close} {value}");
+    }
+
+    fn counters<const N: usize>(
+        &mut self,
+        name: &str,
+        help: &str,
+        label: &str,
+        counts: impl Fn(&Stats) -> [(&'static str, u64); N],
+    ) {
+        let name = format!("{name}_total");
+        self.head(&name, "counter", help);
+        for (cache, stats) in self.caches {
+            counts(stats).into_iter().for_each(|(of, count)| self.sample(&name, cache, (label, of), count));
+        }
+    }
+
+    fn counter(&mut self, name: &str, help: &str, count: impl Fn(&Stats) -> u64) {
+        self.counters(name, help, "", |stats| [("", count(stats))]);
+    }
+
+    fn gauge(&mut self, name: &str, help: &str, value: impl Fn(&Stats) -> u64) {
+        self.head(name, "gauge", help);
+        for (cache, stats) in self.caches {
+            self.sample(name, cache, ("", ""), value(stats));
+        }
     }
 }
 
-fn gauge(text: &mut String, name: &str, help: &str, value: u64) {
-    head(text, name, "gauge", help);
-    let _ = writeln!(text, "kilambosetry_{name} {value}");
+/// Adds what another cache did, and has.
+impl AddAssign for Stats {
+    fn add_assign(&mut self, other: Stats) {
+        self.hits_from_memory += other.hits_from_memory;
+        self.hits_from_flash += other.hits_from_flash;
+        self.misses_absent += other.misses_absent;
+        self.misses_expired += other.misses_expired;
+        self.misses_by_fault += other.misses_by_fault;
+        self.stored += other.stored;
+        self.deletes += other.deletes;
+        self.loads += other.loads;
+        self.waits_for_loads += other.waits_for_loads;
+        self.stale_stores += other.stale_stores;
+        self.refused_stores += other.refused_stores;
+        self.clears += other.clears;
+        self.cleared_items += other.cleared_items;
+        self.losses += other.losses;
+        self.memory_items += other.memory_items;
+        self.memory_bytes += other.memory_bytes;
+        self.memory_limit_bytes += other.memory_limit_bytes;
+        self.flash_bytes += other.flash_bytes;
+        self.flash_limit_bytes += other.flash_limit_bytes;
+        self.device += other.device;
+        self.queue_length += other.queue_length;
+        self.shards_behind += other.shards_behind;
+        self.waiting += other.waiting;
+        self.given_up += other.given_up;
+        self.lock_waits += other.lock_waits;
+    }
+}
+
+impl Sum for Stats {
+    fn sum<I: Iterator<Item = Stats>>(all: I) -> Stats {
+        all.fold(Stats::default(), |mut sum, stats| {
+            sum += stats;
+            sum
+        })
+    }
 }
 
 impl fmt::Display for Stats {
