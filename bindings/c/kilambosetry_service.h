@@ -205,6 +205,16 @@ uint8_t kilambosetry_service_add(kilambosetry_service *service, const uint8_t *k
  * delete that is refused with NO_MEMORY must be tried again: the old value is still there. */
 uint8_t kilambosetry_service_delete(kilambosetry_service *service, const uint8_t *key, size_t key_len);
 
+/* Deletes the key, for a notice that its row was changed elsewhere: by another process, say. It can't be refused, but may wait:
+ * where there is no memory for the delete, it is tried for a tenth of a second, and then all of the key's shard is forgotten. DONE,
+ * or CLOSED. */
+uint8_t kilambosetry_service_invalidate(kilambosetry_service *service, const uint8_t *key, size_t key_len);
+
+/* Forgets all, in memory and on flash, in a time that doesn't depend on how much there is: notices of changes were missed, say. Once
+ * this is back no get that begins then finds what was stored before, and what was loaded before is neither stored (STALE) nor handed
+ * to who asks later. It can't be refused: DONE, or CLOSED. Changes that are under way stay so. */
+uint8_t kilambosetry_service_clear(kilambosetry_service *service);
+
 /* Waits until each shard had nothing that waits to be written to flash, at some moment since. */
 uint8_t kilambosetry_service_flush(kilambosetry_service *service);
 
@@ -332,6 +342,8 @@ typedef struct {
     uint64_t waiting;       /* calls that wait for flash now */
     uint64_t given_up;      /* calls that were given up while they waited */
     uint64_t lock_waits;    /* how often a shard's lock was waited for */
+    uint64_t clears;        /* how often all was forgotten */
+    uint64_t cleared_items; /* items in memory that were forgotten so, beside the losses */
 } kilambosetry_service_stats;
 
 /* Tells what was done so far, of all shards together. Each is asked by itself, so that no two numbers need be of one moment. */

@@ -771,6 +771,42 @@ static void check_leases(void) {
 }
 
 /* With no patience nobody waits for another's load. */
+static void check_clearing(void) {
+    kilambosetry_service *service = open_small();
+    kilambosetry_service_stats stats;
+    kilambosetry_lease lease = KILAMBOSETRY_NO_LEASE, after = KILAMBOSETRY_NO_LEASE;
+    kilambosetry_change change = KILAMBOSETRY_NO_CHANGE;
+    uint8_t out[16];
+    size_t len = 0;
+    fill_up(service, 200);
+    CHECK(kilambosetry_service_get_or_lease(service, BYTES("a"), out, 16, &len, &lease, FOREVER) == KILAMBOSETRY_LEASED);
+    CHECK(kilambosetry_service_begin_change(service, &change, BYTES("b")) == KILAMBOSETRY_DONE);
+    CHECK(kilambosetry_service_clear(service) == KILAMBOSETRY_DONE);
+    kilambosetry_service_tell(service, &stats);
+    CHECK(stats.memory_items == 0 && stats.clears == 1 && stats.cleared_items > 0);
+    for (unsigned i = 0; i < 200; i++) {
+        uint8_t key[32];
+        CHECK(kilambosetry_service_get(service, key, key_of(i, key), out, 16, &len, FOREVER) == KILAMBOSETRY_MISS);
+    }
+    /* what was loaded before isn't stored, nor waited for */
+    CHECK(kilambosetry_service_get_or_lease(service, BYTES("a"), out, 16, &len, &after, FOREVER) == KILAMBOSETRY_LEASED);
+    CHECK(kilambosetry_service_store(service, &lease, BYTES("a"), BYTES("old"), 0) == KILAMBOSETRY_STALE);
+    CHECK(kilambosetry_service_store(service, &after, BYTES("a"), BYTES("new"), 0) == KILAMBOSETRY_DONE);
+    /* a change that is under way is ended by its numbers, and bars its key until then */
+    CHECK(kilambosetry_service_get_or_lease(service, BYTES("b"), out, 16, &len, &lease, FOREVER) == KILAMBOSETRY_LEASED);
+    CHECK(kilambosetry_service_store(service, &lease, BYTES("b"), BYTES("old"), 0) == KILAMBOSETRY_STALE);
+    CHECK(kilambosetry_service_end_change(service, &change, BYTES("b"), true) == KILAMBOSETRY_DONE);
+    CHECK(kilambosetry_service_get_or_lease(service, BYTES("b"), out, 16, &len, &lease, FOREVER) == KILAMBOSETRY_LEASED);
+    CHECK(kilambosetry_service_store(service, &lease, BYTES("b"), BYTES("new"), 0) == KILAMBOSETRY_DONE);
+    CHECK(kilambosetry_service_invalidate(service, BYTES("a")) == KILAMBOSETRY_DONE);
+    CHECK(kilambosetry_service_get(service, BYTES("a"), out, 16, &len, FOREVER) == KILAMBOSETRY_MISS);
+    CHECK(kilambosetry_service_get(service, BYTES("b"), out, 16, &len, FOREVER) == KILAMBOSETRY_DONE);
+    kilambosetry_service_shut(service);
+    CHECK(kilambosetry_service_clear(service) == KILAMBOSETRY_CLOSED);
+    CHECK(kilambosetry_service_invalidate(service, BYTES("b")) == KILAMBOSETRY_CLOSED);
+    kilambosetry_service_close(service);
+}
+
 static void check_no_patience(void) {
     kilambosetry_service_options options = small_options();
     kilambosetry_service *service = NULL;
@@ -1547,6 +1583,7 @@ int main(int len, char **words) {
     check_limits();
     check_many();
     check_leases();
+    check_clearing();
     check_no_patience();
     check_changes();
     check_lost_loader();

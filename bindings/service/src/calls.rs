@@ -100,6 +100,24 @@ unsafe extern "C" fn kilambosetry_service_delete(service: &Service, key: *const 
 }
 
 #[no_mangle]
+unsafe extern "C" fn kilambosetry_service_invalidate(service: &Service, key: *const u8, key_len: usize) -> u8 {
+    // SAFETY: the caller's.
+    let key = unsafe { bytes(key, key_len) };
+    service.call(|cache| {
+        cache.invalidate(key);
+        Ok(DONE)
+    })
+}
+
+#[no_mangle]
+extern "C" fn kilambosetry_service_clear(service: &Service) -> u8 {
+    service.call(|cache| {
+        cache.clear();
+        Ok(DONE)
+    })
+}
+
+#[no_mangle]
 extern "C" fn kilambosetry_service_flush(service: &Service) -> u8 {
     service.call(|cache| cache.flush().map(|()| DONE))
 }

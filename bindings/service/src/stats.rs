@@ -32,6 +32,8 @@ pub struct ServiceStats {
     waiting: u64,
     given_up: u64,
     lock_waits: u64,
+    clears: u64,
+    cleared_items: u64,
 }
 
 impl From<Stats> for ServiceStats {
@@ -64,6 +66,8 @@ impl From<Stats> for ServiceStats {
             waiting: stats.waiting,
             given_up: stats.given_up,
             lock_waits: stats.lock_waits,
+            clears: stats.clears,
+            cleared_items: stats.cleared_items,
         }
     }
 }
