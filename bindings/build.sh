@@ -10,6 +10,7 @@
 #   bindings/build.sh --speed    also the comparison with other caches, where Debian's crate `lru` (librust-lru-dev) is installed
 #   bindings/build.sh --trial    also a service before a slow database, with leases and without, where that crate is installed
 #   bindings/build.sh --stress   also ten minutes of all calls at once over pages that are harmed, and some of it under valgrind
+#   bindings/build.sh --replicas also two processes before PostgreSQL, by each way to tell them of each other's changes
 #   bindings/build.sh --memory   also what a cache with flash keeps in memory, beside what its pool says
 #   bindings/build.sh --server   also the server's long runs: many lines beside memcached and damaged ones, crowds, flushes, little memory,
 #                                and what it costs
@@ -292,6 +293,16 @@ if has cargo; then
     if [ "$what" = --stress ]; then
         under_valgrind "no error, nothing lost by the example stress" --fair-sched=yes --leak-check=full --show-leak-kinds=definite \
             --errors-for-leak-kinds=definite "$out/target/release/examples/stress" 60
+    fi
+    if [ "$what" = --replicas ]; then
+        if ! ls -d /usr/lib/postgresql/*/bin/initdb >/dev/null 2>&1 || ! makes "" -lpq; then
+            echo "skipped: no PostgreSQL, or not its C library (Debian's postgresql and libpq-dev)"
+        elif missing=$("$here/server/tests/has-crates"); then
+            CARGO_TARGET_DIR="$out/target" "$here/examples/replicas/run"
+        else
+            echo "skipped: no crate $missing"
+        fi
+        rm -f "$out"/tried*
     fi
     if [ "$what" = --memory ]; then
         (cd "$here/rust" && CARGO_TARGET_DIR="$out/target" cargo run --offline --quiet --release --example resident)
