@@ -22,6 +22,7 @@ const MIDDLE: usize = 12 * 1024;
 #[derive(Debug)]
 pub struct Reserved {
     arena: Arena,
+    // (a lock of Linux takes no memory itself)
     free: Mutex<Free>,
 }
 
@@ -55,6 +56,7 @@ struct Free {
 unsafe impl Sync for Reserved {}
 
 impl Reserved {
+    /// The whole reserve.
     pub const fn new() -> Reserved {
         let free = Free { used: 0, fresh: 0, last: ptr::null_mut() };
         Reserved { arena: Arena(UnsafeCell::new([[0; PIECE]; PIECES])), free: Mutex::new(free) }

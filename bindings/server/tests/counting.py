@@ -14,11 +14,15 @@ import tempfile
 import threading
 import time
 
+from program import stats_of
 from servers import Client, kilambosetryd
 
-COUNTERS = 400
+COUNTERS = 4000
 TOGETHER = 20
 STEP = 10**6
+# It goes on until they were counted so often, on a machine that is busy too, for so many seconds more at most.
+LEAST = 2000
+PATIENCE = 120
 PAGE = 4096
 
 
@@ -89,12 +93,16 @@ class Trial:
             self.ends.set()
 
     def run(self, seconds):
-        """Runs all threads for so long."""
+        """Runs all threads for so long, or longer where the machine is slow."""
         works = [(self.count, seed) for seed in range(6)] + [(self.fill, seed) for seed in (100, 101)] + [(self.harm,)]
         threads = [threading.Thread(target=self.guarded, args=work) for work in works]
         for thread in threads:
             thread.start()
         self.ends.wait(seconds)
+        until = time.monotonic() + PATIENCE
+        while self.counted < LEAST and time.monotonic() < until:
+            if self.ends.wait(0.1):
+                break
         self.ends.set()
         for thread in threads:
             thread.join()
@@ -108,11 +116,12 @@ def main():
     with kilambosetryd("--memory", 2, "--flash", path, "--flash-size", 100, "--mean-value", 1000) as server:
         trial = Trial(server.port, path)
         trial.run(seconds)
+        from_flash = int(stats_of(Client(server.port))[b"hits_from_flash"])
         status = server.end()
     shutil.rmtree(folder)
-    print(f"counted {trial.counted} times, begun anew {trial.begun}: {trial.twice} numbers twice")
+    print(f"counted {trial.counted} times, begun anew {trial.begun}, {from_flash} found on flash: {trial.twice} numbers twice")
     assert not trial.faults, trial.faults
-    assert status == 0 and trial.counted > COUNTERS
+    assert status == 0 and trial.counted >= LEAST and from_flash > 0
     sys.exit(1 if trial.twice else 0)
 
 

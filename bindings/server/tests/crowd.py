@@ -14,20 +14,12 @@ import struct
 import sys
 import time
 
+from program import stats_of
 from servers import Client, kilambosetryd
 
 AT_ONCE = 1000
 VALUE = b"STORED\r\nVALUE key 0 3\r\nabc\r\nEND\r\n"
 RESET = struct.pack("ii", 1, 0)
-
-
-def stats(client):
-    """What the command `stats` tells."""
-    client.send(b"stats\r\n")
-    found = {}
-    while (line := client.line()) != b"END":
-        found[line.split()[1].decode()] = line.split()[2]
-    return found
 
 
 def wait_until(what, seconds=60):
@@ -107,12 +99,12 @@ def main():
         resident = server.resident()
         some_leave(clients)
         stay = len(clients[2::3]) + 1
-        wait_until(lambda: int(stats(watch)["curr_connections"]) == stay)
+        wait_until(lambda: int(stats_of(watch)[b"curr_connections"]) == stay)
         come_at_once(server.port)
-        wait_until(lambda: int(stats(watch)["curr_connections"]) == stay)
+        wait_until(lambda: int(stats_of(watch)[b"curr_connections"]) == stay)
         all_are_answered(clients[2::3])
-        found = stats(watch)
-        assert (found["curr_items"], found["in_flight_free"]) == (b"1", b"256000000"), found
+        found = stats_of(watch)
+        assert (found[b"curr_items"], found[b"in_flight_free"]) == (b"1", b"256000000"), found
         handles = len(os.listdir(f"/proc/{server.process.pid}/fd"))
         assert handles < stay + 64, f"{handles} handles of {stay} connections"
         assert server.end() == 0, server.said()

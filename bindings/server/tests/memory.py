@@ -44,7 +44,7 @@ class Load:
         self.random = random.Random(seed)
         self.clients = [Client(port, 60) for _ in range(CLIENTS)]
         self.last = {}
-        self.stored = self.refused = self.found = 0
+        self.stored = self.refused = self.found = self.bytes = 0
 
     def store(self, client):
         """Stores a value, and notes that nothing older may be found."""
@@ -55,6 +55,7 @@ class Load:
         line, _ = client.ask(b"set key%d 0 0 %d\r\n%s" % (key, len(data), data))
         assert line == b"STORED" or line in REFUSALS, line
         self.stored += line == b"STORED"
+        self.bytes += len(data)
         self.refused += line != b"STORED"
 
     def find(self, client):
@@ -64,9 +65,12 @@ class Load:
         assert line == b"EN" or data == value(key, self.last[key]), (key, line, data[:20] if data else data)
         self.found += data is not None
 
-    def run(self, refusals):
-        """Goes on until so many stores were refused."""
+    def run(self, refusals, most):
+        """Goes on until so many stores were refused; where none was behind so many bytes, the limit is none."""
         while self.refused < refusals:
+            if self.bytes > most and not self.refused:
+                print("skipped: this system sets no limit to a process' memory")
+                sys.exit(77)
             client = self.random.choice(self.clients)
             self.random.choice((self.store, self.store, self.find))(client)
 
@@ -92,7 +96,7 @@ def check(limit, refusals, *words):
     command = ["prlimit", f"--as={limit * 1_000_000}", binary(), "--port", str(port), "--memory", "2000", *words]
     with Server(command, port) as server:
         load = Load(port, limit)
-        load.run(refusals)
+        load.run(refusals, 4_000_000 * limit)
         assert server.process.poll() is None, server.said()
         let_in = more_come(port)
         for client in load.clients:
