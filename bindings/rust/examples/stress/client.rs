@@ -65,6 +65,9 @@ impl<'a> Client<'a> {
         while Instant::now() < until {
             self.counts.calls += 1;
             self.commit_due();
+            if self.draws.one_of(50_000) {
+                self.clear(keys);
+            }
             let (key, row) = (self.one_of(keys, 200), self.one_of(rows, 100));
             let own = key / threads * threads + number;
             match self.draws.below(12) {

@@ -64,8 +64,13 @@ fn end(kind: &str, cache: HybridCache, counts: &Counts) {
     let stats = cache.close();
     println!("{kind}: {calls} calls, {hits} hits, {rows} rows, {failed} loads that failed, {late} late commits");
     println!(
-        "  {} hits from flash, {} lies, {} stale stores, {} waits for loads, {} calls given up",
-        stats.hits_from_flash, stats.device.lies, stats.stale_stores, stats.waits_for_loads, stats.given_up
+        "  {} hits from flash, {} lies, {} stale stores, {} waits for loads, {} calls given up, {} clears",
+        stats.hits_from_flash,
+        stats.device.lies,
+        stats.stale_stores,
+        stats.waits_for_loads,
+        stats.given_up,
+        stats.clears
     );
     assert_eq!(stats.waiting, 0, "calls wait still");
     assert!(*hits > 0 && *rows > 0, "nothing was found");

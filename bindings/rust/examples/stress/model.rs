@@ -7,8 +7,9 @@ pub struct Key {
     pub name: Vec<u8>,
     // no other key has it
     number: u64,
-    // the newest version that may be found, and the oldest one that a call may find which begins now
+    // the newest version that may be found, the newest one that was answered, and the oldest one that a call may find which begins now
     newest: AtomicU64,
+    answered: AtomicU64,
     oldest: AtomicU64,
 }
 
@@ -20,7 +21,7 @@ impl Key {
             name[253..].copy_from_slice(&(number as u16).to_be_bytes());
         }
         let number = number << 8 | u64::from(name[0]);
-        Key { name, number, newest: AtomicU64::new(0), oldest: AtomicU64::new(0) }
+        Key { name, number, newest: AtomicU64::new(0), answered: AtomicU64::new(0), oldest: AtomicU64::new(0) }
     }
 
     /// The newest version.
@@ -35,7 +36,18 @@ impl Key {
 
     /// The change to this version was answered: from now on no older one may be found.
     pub fn answered(&self, version: u64) {
+        self.answered.fetch_max(version, SeqCst);
         self.oldest.fetch_max(version, SeqCst);
+    }
+
+    /// The newest version that was answered.
+    pub fn newest_answered(&self) -> u64 {
+        self.answered.load(SeqCst)
+    }
+
+    /// All was forgotten since this was the newest version that was answered: neither it nor an older one may be found.
+    pub fn cleared(&self, answered: u64) {
+        self.oldest.fetch_max(answered + 1, SeqCst);
     }
 
     /// The oldest version that a call may find which begins now.

@@ -66,6 +66,13 @@ impl<'a> Client<'a> {
         }
     }
 
+    /// Forgets all. Of keys that are stored once nothing of before is found; rows may be loaded again as they were.
+    pub fn clear(&mut self, keys: &[Key]) {
+        let answered: Vec<u64> = keys.iter().map(Key::newest_answered).collect();
+        self.cache.clear();
+        keys.iter().zip(answered).for_each(|(key, answered)| key.cleared(answered));
+    }
+
     /// Changes a key of this thread's own in one of many ways.
     pub fn change_plain(&mut self, key: &'a Key) {
         match self.draws.below(8) {
@@ -76,7 +83,10 @@ impl<'a> Client<'a> {
             }
             3 => {
                 let version = key.begin();
-                self.cache.delete(&key.name).unwrap();
+                match self.draws.one_of(2) {
+                    true => self.cache.invalidate(&key.name),
+                    false => drop(self.cache.delete(&key.name).unwrap()),
+                }
                 key.answered(version);
             }
             4 => {
