@@ -277,18 +277,20 @@ fn gets_that_wait_for_flash_miss_at_once() {
     assert_eq!(cache.get_timeout(&[3], Duration::from_millis(5)).err(), Some(Error::TimedOut));
     thread::scope(|scope| {
         let limited = scope.spawn(|| cache.get_timeout(&[4], LONG).unwrap());
+        let many = scope.spawn(|| cache.get_many_timeout(&[[5], [6]], LONG).unwrap());
         gates.wait_for(2);
-        while cache.stats().waiting < 3 {
+        while cache.stats().waiting < 5 {
             thread::yield_now();
         }
         cache.clear();
         assert!(limited.join().unwrap().is_none());
+        assert_eq!(many.join().unwrap(), [Ok(None), Ok(None)]);
     });
     while task.as_mut().poll(&mut Context::from_waker(&waker())).is_pending() {
         thread::park(); // (it was woken)
     }
     assert_eq!(cache.end_get(begun, Some(LONG)).map(|held| held.is_some()), Ok(false));
-    assert_eq!(cache.stats().misses(), misses + 3);
+    assert_eq!(cache.stats().misses(), misses + 5);
     // one that was given up before isn't gone on with
     cache.set(&[3], &[2; 300], 0).unwrap();
     assert_eq!(has(cache, &[3]), Some(2));
