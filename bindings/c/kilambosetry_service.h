@@ -267,14 +267,15 @@ uint8_t kilambosetry_service_give_up(kilambosetry_service *service, kilambosetry
 
 /* ---- changes of rows */
 
-/* A change that was begun. It is of this key alone, and of the cache that began it, is ended once, and copied by nobody. */
+/* A change that was begun. It is of this key alone, and of the cache that began it, and is ended once, by it or a copy. */
 typedef struct {
     uint64_t cache;
+    uint64_t change;
     uint64_t key;
     bool full; /* false: there is none */
 } kilambosetry_change;
 
-#define KILAMBOSETRY_NO_CHANGE {0, 0, false}
+#define KILAMBOSETRY_NO_CHANGE {0, 0, 0, false}
 
 /* Begins a change of a key's row, before the commit: from now on nothing that was loaded is stored under the key. Where there is no
  * memory for that, it waits for some. EMPTY, where the cache can't have such a key: the commit may be made all the same. */

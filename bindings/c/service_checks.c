@@ -847,7 +847,7 @@ static void check_changes(void) {
     kilambosetry_service_options options = small_options();
     kilambosetry_service *service = NULL, *another = open_small();
     kilambosetry_lease before = KILAMBOSETRY_NO_LEASE, lease = KILAMBOSETRY_NO_LEASE;
-    kilambosetry_change change = KILAMBOSETRY_NO_CHANGE, other = KILAMBOSETRY_NO_CHANGE;
+    kilambosetry_change change = KILAMBOSETRY_NO_CHANGE, other = KILAMBOSETRY_NO_CHANGE, copy;
     uint8_t out[16], long_key[256] = {0};
     size_t len = 0;
     options.unknown_for = 2;
@@ -861,8 +861,10 @@ static void check_changes(void) {
     CHECK(kilambosetry_service_end_change(another, &change, BYTES("a"), true) == KILAMBOSETRY_EMPTY && change.full);
     CHECK(kilambosetry_service_begin_change(service, &other, BYTES("a")) == KILAMBOSETRY_DONE); /* (two at once) */
     CHECK(kilambosetry_service_set(service, BYTES("a"), BYTES("set"), 0) == KILAMBOSETRY_DONE);
+    copy = change;
     CHECK(kilambosetry_service_end_change(service, &change, BYTES("a"), true) == KILAMBOSETRY_DONE && !change.full);
     CHECK(kilambosetry_service_end_change(service, &change, BYTES("a"), true) == KILAMBOSETRY_EMPTY);
+    CHECK(kilambosetry_service_end_change(service, &copy, BYTES("a"), true) == KILAMBOSETRY_EMPTY); /* (it isn't the other's) */
     CHECK(kilambosetry_service_get_or_lease(service, BYTES("a"), out, 16, &len, &lease, 0) == KILAMBOSETRY_LEASED); /* (deleted) */
     CHECK(kilambosetry_service_store(service, &lease, BYTES("a"), BYTES("old"), 0) == KILAMBOSETRY_STALE);
     /* it isn't known whether the row was changed */

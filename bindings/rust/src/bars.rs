@@ -6,8 +6,8 @@ use std::time::Instant;
 /// The bar on a key whose row is being changed, or may still come to be.
 #[derive(Default)]
 struct Bar {
-    // changes that aren't over
-    changes: usize,
+    // the numbers of changes that aren't over
+    changes: Vec<u64>,
     // until when changes that are over may still be committed, the next one first. As each of these moments is over the key is deleted,
     // also where another change stands still: who asks from then on isn't handed what was loaded before such a commit
     doubts: VecDeque<Instant>,
@@ -17,6 +17,8 @@ struct Bar {
 #[derive(Default)]
 pub(crate) struct Bars {
     standing: HashMap<Box<[u8]>, Bar>,
+    // how many changes were begun
+    begun: u64,
     // so many are looked through for those that are due
     many: usize,
 }
@@ -25,25 +27,34 @@ pub(crate) struct Bars {
 const FEW: usize = 64;
 
 impl Bars {
-    /// A change of the key begins.
-    pub fn raise(&mut self, key: &[u8]) -> Result<(), Refused> {
+    /// A change of the key begins: its number.
+    pub fn raise(&mut self, key: &[u8]) -> Result<u64, Refused> {
+        let number = self.begun;
         if let Some(bar) = self.standing.get_mut(key) {
-            bar.changes += 1;
-            return Ok(());
+            bar.begin(number)?;
+        } else {
+            self.standing.try_reserve(1).map_err(|_| Refused::NO_MEMORY)?;
+            let mut bar = Bar::default();
+            bar.begin(number)?;
+            self.standing.insert(copied(key)?.into_boxed_slice(), bar);
         }
-        self.standing.try_reserve(1).map_err(|_| Refused::NO_MEMORY)?;
-        self.standing.insert(copied(key)?.into_boxed_slice(), Bar { changes: 1, ..Bar::default() });
-        Ok(())
+        self.begun += 1;
+        Ok(number)
     }
 
-    /// A change of the key is over, and its key was deleted. Where it isn't known whether it was committed, the bar stands until
+    /// Whether this change of the key isn't over.
+    pub fn has(&self, key: &[u8], number: u64) -> bool {
+        self.standing.get(key).is_some_and(|bar| bar.changes.contains(&number))
+    }
+
+    /// This change of the key is over, and its key was deleted. Where it isn't known whether it was committed, the bar stands until
     /// then, and ends with another delete. Refused where there is no memory for that; then the change isn't over.
-    pub fn lower(&mut self, key: &[u8], until: Option<Instant>) -> Result<(), Refused> {
+    pub fn lower(&mut self, key: &[u8], number: u64, until: Option<Instant>) -> Result<(), Refused> {
         let Some(bar) = self.standing.get_mut(key) else { return Ok(()) };
         let now = Instant::now();
         bar.end_doubts(now, || true);
         until.map_or(Ok(()), |until| bar.doubt(now, until))?;
-        bar.changes = bar.changes.saturating_sub(1);
+        bar.changes.retain(|change| *change != number);
         if bar.is_over() {
             self.standing.remove(key);
         }
@@ -83,7 +94,13 @@ const PART: u32 = 8;
 
 impl Bar {
     fn is_over(&self) -> bool {
-        self.changes == 0 && self.doubts.is_empty()
+        self.changes.is_empty() && self.doubts.is_empty()
+    }
+
+    fn begin(&mut self, number: u64) -> Result<(), Refused> {
+        self.changes.try_reserve(1).map_err(|_| Refused::NO_MEMORY)?;
+        self.changes.push(number);
+        Ok(())
     }
 
     // A change may still be committed until then.

@@ -28,6 +28,8 @@ pub struct LeaseNumbers {
 pub struct ChangeNumbers {
     /// The shard's number, which no other cache of the process has.
     pub cache: u64,
+    /// The number of the change, which no other of the shard has.
+    pub change: u64,
     /// A digest of the key.
     pub key: u64,
 }
@@ -99,17 +101,14 @@ impl HybridCache {
 
     /// Begins a change that is ended by its numbers. `None`: there is no bar, since the cache can't have the key, or is closed.
     pub fn begin_change_by_numbers(&self, key: &[u8]) -> Option<ChangeNumbers> {
-        let numbers = ChangeNumbers { cache: self.number_of_shard(key), key: digest_of(key) };
-        self.begin_change(key).leave().then_some(numbers)
+        let change = self.begin_change(key).leave()?;
+        Some(ChangeNumbers { cache: self.number_of_shard(key), change, key: digest_of(key) })
     }
 
-    /// Ends a change, and answers whether it is one of this key and this cache. `is_known`: whether it is known if the row was changed.
+    /// Ends a change, and answers whether it is one of this key and this cache that isn't over. `is_known`: whether it is known if the row was changed.
     pub fn end_change_by_numbers(&self, key: &[u8], numbers: &ChangeNumbers, is_known: bool) -> bool {
         let is_ours = numbers.key == digest_of(key) && self.number_of_shard(key) == numbers.cache;
-        if is_ours {
-            self.end_change(self.shards().of(key), key, is_known);
-        }
-        is_ours
+        is_ours && self.end_change(self.shards().of(key), key, numbers.change, is_known)
     }
 
     /// Begins a get. The fillers make the reads for which it would have to wait.

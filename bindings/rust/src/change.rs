@@ -22,8 +22,8 @@ use std::thread;
 pub struct Change {
     cache: HybridCache,
     shard: usize,
-    // none, where there is no bar: the cache can't have the key, or is closed
-    key: Option<Vec<u8>>,
+    // with the number of the change; none, where there is no bar: the cache can't have the key, or is closed
+    key: Option<(Vec<u8>, u64)>,
     is_known: bool,
 }
 
@@ -65,20 +65,26 @@ impl HybridCache {
         change
     }
 
-    // Deletes the key, and lowers a bar on it.
-    pub(crate) fn end_change(&self, shard: usize, key: &[u8], is_known: bool) {
-        while let Err(Error::Refused(Refused::NO_MEMORY)) = self.try_end_change(shard, key, is_known) {
-            thread::sleep(PAUSE);
+    // Ends this change of the key: deletes the key, and lowers the bar. Answers whether the change wasn't over.
+    pub(crate) fn end_change(&self, shard: usize, key: &[u8], number: u64, is_known: bool) -> bool {
+        loop {
+            match self.try_end_change(shard, key, number, is_known) {
+                Err(Error::Refused(Refused::NO_MEMORY)) => thread::sleep(PAUSE),
+                ended => return ended.unwrap_or(true), // (closed, the cache has nothing to be deleted)
+            }
         }
     }
 
-    fn try_end_change(&self, shard: usize, key: &[u8], is_known: bool) -> Result<(), Error> {
+    fn try_end_change(&self, shard: usize, key: &[u8], number: u64, is_known: bool) -> Result<bool, Error> {
         let shards = self.shards();
         let until = (!is_known).then(|| after(shards.unknown_for));
         let mut state = shards.enter(shard)?;
-        let lowered = state.delete(key).and_then(|_| state.bars.lower(key, until));
+        if !state.bars.has(key, number) {
+            return Ok(false);
+        }
+        let lowered = state.delete(key).and_then(|_| state.bars.lower(key, number, until));
         shards.leave(shard, state);
-        Ok(lowered?)
+        Ok(lowered.map(|()| true)?)
     }
 }
 
@@ -97,27 +103,26 @@ impl Change {
         let mut state = shards.enter(self.shard)?;
         let raised = state.raise_bar(key);
         shards.leave(self.shard, state);
-        raised?;
-        self.key = Some(copy);
+        self.key = Some((copy, raised?));
         Ok(())
     }
 
-    // Leaves the bar to whoever ends it by `end_change`, and answers whether there is one.
-    pub(crate) fn leave(mut self) -> bool {
-        self.key.take().is_some()
+    // Leaves the bar to whoever ends the change of this number by `end_change`. None: there is no bar.
+    pub(crate) fn leave(mut self) -> Option<u64> {
+        self.key.take().map(|(_, number)| number)
     }
 }
 
 impl Drop for Change {
     fn drop(&mut self) {
-        if let Some(key) = self.key.take() {
-            self.cache.end_change(self.shard, &key, self.is_known);
+        if let Some((key, number)) = self.key.take() {
+            self.cache.end_change(self.shard, &key, number, self.is_known);
         }
     }
 }
 
 impl fmt::Debug for Change {
     fn fmt(&self, f: &mut fmt::Formatter<'_>) -> fmt::Result {
-        write!(f, "Change(\"{}\")", self.key.as_deref().unwrap_or_default().escape_ascii())
+        write!(f, "Change(\"{}\")", self.key.as_ref().map_or(&[][..], |(key, _)| key).escape_ascii())
     }
 }

@@ -128,8 +128,8 @@ impl State {
         self.engine.set_leased(ticket, pool, key, value, ttl)
     }
 
-    /// Raises a bar on the key.
-    pub fn raise_bar(&mut self, key: &[u8]) -> Result<(), Refused> {
+    /// Raises a bar on the key, for a change: its number.
+    pub fn raise_bar(&mut self, key: &[u8]) -> Result<u64, Refused> {
         let State { engine, bars, loads, wakes, .. } = self;
         bars.end_due(|key| delete(engine, loads, wakes, key));
         bars.raise(key)

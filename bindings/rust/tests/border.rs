@@ -56,6 +56,12 @@ fn a_change_bars_its_key_until_it_is_ended_by_its_numbers() {
     assert!(cache.end_change_by_numbers(b"a", &change, true));
     assert_eq!(missed(&cache, b"a").store(b"new", 0), Ok(Kept::Stored));
     // it isn't known what came of this one
+    // a copy of it ends nothing more, also where another change of the key stands
+    let another = cache.begin_change_by_numbers(b"a").unwrap();
+    cache.delete(b"a").unwrap();
+    assert!(!cache.end_change_by_numbers(b"a", &change, true));
+    assert_eq!(missed(&cache, b"a").store(b"amid another", 0), Ok(Kept::Stale));
+    assert!(cache.end_change_by_numbers(b"a", &another, true));
     let change = cache.begin_change_by_numbers(b"a").unwrap();
     assert!(cache.end_change_by_numbers(b"a", &change, false));
     assert_eq!(missed(&cache, b"a").store(b"old", 0), Ok(Kept::Stale));
