@@ -198,7 +198,7 @@ impl<'a> LeaseAsync<'a> {
                 if let Some((task, until)) = state.join_load(load, &mut waker) {
                     drop(state);
                     self.waits = Waits::Load { load, task };
-                    self.begun.shards.timer.set(until);
+                    self.begun.shards.set_timer(self.begun.shard, until);
                     return Poll::Pending;
                 }
             }
@@ -217,7 +217,7 @@ impl<'a> LeaseAsync<'a> {
             drop(state);
             drop(known);
             // (a task may be polled without being woken, and just before its time is up)
-            shards.timer.set(after(left));
+            shards.set_timer(shard, after(left));
             return Poll::Pending;
         }
         self.waits = Waits::Nothing;

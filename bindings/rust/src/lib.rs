@@ -68,6 +68,7 @@ mod load_async;
 mod loaded;
 mod loads;
 mod many;
+mod marks;
 mod masked;
 mod numbers;
 mod options;

@@ -6,6 +6,7 @@ use crate::checked::Checked;
 use crate::generations::Generations;
 use crate::lease::Waited;
 use crate::loads::{Loads, Outcome};
+use crate::marks::Marks;
 use crate::numbers::Numbers;
 use crate::spread::Spread;
 use crate::timer::Timer;
@@ -234,7 +235,9 @@ pub(crate) struct Shards {
     // the value that says that there is no such row. Nobody else can have it, since it is drawn by chance, and never shown
     pub absent: [u8; ABSENT],
     pub tellings: Tellings,
-    pub timer: Timer,
+    // when the next load has taken too long for which tasks wait, and which shards have such
+    timer: Timer,
+    timed: Marks,
     writers: Bell,
     fillers: Bell,
     /// How often all were cleared.
@@ -286,6 +289,7 @@ impl Shards {
             absent: drawn(),
             tellings: Tellings::default(),
             timer: Timer::default(),
+            timed: Marks::default(),
             writers: Bell::default(),
             fillers: Bell::default(),
             clears: AtomicU64::new(0),
@@ -665,19 +669,27 @@ impl Shards {
         self.wake(shard, woken);
     }
 
+    /// A load of the shard for which a task waits has taken too long then.
+    pub fn set_timer(&self, shard: usize, moment: Instant) {
+        self.timed.add(shard);
+        self.timer.set(moment);
+    }
+
     /// Sees to it that tasks are woken whose loads have taken too long, until the end.
     pub fn keep_time(&self) {
         while self.timer.wait() {
-            for shard in 0..self.len() {
-                let mut state = self.lock(shard);
-                let State { loads, wakes, .. } = &mut *state;
-                let next = loads.wake_overdue(wakes);
-                let woken = wakes.take();
-                drop(state);
-                next.into_iter().for_each(|next| self.timer.set(next));
-                self.wake(shard, woken);
-            }
+            self.timed.take_all(|shard| self.wake_overdue(shard));
         }
+    }
+
+    fn wake_overdue(&self, shard: usize) {
+        let mut state = self.lock(shard);
+        let State { loads, wakes, .. } = &mut *state;
+        let next = loads.wake_overdue(wakes);
+        let woken = wakes.take();
+        drop(state);
+        next.into_iter().for_each(|next| self.set_timer(shard, next));
+        self.wake(shard, woken);
     }
 
     /// The value that is held; none, where it says that there is none.
