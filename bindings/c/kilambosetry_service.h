@@ -75,10 +75,11 @@ static inline const char *kilambosetry_service_strerror(uint8_t status) {
 /* The options, by what one knows. `KILAMBOSETRY_SERVICE_OPTIONS` has all of them: change what is to be otherwise. */
 typedef struct {
     uint64_t memory;     /* bytes of memory for items, with what is kept beside each; what flash keeps comes on top */
-    uint64_t flash;      /* bytes of flash */
+    uint64_t flash;      /* bytes of flash: up to 4294967295 pages */
+    uint64_t index_memory; /* bytes of memory that may be kept of what is on flash; 0: as many as `memory`, or 64 MB */
     uint64_t mean_key;   /* the mean bytes of a key: 1 to 255 */
     uint64_t mean_value; /* the mean bytes of a value: 1 to 1048576 */
-    uint64_t shards;     /* shards, each with a lock: 1 to 16 */
+    uint64_t shards;     /* shards, each with a lock: 1 to 4096; 0: as many as memory and flash want */
     uint64_t writers;    /* threads that write what left memory, and make room for it: 1 to 1024 */
     uint64_t fillers;    /* threads that read for calls with a time limit, and for gets that are begun: 1 to 1024 */
     uint64_t page;       /* bytes of a page of flash: 512, 1024, 2048 or 4096 */
@@ -95,7 +96,7 @@ typedef struct {
 
 /* 64 MB of memory, 1 GB of flash, keys of 24 bytes, values of 1000. */
 #define KILAMBOSETRY_SERVICE_OPTIONS \
-    {64000000, 1000000000, 24, 1000, 8, 2, 2, 4096, 10, 60, false, false, false, NULL, NULL, NULL, NULL}
+    {64000000, 1000000000, 0, 24, 1000, 0, 2, 2, 4096, 10, 60, false, false, false, NULL, NULL, NULL, NULL}
 
 /* What the options come to, for all shards together, and the memory that it takes once all is full. */
 typedef struct {
@@ -106,12 +107,16 @@ typedef struct {
     uint64_t items;         /* items of the mean length that memory holds */
     uint64_t items_bytes;   /* bytes of memory that these take */
     uint64_t leases_bytes;  /* kept for leases, whether or not there are any */
+    uint64_t shards_bytes;  /* of each shard, however little it has */
     uint64_t index_bytes;   /* of the index of large items on flash */
     uint64_t buckets_bytes; /* kept for buckets */
     uint64_t buffers_bytes; /* of the regions that are being filled */
     uint64_t queue_bytes;   /* of items of the mean length that wait for flash */
     uint64_t digests_bytes; /* of the digests of pages */
     uint64_t memory_bytes;  /* all together */
+    uint64_t flash_items;   /* items of the mean length that flash holds */
+    uint64_t flash_bytes_for_others; /* bytes of flash that these never use */
+    uint64_t written_bytes; /* that are written to flash for each of them */
 } kilambosetry_service_numbers;
 
 /* Why a cache isn't opened. */
@@ -123,8 +128,8 @@ typedef struct {
     int system;       /* of SYSTEM, errno */
 } kilambosetry_why;
 
-/* Tells what the options come to, with flash or without. `why` may be null. The numbers that are given as `pool` and
- * `flash_numbers` are looked at when the cache is opened. */
+/* Tells what the options come to, with flash or without. `why` may be null. A number that is refused is named
+ * in `why`, as `flash_numbers.queue`. */
 uint8_t kilambosetry_service_count(const kilambosetry_service_options *options, bool has_flash,
                                    kilambosetry_service_numbers *numbers, kilambosetry_why *why);
 
@@ -294,7 +299,7 @@ uint8_t kilambosetry_service_end_change(kilambosetry_service *service, kilambose
 /* A get that waits. It is of the cache that began it, and copied by nobody. */
 typedef struct {
     uint64_t call;
-    uint8_t shard;
+    uint16_t shard;
     bool waits; /* false: none waits */
 } kilambosetry_begun;
 

@@ -340,23 +340,29 @@ static void check_bad_number(kilambosetry_service_options options, const char *n
 
 static void check_numbers(void) {
     kilambosetry_service_options options = KILAMBOSETRY_SERVICE_OPTIONS, bad = options;
+    static const kilambosetry_pool pool = {8000, 0};
+    static const kilambosetry_flash flash = {PAGE, 64, 12, 8, 2, 200, 0, 64, 1, 4000};
     kilambosetry_service_numbers numbers;
     CHECK(kilambosetry_service_count(&options, true, &numbers, NULL) == KILAMBOSETRY_DONE);
     CHECK(numbers.items_bytes <= options.memory && numbers.pages * 4096 <= options.flash && numbers.flash.bits == 64);
     CHECK(numbers.memory_bytes > numbers.items_bytes + numbers.leases_bytes && numbers.digests_bytes == numbers.pages * 8);
-    CHECK(numbers.leases_bytes > 0 && numbers.shards == 8);
+    CHECK(numbers.leases_bytes > 0 && numbers.shards_bytes > 0 && numbers.shards == 8);
+    CHECK(numbers.flash_items > 900000 && numbers.written_bytes == 1024 + 14 && numbers.flash_bytes_for_others == 8 * 4096);
     CHECK(numbers.pool.items == 4 * (options.memory / (1024 + 282)) && numbers.flash.small_max == 0);
     CHECK(kilambosetry_service_count(&options, false, &numbers, NULL) == KILAMBOSETRY_DONE && numbers.pages == 0);
     unlink(file);
-    bad.shards = 17, check_bad_number(bad, "shards"), bad = options;
+    bad.shards = 4097, check_bad_number(bad, "shards"), bad = options;
     bad.writers = 0, check_bad_number(bad, "writers"), bad = options;
     bad.fillers = 1025, check_bad_number(bad, "fillers"), bad = options;
     bad.mean_key = 0, check_bad_number(bad, "mean_key"), bad = options;
     bad.mean_value = 1048577, check_bad_number(bad, "mean_value"), bad = options;
-    bad.shards = 300, check_bad_number(bad, "shards"), bad = options;
+    bad.shards = 70000, check_bad_number(bad, "shards"), bad = options;
     bad.page = 1000, check_bad_number(bad, "page"), bad = options;
     bad.flash = 1000, check_bad_number(bad, "flash"), bad = options;
     bad.memory = 1000, check_bad_number(bad, "memory"), bad = options;
+    bad.index_memory = 1000, check_bad_number(bad, "index_memory"), bad = options;
+    bad.pool = &pool, check_bad_number(bad, "pool.items"), bad = options;
+    bad.flash_numbers = &flash, check_bad_number(bad, "flash_numbers.queue"), bad = options;
     CHECK(strcmp(kilambosetry_service_strerror(KILAMBOSETRY_IN_USE), "InUse") == 0);
     CHECK(strcmp(kilambosetry_service_strerror(KILAMBOSETRY_NO_ROOM), "NoRoom") == 0);
     CHECK(KILAMBOSETRY_IS_REFUSAL(KILAMBOSETRY_CLOSED) && KILAMBOSETRY_IS_REFUSAL(KILAMBOSETRY_KEY_EMPTY));
@@ -375,7 +381,8 @@ static void check_opening(void) {
     unlink(file);
     flash.bits = 65;
     options.flash_numbers = &flash;
-    CHECK(try_open(file, &options, NULL) == KILAMBOSETRY_BAD_BITS && access(file, F_OK) != 0);
+    CHECK(try_open(file, &options, &why) == KILAMBOSETRY_BAD_NUMBER && access(file, F_OK) != 0);
+    CHECK(strcmp(why.name, "flash_numbers.bits") == 0 && why.most == 64);
     options = small_options();
     CHECK(kilambosetry_service_open(&service, file, &options, &why) == KILAMBOSETRY_DONE);
     CHECK(kilambosetry_service_open(&other, file, &options, &why) == KILAMBOSETRY_IN_USE && other == NULL);

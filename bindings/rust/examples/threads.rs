@@ -219,7 +219,7 @@ impl Store for &HybridCache {
 }
 
 // The same numbers, in so many shards.
-fn options(shards: u8) -> Options {
+fn options(shards: u16) -> Options {
     let one = u64::from(shards);
     Options {
         shards,

@@ -41,7 +41,7 @@ pub struct GetNumbers {
     /// The number of the call.
     pub call: u64,
     /// Its shard.
-    pub shard: u8,
+    pub shard: u16,
 }
 
 /// What a get comes to that is begun.
@@ -123,7 +123,7 @@ impl HybridCache {
                 let mut state = shards.begin_waiting(shard, state, call);
                 match state.calls.take(call) {
                     Some(answer) => held_of(answer?),
-                    None => return Ok(BegunGet::Waits(GetNumbers { call, shard: shard as u8 })),
+                    None => return Ok(BegunGet::Waits(GetNumbers { call, shard: shard as u16 })),
                 }
             }
         };

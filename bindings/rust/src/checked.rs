@@ -1,9 +1,11 @@
 use crate::digest::digest_of;
 use crate::Refused;
+use std::alloc::{self, Layout};
 use std::fmt;
 use std::io;
 use std::ops::AddAssign;
 use std::panic::{self, AssertUnwindSafe};
+use std::ptr;
 use std::sync::atomic::{AtomicU64, Ordering::Relaxed};
 
 /// A device of pages that threads share. An error says that nothing was read, or that nothing is known any more of the page
@@ -66,7 +68,7 @@ struct Counters {
 /// A device with a digest of each page as it was last written. 0 stands for a page of which nothing is known.
 pub(crate) struct Checked {
     device: Box<dyn PageDevice>,
-    digests: Vec<AtomicU64>,
+    digests: Box<[AtomicU64]>,
     counters: Counters,
 }
 
@@ -74,10 +76,7 @@ impl Checked {
     /// The device, of so many pages, of which nothing is known yet.
     pub fn new(device: Box<dyn PageDevice>, pages: u64) -> Result<Checked, Refused> {
         let pages = usize::try_from(pages).map_err(|_| Refused::NO_MEMORY)?;
-        let mut digests = Vec::new();
-        digests.try_reserve_exact(pages).map_err(|_| Refused::NO_MEMORY)?;
-        digests.resize_with(pages, AtomicU64::default);
-        Ok(Checked { device, digests, counters: Counters::default() })
+        Ok(Checked { device, digests: zeroed(pages)?, counters: Counters::default() })
     }
 
     /// Reads the page, and answers whether it is as it was written.
@@ -139,6 +138,21 @@ impl Checked {
             pages: pages.load(Relaxed),
         }
     }
+}
+
+// So many zeros, for which the system gives memory as they are written.
+fn zeroed(count: usize) -> Result<Box<[AtomicU64]>, Refused> {
+    let layout = Layout::array::<AtomicU64>(count).map_err(|_| Refused::NO_MEMORY)?;
+    if layout.size() == 0 {
+        return Ok(Box::default());
+    }
+    // SAFETY: the layout has bytes.
+    let at = unsafe { alloc::alloc_zeroed(layout) };
+    if at.is_null() {
+        return Err(Refused::NO_MEMORY);
+    }
+    // SAFETY: there are so many zeros, each of them a number that is 0, and the box gives them back as the same array.
+    Ok(unsafe { Box::from_raw(ptr::slice_from_raw_parts_mut(at.cast(), count)) })
 }
 
 impl fmt::Debug for Checked {

@@ -83,6 +83,17 @@ pub enum OpenError {
         /// The most.
         most: u64,
     },
+    /// What would be kept of flash in memory is more than may be.
+    IndexMemory {
+        /// The bytes of flash.
+        flash: u64,
+        /// The most for which that isn't so, with the other numbers as they are.
+        most: u64,
+        /// What may be kept.
+        index_memory: u64,
+        /// What would have to be.
+        needed: u64,
+    },
     /// The page has another length than 512, 1024, 2048 or 4096 bytes.
     Page(u64),
     /// The library refused the pool or the flash: the refusal's name says which number.
@@ -125,7 +136,14 @@ impl From<io::Error> for OpenError {
 impl fmt::Display for OpenError {
     fn fmt(&self, f: &mut fmt::Formatter<'_>) -> fmt::Result {
         match self {
-            OpenError::Number { name, given, least, most } => write!(f, "{name} is {given}, and not {least} to {most}"),
+            OpenError::Number { name, given, least, most } => {
+                write!(f, "{name} is {given}, and not {least} to {most}{}", advice(name))
+            }
+            OpenError::IndexMemory { flash, most, index_memory, needed } => write!(
+                f,
+                "flash is {flash}, of which {needed} bytes are kept in memory, and index_memory is {index_memory}: let it be \
+                 {needed}, or flash no more than {most}"
+            ),
             OpenError::Page(given) => write!(f, "page is {given}, and not 512, 1024, 2048 or 4096"),
             OpenError::Refused(refused) => refused.fmt(f),
             OpenError::InUse => f.write_str("another has the file open, or the device is in use"),
@@ -137,6 +155,21 @@ impl fmt::Display for OpenError {
             OpenError::NoMemory => f.write_str("out of memory"),
             OpenError::Io(error) => error.fmt(f),
         }
+    }
+}
+
+// What is meant by the number, and what to do.
+fn advice(name: &str) -> &'static str {
+    match name {
+        "memory" => " (bytes: each shard holds an item of the mean length, or more)",
+        "flash" => " (bytes: a shard has 16 pages or more, and all together fewer than 2^32)",
+        "mean_key" => " (bytes: the cache takes no longer key)",
+        "mean_value" => " (bytes: the cache takes no longer value)",
+        "shards" => " (0: as many as memory and flash want)",
+        "pool.bytes" | "pool.items" => " (of all shards together)",
+        "writers" | "fillers" => " (threads)",
+        name if name.starts_with("flash_numbers.") => " (of a shard)",
+        _ => "",
     }
 }
 

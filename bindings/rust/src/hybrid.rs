@@ -272,8 +272,8 @@ impl HybridCache {
 
     /// The shard that the key is of, from 0. Calls on keys of one shard wait for each other, and for no others.
     #[must_use]
-    pub fn shard_of(&self, key: &[u8]) -> u8 {
-        self.shards().of(key) as u8
+    pub fn shard_of(&self, key: &[u8]) -> u16 {
+        self.shards().of(key) as u16
     }
 
     #[inline]

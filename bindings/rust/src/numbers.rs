@@ -1,5 +1,6 @@
-use crate::options::{BESIDE_LARGE, INDEX};
-use crate::{Flash, Pool, Refused};
+use crate::cores;
+use crate::sizing::{self, BESIDE_LARGE, INDEX};
+use crate::{Flash, Pool};
 use std::fmt;
 
 /// What an item is charged beside its key and value, and what it takes of memory beside its charge.
@@ -17,7 +18,13 @@ const DIGEST: u64 = 8;
 // What a slot for tickets takes, and a place for turns, of which there is one to 16 slots.
 const SLOT: u64 = 8;
 const TURN: u64 = 24;
-const MOST_SLOTS: u64 = 1 << 16;
+// What an entry in a bucket takes of its page beside its key and value.
+const BESIDE_SMALL: u64 = 12;
+// What a shard takes beside all that, and where it has flash.
+const SHARD: u64 = 4_400;
+const SHARD_WITH_FLASH: u64 = 12_000;
+// A rate at which a disk is filled.
+const RATE: u64 = 100_000_000;
 
 /// What [`Options`](crate::Options) come to, for all shards together: the library's numbers, and the memory that they take once
 /// all is full. `Display` prints them.
@@ -29,20 +36,26 @@ pub struct Numbers {
     /// The flash of one shard.
     pub flash: Option<Flash>,
     /// Shards.
-    pub shards: u8,
+    pub shards: u16,
     /// The mean bytes of an item's key and value.
     pub item: u64,
 }
 
+/// So many of the library's pools, with the same limits.
+#[derive(Clone, Copy, Debug)]
+pub(crate) struct Share {
+    pub pool: Pool,
+    pub pools: u8,
+}
+
 impl Numbers {
-    // The library's pools: as many as hold so much. Each item is in one of them, by its key.
-    pub(crate) fn pools(&self) -> Result<Vec<Pool>, Refused> {
-        let Pool { bytes, items } = self.pool;
-        let many = items.div_ceil(MOST_ITEMS).max(bytes.div_ceil(MOST_BYTES)).clamp(1, MOST_POOLS);
-        let mut pools = Vec::new();
-        pools.try_reserve_exact(many as usize).map_err(|_| Refused::NO_MEMORY)?;
-        pools.resize(many as usize, Pool { bytes: bytes / many, items: items / many });
-        Ok(pools)
+    /// The library's pools of a shard: as many as hold its share. Each item is in one of them, by its key.
+    pub(crate) fn share(&self) -> Share {
+        let shards = u64::from(self.shards.max(1));
+        let (bytes, items) = (self.pool.bytes / shards, self.pool.items / shards);
+        let pools = sizing::pools_of(bytes, items).min(bytes / 64).min(items).max(1);
+        let pool = Pool { bytes: (bytes / pools).min(MOST_BYTES), items: (items / pools).min(MOST_ITEMS) };
+        Share { pool, pools: pools as u8 }
     }
 
     fn all(&self, of_one: impl Fn(&Flash) -> u64) -> u64 {
@@ -102,7 +115,7 @@ impl Numbers {
         self.all(|flash| flash.queue.saturating_mul(self.item + BESIDE))
     }
 
-    /// Bytes of the digests of pages.
+    /// Bytes of the digests of pages, once all are written.
     #[must_use]
     pub fn digests_bytes(&self) -> u64 {
         self.pages().saturating_mul(DIGEST)
@@ -112,23 +125,64 @@ impl Numbers {
     /// turns.
     #[must_use]
     pub fn leases_bytes(&self) -> u64 {
-        let slots = match self.shards {
-            0 | 1 => MOST_SLOTS,
-            2..4 => MOST_SLOTS / 2,
-            4..8 => MOST_SLOTS / 4,
-            8..16 => MOST_SLOTS / 8,
-            _ => MOST_SLOTS / 16,
-        };
+        let slots = cores::slots_of(&self.share(), self.shards);
         u64::from(self.shards) * (slots * SLOT + slots / 16 * TURN)
+    }
+
+    /// Bytes of what each shard takes, however little it has.
+    #[must_use]
+    pub fn shards_bytes(&self) -> u64 {
+        u64::from(self.shards) * if self.flash.is_some() { SHARD_WITH_FLASH } else { SHARD }
+    }
+
+    /// Items of the mean length that flash holds, but for those regions that are kept clean.
+    #[must_use]
+    pub fn flash_items(&self) -> u64 {
+        self.all(|flash| match self.is_small(flash) {
+            true => flash.buckets.saturating_mul(flash.page / self.item.saturating_add(BESIDE_SMALL)),
+            false => {
+                let regions = flash.regions.saturating_sub(flash.clean);
+                region_bytes(flash).saturating_mul(regions) / self.item.saturating_add(BESIDE_LARGE)
+            }
+        })
+    }
+
+    /// Bytes of flash that items of the mean length never use, since it is for longer or shorter ones.
+    #[must_use]
+    pub fn flash_bytes_for_others(&self) -> u64 {
+        self.all(|flash| match self.is_small(flash) {
+            true => region_bytes(flash).saturating_mul(flash.regions),
+            false => flash.buckets.saturating_mul(flash.page),
+        })
+    }
+
+    /// Bytes that are written to flash for each item of the mean length: a page, or what it takes of a region.
+    #[must_use]
+    pub fn written_bytes(&self) -> u64 {
+        self.flash.map_or(0, |flash| match self.is_small(&flash) {
+            true => flash.page,
+            false => self.item.saturating_add(BESIDE_LARGE),
+        })
+    }
+
+    // Whether items of the mean length go to buckets.
+    fn is_small(&self, flash: &Flash) -> bool {
+        self.item <= flash.small_max
     }
 
     /// Bytes of memory, all together.
     #[must_use]
     pub fn memory_bytes(&self) -> u64 {
         let beside = [self.index_bytes(), self.buckets_bytes(), self.buffers_bytes(), self.queue_bytes()];
-        let first = self.items_bytes().saturating_add(self.digests_bytes()).saturating_add(self.leases_bytes());
+        let first = self.items_bytes().saturating_add(self.digests_bytes());
+        let first = first.saturating_add(self.leases_bytes()).saturating_add(self.shards_bytes());
         beside.iter().fold(first, |sum, bytes| sum.saturating_add(*bytes))
     }
+}
+
+// Bytes of a region.
+fn region_bytes(flash: &Flash) -> u64 {
+    flash.region_pages.saturating_mul(flash.page)
 }
 
 impl fmt::Display for Numbers {
@@ -137,16 +191,47 @@ impl fmt::Display for Numbers {
         row("memory", self.memory_bytes(), format!("once all is full, with items of {} bytes", self.item))?;
         row("items", self.items_bytes(), format!("{} items", self.items()))?;
         row("leases", self.leases_bytes(), "whether or not there are any".to_string())?;
+        row("shards", self.shards_bytes(), format!("{} of them", self.shards))?;
         if let Some(flash) = &self.flash {
             row("index", self.index_bytes(), format!("of items of more than {} bytes", flash.small_max))?;
             row("buckets", self.buckets_bytes(), format!("{} a shard", flash.buckets))?;
             row("buffers", self.buffers_bytes(), "a region a shard".to_string())?;
             row("queue", self.queue_bytes(), format!("{} items a shard", flash.queue))?;
             row("digests", self.digests_bytes(), format!("{} pages", self.pages()))?;
-            row("flash", self.flash_bytes(), format!("{} regions a shard", flash.regions))?;
+            row("flash", self.flash_bytes(), format!("{} items", self.flash_items()))?;
+            self.fmt_flash(f, flash)?;
         }
-        write!(f, "{} shards of one {:?}", self.shards, self.pool)?;
-        self.flash.map_or(Ok(()), |flash| write!(f, ",\neach with {flash:?}"))
+        let Share { pool, pools } = self.share();
+        let of = if pools == 1 { String::new() } else { format!("{pools} pools of ") };
+        let shard = if self.shards == 1 { "shard" } else { "shards" };
+        write!(f, "{} {shard}, each with {of}{:?}", self.shards, pool)?;
+        self.flash.map_or(Ok(()), |flash| write!(f, ",\nand {flash:?}"))
+    }
+}
+
+impl Numbers {
+    // What is to be expected of flash.
+    fn fmt_flash(&self, f: &mut fmt::Formatter<'_>, flash: &Flash) -> fmt::Result {
+        let written = self.written_bytes() as f64 / self.item as f64;
+        let seconds = self.flash_items().saturating_mul(self.written_bytes()) / RATE;
+        let place = if self.is_small(flash) { "buckets" } else { "regions" };
+        writeln!(
+            f,
+            "                   in {place}: {written:.2} bytes written for each byte, full in {} at 100 MB a second",
+            Time(seconds)
+        )?;
+        writeln!(f, "                   of items of up to {} bytes, and not of longer ones", flash.admit_max)?;
+        let others = self.flash_bytes_for_others();
+        if others > self.flash_bytes() / 100 && flash.small_max > 0 {
+            let length = if self.is_small(flash) { "more" } else { "no more" };
+            writeln!(
+                f,
+                "                   {} of it for items of {length} than {} bytes",
+                Bytes(others),
+                flash.small_max
+            )?;
+        }
+        Ok(())
     }
 }
 
@@ -160,7 +245,21 @@ impl fmt::Display for Bytes {
             0..=999 => write!(f, "{bytes} B"),
             1_000..=999_999 => write!(f, "{:.1} kB", bytes / 1e3),
             1_000_000..=999_999_999 => write!(f, "{:.1} MB", bytes / 1e6),
-            _ => write!(f, "{:.1} GB", bytes / 1e9),
+            1_000_000_000..=999_999_999_999 => write!(f, "{:.1} GB", bytes / 1e9),
+            _ => write!(f, "{:.1} TB", bytes / 1e12),
+        }
+    }
+}
+
+// A time in the largest units of which there is one.
+struct Time(u64);
+
+impl fmt::Display for Time {
+    fn fmt(&self, f: &mut fmt::Formatter<'_>) -> fmt::Result {
+        match self.0 {
+            seconds @ 0..=59 => write!(f, "{seconds} s"),
+            seconds @ 60..=3_599 => write!(f, "{} min {} s", seconds / 60, seconds % 60),
+            seconds => write!(f, "{} h {} min", seconds / 3_600, seconds % 3_600 / 60),
         }
     }
 }

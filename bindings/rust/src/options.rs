@@ -1,25 +1,14 @@
-use crate::numbers::{Numbers, BESIDE, CHARGE, MOST_BYTES, MOST_ITEMS, MOST_POOLS};
-use crate::{Clock, Flash, OpenError, Pool};
+use crate::{Clock, Flash, Pool};
 use std::fmt;
 use std::time::Duration;
-
-// Pages of a shard's flash, at least.
-const LEAST_PAGES: u64 = 16;
-// A region's pages, where there is room for many.
-const REGION_PAGES: u64 = 256;
-// Buckets of a shard, and regions, at most.
-const MOST_BUCKETS: u64 = 1 << 20;
-const MOST_REGIONS: u64 = 1 << 16;
-// What an item in a region takes of it beside its key and value, and of memory.
-pub(crate) const BESIDE_LARGE: u64 = 14;
-pub(crate) const INDEX: u64 = 60;
 
 /// What a [`HybridCache`](crate::HybridCache) is to be, by what its user knows: how many bytes of memory and of flash, and how
 /// long an item is. [`numbers`](Options::numbers) says what they come to; `Display` prints it.
 ///
-/// Items go to regions of flash, where an index of all of them takes no more memory than `memory`; else those of up to half a
-/// page go to buckets, which want no index, and cost the write of a page for each item. What is longer than a region isn't
-/// written to flash: `admit_max` says how long it may be.
+/// Items go to regions of flash, where what is kept of that in memory, an index of all of them, is no more than `index_memory`; else
+/// those of up to half a page go to buckets, which want no index, and cost the write of a page for each item. What is longer than
+/// a region isn't written to flash: `admit_max` says how long it may be. Where even buckets keep more than `index_memory`, the
+/// options are refused ([`OpenError::IndexMemory`](crate::OpenError::IndexMemory)).
 ///
 /// ```
 /// use kilambosetry::Options;
@@ -34,14 +23,19 @@ pub(crate) const INDEX: u64 = 60;
 pub struct Options {
     /// Bytes of memory for items, with what the library keeps beside each. What flash keeps in memory comes on top.
     pub memory: u64,
-    /// Bytes of flash.
+    /// Bytes of flash: up to 4,294,967,295 pages.
     pub flash: u64,
+    /// Bytes of memory that may be kept of what is on flash: the index or the buckets, and the digests of pages. Without it as many
+    /// as `memory`, or 64 MB where that is less and buckets keep no more.
+    pub index_memory: Option<u64>,
     /// The mean bytes of a key: 1 to 255.
     pub mean_key: u64,
     /// The mean bytes of a value: 1 to 1,048,576.
     pub mean_value: u64,
-    /// Shards, each with a lock of its own: 1 to 16.
-    pub shards: u8,
+    /// Shards, each a cache with limits, flash and a lock of its own, and a share of the keys: 1 to 4,096. 0: 8, or as many as it
+    /// takes for tables that grow within a millisecond and for buckets that reach over the flash; fewer where memory or flash is
+    /// so small that long values would find no room. [`Numbers`](crate::Numbers) say how many.
+    pub shards: u16,
     /// Threads that write what left memory, and make room for it: 1 to 1,024.
     pub writers: u64,
     /// Threads that read for gets with a time limit, for futures, and for gets whose read had to wait: 1 to 1,024. A get
@@ -72,15 +66,16 @@ pub struct Options {
 }
 
 impl Default for Options {
-    /// 64 MB of memory, 1 GB of flash, values of 1,000 bytes, 8 shards, two writers and two fillers, ten seconds for a load, a
-    /// minute for a commit whose answer is lost, and the system's clock.
+    /// 64 MB of memory, 1 GB of flash, values of 1,000 bytes, as many shards as these want, two writers and two fillers, ten
+    /// seconds for a load, a minute for a commit whose answer is lost, and the system's clock.
     fn default() -> Options {
         Options {
             memory: 64_000_000,
             flash: 1_000_000_000,
+            index_memory: None,
             mean_key: 24,
             mean_value: 1000,
-            shards: 8,
+            shards: 0,
             writers: 2,
             fillers: 2,
             page: 4096,
@@ -102,101 +97,5 @@ impl fmt::Display for Options {
             Ok(numbers) => numbers.fmt(f),
             Err(error) => error.fmt(f),
         }
-    }
-}
-
-fn within(name: &'static str, given: u64, least: u64, most: u64) -> Result<u64, OpenError> {
-    if (least..=most).contains(&given) {
-        Ok(given)
-    } else {
-        Err(OpenError::Number { name, given, least, most })
-    }
-}
-
-impl Options {
-    /// What they come to, with flash. Refused where a number is outside its limits; those of `pool` and `flash_numbers` are
-    /// looked at when the cache is made.
-    pub fn numbers(&self) -> Result<Numbers, OpenError> {
-        let flash = match self.flash_numbers {
-            Some(flash) => flash,
-            None => self.flash_of_a_shard()?,
-        };
-        Ok(Numbers { flash: Some(flash), ..self.numbers_in_memory()? })
-    }
-
-    /// What they come to, without flash.
-    pub fn numbers_in_memory(&self) -> Result<Numbers, OpenError> {
-        let shards = within("shards", u64::from(self.shards), 1, 16)? as u8;
-        within("writers", self.writers, 1, 1024)?;
-        within("fillers", self.fillers, 1, 1024)?;
-        let pool = match self.pool {
-            Some(pool) => pool,
-            None => self.pool_of_all()?,
-        };
-        Ok(Numbers { pool, flash: None, shards, item: self.item()? })
-    }
-
-    // The mean bytes of key and value.
-    fn item(&self) -> Result<u64, OpenError> {
-        let key = within("mean_key", self.mean_key, 1, 255)?;
-        Ok(key + within("mean_value", self.mean_value, 1, 1 << 20)?)
-    }
-
-    // The limits of all shards together, for items of the mean length.
-    fn pool_of_all(&self) -> Result<Pool, OpenError> {
-        let item = self.item()?;
-        let one = item + CHARGE + BESIDE;
-        let most = (MOST_ITEMS * MOST_POOLS).min(MOST_BYTES * MOST_POOLS / (item + CHARGE));
-        within("memory", self.memory, one * u64::from(self.shards), one * most)?;
-        let items = self.memory / one;
-        // (shorter items than the mean may be more)
-        Ok(Pool { bytes: items * (item + CHARGE), items: (4 * items).min(most) })
-    }
-
-    fn flash_of_a_shard(&self) -> Result<Flash, OpenError> {
-        let (page, shards) = (self.page, u64::from(within("shards", u64::from(self.shards), 1, 16)? as u8));
-        if ![512, 1024, 2048, 4096].contains(&page) {
-            return Err(OpenError::Page(page));
-        }
-        within("flash", self.flash, LEAST_PAGES * page * shards, u64::from(u32::MAX) * page)?;
-        let pages = self.flash / page / shards;
-        let (small_max, buckets) =
-            if self.has_room_for_an_index()? { (0, 1) } else { (page / 2, (pages / 10 * 9).min(MOST_BUCKETS)) };
-        let left = pages - buckets;
-        let region_pages = self.region_pages(left)?;
-        let regions = (left / region_pages).clamp(2, MOST_REGIONS);
-        Ok(Flash {
-            page,
-            buckets,
-            regions,
-            region_pages,
-            clean: (regions / 4).clamp(1, 4),
-            small_max,
-            queue: self.queue_of_a_shard()?,
-            bits: 64,
-            admit_min: 1,
-            admit_max: (region_pages * page - BESIDE_LARGE).min(1_048_831),
-        })
-    }
-
-    // A region's pages: so many that there are 64 regions, but for 16 pages and 8 items, and 256 pages at most. Regions of more
-    // are only where there would be too many.
-    fn region_pages(&self, left: u64) -> Result<u64, OpenError> {
-        let items = (8 * self.item()?).div_ceil(self.page);
-        let wanted = (left / 64).max(LEAST_PAGES).max(items).min(left / 4).clamp(1, REGION_PAGES);
-        Ok(wanted.max(left.div_ceil(MOST_REGIONS)))
-    }
-
-    // Whether a place for each item on flash takes no more memory than the items in memory do. Else the small ones get buckets,
-    // which need none, and cost a page's write for each item.
-    fn has_room_for_an_index(&self) -> Result<bool, OpenError> {
-        let item = self.item()?;
-        Ok(item > self.page / 2 || self.flash / (item + BESIDE_LARGE) * INDEX <= self.memory)
-    }
-
-    // As many items as take an eighth of the memory.
-    fn queue_of_a_shard(&self) -> Result<u64, OpenError> {
-        let queued = self.memory / 8 / u64::from(self.shards) / (self.item()? + BESIDE);
-        Ok(queued.clamp(16, 65_535))
     }
 }

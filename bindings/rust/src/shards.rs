@@ -3,18 +3,19 @@ use crate::bell::Bell;
 use crate::buffer::with_page;
 use crate::calls::{Answer, Call, Calls};
 use crate::checked::Checked;
+use crate::cores;
 use crate::generations::Generations;
 use crate::lease::Waited;
 use crate::loads::{Loads, Outcome};
 use crate::marks::Marks;
-use crate::numbers::Numbers;
+use crate::numbers::{Numbers, Share};
 use crate::spread::Spread;
 use crate::timer::Timer;
 use crate::told::{Tellings, Told};
 use crate::wakes::{Rings, Wakes, Woken};
 use crate::{
-    Added, Came, Clock, Copied, Engine, Error, Found, Held, Kept, Lookup, Operation, Options, Pool, Refused, Take,
-    Ticket, Value,
+    Added, Came, Clock, Copied, Engine, Error, Found, Held, Kept, Lookup, Operation, Options, Refused, Take, Ticket,
+    Value,
 };
 use std::collections::hash_map::RandomState;
 use std::collections::VecDeque;
@@ -226,7 +227,7 @@ pub(crate) struct Shards {
     pub device: Option<Checked>,
     page: usize,
     pages: u32,
-    pools: Vec<Pool>,
+    share: Share,
     numbers: Numbers,
     spread: Spread,
     clock: Clock,
@@ -266,11 +267,11 @@ pub(crate) type Locked<'a> = MutexGuard<'a, State>;
 impl Shards {
     /// Empty shards with these numbers, over a device that is still to come, where there is flash.
     pub fn new(numbers: &Numbers, options: &Options) -> Result<Shards, Refused> {
-        let (pools, now) = (numbers.pools()?, options.clock.now());
+        let (share, now) = (numbers.share(), options.clock.now());
         let mut shards = Vec::new();
         shards.try_reserve_exact(usize::from(numbers.shards)).map_err(|_| Refused::NO_MEMORY)?;
         for _ in 0..numbers.shards {
-            let engine = new_engine(numbers, &pools, now)?;
+            let engine = new_engine(numbers, &share, now)?;
             let state = Mutex::new(State::new(engine, now));
             shards.push(Shard { state, rings: Rings::default(), quiet: Condvar::new(), lock_waits: AtomicU64::new(0) });
         }
@@ -280,7 +281,7 @@ impl Shards {
             device: None,
             page,
             pages,
-            pools,
+            share,
             numbers: *numbers,
             spread: Spread::new(),
             clock: options.clock.clone(),
@@ -301,7 +302,7 @@ impl Shards {
     }
 
     pub fn pools(&self) -> u8 {
-        self.pools.len() as u8
+        self.share.pools
     }
 
     /// The key's shard, by the upper half of its hash. (That of the library, FNV-1a, goes byte by byte, and takes as long as
@@ -317,9 +318,9 @@ impl Shards {
     /// The key's pool: its items are spread over all of them, where one can't hold as many.
     #[inline]
     pub fn pool_of(&self, key: &[u8]) -> u8 {
-        match self.pools.len() {
+        match self.share.pools {
             1 => 0,
-            pools => (self.spread.hash(key) as u32 % pools as u32) as u8,
+            pools => (self.spread.hash(key) as u32 % u32::from(pools)) as u8,
         }
     }
 
@@ -363,7 +364,7 @@ impl Shards {
     // Makes the engine for which there was no memory as the shard was cleared.
     #[cold]
     fn fill_shard(&self, state: &mut Locked<'_>) -> Result<(), Refused> {
-        let engine = new_engine(&self.numbers, &self.pools, state.now)?;
+        let engine = new_engine(&self.numbers, &self.share, state.now)?;
         state.engine.fill(engine);
         Ok(())
     }
@@ -373,7 +374,7 @@ impl Shards {
     #[must_use]
     pub fn clear(&self, shard: usize) -> Option<Engine> {
         let now = self.clock.now();
-        let empty = new_engine(&self.numbers, &self.pools, now).ok();
+        let empty = new_engine(&self.numbers, &self.share, now).ok();
         let mut state = self.lock(shard);
         if state.closed {
             return None;
@@ -940,11 +941,8 @@ impl Shards {
 }
 
 // An empty engine of one shard, with its clock told.
-fn new_engine(numbers: &Numbers, pools: &[Pool], now: u64) -> Result<Engine, Refused> {
-    let mut engine = match &numbers.flash {
-        Some(flash) => Engine::new_shard(pools, flash, numbers.shards)?,
-        None => Engine::new_shard_in_memory(pools, numbers.shards)?,
-    };
+fn new_engine(numbers: &Numbers, share: &Share, now: u64) -> Result<Engine, Refused> {
+    let mut engine = cores::core_of(share, numbers.flash.as_ref(), numbers.shards)?;
     engine.tick(now)?;
     Ok(engine)
 }

@@ -222,7 +222,7 @@ fn each_refused_allocation_of_opening_refuses_it() {
         assert_eq!(Arc::strong_count(&hand), 1 + usize::from(opened.is_ok()), "{at}"); // (nothing is leaked)
         match opened {
             Ok(cache) => {
-                assert!(is_over && at > 6, "{at}"); // two of the clock, the pools, the shards, and what handles share
+                assert!(is_over && at > 5, "{at}"); // two of the clock, the shards, and what handles share
                 return cache.set(KEY, b"first", 0).unwrap();
             }
             Err(error) => assert!(!is_over && matches!(error, OpenError::NoMemory), "{at}: {error}"),

@@ -328,7 +328,7 @@ fn a_task_that_was_cancelled_is_forgotten() {
 #[test]
 fn a_task_is_woken_once_patience_is_up() {
     let _alone = ALONE.lock();
-    for shards in [1, 16] {
+    for shards in [1, 16, 4096] {
         let patience = Duration::from_millis(200);
         let cache = HybridCache::in_memory(&Options { shards, patience, ..Options::default() }).unwrap();
         let hangs = [lease(&cache, b"key"), lease(&cache, b"other")];

@@ -25,6 +25,10 @@ pub struct Config {
     #[arg(long, value_name = "MEGABYTES", default_value_t = 1000)]
     pub flash_size: u64,
 
+    /// Megabytes of memory that may be kept of what is on flash; 0: as many as of memory for items, or 64
+    #[arg(long, value_name = "MEGABYTES", default_value_t = 0)]
+    pub index_memory: u64,
+
     /// Takes a file or device of flash that has anything and is no cache's: what it has is lost
     #[arg(long)]
     pub overwrite: bool,
@@ -45,9 +49,9 @@ pub struct Config {
     #[arg(long, value_name = "BYTES", default_value_t = 1000)]
     pub mean_value: u64,
 
-    /// Parts of the cache with a lock each: 1 to 16
-    #[arg(long, value_name = "COUNT", default_value_t = 16)]
-    pub shards: u8,
+    /// Parts of the cache with a lock each: 1 to 4096; 0: as many as memory and flash want
+    #[arg(long, value_name = "COUNT", default_value_t = 0)]
+    pub shards: u16,
 
     /// Threads that read flash
     #[arg(long, value_name = "COUNT", default_value_t = 4)]
@@ -113,6 +117,7 @@ impl Config {
         Options {
             memory: self.memory.saturating_mul(MEGABYTE),
             flash: self.flash_size.saturating_mul(MEGABYTE),
+            index_memory: (self.index_memory > 0).then(|| self.index_memory.saturating_mul(MEGABYTE)),
             mean_key: self.mean_key,
             mean_value: self.mean_value.saturating_add(HEAD as u64),
             shards: self.shards,
@@ -156,6 +161,13 @@ impl Config {
     #[must_use]
     pub fn in_flight_bytes(&self) -> usize {
         usize::try_from(self.in_flight.saturating_mul(MEGABYTE)).unwrap_or(usize::MAX)
+    }
+
+    // As many as are given, or were chosen.
+    fn chosen_shards(&self) -> u16 {
+        let options = self.options();
+        let numbers = if self.flash.is_some() { options.numbers() } else { options.numbers_in_memory() };
+        numbers.map_or(self.shards, |numbers| numbers.shards)
     }
 
     /// The settings, each by the name that memcached has for it, or by its own.
@@ -203,7 +215,8 @@ impl Config {
             ("in_flight_bytes", self.in_flight_bytes().to_string()),
             ("mean_key", self.mean_key.to_string()),
             ("mean_value", self.mean_value.to_string()),
-            ("shards", self.shards.to_string()),
+            ("shards", self.chosen_shards().to_string()),
+            ("index_memory", self.index_memory.saturating_mul(MEGABYTE).to_string()),
             ("fillers", self.fillers.to_string()),
             ("writers", self.writers.to_string()),
             ("metrics_port", self.metrics_port.to_string()),

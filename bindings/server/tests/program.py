@@ -309,7 +309,7 @@ def refuses():
     """It says what is wrong with its command line, and ends with another status than 0."""
     most = str(2**64 - 1)
     many = (["--connections", str(2**61)], ["--connections", "0"], ["--mean-value", most], ["--fillers", most], ["--memory", most])
-    wrong = (["--shards", "17"], ["--memory", "0"], ["--port", "x"], ["--flash", "/"], ["--threads", "0"])
+    wrong = (["--shards", "4097"], ["--memory", "0"], ["--port", "x"], ["--flash", "/"], ["--threads", "0"])
     for words in wrong + many:
         ran = subprocess.run([binary(), *words, "--metrics-port", "0"], capture_output=True, timeout=20, check=False)
         assert ran.returncode in (1, 2) and ran.stderr, (words, ran)

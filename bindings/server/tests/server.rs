@@ -214,6 +214,7 @@ fn stats_have_the_rows_that_agents_read() {
         let missing: Vec<_> = names.split_ascii_whitespace().filter(|name| !told.contains_key(*name)).collect();
         assert!(missing.is_empty(), "{command} lacks {missing:?}");
     }
+    assert_eq!(rows(&mut client, "stats settings")["shards"], "8"); // (as many as were chosen)
     assert_eq!(client.ask("set key 0 0 1\r\nx\r\n"), "STORED");
     assert_eq!(client.ask("set brief 0 1 1\r\nx\r\n"), "STORED");
     thread::sleep(Duration::from_millis(2100));

@@ -9,7 +9,7 @@ use kilambosetry::Held;
 #[repr(C)]
 pub struct ServiceBegun {
     call: u64,
-    shard: u8,
+    shard: u16,
     waits: bool,
 }
 

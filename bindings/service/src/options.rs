@@ -9,6 +9,7 @@ use std::time::Duration;
 pub struct ServiceOptions {
     memory: u64,
     flash: u64,
+    index_memory: u64,
     mean_key: u64,
     mean_value: u64,
     shards: u64,
@@ -50,7 +51,7 @@ impl ServiceOptions {
     pub fn to_options(&self) -> Result<Options, OpenError> {
         let mut options = Options::default();
         self.put_lengths(&mut options);
-        options.shards = u8::try_from(self.shards).map_err(|_| self.too_many_shards())?;
+        options.shards = u16::try_from(self.shards).map_err(|_| self.too_many_shards())?;
         options.writers = self.writers;
         options.fillers = self.fillers;
         options.direct = self.direct;
@@ -68,6 +69,7 @@ impl ServiceOptions {
     fn put_lengths(&self, options: &mut Options) {
         options.memory = self.memory;
         options.flash = self.flash;
+        options.index_memory = (self.index_memory > 0).then_some(self.index_memory);
         options.mean_key = self.mean_key;
         options.mean_value = self.mean_value;
         options.page = self.page;
@@ -77,7 +79,7 @@ impl ServiceOptions {
     }
 
     fn too_many_shards(&self) -> OpenError {
-        OpenError::Number { name: "shards", given: self.shards, least: 1, most: 16 }
+        OpenError::Number { name: "shards", given: self.shards, least: 0, most: 4096 }
     }
 }
 
@@ -91,12 +93,16 @@ pub struct ServiceNumbers {
     items: u64,
     items_bytes: u64,
     leases_bytes: u64,
+    shards_bytes: u64,
     index_bytes: u64,
     buckets_bytes: u64,
     buffers_bytes: u64,
     queue_bytes: u64,
     digests_bytes: u64,
     memory_bytes: u64,
+    flash_items: u64,
+    flash_bytes_for_others: u64,
+    written_bytes: u64,
 }
 
 const NO_FLASH: Flash = Flash {
@@ -122,12 +128,16 @@ impl From<Numbers> for ServiceNumbers {
             items: numbers.items(),
             items_bytes: numbers.items_bytes(),
             leases_bytes: numbers.leases_bytes(),
+            shards_bytes: numbers.shards_bytes(),
             index_bytes: numbers.index_bytes(),
             buckets_bytes: numbers.buckets_bytes(),
             buffers_bytes: numbers.buffers_bytes(),
             queue_bytes: numbers.queue_bytes(),
             digests_bytes: numbers.digests_bytes(),
             memory_bytes: numbers.memory_bytes(),
+            flash_items: numbers.flash_items(),
+            flash_bytes_for_others: numbers.flash_bytes_for_others(),
+            written_bytes: numbers.written_bytes(),
         }
     }
 }

@@ -4,7 +4,28 @@ use std::ffi::{c_char, CStr};
 use std::ptr;
 
 // The names of numbers, as C has them.
-const NAMES: [&CStr; 8] = [c"memory", c"flash", c"mean_key", c"mean_value", c"shards", c"writers", c"fillers", c"page"];
+const NAMES: [&CStr; 20] = [
+    c"memory",
+    c"flash",
+    c"index_memory",
+    c"mean_key",
+    c"mean_value",
+    c"shards",
+    c"writers",
+    c"fillers",
+    c"page",
+    c"pool.bytes",
+    c"pool.items",
+    c"flash_numbers.buckets",
+    c"flash_numbers.regions",
+    c"flash_numbers.region_pages",
+    c"flash_numbers.clean",
+    c"flash_numbers.small_max",
+    c"flash_numbers.queue",
+    c"flash_numbers.bits",
+    c"flash_numbers.admit_min",
+    c"flash_numbers.admit_max",
+];
 
 /// Why a cache isn't opened: `kilambosetry_why`.
 #[repr(C)]
@@ -27,6 +48,9 @@ impl Why {
     pub fn note(&mut self, error: OpenError) -> u8 {
         match error {
             OpenError::Number { name, given, least, most } => self.note_number(name, given, least, most),
+            OpenError::IndexMemory { index_memory, needed, .. } => {
+                self.note_number("index_memory", index_memory, needed, u64::MAX)
+            }
             OpenError::Page(given) => self.note_number("page", given, 512, 4096),
             OpenError::Refused(refused) => refused.number(),
             OpenError::NoMemory => Refused::NO_MEMORY.number(),

@@ -34,6 +34,7 @@ fn kind(word: &str) -> &str {
         "uint64_t" | "u64" => "64 bits",
         "int64_t" | "i64" => "64 bits with a sign",
         "uint32_t" | "u32" => "32 bits",
+        "uint16_t" | "u16" => "16 bits",
         "uint8_t" | "u8" => "8 bits",
         "int" | "i32" => "int",
         "size_t" | "usize" => "size",

@@ -49,7 +49,7 @@ impl Shared for Lanes<'_> {
 }
 
 // The keys that a thread asks for, as they were drawn.
-fn draws(cache: &HybridCache, thread: u8, sharing: u8, own: bool) -> Vec<[u8; 20]> {
+fn draws(cache: &HybridCache, thread: u16, sharing: u16, own: bool) -> Vec<[u8; 20]> {
     let all = (0..KEYS).map(key);
     let keys: Vec<[u8; 20]> = all.filter(|key| !own || cache.shard_of(key) % sharing == thread % sharing).collect();
     let mut random = 88_172_645_463_325_252 + u64::from(thread);
@@ -81,7 +81,7 @@ fn round(store: &dyn Shared, draws: &[Vec<[u8; 20]>], times: usize) -> f64 {
     elapsed.as_nanos() as f64 / (draws.len() * DRAWS * times) as f64
 }
 
-fn measure(threads: u8, shards: u8, own: bool) -> [f64; 2] {
+fn measure(threads: u16, shards: u16, own: bool) -> [f64; 2] {
     let pool = Some(Pool { bytes: 4_000_000, items: 4 * KEYS });
     let ours = HybridCache::in_memory(&Options { shards, pool, ..Options::default() }).unwrap();
     let lane = |_| Lane(Mutex::new(lru::LruCache::new(4 * KEYS as usize / usize::from(shards))));
