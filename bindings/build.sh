@@ -11,7 +11,8 @@
 #   bindings/build.sh --trial    also a service before a slow database, with leases and without, where that crate is installed
 #   bindings/build.sh --stress   also ten minutes of all calls at once over pages that are harmed, and some of it under valgrind
 #   bindings/build.sh --replicas also two processes before PostgreSQL, by each way to tell them of each other's changes
-#   bindings/build.sh --memory   also what a cache with flash keeps in memory, beside what its pool says
+#   bindings/build.sh --memory   also what a cache with flash keeps in memory, beside what its pool says, and what one of a million
+#                                items does
 #   bindings/build.sh --server   also the server's long runs: many lines beside memcached and damaged ones, crowds, flushes, little memory,
 #                                and what it costs
 #
@@ -306,6 +307,7 @@ if has cargo; then
     fi
     if [ "$what" = --memory ]; then
         (cd "$here/rust" && CARGO_TARGET_DIR="$out/target" cargo run --offline --quiet --release --example resident)
+        example size items=1000000 memory=640000000 threads=1 own=1
     fi
 else
     echo "skipped: no cargo"
