@@ -3,7 +3,7 @@ use std::fmt;
 
 /// Why a call was refused, by its number. A call that is refused leaves the cache as it was, but for what
 /// [`Cache::set`](crate::Cache::set) and [`Cache::add`](crate::Cache::add) say.
-#[derive(Clone, Copy, Debug, PartialEq, Eq, Hash)]
+#[derive(Clone, Copy, PartialEq, Eq, Hash)]
 pub struct Refused(pub(crate) u8);
 
 // (18 was given by an earlier version)
@@ -96,6 +96,12 @@ impl Refused {
             Some(name) => name,
             None => "Unknown",
         }
+    }
+}
+
+impl fmt::Debug for Refused {
+    fn fmt(&self, f: &mut fmt::Formatter<'_>) -> fmt::Result {
+        write!(f, "Refused({} {})", self.number(), self.name())
     }
 }
 

@@ -827,6 +827,7 @@ fn refusals_are_errors() {
     assert_eq!(cache.set(&[0; 256], b"", 0), Err(Error::Refused(Refused::KEY_TOO_LONG)));
     let refused = cache.set(b"key", &[0; 20_000], 0).unwrap_err();
     assert_eq!((refused, refused.to_string()), (Error::Refused(Refused::NO_ROOM), "refused 15 NoRoom".to_string()));
+    assert_eq!(format!("{refused:?}"), "Refused(Refused(15 NoRoom))"); // (which `unwrap` shows)
     assert_eq!(cache.add(b"", b"", 0), Err(Error::Refused(Refused::KEY_EMPTY)));
 }
 
