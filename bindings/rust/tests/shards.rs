@@ -65,7 +65,7 @@ fn a_key_is_of_one_shard_whoever_asks() {
     }
 }
 
-// (400 keys a shard: less than 280 or more than 520 come once in 10^9 draws)
+// (400 keys a shard: less than 280 or more than 520 come to a shard once in 10^8 caches)
 #[test]
 fn keys_are_spread_over_all_shards() {
     for shards in [1u16, 7, 1024] {
@@ -118,6 +118,14 @@ fn value(number: u64) -> Vec<u8> {
     number.to_le_bytes().repeat([2, 12][number as usize % 2])
 }
 
+fn begun_and_ended(cache: &HybridCache, key: &[u8]) -> Option<Vec<u8>> {
+    let found = match cache.begin_get(key).unwrap() {
+        BegunGet::Answered(found) => found,
+        BegunGet::Waits(get) => cache.end_get(get, Some(LONG)).unwrap(),
+    };
+    found.map(|mut value| value.to_vec())
+}
+
 #[test]
 fn many_shards_share_a_device() {
     for shards in [1u16, 64, 1000] {
@@ -132,10 +140,11 @@ fn many_shards_share_a_device() {
         assert!(stats.memory_items <= 8 * u64::from(shards) && stats.device.writes > 0);
         for number in 0..items {
             let found = match number % 3 {
-                0 => cache.get_timeout(&key(number), LONG).unwrap(),
-                _ => cache.get(&key(number)).unwrap(),
+                0 => cache.get_timeout(&key(number), LONG).unwrap().map(|value| value.into_vec()),
+                1 => begun_and_ended(&cache, &key(number)),
+                _ => cache.get(&key(number)).unwrap().map(|value| value.into_vec()),
             };
-            assert_eq!(found.as_deref(), Some(&value(number)[..]), "{number} of {shards} shards");
+            assert_eq!(found, Some(value(number)), "{number} of {shards} shards");
         }
         let Stats { hits_from_memory, hits_from_flash, losses, stored, .. } = cache.close();
         assert_eq!((hits_from_memory + hits_from_flash, stored), (items, items));
