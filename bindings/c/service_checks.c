@@ -1160,7 +1160,7 @@ static void *open_later(void *of) {
 /* Waits until so many calls wait: for flash, and for another's load. */
 static void wait_until(kilambosetry_service *service, uint64_t waiting, uint64_t load_waits) {
     kilambosetry_service_stats stats;
-    for (unsigned i = 0; i < 6000; i++) {
+    for (unsigned i = 0; i < 30000; i++) {
         kilambosetry_service_tell(service, &stats);
         if (stats.waiting >= waiting && stats.load_waits >= load_waits) return;
         sleep_ms(10);
