@@ -83,6 +83,7 @@ mod stats;
 mod timer;
 mod told;
 mod value;
+mod waits;
 mod wakes;
 
 pub use change::Change;
@@ -105,6 +106,7 @@ pub use refused::Refused;
 pub use sharded::{shard_of, ShardedCache};
 pub use stats::Stats;
 pub use value::Value;
+pub use waits::flash_waits;
 
 use library::Handle;
 use std::ops::AddAssign;

@@ -12,6 +12,7 @@ use crate::numbers::{Numbers, Share};
 use crate::spread::Spread;
 use crate::timer::Timer;
 use crate::told::{Tellings, Told};
+use crate::waits;
 use crate::wakes::{Rings, Wakes, Woken};
 use crate::{
     Added, Came, Clock, Copied, Engine, Error, Found, Held, Kept, Lookup, Operation, Options, Refused, Take, Ticket,
@@ -169,6 +170,7 @@ impl State {
 
     /// A call waits, in the places that were kept.
     pub fn begin(&mut self, call: u64) {
+        waits::count();
         self.calls.begin(call, &mut self.wakes);
     }
 

@@ -1,5 +1,5 @@
 //! Whose a file or block device is, before anything is written to it.
-use kilambosetry::{HybridCache, OpenError, Options};
+use kilambosetry::{flash_waits, HybridCache, OpenError, Options};
 use std::fs::{self, File, OpenOptions};
 use std::os::unix::fs::{symlink, FileExt};
 use std::os::unix::net::UnixListener;
@@ -63,6 +63,30 @@ fn is_taken(path: &Path, options: &Options) -> bool {
         Err(OpenError::NotOurs) => false,
         Err(error) => panic!("{error}"),
     }
+}
+
+// A call that flash answers is counted for its own thread, and one that memory answers isn't: get, load and future alike.
+#[test]
+fn calls_that_wait_for_flash_are_counted_by_thread() {
+    let folder = Folder::new("waits");
+    let cache = opened(&folder.file("flash"), &small()).unwrap();
+    for number in 0..400u32 {
+        cache.set(&number.to_be_bytes(), &[7; 400], 0).unwrap();
+        cache.flush().unwrap();
+    }
+    let waits_of = |call: &dyn Fn() -> usize| {
+        let before = flash_waits();
+        assert_eq!(call(), 400);
+        flash_waits() - before
+    };
+    let get = |number: u32| cache.get(&number.to_be_bytes()).unwrap().map_or(0, |value| value.len());
+    let load =
+        |number: u32| cache.get_or_load(&number.to_be_bytes(), 0, || Err::<Vec<u8>, _>("it is there")).unwrap().len();
+    assert_eq!((waits_of(&|| get(0)), waits_of(&|| get(0))), (1, 0));
+    assert_eq!((waits_of(&|| load(1)), waits_of(&|| load(1))), (1, 0));
+    assert_eq!((waits_of(&|| load(399)), cache.stats().hits_from_flash), (0, 2));
+    let others = thread::scope(|scope| scope.spawn(|| (flash_waits(), waits_of(&|| get(2)))).join().unwrap());
+    assert_eq!(others, (0, 1));
 }
 
 #[test]
