@@ -1,7 +1,7 @@
 #!/bin/sh
 # Builds the static library, and tests it from C and from Cargo.
 #
-#   bindings/build.sh            library, C checks and examples (under valgrind too, where there is one), cargo test, the server; with rt
+#   bindings/build.sh            library, C checks and examples (under valgrind too, where there is one), cargo test, the server, the bench; with rt
 #                                also the example in Rattle
 #   bindings/build.sh --short    the same without `cargo test` of the crate, which is a command by itself, with shorter loads under
 #                                valgrind, and without a look through the code of the packages that need Debian's crates
@@ -15,6 +15,8 @@
 #                                items does
 #   bindings/build.sh --server   also the server's long runs: many lines beside memcached and damaged ones, crowds, flushes, little memory,
 #                                and what it costs
+#   bindings/build.sh --bench    also the bench's long runs: files of millions of lines, many requests, the tables and pictures of
+#                                docs/BENCH.md
 #
 # What it makes lies in bindings/out, as in a prefix: lib, lib/pkgconfig and include; and the Cargo package (bindings/package). PREFIX is what the file for pkg-config
 # names, where the three are to be copied elsewhere. What a machine lacks is skipped, and said so. Without rt the library is the one
@@ -236,7 +238,9 @@ if has cargo; then
     fi
     for package in rust service examples/rust; do read_package "$package"; done
     if [ "$what" != --short ]; then
-        if missing=$("$here/server/tests/has-crates"); then read_package server; else echo "skipped: the server's code, for want of crate $missing"; fi
+        for package in server bench; do
+            if missing=$("$here/$package/tests/has-crates"); then read_package "$package"; else echo "skipped: the code of $package, for want of crate $missing"; fi
+        done
         for package in speed trial; do
             if has_lru; then read_package "$package" --all-features; else echo "skipped: the code of $package, for want of crate lru"; fi
         done
@@ -318,6 +322,15 @@ if ! has cargo; then
     echo "skipped: no cargo"
 elif missing=$("$here/server/tests/has-crates"); then
     CARGO_TARGET_DIR="$out/target" "$here/server/tests/run" "$@"
+else
+    echo "skipped: no crate $missing"
+fi
+
+echo "== the bench"
+if ! has cargo; then
+    echo "skipped: no cargo"
+elif missing=$("$here/bench/tests/has-crates"); then
+    CARGO_TARGET_DIR="$out/target" "$here/bench/tests/run" "$@"
 else
     echo "skipped: no crate $missing"
 fi

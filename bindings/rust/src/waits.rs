@@ -7,7 +7,8 @@ thread_local! {
 
 /// How many calls of this thread have waited for flash so far, of all caches together. A call that leaves the number as it was
 /// had its answer from memory; so a program can tell how long its own gets took apart for both, at no cost to those that memory
-/// answers. A future's call is of the thread that polled it first.
+/// answers. A future's call is of the thread that polled it first;
+/// of several keys that are got at once, each counts.
 ///
 /// ```
 /// use kilambosetry::{flash_waits, HybridCache, Options};

@@ -1,0 +1,107 @@
+//! How many took how long: 32 steps to each power of two, so that a quantile is right to some three parts of a hundred.
+
+const STEPS: u64 = 32;
+const BITS: u32 = STEPS.ilog2();
+const PLACES: usize = (64 - BITS as usize + 1) * STEPS as usize;
+
+/// Counts of times, in nanoseconds.
+#[derive(Clone, Debug)]
+pub struct Histogram {
+    counts: Vec<u64>,
+    count: u64,
+    most: u64,
+}
+
+impl Default for Histogram {
+    fn default() -> Histogram {
+        Histogram { counts: vec![0; PLACES], count: 0, most: 0 }
+    }
+}
+
+fn place(time: u64) -> usize {
+    if time < STEPS {
+        return time as usize;
+    }
+    let power = time.ilog2() - BITS;
+    ((u64::from(power) + 1) * STEPS + ((time >> power) - STEPS)) as usize
+}
+
+// The longest time that stands in this place.
+fn longest(place: usize) -> u64 {
+    let (power, step) = (place as u64 / STEPS, place as u64 % STEPS);
+    match power {
+        0 => step,
+        _ => (((u128::from(STEPS + step) + 1) << (power - 1)) - 1).min(u128::from(u64::MAX)) as u64,
+    }
+}
+
+impl Histogram {
+    pub fn add(&mut self, time: u64) {
+        self.counts[place(time)] += 1;
+        self.count += 1;
+        self.most = self.most.max(time);
+    }
+
+    pub fn add_all(&mut self, other: &Histogram) {
+        self.counts.iter_mut().zip(&other.counts).for_each(|(count, more)| *count += more);
+        self.count += other.count;
+        self.most = self.most.max(other.most);
+    }
+
+    /// How many there are.
+    #[must_use]
+    pub fn count(&self) -> u64 {
+        self.count
+    }
+
+    /// The longest.
+    #[must_use]
+    pub fn most(&self) -> u64 {
+        self.most
+    }
+
+    /// The time that so large a share took at most; 0, where there are none.
+    #[must_use]
+    pub fn quantile(&self, share: f64) -> u64 {
+        let wanted = ((self.count as f64 * share).ceil() as u64).clamp(1, self.count.max(1));
+        let mut sum = 0;
+        let found = self.counts.iter().position(|count| {
+            sum += count;
+            sum >= wanted
+        });
+        found.map_or(0, |place| longest(place).min(self.most))
+    }
+}
+
+#[cfg(test)]
+mod tests {
+    use super::*;
+    use crate::random::Random;
+
+    #[test]
+    fn each_time_stands_in_its_place() {
+        for time in (0..5000).chain((10..64).map(|bit| (1u64 << bit) + 7)).chain([u64::MAX]) {
+            let place = place(time);
+            assert!(place < PLACES && longest(place) >= time, "{time}");
+            assert!(place == 0 || longest(place - 1) < time, "{time}");
+        }
+    }
+
+    #[test]
+    fn quantiles_are_those_of_the_sorted_times() {
+        let mut random = Random::new(1);
+        let mut times: Vec<u64> = (0..10_000).map(|_| (random.share() * 20.0).exp() as u64).collect();
+        let mut halves = [Histogram::default(), Histogram::default()];
+        times.iter().enumerate().for_each(|(i, time)| halves[i % 2].add(*time));
+        let [mut all, other] = halves;
+        all.add_all(&other);
+        times.sort_unstable();
+        for share in [0.5, 0.9, 0.99, 0.999] {
+            let exact = times[(times.len() as f64 * share).ceil() as usize - 1];
+            let told = all.quantile(share);
+            assert!(told >= exact && told as f64 <= exact as f64 * 1.04 + 1.0, "{share}: {told} and not {exact}");
+        }
+        assert_eq!((all.quantile(1.0), all.most(), all.count()), (times[9999], times[9999], 10_000));
+        assert_eq!(Histogram::default().quantile(0.5), 0);
+    }
+}
