@@ -22,8 +22,10 @@
  * Who changes a row begins a change of its key before the commit, and ends it once that is answered. Who loads takes a lease, and
  * stores by that alone. Then no get answers what is older than a change that was ended before the get began.
  *
- * Where memory is refused, a call is, and the cache goes on. But as a cache is opened, some small allocations that are refused end
- * the process, as they end any program in Rust.
+ * Where memory is refused, a call is, and the cache goes on, or isn't opened. But each thread that a cache with flash starts as it is
+ * opened (`writers` and `fillers`) takes some small allocations of Rust's standard library, four with Rust 1.95: one that is refused
+ * ends the process (SIGABRT), as in any program in Rust. So does one for a path of 384 bytes or more. A cache in memory starts no
+ * thread.
  *
  * What the caller owes, since nothing can check it: valid pointers, not null but where it is said, also where a length is 0;
  * nothing that a call writes overlaps anything else; no call from a signal handler, nor in a forked child, nor one that begins
@@ -73,10 +75,11 @@ static inline const char *kilambosetry_service_strerror(uint8_t status) {
 /* The options, by what one knows. `KILAMBOSETRY_SERVICE_OPTIONS` has all of them: change what is to be otherwise. */
 typedef struct {
     uint64_t memory;     /* bytes of memory for items, with what is kept beside each; what flash keeps comes on top */
-    uint64_t flash;      /* bytes of flash */
+    uint64_t flash;      /* bytes of flash: up to 4294967295 pages */
+    uint64_t index_memory; /* bytes of memory that may be kept of what is on flash; 0: as many as `memory`, or 64 MB */
     uint64_t mean_key;   /* the mean bytes of a key: 1 to 255 */
     uint64_t mean_value; /* the mean bytes of a value: 1 to 1048576 */
-    uint64_t shards;     /* shards, each with a lock: 1 to 16 */
+    uint64_t shards;     /* shards, each with a lock: 1 to 4096; 0: as many as memory and flash want */
     uint64_t writers;    /* threads that write what left memory, and make room for it: 1 to 1024 */
     uint64_t fillers;    /* threads that read for calls with a time limit, and for gets that are begun: 1 to 1024 */
     uint64_t page;       /* bytes of a page of flash: 512, 1024, 2048 or 4096 */
@@ -93,7 +96,7 @@ typedef struct {
 
 /* 64 MB of memory, 1 GB of flash, keys of 24 bytes, values of 1000. */
 #define KILAMBOSETRY_SERVICE_OPTIONS \
-    {64000000, 1000000000, 24, 1000, 8, 2, 2, 4096, 10, 60, false, false, false, NULL, NULL, NULL, NULL}
+    {64000000, 1000000000, 0, 24, 1000, 0, 2, 2, 4096, 10, 60, false, false, false, NULL, NULL, NULL, NULL}
 
 /* What the options come to, for all shards together, and the memory that it takes once all is full. */
 typedef struct {
@@ -104,12 +107,16 @@ typedef struct {
     uint64_t items;         /* items of the mean length that memory holds */
     uint64_t items_bytes;   /* bytes of memory that these take */
     uint64_t leases_bytes;  /* kept for leases, whether or not there are any */
+    uint64_t shards_bytes;  /* of each shard, however little it has */
     uint64_t index_bytes;   /* of the index of large items on flash */
     uint64_t buckets_bytes; /* kept for buckets */
     uint64_t buffers_bytes; /* of the regions that are being filled */
     uint64_t queue_bytes;   /* of items of the mean length that wait for flash */
     uint64_t digests_bytes; /* of the digests of pages */
     uint64_t memory_bytes;  /* all together */
+    uint64_t flash_items;   /* items of the mean length that flash holds */
+    uint64_t flash_bytes_for_others; /* bytes of flash that these never use */
+    uint64_t written_bytes; /* that are written to flash for each of them */
 } kilambosetry_service_numbers;
 
 /* Why a cache isn't opened. */
@@ -121,8 +128,8 @@ typedef struct {
     int system;       /* of SYSTEM, errno */
 } kilambosetry_why;
 
-/* Tells what the options come to, with flash or without. `why` may be null. The numbers that are given as `pool` and
- * `flash_numbers` are looked at when the cache is opened. */
+/* Tells what the options come to, with flash or without. `why` may be null. A number that is refused is named
+ * in `why`, as `flash_numbers.queue`. */
 uint8_t kilambosetry_service_count(const kilambosetry_service_options *options, bool has_flash,
                                    kilambosetry_service_numbers *numbers, kilambosetry_why *why);
 
@@ -172,6 +179,23 @@ uint8_t kilambosetry_service_get(kilambosetry_service *service, const uint8_t *k
 uint8_t kilambosetry_service_read(kilambosetry_service *service, const uint8_t *key, size_t key_len,
                                   kilambosetry_value *value, int64_t limit);
 
+/* One of many keys. What is to be found is set by the caller; the value is empty (KILAMBOSETRY_NONE), or one of an earlier call,
+ * which is freed first. Each value that was found is to be freed. */
+typedef struct {
+    const uint8_t *key;
+    size_t key_len;
+    kilambosetry_value value; /* DONE: what the key has */
+    uint8_t status;           /* as `kilambosetry_service_read` answers of this key: DONE, MISS, TIMED_OUT, or why it is refused */
+} kilambosetry_wanted;
+
+/* Finds many keys, each as `kilambosetry_service_read` does, and tells of each what came of it; the same key may be there twice.
+ * Each shard is locked once for all its keys. All are asked for before the first is waited for, and read from flash side by side.
+ * The limit is one for all: of those that aren't answered by then each is TIMED_OUT and given up, and the others have their
+ * answers. What is refused of one key takes nothing from the others: DONE. Where the whole is refused (NO_MEMORY, CLOSED) each
+ * status is that too. */
+uint8_t kilambosetry_service_read_many(kilambosetry_service *service, kilambosetry_wanted *wanted, size_t count,
+                                       int64_t limit);
+
 /* Stores a copy of the value under the key, in place of what the key has, for `ttl` seconds from now (0: for good). A row of a
  * database isn't stored by this, nor by an add, but by who loads it: two who set a key may do so in another order than they
  * committed. */
@@ -185,6 +209,16 @@ uint8_t kilambosetry_service_add(kilambosetry_service *service, const uint8_t *k
 /* Takes the key out of the cache, from memory and flash. MISS, where memory had no item; it is out of flash with that too. A
  * delete that is refused with NO_MEMORY must be tried again: the old value is still there. */
 uint8_t kilambosetry_service_delete(kilambosetry_service *service, const uint8_t *key, size_t key_len);
+
+/* Deletes the key, for a notice that its row was changed elsewhere: by another process, say. It can't be refused, but may wait:
+ * where there is no memory for the delete, it is tried for a tenth of a second, and then all of the key's shard is forgotten. DONE,
+ * or CLOSED. */
+uint8_t kilambosetry_service_invalidate(kilambosetry_service *service, const uint8_t *key, size_t key_len);
+
+/* Forgets all, in memory and on flash, in a time that doesn't depend on how much there is: notices of changes were missed, say. Once
+ * this is back no get that begins then finds what was stored before, and what was loaded before is neither stored (STALE) nor handed
+ * to who asks later. It can't be refused: DONE, or CLOSED. Changes that are under way stay so. */
+uint8_t kilambosetry_service_clear(kilambosetry_service *service);
 
 /* Waits until each shard had nothing that waits to be written to flash, at some moment since. */
 uint8_t kilambosetry_service_flush(kilambosetry_service *service);
@@ -238,14 +272,15 @@ uint8_t kilambosetry_service_give_up(kilambosetry_service *service, kilambosetry
 
 /* ---- changes of rows */
 
-/* A change that was begun. It is of this key alone, and of the cache that began it, is ended once, and copied by nobody. */
+/* A change that was begun. It is of this key alone, and of the cache that began it, and is ended once, by it or a copy. */
 typedef struct {
     uint64_t cache;
+    uint64_t change;
     uint64_t key;
     bool full; /* false: there is none */
 } kilambosetry_change;
 
-#define KILAMBOSETRY_NO_CHANGE {0, 0, false}
+#define KILAMBOSETRY_NO_CHANGE {0, 0, 0, false}
 
 /* Begins a change of a key's row, before the commit: from now on nothing that was loaded is stored under the key. Where there is no
  * memory for that, it waits for some. EMPTY, where the cache can't have such a key: the commit may be made all the same. */
@@ -264,7 +299,7 @@ uint8_t kilambosetry_service_end_change(kilambosetry_service *service, kilambose
 /* A get that waits. It is of the cache that began it, and copied by nobody. */
 typedef struct {
     uint64_t call;
-    uint8_t shard;
+    uint16_t shard;
     bool waits; /* false: none waits */
 } kilambosetry_begun;
 
@@ -313,6 +348,8 @@ typedef struct {
     uint64_t waiting;       /* calls that wait for flash now */
     uint64_t given_up;      /* calls that were given up while they waited */
     uint64_t lock_waits;    /* how often a shard's lock was waited for */
+    uint64_t clears;        /* how often all was forgotten */
+    uint64_t cleared_items; /* items in memory that were forgotten so, beside the losses */
 } kilambosetry_service_stats;
 
 /* Tells what was done so far, of all shards together. Each is asked by itself, so that no two numbers need be of one moment. */
