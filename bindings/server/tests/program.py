@@ -251,7 +251,7 @@ def keeps_time():
         for number, seconds in enumerate(steps):
             set_off(seconds)
             assert client.ask(b"mg lasts v") == (b"VA 1", b"x"), seconds
-            assert client.ask(b"ms brief%d 1 T2\r\nx" % number) == (b"HD", None)
+            assert client.ask(b"ms brief%d 1 T%d\r\nx" % (number, 2)) == (b"HD", None)
         time.sleep(3.2)
         for number, seconds in enumerate(steps):
             assert client.ask(b"mg brief%d t" % number) == (b"EN", None), seconds
