@@ -6,6 +6,7 @@ mod crowd;
 mod metered;
 mod profiles;
 mod renewing;
+mod shards;
 mod sharing;
 mod worker;
 
@@ -14,15 +15,22 @@ use crate::crowd::{CLIENTS, ask_at_once};
 use crate::metered::{Metered, comes_back};
 use crate::profiles::{open, print_state, profile};
 use crate::renewing::forget;
+use crate::shards::{PAGE, PAGES, ask_twice};
 use crate::worker::Worker;
 use hc_core::{Core, Counting};
+use hc_file::{FileDevice, open as open_device};
 use hc_flash::MemFlash;
+use std::fs::File;
+use std::rt::Files;
 use std::sync::Wait;
 use std::thread::Threads;
 use std::{fs, io};
 
 // The file of the cache's pages.
 const FILE: &str = "example_service.pages";
+
+// The file of a cache in shards.
+const SHARDED: &str = "example_service.shards";
 
 // Nine o'clock, in seconds of the day.
 const NINE: u64 = 32_400;
@@ -106,9 +114,32 @@ fn print_crowd<R: Print + Eprint + AllocGlobal + Threads + Wait + Sync>(rt: &R) 
     }
 }
 
+// A client of a cache in shards over this file asks for one row twice.
+fn print_shards(
+    rt: &(impl Print + Eprint + AllocGlobal + Wait),
+    file: &FileDevice<File>,
+) -> io::Result<()> {
+    match ask_twice(rt, rt.alloc(), file) {
+        Ok(is_cached) => println!(rt; "a row is cached in its shard: {is_cached}"),
+        Err(refusal) => eprintln!(rt; "{refusal}"),
+    }
+}
+
+// A cache in shards, over a file.
+fn with_shards(
+    rt: &(impl Print + Eprint + AllocGlobal + Wait + Files<File = File>),
+) -> io::Result<()> {
+    match open_device(rt, rt.alloc(), SHARDED, PAGES, PAGE) {
+        Ok(file) => print_shards(rt, &file)?,
+        Err(error) => return eprintln!(rt; "no device: {error}"),
+    }
+    fs::remove_file(rt, SHARDED)
+}
+
 fn main(rt: HostRuntime) -> io::Result<()> {
     try_memory(&rt)?;
     print_crowd(&rt)?;
+    with_shards(&rt)?;
     match Worker::new(&rt, rt.alloc(), FILE) {
         Ok(worker) => with_cache(&rt, worker)?,
         Err(error) => return eprintln!(rt; "no device: {error}"),

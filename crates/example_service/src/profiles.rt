@@ -16,7 +16,7 @@ pub const SIZE: PoolSize = PoolSize {
 };
 
 /// Behind it are 16 pages of flash. A profile of more than 22 bytes, with its key, isn't written there.
-const FLASH: FlashConfig = FlashConfig {
+pub const FLASH: FlashConfig = FlashConfig {
     page: 512,
     buckets: 8,
     regions: 4,
