@@ -43,7 +43,18 @@ pub fn open(alloc: Global, now: u64) -> Result<Core<Counting>, Refusal>
     Ok(cache)
 }
 
-// The value for which a call waits: the worker brings it.
+// Drops the replies that nobody wants any more: of calls whose work was refused.
+fn drop_others(cache: &mut Core<Counting>, call: u64) -> Result<(), Refusal> {
+    for _ in 0..u64::MAX {
+        match cache.next_reply() {
+            Some(other) if other != call => drop(cache.take_reply(other)?),
+            _ => return Ok(()),
+        }
+    }
+    Ok(())
+}
+
+// The value for which a call waits: the worker brings it. Where that is refused, the reply is dropped by who waits next.
 fn wait(
     alloc: Global,
     cache: &mut Core<Counting>,
@@ -51,6 +62,7 @@ fn wait(
     call: u64,
 ) -> Result<Option<String>, Refusal> {
     worker.work(cache)?;
+    drop_others(cache, call)?;
     match cache.take_reply(call)? {
         Reply::Hit(value) => Ok(Some(String::from_utf8_lossy(alloc, value.as_slice())?)),
         _ => Ok(None),
