@@ -12,6 +12,7 @@ mod new_page;
 mod pages;
 mod plans;
 mod questions;
+mod resting;
 mod results;
 mod resuming;
 mod shown;

@@ -14,3 +14,4 @@ pub mod Pairs
 pub mod Works
 pub mod Segments
 pub mod Peeks
+pub mod Rested

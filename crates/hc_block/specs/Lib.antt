@@ -9,3 +9,4 @@ pub mod Settling
 pub mod Reads
 pub mod Turns
 pub mod Endings
+pub mod Resting

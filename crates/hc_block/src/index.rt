@@ -1,8 +1,9 @@
 // The index: where each kept hash leads. It is cut into 256 segments by the highest bits of the hash.
 ghost use Rattle.std.specs.Prelude.{◌≡◌, ◌<◌, ◌≤◌, ◌++◌, ◌-◌, [], length, get_or, set, replicate, OnOk, OnErr, IfOk};
 ghost use Rattle.hc_engines.specs.large.Index.{place_at, leading, without, is_place};
-ghost use Rattle.hc_block.specs.Indexes.{segment_of};
+ghost use Rattle.hc_block.specs.Indexes.{segment_of, joined};
 
+use crate::resting::Lead;
 use crate::segment::Segment;
 use hc_region::Place;
 use std::alloc::{AllocError, Allocator, Global};
@@ -88,6 +89,19 @@ fn empty_segments<A: Allocator + Clone + Copy>(
     Ok(segments)
 }
 
+/// The pairs of these segments go behind those of the list. Refused only when out of memory.
+fn gather<A: Allocator + Clone>(
+    leads: &mut Vec<Lead, A>,
+    segments: &[Segment<A>],
+) -> Result<(), AllocError>
+    ensures { OnOk result (leads.new.items ≡ leads.old.items ++ joined segments.now) }
+{
+    for segment in segments {
+        segment.append_to(leads)?;
+    }
+    Ok(())
+}
+
 impl<A: Allocator> Index<A> {
     /// Where the hash leads.
     pub(crate) fn get(&self, hash: u64) -> Option<Place>
@@ -131,6 +145,15 @@ impl<A: Allocator + Clone> Index<A> {
 }
 
 impl<A: Allocator + Clone + Copy> Index<A> {
+    /// Where the hashes lead, in order of the hash. Refused only when out of memory.
+    pub(crate) fn leads(&self, alloc: A) -> Result<Vec<Lead, A>, AllocError>
+        ensures { IfOk result (λ leads. leads.items ≡ self.now) }
+    {
+        let mut leads = Vec::new(alloc);
+        gather(&mut leads, self.segments.as_slice())?;
+        Ok(leads)
+    }
+
     /// It leads nowhere, by hashes of so many bits. Refused only when out of memory.
     pub(crate) fn new(alloc: A, bits: u64) -> Result<Index<A>, AllocError>
         requires { bits ≤ 64 }

@@ -18,6 +18,7 @@ mod outcomes;
 mod puts;
 mod reading;
 mod reads;
+mod resting;
 mod resuming;
 mod segment;
 mod shown;
@@ -28,3 +29,4 @@ mod writes;
 
 pub use block_cache::BlockCache;
 pub use endings::{Ending, Rest};
+pub use resting::{Lead, Parts};

@@ -1,7 +1,8 @@
 // A segment of the index.
-ghost use Rattle.std.specs.Prelude.{◌≡◌, [], OnOk, OnErr};
+ghost use Rattle.std.specs.Prelude.{◌≡◌, ◌++◌, [], OnOk, OnErr};
 ghost use Rattle.hc_engines.specs.large.Index.{place_at, leading, without};
 
+use crate::resting::Lead;
 use hc_region::Place;
 use std::alloc::{AllocError, Allocator, Global};
 use std::collections::BTreeMap;
@@ -50,6 +51,16 @@ impl<A: Allocator> Segment<A> {
 }
 
 impl<A: Allocator + Clone> Segment<A> {
+    /// Its pairs go behind those of the list. Refused only when out of memory.
+    pub(crate) fn append_to(&self, leads: &mut Vec<Lead, A>) -> Result<(), AllocError>
+        ensures { OnOk result (leads.new.items ≡ leads.old.items ++ self.now) }
+    {
+        for (hash, place) in &self.map {
+            leads.push(Lead::new(*hash, *place))?;
+        }
+        Ok(())
+    }
+
     /// The hash leads to this place from here on, and to no other. Refused only when out of memory.
     pub(crate) fn insert(&mut self, hash: u64, place: Place) -> Result<(), AllocError>
         ensures ok { OnOk result (self.new ≡ leading hash place self.old) }

@@ -2,3 +2,5 @@
 pub mod Cleans
 pub mod Listed
 pub mod Making
+pub mod Counted
+pub mod Rising

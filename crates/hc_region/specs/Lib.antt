@@ -6,3 +6,4 @@ pub mod Pins
 pub mod CleanNumbers
 pub mod Numbers
 pub mod Decoding
+pub mod Resting

@@ -1,6 +1,6 @@
 // The clean regions, by their numbers: an ordered set, so that the lowest is taken, one comes in, and all are counted, with no
 // scan.
-ghost use Rattle.std.specs.Prelude.{◌≡◌, ◌<◌, ◌≤◌, ◌^◌, false, [], length, replicate, set, Some, is_some, OnOk, OnErr, IfOk};
+ghost use Rattle.std.specs.Prelude.{◌≡◌, ◌<◌, ◌≤◌, ◌^◌, false, [], length, replicate, set, if◌then◌else◌, Some, is_some, OnOk, OnErr, IfOk};
 ghost use Rattle.hc_engines.specs.large.Region.{clean_region, is_clean, region_at, lowest_clean as lowest};
 ghost use Rattle.hc_engines.specs.large.Steps.{clean_count as count_of_clean, emptied};
 ghost use Rattle.hc_region.specs.CleanNumbers.{clean_from, first_of, now_clean, rest_of, with_number};
@@ -188,4 +188,42 @@ pub fn all_clean<A: Allocator + Clone>(alloc: A, n: u64) -> Result<CleanRegions<
         clean.insert(r as u32)?;
     }
     Ok(clean)
+}
+
+/// Whether the region is clean.
+fn is_clean_at<A: Allocator + Clone + Copy>(regions: &[Region<A>], r: u32) -> bool
+    requires { r < length regions.now }
+    ensures { result ≡ is_clean (region_at r regions.now).status }
+{
+    regions[r as usize].is_clean()
+}
+
+/// The numbers of the clean ones of these regions. Refused only when out of memory.
+pub fn clean_of<A: Allocator + Clone + Copy>(
+    alloc: A,
+    regions: &[Region<A>],
+) -> Result<CleanRegions<A>, AllocError>
+    requires { length regions.now ≤ 65536 }
+    ensures { IfOk result (λ clean. clean ≡ clean_from 0 regions.now) }
+{
+    let mut clean = CleanRegions::new(alloc);
+    for r in 0..regions.len() as u32 {
+        add_if_clean(regions, &mut clean, r)?;
+    }
+    Ok(clean)
+}
+
+/// The number of this region comes in, where it is clean. Refused only when out of memory.
+fn add_if_clean<A: Allocator + Clone + Copy>(
+    regions: &[Region<A>],
+    clean: &mut CleanRegions<A>,
+    r: u32,
+) -> Result<(), AllocError>
+    requires { r < length regions.now }
+    ensures { OnOk result (clean.new ≡ (if is_clean (region_at r regions.now).status then with_number r clean.old else clean.old)) }
+{
+    if is_clean_at(regions, r) {
+        clean.insert(r)?;
+    }
+    Ok(())
 }

@@ -10,12 +10,14 @@ mod numbered;
 mod pages;
 mod place;
 mod region;
+mod resting;
 mod shown;
 mod status;
 mod waiting;
 
 pub use clean::{
-    CleanRegions, add_emptied, all_clean, clean_count, lowest_clean, open_lowest, with_released,
+    CleanRegions, add_emptied, all_clean, clean_count, clean_of, lowest_clean, open_lowest,
+    with_released,
 };
 pub use decoding::entry_in;
 pub use entries::{HEAD, entry_bytes};
@@ -27,5 +29,6 @@ pub use numbered::{
 };
 pub use place::Place;
 pub use region::{Appended, Region};
+pub use resting::{AtRest, all_rest};
 pub use status::{Mark, Stage};
 pub use waiting::{first_ready, oldest, take_out, take_sealed_out};

@@ -1,6 +1,6 @@
 // A region of the flash: what was appended to it, and the reads that hold it.
 ghost use Rattle.std.specs.Prelude.{◌≡◌, ◌<◌, ◌≤◌, ◌+◌, ◌^◌, ◌==◌, length, IfOk, OnOk, OnErr};
-ghost use Rattle.hc_engines.specs.large.Region.{clean_region, opened_region, filled_to, is_draining as is_status_draining, is_sealed as is_status_sealed, Sealed as SealedSeen};
+ghost use Rattle.hc_engines.specs.large.Region.{clean_region, opened_region, filled_to, is_clean as is_status_clean, is_draining as is_status_draining, is_sealed as is_status_sealed, Sealed as SealedSeen};
 ghost use Rattle.hc_engines.specs.large.Steps.{emptied};
 ghost use Rattle.hc_region.specs.Growing.{grown, undone};
 ghost use Rattle.hc_region.specs.Stages.{mark_seen};
@@ -31,7 +31,9 @@ impl Model for Appended {
 }
 
 impl Appended {
-    fn new(hash: u64, offset: u32) -> Appended
+    /// An entry of this kept hash, at this byte.
+    #[must_use]
+    pub fn new(hash: u64, offset: u32) -> Appended
         ensures { result ≡ record { hash = hash; offset = offset } }
     {
         Appended { hash, offset }
@@ -145,6 +147,14 @@ impl<A: Allocator + Clone + Copy> Region<A> {
         ensures { result.now ≡ self.now.appended }
     {
         self.appended.as_slice()
+    }
+
+    /// Whether it has nothing, and can be opened.
+    #[must_use]
+    pub fn is_clean(&self) -> bool
+        ensures { result ≡ is_status_clean self.now.status }
+    {
+        matches!(self.status, Status::Clean)
     }
 
     /// Whether only reads hold it.
