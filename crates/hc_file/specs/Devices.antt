@@ -7,4 +7,6 @@ pub record OnFile : Type 0 where
   pub pages : ℕ
   -- the bytes of a page
   pub page_size : ℕ
+  -- the bytes of the file before the first page
+  pub before : ℕ
   pub failed : ℕ

@@ -2,7 +2,6 @@
 ghost use Rattle.std.specs.Prelude.{◌≡◌, ◌+◌, ◌*◌, ◌<◌, ◌≤◌, ◌⊎◌, ℕ, IfOk, OnOk, IsErrOf, length};
 ghost use Rattle.hc_flash.specs.Answers.{failures_in};
 
-use crate::head::HEAD;
 use bytes::Bytes;
 use hc_flash::FlashError;
 use hc_paged::Device;
@@ -25,8 +24,8 @@ pub struct FileDevice<T: FileExt + Drop, A: Allocator = Global> {
     file: T,
     pages: u32,
     page_size: u32,
-    // whether a head stands before the first page
-    has_head: bool,
+    // the bytes before the first page
+    before: u32,
     failures: u64,
 }
 
@@ -35,35 +34,34 @@ impl<T: FileExt + Drop, A: Allocator> Model for FileDevice<T, A> {
 
     ghost Value = { OnFile };
 
-    ghost view = { λ device. record { pages = device.pages; page_size = device.page_size; failed = device.failures } };
+    ghost view = { λ device. record { pages = device.pages; page_size = device.page_size; before = device.before; failed = device.failures } };
 }
 
 impl<T: FileExt + Drop, A: Allocator + Clone> FileDevice<T, A> {
     /// The first pages of this file, so many, of `page_size` bytes each. Nothing of the file is looked at, and no head stands
     /// before them: `open` sees whose a file is.
     pub fn new(alloc: A, file: T, pages: u32, page_size: u32) -> FileDevice<T, A>
-        ensures { result ≡ record { pages = pages; page_size = page_size; failed = 0 } }
+        ensures { result ≡ record { pages = pages; page_size = page_size; before = 0; failed = 0 } }
     {
-        FileDevice {
-            alloc,
-            file,
-            pages,
-            page_size,
-            has_head: false,
-            failures: 0,
-        }
+        FileDevice::behind(0, alloc, file, pages, page_size)
     }
 
-    /// The pages behind the head of this file.
-    pub(crate) fn behind_head(alloc: A, file: T, pages: u32, page_size: u32) -> FileDevice<T, A>
-        ensures { result ≡ record { pages = pages; page_size = page_size; failed = 0 } }
+    /// The pages behind so many bytes of this file.
+    pub(crate) fn behind(
+        before: u32,
+        alloc: A,
+        file: T,
+        pages: u32,
+        page_size: u32,
+    ) -> FileDevice<T, A>
+        ensures { result ≡ record { pages = pages; page_size = page_size; before = before; failed = 0 } }
     {
         FileDevice {
             alloc,
             file,
             pages,
             page_size,
-            has_head: true,
+            before,
             failures: 0,
         }
     }
@@ -72,10 +70,9 @@ impl<T: FileExt + Drop, A: Allocator + Clone> FileDevice<T, A> {
 impl<T: FileExt + Drop, A: Allocator> FileDevice<T, A> {
     /// Where a page begins in the file, in bytes.
     fn offset(&self, page: u32) -> u64
-        ensures { (page * self.now.page_size ≤ result) × (result ≤ page * self.now.page_size + 4096) }
+        ensures { result ≡ self.now.before + page * self.now.page_size }
     {
-        let before = if self.has_head { HEAD } else { 0 };
-        u64::from(page) * u64::from(self.page_size) + before
+        u64::from(self.before) + u64::from(page) * u64::from(self.page_size)
     }
 
     /// The file.
@@ -86,7 +83,7 @@ impl<T: FileExt + Drop, A: Allocator> FileDevice<T, A> {
             file,
             pages: _,
             page_size: _,
-            has_head: _,
+            before: _,
             failures: _,
         } = self;
         file
@@ -106,7 +103,7 @@ impl<A: Allocator + Clone> FileDevice<File, A> {
             file,
             pages: self.pages,
             page_size: self.page_size,
-            has_head: self.has_head,
+            before: self.before,
             failures: 0,
         })
     }
@@ -123,6 +120,7 @@ impl<T: FileExt + Drop, A: Allocator + Clone> Device<A> for FileDevice<T, A> {
         ensures whole { IfOk result (λ bytes. length bytes ≡ self.old.page_size) }
         ensures inside { OnOk result (page < self.old.pages) }
         ensures size { (self.new.pages ≡ self.old.pages) × (self.new.page_size ≡ self.old.page_size) }
+        ensures place { self.new.before ≡ self.old.before }
         ensures counted { self.new.failed ≡ self.old.failed + failures_in result }
         ensures count_is_full { self.old.failed ≡ u64.MAX → IsErrOf result FlashError.NoMemory }
     {
@@ -148,6 +146,7 @@ impl<T: FileExt + Drop, A: Allocator + Clone> Device<A> for FileDevice<T, A> {
     fn write(&mut self, page: u32, bytes: &[u8]) -> Result<(), FlashError>
         ensures fits { OnOk result ((page < self.old.pages) × (length bytes.now ≡ self.old.page_size)) }
         ensures size { (self.new.pages ≡ self.old.pages) × (self.new.page_size ≡ self.old.page_size) }
+        ensures place { self.new.before ≡ self.old.before }
         ensures counted { self.new.failed ≡ self.old.failed + failures_in result }
         ensures count_is_full { self.old.failed ≡ u64.MAX → IsErrOf result FlashError.NoMemory }
     {

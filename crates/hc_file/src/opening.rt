@@ -111,7 +111,7 @@ fn open_as<R: Files<File = File>, A: Allocator + Clone>(
     page_size: u32,
     overwrites: bool,
 ) -> Result<FileDevice<File, A>, OpenError>
-    ensures device { IfOk result (λ device. device ≡ record { pages = pages; page_size = page_size; failed = 0 }) }
+    ensures device { IfOk result (λ device. device ≡ record { pages = pages; page_size = page_size; before = 4096; failed = 0 }) }
     ensures no_page { (pages ≡ 0) ⊎ (page_size ≡ 0) → IsErrOf result OpenError.NoPage }
 {
     let length = length_of(pages, page_size)?;
@@ -124,7 +124,7 @@ fn open_as<R: Files<File = File>, A: Allocator + Clone>(
         .map_err(|_| io::Error::from(io::ErrorKind::OutOfMemory))?;
     take(rt, own, &mut file, HEAD + length, overwrites)?;
     head::write(&file, pages, page_size)?;
-    Ok(FileDevice::behind_head(alloc, file, pages, page_size))
+    Ok(FileDevice::behind(HEAD as u32, alloc, file, pages, page_size))
 }
 
 /// Opens the file or block device of this name as a device of so many pages, of `page_size` bytes each, and locks it for as
@@ -144,7 +144,7 @@ pub fn open<R: Files<File = File>, A: Allocator + Clone>(
     pages: u32,
     page_size: u32,
 ) -> Result<FileDevice<File, A>, OpenError>
-    ensures device { IfOk result (λ device. device ≡ record { pages = pages; page_size = page_size; failed = 0 }) }
+    ensures device { IfOk result (λ device. device ≡ record { pages = pages; page_size = page_size; before = 4096; failed = 0 }) }
     ensures no_page { (pages ≡ 0) ⊎ (page_size ≡ 0) → IsErrOf result OpenError.NoPage }
 {
     open_as(rt, alloc, path, pages, page_size, false)
@@ -159,7 +159,7 @@ pub fn overwrite<R: Files<File = File>, A: Allocator + Clone>(
     pages: u32,
     page_size: u32,
 ) -> Result<FileDevice<File, A>, OpenError>
-    ensures device { IfOk result (λ device. device ≡ record { pages = pages; page_size = page_size; failed = 0 }) }
+    ensures device { IfOk result (λ device. device ≡ record { pages = pages; page_size = page_size; before = 4096; failed = 0 }) }
     ensures no_page { (pages ≡ 0) ⊎ (page_size ≡ 0) → IsErrOf result OpenError.NoPage }
 {
     open_as(rt, alloc, path, pages, page_size, true)
