@@ -3,7 +3,7 @@
 
 mod file;
 mod head;
-mod mounted;
+mod in_use;
 mod opening;
 
 pub use file::FileDevice;

@@ -3,7 +3,7 @@ ghost use Rattle.std.specs.Prelude.{◌≡◌, ◌*◌, ◌⊎◌, IfOk, IsErrOf
 
 use crate::file::FileDevice;
 use crate::head::{self, HEAD};
-use crate::mounted::is_mounted;
+use crate::in_use::is_in_use;
 use std::alloc::Allocator;
 use std::fs::{File, Files, Metadata, OpenOptions, TryLockError};
 use std::io;
@@ -20,8 +20,8 @@ pub enum OpenError {
     /// What has this name is neither a file nor a block device.
     #[error("it is neither a file nor a block device")]
     OtherKind,
-    /// It is locked: another has it open as a device, in this process or in another one. Or it is a block device with a file
-    /// system that is mounted.
+    /// It is locked: another has it open as a device, in this process or in another one. Or it is a block device that is
+    /// mounted, swapped to, or a part of another one (a volume, a RAID).
     #[error("it is in use")]
     InUse,
     /// It has something, and nothing in it says that a cache wrote it: it is left as it was. `overwrite` takes it all the same.
@@ -84,7 +84,7 @@ fn take<R: Files<File = File>, A: Allocator + Clone>(
     if !is_device && !found.is_file() {
         return Err(OpenError::OtherKind);
     }
-    if is_device && is_mounted(rt, alloc, found.rdev())? {
+    if is_device && is_in_use(rt, alloc, found.rdev())? {
         return Err(OpenError::InUse);
     }
     let length = file.seek(SeekFrom::End(0))?;
@@ -133,7 +133,7 @@ fn open_as<R: Files<File = File>, A: Allocator + Clone>(
 /// A file that isn't there is made, for its owner alone (mode 0600). One that is there, and a block device, is taken where it
 /// has nothing yet, or a head before its pages says that a cache wrote it (docs/FORMATS.md); such a file of another length is
 /// made anew. Any other is refused with `NotOurs` and left as it was. Of a block device the first and the last MiB are looked
-/// at; one whose file system is mounted is refused with `InUse`.
+/// at; one that is mounted, swapped to, or a part of another one is refused with `InUse`.
 ///
 /// Nothing is synced, and nothing of an earlier run is served: a cache reads no page that it didn't write, and a `Checked`
 /// answers none.
@@ -151,7 +151,7 @@ pub fn open<R: Files<File = File>, A: Allocator + Clone>(
 }
 
 /// As `open`, whatever the file or block device has: that is lost. One that is in use is refused all the same. (A disk of whose
-/// partitions one is mounted isn't told: name the partition.)
+/// partitions one is in use isn't told: name the partition.)
 pub fn overwrite<R: Files<File = File>, A: Allocator + Clone>(
     rt: &R,
     alloc: A,
