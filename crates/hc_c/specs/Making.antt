@@ -1,5 +1,5 @@
 -- What a new cache is.
-use Rattle.std.specs.Prelude.{◌≡◌, ◌⊎◌, ◌/◌, ℕ, List, [], map, replicate, Option, Some, None}
+use Rattle.std.specs.Prelude.{◌≡◌, ◌⊎◌, ◌/◌, ℕ, nat_lt, if◌then◌else◌, List, [], map, replicate, Option, Some, None}
 use Rattle.hc_types.specs.Config.{Config}
 use Rattle.hc_types.specs.Limits.{first_wrong}
 use Rattle.hc_types.specs.declared.config.FlashConfig.{FlashConfig}
@@ -38,28 +38,32 @@ numbers_of flash = record {
 abbrev pub config_of : List Pool → Option FlashConfig → Config
 config_of pools flash = record { pools = map size_of pools; flash = flash }
 
--- an empty cache, of whose log nothing was told, whose keys nobody has changed and nobody loads; it is one of so many shards
-pub record IsFresh (config : Config) (shards : ℕ) (cache : Cache) : Type 0 where
+-- so many slots for leases as are asked for, but at least 16 and at most 65,536
+abbrev pub slots_within : ℕ → ℕ
+slots_within slots = if nat_lt slots 16 then 16 else (if nat_lt slots 65537 then slots else 65536)
+
+-- an empty cache, of whose log nothing was told, whose keys nobody has changed and nobody loads; it has so many slots for leases
+pub record IsFresh (config : Config) (many : ℕ) (cache : Cache) : Type 0 where
   pub logged : cache.leased.logged ≡ record { cache = new_cache config; log = Sums no_counts no_losses }
   pub changes : cache.leased.stamps.count ≡ 0
-  pub slots : cache.leased.stamps.slots ≡ replicate (lease_slots shards) 0
+  pub slots : cache.leased.stamps.slots ≡ replicate many 0
   pub adds : cache.leased.stamps.adds ≡ []
-  pub turns : cache.leased.turns ≡ replicate (lease_slots shards / 16) None
+  pub turns : cache.leased.turns ≡ replicate (many / 16) None
 
 -- what is there is such a cache
 abbrev pub IsMade : Config → ℕ → Option Cache → Type 0
-IsMade config shards None = ⊥
-IsMade config shards (Some cache) = IsFresh config shards cache
+IsMade config slots None = ⊥
+IsMade config slots (Some cache) = IsFresh config slots cache
 
 -- why none is made: for the first number that is wrong, or out of memory
 abbrev pub MayNotMake : Config → Refusal → Type 0
 MayNotMake config refusal = (first_wrong config ≡ Some refusal) ⊎ (refusal ≡ NoMemory)
 
--- a cache was made in place of the old one, or what was there stays
-abbrev pub Makes : Config → Status → Option Cache → Option Cache → Type 0
-Makes config Done old new = IsMade config 1 new × (first_wrong config ≡ None)
-Makes config (Refused refusal) old new = (new ≡ old) × MayNotMake config refusal
-Makes config status old new = ⊥
+-- a cache with so many slots was made in place of the old one, or what was there stays
+abbrev pub Makes : Config → ℕ → Status → Option Cache → Option Cache → Type 0
+Makes config slots Done old new = IsMade config slots new × (first_wrong config ≡ None)
+Makes config slots (Refused refusal) old new = (new ≡ old) × MayNotMake config refusal
+Makes config slots status old new = ⊥
 
 -- ---- shards
 
@@ -73,6 +77,6 @@ MayNotMakeShard sharded refusal = (sharded_wrong sharded ≡ Some refusal) ⊎ (
 
 -- an empty shard was made in place of the old cache, or what was there stays
 abbrev pub MakesShard : Sharded → Status → Option Cache → Option Cache → Type 0
-MakesShard sharded Done old new = IsMade (share_of sharded) sharded.shards new × (sharded_wrong sharded ≡ None)
+MakesShard sharded Done old new = IsMade (share_of sharded) (lease_slots sharded.shards) new × (sharded_wrong sharded ≡ None)
 MakesShard sharded (Refused refusal) old new = (new ≡ old) × MayNotMakeShard sharded refusal
 MakesShard sharded status old new = ⊥

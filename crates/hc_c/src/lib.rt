@@ -32,7 +32,8 @@ pub use leases::{
 };
 pub use making::{
     Flash, Pool, kilambosetry_free, kilambosetry_new, kilambosetry_new_shard,
-    kilambosetry_new_shard_with_flash, kilambosetry_new_with_flash, kilambosetry_shard_of,
+    kilambosetry_new_shard_with_flash, kilambosetry_new_with_flash,
+    kilambosetry_new_with_flash_and_slots, kilambosetry_new_with_slots, kilambosetry_shard_of,
 };
 pub use pages::{kilambosetry_finish_page, kilambosetry_order_page, kilambosetry_page_new};
 pub use reading::Reading;

@@ -1,9 +1,10 @@
 // Caches are made and freed.
-ghost use Rattle.std.specs.Prelude.{◌≡◌, ◌<◌, None, Some, IfOk, IfErr, OnOk, map};
+ghost use Rattle.std.specs.Prelude.{◌≡◌, ◌<◌, ◌≤◌, None, Some, IfOk, IfErr, OnOk, map};
 ghost use Rattle.hc_types.specs.Limits.{first_wrong};
 ghost use Rattle.hc_types.specs.declared.refusal.Refusal.TheVariants.{NoMemory};
+ghost use Rattle.hc_leased.specs.Leased.{lease_slots};
 ghost use Rattle.hc_shards.specs.Shards.{shard_of, share_of, sharded_wrong};
-ghost use Rattle.hc_c.specs.Making.{config_of, sharded_of, size_of, numbers_of, IsFresh, Makes, MakesShard, MayNotMake, MayNotMakeShard};
+ghost use Rattle.hc_c.specs.Making.{config_of, sharded_of, size_of, numbers_of, slots_within, IsFresh, Makes, MakesShard, MayNotMake, MayNotMakeShard};
 ghost use Rattle.hc_c.specs.Statuses.{Says};
 
 use crate::cache::Cache;
@@ -72,14 +73,26 @@ fn sizes_of(alloc: Global, pools: &[Pool]) -> Result<Vec<PoolSize>, AllocError>
     Ok(sizes)
 }
 
-// An empty cache of this configuration, which is one of so many shards, in a box.
-fn boxed(alloc: Global, config: &Config, shards: u8) -> Result<Box<Cache>, Refusal>
-    ensures ok { IfOk result (λ cache. IsFresh config.now shards cache.value) }
+// So many slots for leases as C asks for, within the limits.
+fn slots_of(slots: u32) -> usize
+    ensures within { result ≡ slots_within slots }
+    ensures enough { 16 ≤ result }
+{
+    match slots {
+        0..=15 => 16,
+        16..=65_536 => slots as usize,
+        _ => 65_536,
+    }
+}
+
+// An empty cache of this configuration, with so many slots for leases, in a box.
+fn boxed(alloc: Global, config: &Config, slots: usize) -> Result<Box<Cache>, Refusal>
+    requires { 16 ≤ slots }
+    ensures ok { IfOk result (λ cache. IsFresh config.now slots cache.value) }
     ensures fits { OnOk result (first_wrong config.now ≡ None) }
     ensures err { IfErr result (λ refusal. MayNotMake config.now refusal) }
 {
     let core = Core::new(alloc, config, Totals::new())?;
-    let slots = slots_for(shards);
     let Ok(leased) = Leased::new(alloc, core, slots, slots / 16) else {
         return Err(Refusal::NoMemory);
     };
@@ -94,13 +107,15 @@ fn cache_of(
     alloc: Global,
     pools: &[Pool],
     flash: Option<FlashConfig>,
+    slots: usize,
 ) -> Result<Box<Cache>, Refusal>
-    ensures ok { IfOk result (λ cache. IsFresh (config_of pools.now flash) 1 cache.value) }
+    requires { 16 ≤ slots }
+    ensures ok { IfOk result (λ cache. IsFresh (config_of pools.now flash) slots cache.value) }
     ensures fits { OnOk result (first_wrong (config_of pools.now flash) ≡ None) }
     ensures err { IfErr result (λ refusal. MayNotMake (config_of pools.now flash) refusal) }
 {
     let config = Config::new(sizes_of(alloc, pools)?, flash);
-    boxed(alloc, &config, 1)
+    boxed(alloc, &config, slots)
 }
 
 fn new(
@@ -108,10 +123,12 @@ fn new(
     handle: &mut CacheHandle,
     pools: &[Pool],
     flash: Option<FlashConfig>,
+    slots: usize,
 ) -> Status
-    ensures { Makes (config_of pools.now flash) result handle.old.seat.cache handle.new.seat.cache }
+    requires { 16 ≤ slots }
+    ensures { Makes (config_of pools.now flash) slots result handle.old.seat.cache handle.new.seat.cache }
 {
-    match cache_of(alloc, pools, flash) {
+    match cache_of(alloc, pools, flash, slots) {
         Ok(cache) => {
             *handle = CacheHandle::of(cache);
             Status::Done
@@ -124,9 +141,9 @@ fn new(
 /// with `BadPool` and `NoMemory`, and then the handle keeps what it has.
 #[unsafe(no_mangle)]
 pub extern "C" fn kilambosetry_new(alloc: Global, handle: &mut CacheHandle, pools: &[Pool]) -> u8
-    ensures { Says result (λ status. Makes (config_of pools.now None) status handle.old.seat.cache handle.new.seat.cache) }
+    ensures { Says result (λ status. Makes (config_of pools.now None) (lease_slots 1) status handle.old.seat.cache handle.new.seat.cache) }
 {
-    new(alloc, handle, pools, None).number()
+    new(alloc, handle, pools, None, slots_for(1)).number()
 }
 
 /// The same with flash behind the pools. Refused also for the first number of the flash that is outside its limits, as
@@ -138,9 +155,38 @@ pub extern "C" fn kilambosetry_new_with_flash(
     pools: &[Pool],
     flash: &Flash,
 ) -> u8
-    ensures { Says result (λ status. Makes (config_of pools.now (Some (numbers_of flash.now))) status handle.old.seat.cache handle.new.seat.cache) }
+    ensures { Says result (λ status. Makes (config_of pools.now (Some (numbers_of flash.now))) (lease_slots 1) status handle.old.seat.cache handle.new.seat.cache) }
 {
-    new(alloc, handle, pools, Some(flash.config())).number()
+    new(alloc, handle, pools, Some(flash.config()), slots_for(1)).number()
+}
+
+/// As `kilambosetry_new`, with so many slots for leases, of 8 bytes each, and a sixteenth of them as places for turns, of 24
+/// bytes each: for a cache that is one of many, each of which needs the fewer. It has 16 where fewer are asked for, and 65,536
+/// where more are.
+#[unsafe(no_mangle)]
+pub extern "C" fn kilambosetry_new_with_slots(
+    alloc: Global,
+    handle: &mut CacheHandle,
+    pools: &[Pool],
+    slots: u32,
+) -> u8
+    ensures { Says result (λ status. Makes (config_of pools.now None) (slots_within slots) status handle.old.seat.cache handle.new.seat.cache) }
+{
+    new(alloc, handle, pools, None, slots_of(slots)).number()
+}
+
+/// The same with flash behind the pools. Refused as `kilambosetry_new_with_flash` is.
+#[unsafe(no_mangle)]
+pub extern "C" fn kilambosetry_new_with_flash_and_slots(
+    alloc: Global,
+    handle: &mut CacheHandle,
+    pools: &[Pool],
+    flash: &Flash,
+    slots: u32,
+) -> u8
+    ensures { Says result (λ status. Makes (config_of pools.now (Some (numbers_of flash.now))) (slots_within slots) status handle.old.seat.cache handle.new.seat.cache) }
+{
+    new(alloc, handle, pools, Some(flash.config()), slots_of(slots)).number()
 }
 
 // An empty shard of these pools, with this flash behind its share of them, in a box.
@@ -150,7 +196,7 @@ fn shard_of_pools(
     flash: Option<FlashConfig>,
     shards: u8,
 ) -> Result<Box<Cache>, Refusal>
-    ensures ok { IfOk result (λ cache. IsFresh (share_of (sharded_of pools.now flash shards)) shards cache.value) }
+    ensures ok { IfOk result (λ cache. IsFresh (share_of (sharded_of pools.now flash shards)) (lease_slots shards) cache.value) }
     ensures fits { OnOk result (sharded_wrong (sharded_of pools.now flash shards) ≡ None) }
     ensures err { IfErr result (λ refusal. MayNotMakeShard (sharded_of pools.now flash shards) refusal) }
 {
@@ -161,7 +207,7 @@ fn shard_of_pools(
     sharded.check()?;
     let share = sharded.share(alloc)?;
     shares_are_right();
-    match boxed(alloc, &share, shards) {
+    match boxed(alloc, &share, slots_for(shards)) {
         Ok(cache) => Ok(cache),
         Err(_) => Err(Refusal::NoMemory),
     }
