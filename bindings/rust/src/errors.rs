@@ -1,7 +1,9 @@
 use crate::Refused;
 use std::error;
+use std::ffi::OsString;
 use std::fmt;
 use std::io;
+use std::path::{Path, PathBuf};
 
 /// Why a call of a [`HybridCache`](crate::HybridCache) has no answer.
 #[derive(Clone, Copy, Debug, PartialEq, Eq)]
@@ -98,6 +100,23 @@ pub enum OpenError {
     Page(u64),
     /// The library refused the pool or the flash: the refusal's name says which number.
     Refused(Refused),
+    /// The file or block device can't be had.
+    File {
+        /// Which.
+        path: PathBuf,
+        /// Why.
+        why: FileError,
+    },
+    /// Memory was refused.
+    NoMemory,
+    /// The system refused to start a thread.
+    Io(io::Error),
+}
+
+/// Why a file or block device can't be had.
+#[derive(Debug)]
+#[non_exhaustive]
+pub enum FileError {
     /// Another has the file open, in this process or in another one; or the block device is mounted, or otherwise in use.
     InUse,
     /// The file or block device has something, and isn't ours. To lose what it has, say so ([`Options`](crate::Options),
@@ -112,10 +131,21 @@ pub enum OpenError {
         /// The bytes that it would have.
         wanted: u64,
     },
-    /// Memory was refused.
-    NoMemory,
-    /// The system refused to open the file, or to start a thread.
+    /// The system refused it.
     Io(io::Error),
+}
+
+impl OpenError {
+    // (where there is no memory for the path either, that is why)
+    pub(crate) fn of_file(path: &Path, why: FileError) -> OpenError {
+        let is_memory = matches!(&why, FileError::Io(error) if error.kind() == io::ErrorKind::OutOfMemory);
+        let mut copy = OsString::new();
+        if is_memory || copy.try_reserve_exact(path.as_os_str().len()).is_err() {
+            return OpenError::NoMemory;
+        }
+        copy.push(path);
+        OpenError::File { path: copy.into(), why }
+    }
 }
 
 impl From<Refused> for OpenError {
@@ -133,6 +163,12 @@ impl From<io::Error> for OpenError {
     }
 }
 
+impl From<io::Error> for FileError {
+    fn from(error: io::Error) -> FileError {
+        FileError::Io(error)
+    }
+}
+
 impl fmt::Display for OpenError {
     fn fmt(&self, f: &mut fmt::Formatter<'_>) -> fmt::Result {
         match self {
@@ -146,14 +182,23 @@ impl fmt::Display for OpenError {
             ),
             OpenError::Page(given) => write!(f, "page is {given}, and not 512, 1024, 2048 or 4096"),
             OpenError::Refused(refused) => refused.fmt(f),
-            OpenError::InUse => f.write_str("another has the file open, or the device is in use"),
-            OpenError::NotOurs => {
-                f.write_str("it has something, and is no flash of a cache: remove it, or let it be overwritten")
-            }
-            OpenError::OtherKind => f.write_str("neither a file nor a block device"),
-            OpenError::TooSmall { found, wanted } => write!(f, "the device has {found} bytes, and not {wanted}"),
+            OpenError::File { path, why } => write!(f, "{}: {why}", path.display()),
             OpenError::NoMemory => f.write_str("out of memory"),
             OpenError::Io(error) => error.fmt(f),
+        }
+    }
+}
+
+impl fmt::Display for FileError {
+    fn fmt(&self, f: &mut fmt::Formatter<'_>) -> fmt::Result {
+        match self {
+            FileError::InUse => f.write_str("another has the file open, or the device is in use"),
+            FileError::NotOurs => {
+                f.write_str("it has something, and is no flash of a cache: remove it, or let it be overwritten")
+            }
+            FileError::OtherKind => f.write_str("neither a file nor a block device"),
+            FileError::TooSmall { found, wanted } => write!(f, "the device has {found} bytes, and not {wanted}"),
+            FileError::Io(error) => error.fmt(f),
         }
     }
 }
@@ -177,7 +222,17 @@ impl error::Error for OpenError {
     fn source(&self) -> Option<&(dyn error::Error + 'static)> {
         match self {
             OpenError::Refused(refused) => Some(refused),
+            OpenError::File { why, .. } => Some(why),
             OpenError::Io(error) => Some(error),
+            _ => None,
+        }
+    }
+}
+
+impl error::Error for FileError {
+    fn source(&self) -> Option<&(dyn error::Error + 'static)> {
+        match self {
+            FileError::Io(error) => Some(error),
             _ => None,
         }
     }

@@ -1,6 +1,6 @@
 use crate::buffer::with_page;
 use crate::digest::digest_of;
-use crate::{OpenError, Options, PageDevice};
+use crate::{FileError, OpenError, Options, PageDevice};
 use std::collections::hash_map::RandomState;
 use std::fs::{self, File, OpenOptions, TryLockError};
 use std::hash::{BuildHasher, Hasher};
@@ -32,13 +32,17 @@ impl PageFile {
     /// bytes. An empty file gets its length, and room on the disk as it is written. What it has is never read: a cache begins
     /// empty. One that has anything and isn't ours is refused, as [`Options::overwrite`] says, and a block device that is in use.
     pub fn open(path: &Path, pages: u64, page: u64, options: &Options) -> Result<PageFile, OpenError> {
+        PageFile::made(path, pages, page, options).map_err(|why| OpenError::of_file(path, why))
+    }
+
+    fn made(path: &Path, pages: u64, page: u64, options: &Options) -> Result<PageFile, FileError> {
         let mut file = match options.unnamed {
             true => opened(&OpenOptions::new(), path, O_TMPFILE, options)?,
             false => open_named(path, options)?,
         };
         file.try_lock().map_err(|error| match error {
-            TryLockError::WouldBlock => OpenError::InUse,
-            TryLockError::Error(error) => OpenError::Io(error),
+            TryLockError::WouldBlock => FileError::InUse,
+            TryLockError::Error(error) => FileError::Io(error),
         })?;
         take(&mut file, HEAD + pages * page, options.overwrite)?;
         write_head(&file, pages, page)?;
@@ -51,40 +55,40 @@ impl PageFile {
 }
 
 // A block device is opened so that the system refuses it where it is mounted, or otherwise in use.
-fn open_named(path: &Path, options: &Options) -> Result<File, OpenError> {
+fn open_named(path: &Path, options: &Options) -> Result<File, FileError> {
     let is_device = fs::metadata(path).is_ok_and(|found| found.file_type().is_block_device());
     let file = match is_device {
         true => opened(&OpenOptions::new(), path, O_EXCL, options)?,
         false => opened(OpenOptions::new().create(true).truncate(false), path, 0, options)?,
     };
     if file.metadata()?.file_type().is_block_device() != is_device {
-        return Err(OpenError::InUse); // (another puts something else there)
+        return Err(FileError::InUse); // (another puts something else there)
     }
     Ok(file)
 }
 
-fn opened(as_given: &OpenOptions, path: &Path, flags: i32, options: &Options) -> Result<File, OpenError> {
+fn opened(as_given: &OpenOptions, path: &Path, flags: i32, options: &Options) -> Result<File, FileError> {
     let direct = if options.direct { O_DIRECT } else { 0 };
     let opened = as_given.clone().read(true).write(true).mode(0o600).custom_flags(flags | direct).open(path);
     opened.map_err(|error| match error.kind() {
-        io::ErrorKind::ResourceBusy => OpenError::InUse,
-        _ => OpenError::Io(error),
+        io::ErrorKind::ResourceBusy => FileError::InUse,
+        _ => FileError::Io(error),
     })
 }
 
 // Sees that it is ours to write, and has so many bytes.
-fn take(file: &mut File, wanted: u64, overwrites: bool) -> Result<(), OpenError> {
+fn take(file: &mut File, wanted: u64, overwrites: bool) -> Result<(), FileError> {
     let kind = file.metadata()?.file_type();
     if !kind.is_file() && !kind.is_block_device() {
-        return Err(OpenError::OtherKind);
+        return Err(FileError::OtherKind);
     }
     let found = file.seek(SeekFrom::End(0))?;
     if kind.is_block_device() && found < wanted {
-        return Err(OpenError::TooSmall { found, wanted });
+        return Err(FileError::TooSmall { found, wanted });
     }
     let is_ours = found >= HEAD && read_head(file)?.starts_with(&NAME);
     if !is_ours && !overwrites && has_anything(file, found, kind.is_file())? {
-        return Err(OpenError::NotOurs);
+        return Err(FileError::NotOurs);
     }
     if kind.is_file() && (!is_ours || found != wanted) {
         file.set_len(0)?;
@@ -93,19 +97,25 @@ fn take(file: &mut File, wanted: u64, overwrites: bool) -> Result<(), OpenError>
     Ok(())
 }
 
-fn read_head(file: &File) -> Result<[u8; NAME.len()], OpenError> {
+// By the thread's buffer. Where there is none it is as if the system had no memory for it.
+fn in_buffer<T>(bytes: u64, work: impl FnOnce(&mut [u8]) -> io::Result<T>) -> Result<T, FileError> {
+    let done = with_page(bytes as usize, work);
+    Ok(done.unwrap_or_else(|| Err(io::ErrorKind::OutOfMemory.into()))?)
+}
+
+fn read_head(file: &File) -> Result<[u8; NAME.len()], FileError> {
     let read = |out: &mut [u8]| -> io::Result<[u8; NAME.len()]> {
         file.read_exact_at(out, 0)?;
         let mut name = NAME;
         name.copy_from_slice(&out[..NAME.len()]);
         Ok(name)
     };
-    Ok(with_page(HEAD as usize, read).ok_or(OpenError::NoMemory)??)
+    in_buffer(HEAD, read)
 }
 
 // Whose it is: the name and the version, what the pages are, a number drawn by chance, the seal of a restart (none: zeros), and a
 // digest of these.
-fn write_head(file: &File, pages: u64, page: u64) -> Result<(), OpenError> {
+fn write_head(file: &File, pages: u64, page: u64) -> Result<(), FileError> {
     let drawn = || RandomState::new().build_hasher().finish().to_le_bytes();
     let fields = [
         &NAME[..],
@@ -127,11 +137,11 @@ fn write_head(file: &File, pages: u64, page: u64) -> Result<(), OpenError> {
         out[at..at + digest.len()].copy_from_slice(&digest);
         file.write_all_at(out, 0)
     };
-    Ok(with_page(HEAD as usize, write).ok_or(OpenError::NoMemory)??)
+    in_buffer(HEAD, write)
 }
 
 // Whether there is anything in it, of what is looked at. A file that has room alone has nothing.
-fn has_anything(file: &File, bytes: u64, is_file: bool) -> Result<bool, OpenError> {
+fn has_anything(file: &File, bytes: u64, is_file: bool) -> Result<bool, FileError> {
     if bytes == 0 {
         return Ok(false);
     }
@@ -142,7 +152,7 @@ fn has_anything(file: &File, bytes: u64, is_file: bool) -> Result<bool, OpenErro
     let tail = bytes.saturating_sub(LOOKED_AT) / HEAD * HEAD..bytes;
     for at in head.chain(tail).step_by(HEAD as usize) {
         let is_zero = |out: &mut [u8]| file.read_exact_at(out, at).map(|()| out.iter().all(|byte| *byte == 0));
-        if !with_page(HEAD.min(bytes - at) as usize, is_zero).ok_or(OpenError::NoMemory)?? {
+        if !in_buffer(HEAD.min(bytes - at), is_zero)? {
             return Ok(true);
         }
     }

@@ -90,7 +90,7 @@ pub use change::Change;
 pub use checked::{DeviceCounts, PageDevice};
 pub use clock::Clock;
 pub use engine::{Added, Came, Copied, Device, Engine, Flash, Found, Operation, Reply, Take};
-pub use errors::{Error, LoadError, OpenError};
+pub use errors::{Error, FileError, LoadError, OpenError};
 pub use file::PageFile;
 pub use future::{GetAsync, LeaseAsync};
 pub use heap::share_one_heap;

@@ -1,5 +1,6 @@
 //! Whose a file or block device is, before anything is written to it.
-use kilambosetry::{flash_waits, HybridCache, OpenError, Options};
+use kilambosetry::{flash_waits, FileError, HybridCache, OpenError, Options};
+use std::error::Error;
 use std::fs::{self, File, OpenOptions};
 use std::os::unix::fs::{symlink, FileExt};
 use std::os::unix::net::UnixListener;
@@ -42,11 +43,11 @@ fn length(options: &Options) -> u64 {
 fn opened(path: &Path, options: &Options) -> Result<HybridCache, OpenError> {
     for _ in 0..500 {
         match HybridCache::open(path, options) {
-            Err(OpenError::InUse) => thread::sleep(Duration::from_millis(20)),
+            Err(OpenError::File { why: FileError::InUse, .. }) => thread::sleep(Duration::from_millis(20)),
             opened => return opened,
         }
     }
-    Err(OpenError::InUse)
+    HybridCache::open(path, options)
 }
 
 fn is_taken(path: &Path, options: &Options) -> bool {
@@ -60,7 +61,7 @@ fn is_taken(path: &Path, options: &Options) -> bool {
             assert!(cache.stats().hits_from_flash == 1 && cache.stats().device.lies == 0, "{}", cache.stats());
             true
         }
-        Err(OpenError::NotOurs) => false,
+        Err(OpenError::File { why: FileError::NotOurs, .. }) => false,
         Err(error) => panic!("{error}"),
     }
 }
@@ -99,7 +100,8 @@ fn what_has_something_and_is_not_ours_is_refused_and_left_alone() {
     for thesis in [&b"my thesis"[..], &[0; 9], &[0; 4096], &whole, &flash, &[whole.clone(), whole.clone()].concat()] {
         fs::write(&file, thesis).unwrap();
         for options in [options.clone(), Options { direct: true, ..options.clone() }] {
-            assert!(matches!(opened(&file, &options), Err(OpenError::NotOurs)), "{} bytes", thesis.len());
+            let refused = opened(&file, &options);
+            assert!(matches!(refused, Err(OpenError::File { why: FileError::NotOurs, .. })), "{} bytes", thesis.len());
             assert!(fs::read(&file).unwrap() == thesis);
         }
         assert!(is_taken(&file, &Options { overwrite: true, ..options.clone() }));
@@ -114,6 +116,35 @@ fn what_has_something_and_is_not_ours_is_refused_and_left_alone() {
 }
 
 #[test]
+fn a_refused_open_says_which_file() {
+    let folder = Folder::new("which");
+    let (ours, other) = (folder.file("flash"), folder.file("thesis"));
+    let _cache = HybridCache::open(&ours, &small()).unwrap();
+    fs::write(&other, b"my thesis").unwrap();
+    let absent = folder.file("absent").join("flash");
+    let whys = ["another has the file open", "no flash of a cache", "No such file", "neither a file"];
+    for (path, why) in [ours, other, absent, "/dev/null".into()].iter().zip(whys) {
+        let refused = HybridCache::open(path, &small()).unwrap_err();
+        let text = refused.to_string();
+        assert!(text.starts_with(&format!("{}: ", path.display())) && text.contains(why), "{text}");
+        assert!(refused.source().is_some_and(|source| format!("{}: {source}", path.display()) == text));
+        assert!(matches!(refused, OpenError::File { path: said, .. } if said == *path));
+    }
+    // of what isn't the file's it isn't said
+    let wrong = Options { memory: 1, ..small() };
+    assert!(HybridCache::open(folder.file("new"), &wrong).unwrap_err().to_string().starts_with("memory is 1, "));
+}
+
+fn is_in_use(opened: &Result<HybridCache, OpenError>) -> bool {
+    matches!(opened, Err(OpenError::File { why: FileError::InUse, .. }))
+}
+
+// Whether there is nothing to be had under a path.
+fn is_none(refused: &Result<(), OpenError>) -> bool {
+    matches!(refused, Err(OpenError::File { why: FileError::OtherKind | FileError::Io(_), .. }))
+}
+
+#[test]
 fn what_is_neither_file_nor_block_device_is_refused() {
     let folder = Folder::new("kinds");
     let (fifo, socket, link) = (folder.file("fifo"), folder.file("socket"), folder.file("link"));
@@ -123,12 +154,12 @@ fn what_is_neither_file_nor_block_device_is_refused() {
     for path in [&fifo, &folder.0].into_iter().chain(&devices) {
         for options in [small(), Options { direct: true, overwrite: true, ..small() }] {
             let refused = opened(path, &options).map(drop);
-            assert!(matches!(refused, Err(OpenError::OtherKind | OpenError::Io(_))), "{path:?}: {refused:?}");
+            assert!(is_none(&refused), "{path:?}: {refused:?}");
         }
     }
     for path in [socket.as_path(), Path::new(""), Path::new("/no/such/folder/flash"), Path::new("/proc/self/mem")] {
         let refused = opened(path, &small()).map(drop);
-        assert!(matches!(refused, Err(OpenError::OtherKind | OpenError::Io(_))), "{path:?}: {refused:?}");
+        assert!(is_none(&refused), "{path:?}: {refused:?}");
     }
     // (a link is followed)
     symlink(folder.file("target"), &link).unwrap();
@@ -193,7 +224,7 @@ fn an_unnamed_file_is_in_no_folder_and_leaves_nothing() {
     for direct in [false, true] {
         let options = Options { unnamed: true, direct, ..small() };
         let cache = match HybridCache::open(&folder.0, &options) {
-            Err(OpenError::Io(error)) if error.raw_os_error() == Some(95) => return, // not on this file system
+            Err(OpenError::File { why: FileError::Io(error), .. }) if error.raw_os_error() == Some(95) => return, // not on this file system
             cache => cache.unwrap(),
         };
         let other = HybridCache::open(&folder.0, &options).unwrap(); // another one, beside it
@@ -252,7 +283,7 @@ fn a_block_device_that_is_mounted_or_has_something_is_refused() {
         let mounted = Mounted(folder.clone());
         fs::write(folder.join("thesis"), b"my thesis").unwrap();
         for options in [&options, &overwrites] {
-            assert!(matches!(HybridCache::open(path, options), Err(OpenError::InUse)), "it is mounted");
+            assert!(is_in_use(&HybridCache::open(path, options)), "it is mounted");
         }
         assert_eq!(fs::read(folder.join("thesis")).unwrap(), b"my thesis");
         drop(mounted);
@@ -264,7 +295,7 @@ fn a_block_device_that_is_mounted_or_has_something_is_refused() {
     assert!(is_taken(path, &options));
     assert!(is_taken(path, &Options { direct: true, ..options.clone() }));
     let first = HybridCache::open(path, &options).unwrap();
-    assert!(matches!(HybridCache::open(path, &options), Err(OpenError::InUse)));
+    assert!(is_in_use(&HybridCache::open(path, &options)));
     drop(first);
     // marks of which one stands at the far end, as of a volume
     let image = OpenOptions::new().write(true).open(path).unwrap();
@@ -273,5 +304,5 @@ fn a_block_device_that_is_mounted_or_has_something_is_refused() {
     drop(image);
     assert!(!is_taken(path, &options));
     let large = Options { flash: 32_000_000, ..overwrites };
-    assert!(matches!(HybridCache::open(path, &large), Err(OpenError::TooSmall { .. })));
+    assert!(matches!(HybridCache::open(path, &large), Err(OpenError::File { why: FileError::TooSmall { .. }, .. })));
 }

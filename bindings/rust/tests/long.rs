@@ -1,6 +1,6 @@
 //! What holds over many turns: caches that are opened and closed, closes that come amid calls of every kind, devices that fail always,
 //! times to live, keys and values of every length, wakers that do anything, threads with little stack.
-use kilambosetry::{Clock, Error, HybridCache, Lookup, OpenError, Options, PageDevice};
+use kilambosetry::{Clock, Error, FileError, HybridCache, Lookup, OpenError, Options, PageDevice};
 use std::collections::HashMap;
 use std::fs;
 use std::future::Future;
@@ -113,7 +113,7 @@ fn many_caches_leave_nothing() {
         for number in 0..20u32 {
             cache.set(&number.to_be_bytes(), &[1; 4000], 0).unwrap();
         }
-        assert!(matches!(HybridCache::open(&path, &options), Err(OpenError::InUse)));
+        assert!(matches!(HybridCache::open(&path, &options), Err(OpenError::File { why: FileError::InUse, .. })));
         assert!(HybridCache::open(&path, &Options { memory: 1, ..options.clone() }).is_err());
         let other = cache.clone();
         match turn % 2 {

@@ -1,6 +1,6 @@
 //! What the cache of a service answers, whatever its file and its device do.
 use kilambosetry::{
-    shard_of, Clock, Error, Flash, HybridCache, Lookup, OpenError, Options, PageDevice, Pool, Refused, Stats,
+    shard_of, Clock, Error, FileError, Flash, HybridCache, Lookup, OpenError, Options, PageDevice, Pool, Refused, Stats,
 };
 use std::collections::HashMap;
 use std::fs::{self, File, OpenOptions};
@@ -363,7 +363,8 @@ fn a_file_that_is_cut_off_is_misses() {
 fn a_second_opener_is_refused() {
     let place = Place::new("second");
     let cache = HybridCache::open(&place.0, &small()).unwrap();
-    assert!(matches!(HybridCache::open(&place.0, &small()), Err(OpenError::InUse)));
+    let second = HybridCache::open(&place.0, &small());
+    assert!(matches!(second, Err(OpenError::File { why: FileError::InUse, .. })));
     assert_eq!(fs::metadata(&place.0).unwrap().permissions().mode() & 0o777, 0o600);
     drop(cache);
     let cache = HybridCache::open(&place.0, &small()).unwrap();
@@ -375,10 +376,14 @@ fn what_is_no_flash_is_refused_and_left_alone() {
     let place = Place::new("other");
     fs::write(&place.0, b"my thesis").unwrap();
     let refused = HybridCache::open(&place.0, &small()).unwrap_err();
-    assert!(matches!(refused, OpenError::NotOurs), "{refused}");
+    assert!(matches!(refused, OpenError::File { why: FileError::NotOurs, .. }), "{refused}");
     assert_eq!(fs::read(&place.0).unwrap(), b"my thesis");
-    assert!(matches!(HybridCache::open("/dev/null", &small()), Err(OpenError::OtherKind)));
-    assert!(matches!(HybridCache::open(Path::new("/no/such/folder/flash"), &small()), Err(OpenError::Io(_))));
+    let why = |path: &str| match HybridCache::open(Path::new(path), &small()) {
+        Err(OpenError::File { why, .. }) => why,
+        opened => panic!("{opened:?}"),
+    };
+    assert!(matches!(why("/dev/null"), FileError::OtherKind));
+    assert!(matches!(why("/no/such/folder/flash"), FileError::Io(_)));
     let wrong = Flash { bits: 65, ..small().flash_numbers.unwrap() };
     let refused = HybridCache::open(place.0.join("x"), &Options { flash_numbers: Some(wrong), ..small() }).unwrap_err();
     assert_eq!(refused.to_string(), "flash_numbers.bits is 65, and not 1 to 64 (of a shard)");
@@ -390,7 +395,7 @@ fn direct_operations_answer_the_same() {
     let flash = Flash { page: 4096, ..small().flash_numbers.unwrap() };
     let options = Options { direct: true, flash_numbers: Some(flash), ..small() };
     let cache = match HybridCache::open(&place.0, &options) {
-        Err(OpenError::Io(error)) if error.kind() == io::ErrorKind::InvalidInput => return, // not on this file system
+        Err(OpenError::File { why: FileError::Io(error), .. }) if error.kind() == io::ErrorKind::InvalidInput => return, // not on this file system
         cache => cache.unwrap(),
     };
     filled(&cache, 400);

@@ -1,6 +1,7 @@
 use crate::status::{BAD_NUMBER, IN_USE, NOT_OURS, OTHER_KIND, SYSTEM, TOO_SMALL};
-use kilambosetry::{OpenError, Refused};
+use kilambosetry::{FileError, OpenError, Refused};
 use std::ffi::{c_char, CStr};
+use std::io;
 use std::ptr;
 
 // The names of numbers, as C has them.
@@ -54,19 +55,30 @@ impl Why {
             OpenError::Page(given) => self.note_number("page", given, 512, 4096),
             OpenError::Refused(refused) => refused.number(),
             OpenError::NoMemory => Refused::NO_MEMORY.number(),
-            OpenError::InUse => IN_USE,
-            OpenError::OtherKind => OTHER_KIND,
-            OpenError::NotOurs => NOT_OURS,
-            OpenError::TooSmall { found, wanted } => {
+            OpenError::File { why, .. } => self.note_file(&why),
+            OpenError::Io(error) => self.note_system(&error),
+            _ => SYSTEM,
+        }
+    }
+
+    // (which file it is C has said itself)
+    fn note_file(&mut self, why: &FileError) -> u8 {
+        match *why {
+            FileError::InUse => IN_USE,
+            FileError::OtherKind => OTHER_KIND,
+            FileError::NotOurs => NOT_OURS,
+            FileError::TooSmall { found, wanted } => {
                 *self = Why { given: found, least: wanted, ..Why::default() };
                 TOO_SMALL
             }
-            OpenError::Io(error) => {
-                self.system = error.raw_os_error().unwrap_or(0);
-                SYSTEM
-            }
+            FileError::Io(ref error) => self.note_system(error),
             _ => SYSTEM,
         }
+    }
+
+    fn note_system(&mut self, error: &io::Error) -> u8 {
+        self.system = error.raw_os_error().unwrap_or(0);
+        SYSTEM
     }
 
     fn note_number(&mut self, name: &str, given: u64, least: u64, most: u64) -> u8 {

@@ -1,7 +1,7 @@
 //! Gets of 100 keys at once, beside 100 gets one after the other: of keys that stand on flash alone, over a file, and of keys in
 //! memory. Each is asked for keys that nobody has asked for before, in turn: the median of the rounds, by the clock.
 use crate::key;
-use kilambosetry::{Error, HybridCache, OpenError, Options, Value};
+use kilambosetry::{Error, FileError, HybridCache, OpenError, Options, Value};
 use std::fs;
 use std::hint::black_box;
 use std::path::Path;
@@ -21,7 +21,9 @@ fn options(fillers: u64, direct: bool) -> Options {
 fn open(folder: &Path, fillers: u64) -> (HybridCache, bool) {
     match HybridCache::open(folder, &options(fillers, true)) {
         Ok(cache) => (cache, true),
-        Err(OpenError::Io(_)) => (HybridCache::open(folder, &options(fillers, false)).unwrap(), false),
+        Err(OpenError::File { why: FileError::Io(_), .. }) => {
+            (HybridCache::open(folder, &options(fillers, false)).unwrap(), false)
+        }
         Err(error) => panic!("{error}"),
     }
 }
