@@ -4,7 +4,8 @@
 //!     replicas trial WAY HARM SECONDS ROWS PORT SERVERPORT    two processes under load, each read of which is judged
 //!
 //! The database is at 127.0.0.1:PORT, of the user that `REPLICAS_DATABASE` names (`user=postgres dbname=postgres`). `run` beside this
-//! begins one of its own, and a kilambosetryd, and makes all trials.
+//! begins one of its own, and a kilambosetryd, and makes all trials. `REPLICAS_NETWORK` is the name of a network that `network` beside
+//! this has made, where packets are to be dropped.
 //!
 //! WAY is how the processes hear of each other's changes:
 //!   alone      not at all: each has a cache, and deletes there what it has changed itself
@@ -13,7 +14,8 @@
 //!   server     there is one cache, in kilambosetryd; keys wait in a table for their delete
 //!   unswept    the same, and nobody deletes the keys of a process that has died
 //! HARM is what happens to them every seven seconds: `none`; `cut` or `lost`, the connection of who listens is closed, or forwards
-//! nothing any more without a word; `death`, a process ends between a commit and its delete, and another begins.
+//! nothing any more without a word; `dropped`, all packets between the database and one of the processes are dropped for five seconds;
+//! `death`, a process ends between a commit and its delete, and another begins.
 //!
 //! The status is 1 where a read with `notices` was older than a change that was answered three seconds before it began, or than one of
 //! which the process had been told; or one with `server` than a change that was answered five seconds before, or at all though
@@ -47,8 +49,9 @@ fn main() -> Result<ExitCode, Box<dyn error::Error>> {
     let database = env::var("REPLICAS_DATABASE").unwrap_or_else(|_| "user=postgres dbname=postgres".to_string());
     match words[..] {
         ["make", port, rows] => service::make(&format!("host=127.0.0.1 port={port} {database}"), rows.parse()?)?,
-        ["serve", way, database, listens_at, port, rows] => service::serve(Settings {
+        ["serve", way, host, database, listens_at, port, rows] => service::serve(Settings {
             way: Way::named(way).ok_or("no such way")?,
+            host: host.to_string(),
             database: database.to_string(),
             listens_at: listens_at.to_string(),
             port: port.parse()?,
@@ -63,9 +66,10 @@ fn main() -> Result<ExitCode, Box<dyn error::Error>> {
                 database_port: database_port.parse()?,
                 server_port: server_port.parse()?,
                 database,
+                network: env::var("REPLICAS_NETWORK").unwrap_or_default(),
             };
             let came = trial.run()?;
-            println!("{way:9} {harm:6} {came}");
+            println!("{way:9} {harm:8} {came}");
             return Ok(ExitCode::from(u8::from(!is_right(trial.way, trial.harm, &came))));
         }
         _ => return Err("replicas make PORT ROWS, or trial WAY HARM SECONDS ROWS PORT SERVERPORT".into()),

@@ -167,6 +167,26 @@ impl Drop for Connection {
     }
 }
 
+/// A connection that is made once it is needed, and anew where it has failed.
+pub struct Database {
+    info: String,
+    connection: Option<Connection>,
+}
+
+impl Database {
+    pub fn at(info: &str) -> Database {
+        Database { info: info.to_string(), connection: None }
+    }
+
+    /// As [`Connection::run`].
+    pub fn run(&mut self, command: &str, values: &[&str], limit: Duration) -> Result<Vec<Vec<String>>, Failed> {
+        let mut connection = self.connection.take().map_or_else(|| Connection::open(&self.info), Ok)?;
+        let rows = connection.run(command, values, limit)?;
+        self.connection = Some(connection);
+        Ok(rows)
+    }
+}
+
 struct Answer(*mut c_void);
 
 impl Drop for Answer {

@@ -1,5 +1,5 @@
 //! One kilambosetryd that all processes share, by memcached's meta commands, with leases; and the keys whose delete is still to come.
-use crate::postgres::{Connection, Failed};
+use crate::postgres::{Database, Failed};
 use std::io::{self, BufRead, BufReader, Read, Write};
 use std::net::TcpStream;
 use std::thread;
@@ -88,13 +88,13 @@ impl Server {
 }
 
 /// Deletes the key of a change, and that it waits. Who dies before that leaves it to whoever comes next.
-pub fn end_change(server: &mut Server, database: &mut Connection, key: &str, number: &str) -> Result<(), Failed> {
+pub fn end_change(server: &mut Server, database: &mut Database, key: &str, number: &str) -> Result<(), Failed> {
     server.delete(key);
     database.run("delete from waiting where number = $1::bigint", &[number], LIMIT).map(drop)
 }
 
 /// Deletes the keys that have waited for a second: those of processes that have died. To be called each second.
-pub fn end_changes_of_others(server: &mut Server, database: &mut Connection) -> Result<(), Failed> {
+pub fn end_changes_of_others(server: &mut Server, database: &mut Database) -> Result<(), Failed> {
     let old = "select key, number from waiting where since < now() - interval '1 second'";
     for row in database.run(old, &[], LIMIT)? {
         if let [key, number] = &row[..] {

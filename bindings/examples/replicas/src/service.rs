@@ -1,6 +1,6 @@
 //! A service of which several processes run: rows of PostgreSQL, through a cache.
 use crate::notices::{self, Watch};
-use crate::postgres::{Connection, Failed};
+use crate::postgres::{Connection, Database, Failed};
 use crate::server::{self, Got, Server};
 use kilambosetry::{HybridCache, LoadError, Options};
 use std::io::{self, BufRead, BufReader, Write};
@@ -44,6 +44,8 @@ impl Way {
 /// What a process is told.
 pub struct Settings {
     pub way: Way,
+    /// The address to serve at.
+    pub host: String,
     /// Where the database is, and where it is for who listens.
     pub database: String,
     pub listens_at: String,
@@ -70,7 +72,7 @@ pub fn serve(settings: Settings) -> Result<(), Anything> {
     let service = Arc::new(service);
     let other = Arc::clone(&service);
     thread::spawn(move || other.keep());
-    let listener = TcpListener::bind(("127.0.0.1", 0))?;
+    let listener = TcpListener::bind((service.settings.host.as_str(), 0))?;
     println!("{}", listener.local_addr()?.port());
     for stream in listener.incoming() {
         let (stream, service) = (stream?, Arc::clone(&service));
@@ -117,7 +119,7 @@ impl Service {
     fn sweep(&self) {
         loop {
             let swept = || -> Result<(), Anything> {
-                let mut database = Connection::open(&self.settings.database)?;
+                let mut database = Database::at(&self.settings.database);
                 let mut server = Server::open(self.settings.port)?;
                 loop {
                     server::end_changes_of_others(&mut server, &mut database)?;
@@ -135,7 +137,7 @@ impl Service {
     // version, `version ROW` by the database's; `die ROW` is a change behind whose commit the process ends.
     fn answer(&self, stream: &TcpStream) -> Result<(), Anything> {
         stream.set_nodelay(true)?;
-        let mut database = Connection::open(&self.settings.database)?;
+        let mut database = Database::at(&self.settings.database);
         let mut server = self.settings.way.has_server().then(|| Server::open(self.settings.port)).transpose()?;
         let (mut reader, mut line) = (BufReader::new(stream), String::new());
         while reader.read_line(&mut line)? > 0 {
@@ -155,7 +157,7 @@ impl Service {
         Ok(())
     }
 
-    fn read(&self, database: &mut Connection, server: Option<&mut Server>, row: &str) -> Result<String, Anything> {
+    fn read(&self, database: &mut Database, server: Option<&mut Server>, row: &str) -> Result<String, Anything> {
         if let Some(server) = server {
             return self.read_by_server(database, server, row);
         }
@@ -170,7 +172,7 @@ impl Service {
         }
     }
 
-    fn read_by_server(&self, database: &mut Connection, server: &mut Server, row: &str) -> Result<String, Anything> {
+    fn read_by_server(&self, database: &mut Database, server: &mut Server, row: &str) -> Result<String, Anything> {
         Ok(match server.get(row)? {
             Got::Row(row) => row,
             Got::Taken => load(database, row)?,
@@ -184,7 +186,7 @@ impl Service {
 
     fn change(
         &self,
-        database: &mut Connection,
+        database: &mut Database,
         server: Option<&mut Server>,
         row: &str,
         dies: bool,
@@ -209,7 +211,7 @@ impl Service {
 }
 
 /// The version and the body of a row.
-fn load(database: &mut Connection, row: &str) -> Result<String, Failed> {
+fn load(database: &mut Database, row: &str) -> Result<String, Failed> {
     let rows = database.run("select version, body from item where id = $1::integer", &[row], LIMIT)?;
     Ok(rows.concat().join(" "))
 }
@@ -221,7 +223,7 @@ fn version_of(row: &str) -> u64 {
 /// Makes the tables of so many rows.
 pub fn make(database: &str, rows: usize) -> Result<(), Failed> {
     let limit = Duration::from_secs(600);
-    let mut database = Connection::open(database)?;
+    let mut database = Database::at(database);
     let rows = (rows - 1).to_string();
     database.run("drop table if exists item", &[], limit)?;
     database.run(
@@ -241,10 +243,10 @@ pub fn make(database: &str, rows: usize) -> Result<(), Failed> {
 pub struct Client(BufReader<TcpStream>);
 
 impl Client {
-    pub fn open(port: u16) -> io::Result<Client> {
-        let stream = TcpStream::connect(("127.0.0.1", port))?;
+    pub fn open(host: &str, port: u16, patience: Duration) -> io::Result<Client> {
+        let stream = TcpStream::connect((host, port))?;
         stream.set_nodelay(true)?;
-        stream.set_read_timeout(Some(Duration::from_secs(60)))?;
+        stream.set_read_timeout(Some(patience))?;
         Ok(Client(BufReader::new(stream)))
     }
 

@@ -13,6 +13,12 @@ use std::{env, fmt, thread};
 const CLIENTS: u64 = 8;
 // A row that is read often, and that nobody changes but who dies.
 const OF_THE_DYING: usize = 5;
+// How long packets are dropped: for longer than the limit of notices.
+const DROPPED: Duration = Duration::from_secs(5);
+// A process behind the router of `network`, as its clients see it, and the database as it sees that.
+const BEHIND_ROUTER: &str = "10.77.3.1";
+const DATABASE_THERE: &str = "10.77.1.1";
+const HERE: &str = "127.0.0.1";
 // How long a version is remembered; by far longer than any row may be stale.
 const REMEMBERED: Duration = Duration::from_secs(60);
 
@@ -26,6 +32,8 @@ pub struct Trial {
     pub database_port: u16,
     pub server_port: u16,
     pub database: String,
+    /// The name of the network where packets can be dropped.
+    pub network: String,
 }
 
 /// What is done to them meanwhile, every few seconds.
@@ -36,13 +44,15 @@ pub enum Harm {
     Cut,
     /// It forwards nothing any more, and nobody is told.
     Lost,
+    /// All packets between the database and the second process are dropped for a time.
+    Dropped,
     /// A process ends between a commit and its delete, and another begins.
     Death,
 }
 
 impl Harm {
     pub fn named(name: &str) -> Option<Harm> {
-        let all = [Harm::None, Harm::Cut, Harm::Lost, Harm::Death];
+        let all = [Harm::None, Harm::Cut, Harm::Lost, Harm::Dropped, Harm::Death];
         all.into_iter().find(|harm| format!("{harm:?}").to_lowercase() == name)
     }
 }
@@ -141,10 +151,11 @@ impl Trial {
         let mut children = [running.start(0)?, running.start(1)?];
         let came = thread::scope(|scope| {
             let running = &running;
-            let client = |number| scope.spawn(move || running.be_client(number));
+            let client = |number| scope.spawn(move || running.be_client(number, number as usize % 2));
             let clients: Vec<_> = (0..CLIENTS).map(client).collect();
-            running.harm(proxy, &mut children);
+            let harmed = running.harm(proxy, &mut children);
             running.ends.store(true, SeqCst);
+            harmed.expect("it is harmed as it is to be");
             clients.into_iter().map(|client| client.join().expect("no client panics")).collect::<Vec<_>>()
         });
         for mut child in children {
@@ -158,11 +169,18 @@ impl Trial {
 impl Running<'_> {
     // Starts a process, and notes its port.
     fn start(&self, number: usize) -> io::Result<Child> {
-        let Trial { way, rows, database, database_port, server_port, .. } = self.trial;
-        let info = |port: &u16| format!("host=127.0.0.1 port={port} {database}");
-        let words = [format!("{way:?}").to_lowercase(), info(database_port), info(&self.listens_at)];
-        let mut command = Command::new(env::current_exe()?);
-        command.arg("serve").args(words).args([server_port.to_string(), rows.to_string()]);
+        let Trial { way, rows, database, database_port, server_port, network, .. } = self.trial;
+        let host = self.host(number);
+        let info = |host: &str, port: &u16| format!("host={host} port={port} {database}");
+        let (mut command, infos) = if host == HERE {
+            (Command::new(env::current_exe()?), [info(HERE, database_port), info(HERE, &self.listens_at)])
+        } else {
+            let mut command = Command::new("ip");
+            command.args(["netns", "exec", &format!("{network}-process")]).arg(env::current_exe()?);
+            (command, [(); 2].map(|()| info(DATABASE_THERE, database_port)))
+        };
+        command.args(["serve", &format!("{way:?}").to_lowercase(), host]).args(infos);
+        command.args([server_port.to_string(), rows.to_string()]);
         let mut child = command.stdout(Stdio::piped()).spawn()?;
         let mut line = String::new();
         BufReader::new(child.stdout.take().expect("it is piped")).read_line(&mut line)?;
@@ -170,7 +188,16 @@ impl Running<'_> {
         Ok(child)
     }
 
-    fn harm(&self, proxy: &Proxy, children: &mut [Child; 2]) {
+    // Where the clients of a process find it.
+    fn host(&self, number: usize) -> &'static str {
+        if self.trial.harm == Harm::Dropped && number == 1 {
+            BEHIND_ROUTER
+        } else {
+            HERE
+        }
+    }
+
+    fn harm(&self, proxy: &Proxy, children: &mut [Child; 2]) -> io::Result<()> {
         let begin = Instant::now();
         let mut next = Duration::from_secs(3);
         while begin.elapsed() < Duration::from_secs(self.trial.seconds) {
@@ -183,48 +210,67 @@ impl Running<'_> {
                 Harm::None => {}
                 Harm::Cut => proxy.cut(),
                 Harm::Lost => proxy.lose(),
-                Harm::Death => {
-                    self.kill(&mut children[0]).expect("a process dies, and another begins");
+                Harm::Dropped => {
+                    self.network("drop")?;
+                    thread::sleep(DROPPED);
+                    self.network("pass")?;
                 }
+                Harm::Death => self.kill(children)?,
             }
+        }
+        Ok(())
+    }
+
+    fn network(&self, what: &str) -> io::Result<()> {
+        let script = concat!(env!("CARGO_MANIFEST_DIR"), "/network");
+        match Command::new(script).args([what, &self.trial.network]).status()?.success() {
+            true => Ok(()),
+            false => Err(io::Error::other(format!("network {what}: not done"))),
         }
     }
 
     // Has the first process die between the commit of a change and its delete.
-    fn kill(&self, child: &mut Child) -> io::Result<()> {
+    fn kill(&self, children: &mut [Child; 2]) -> io::Result<()> {
         let row = OF_THE_DYING;
-        let mut client = Client::open(self.ports[0].load(SeqCst))?;
-        let _ = client.ask("die", row); // (it isn't answered)
-        child.wait()?;
+        self.open(0)?.ask("die", row).expect_err("it isn't answered");
+        children[0].wait()?;
         // what is there now was committed
-        let mut other = Client::open(self.ports[1].load(SeqCst))?;
-        let version = other.ask("version", row)?;
+        let version = self.open(1)?.ask("version", row)?;
         self.rows[row].answered(version[0]);
-        *child = self.start(0)?;
+        children[0] = self.start(0)?;
         Ok(())
     }
 
-    fn be_client(&self, number: u64) -> Came {
+    // (who waits for a database that isn't to be reached would ask for no row that the process still has)
+    fn open(&self, process: usize) -> io::Result<Client> {
+        let host = self.host(process);
+        let patience = Duration::from_millis(if host == HERE { 60_000 } else { 300 });
+        Client::open(host, self.ports[process].load(SeqCst), patience)
+    }
+
+    fn be_client(&self, number: u64, process: usize) -> Came {
         let (mut came, mut seed) = (Came::default(), 0x9E37_79B9_7F4A_7C15_u64.wrapping_mul(number + 1));
-        let port = &self.ports[number as usize % 2];
+        let mut kept = None;
         while !self.ends.load(SeqCst) {
-            let done = Client::open(port.load(SeqCst)).and_then(|mut client| {
-                while !self.ends.load(SeqCst) {
-                    self.ask(&mut client, &mut seed, &mut came)?;
-                }
-                Ok(())
+            let at = drawn(&mut seed);
+            let row = self.shares.partition_point(|share| *share < at).min(self.rows.len() - 1);
+            let client = kept.take().map_or_else(|| self.open(process), Ok);
+            let asked = client.and_then(|mut client| {
+                self.ask(&mut client, row, &mut seed, &mut came)?;
+                Ok(client)
             });
-            if done.is_err() {
-                came.failed += 1;
-                thread::sleep(Duration::from_millis(20));
+            match asked {
+                Ok(client) => kept = Some(client),
+                Err(_) => {
+                    came.failed += 1;
+                    thread::sleep(Duration::from_millis(20));
+                }
             }
         }
         came
     }
 
-    fn ask(&self, client: &mut Client, seed: &mut u64, came: &mut Came) -> io::Result<()> {
-        let at = drawn(seed);
-        let row = self.shares.partition_point(|share| *share < at).min(self.rows.len() - 1);
+    fn ask(&self, client: &mut Client, row: usize, seed: &mut u64, came: &mut Came) -> io::Result<()> {
         if drawn(seed) < 0.1 && row != OF_THE_DYING {
             let version = client.ask("change", row)?;
             self.rows[row].answered(version[0]);
