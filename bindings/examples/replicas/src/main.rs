@@ -11,6 +11,8 @@
 //!   alone      not at all: each has a cache, and deletes there what it has changed itself
 //!   notices    PostgreSQL tells of each change (NOTIFY by a trigger); a heartbeat each second, and `clear` behind each break
 //!   careless   the same without the heartbeat and without the clear
+//!   owner      they needn't: each row is read and changed at one process, and while that is away at none
+//!   handed     the same, but while it is away the other one has its rows
 //!   server     there is one cache, in kilambosetryd; keys wait in a table for their delete
 //!   unswept    the same, and nobody deletes the keys of a process that has died
 //! HARM is what happens to them every seven seconds: `none`; `cut` or `lost`, the connection of who listens is closed, or forwards
@@ -19,7 +21,8 @@
 //!
 //! The status is 1 where a read with `notices` was older than a change that was answered three seconds before it began, or than one of
 //! which the process had been told; or one with `server` than a change that was answered five seconds before, or at all though
-//! nobody died. With the other three it is 1 where no read was beyond that limit: then the trial would show nothing.
+//! nobody died; or one with `owner` than any change that was answered. With the other four it is 1 where no read was beyond that
+//! limit: then the trial would show nothing.
 mod notices;
 mod postgres;
 mod proxy;
@@ -39,7 +42,8 @@ fn is_right(way: Way, harm: Harm, came: &Came) -> bool {
         && match way {
             Way::Notices => none_is_older,
             Way::Server => none_is_older && (harm == Harm::Death || came.stale == 0),
-            Way::Alone | Way::Careless | Way::Unswept => came.beyond > 0,
+            Way::Owner => none_is_older && came.stale == 0,
+            Way::Alone | Way::Careless | Way::Handed | Way::Unswept => came.beyond > 0,
         }
 }
 

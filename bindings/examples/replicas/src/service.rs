@@ -24,6 +24,10 @@ pub enum Way {
     Notices,
     /// The same without the heartbeat and without the clear.
     Careless,
+    /// They needn't: each row is read and changed at one process, and while that is away at none.
+    Owner,
+    /// The same, but while it is away the other one has its rows.
+    Handed,
     /// There is one cache, in a server, and keys wait in a table for their delete.
     Server,
     /// The same, and nobody deletes the keys of who has died.
@@ -32,12 +36,16 @@ pub enum Way {
 
 impl Way {
     pub fn named(name: &str) -> Option<Way> {
-        let all = [Way::Alone, Way::Notices, Way::Careless, Way::Server, Way::Unswept];
+        let all = [Way::Alone, Way::Notices, Way::Careless, Way::Owner, Way::Handed, Way::Server, Way::Unswept];
         all.into_iter().find(|way| format!("{way:?}").to_lowercase() == name)
     }
 
     pub fn has_server(self) -> bool {
         matches!(self, Way::Server | Way::Unswept)
+    }
+
+    pub fn has_owners(self) -> bool {
+        matches!(self, Way::Owner | Way::Handed)
     }
 }
 
@@ -98,7 +106,7 @@ impl Service {
             Way::Notices => notices::listen(&self.settings.listens_at, &self.cache, &self.watch, told),
             Way::Careless => self.listen_carelessly(told),
             Way::Server => self.sweep(),
-            Way::Alone | Way::Unswept => {}
+            Way::Alone | Way::Owner | Way::Handed | Way::Unswept => {}
         }
     }
 

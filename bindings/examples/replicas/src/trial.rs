@@ -15,6 +15,8 @@ const CLIENTS: u64 = 8;
 const OF_THE_DYING: usize = 5;
 // How long packets are dropped: for longer than the limit of notices.
 const DROPPED: Duration = Duration::from_secs(5);
+// How long nobody has the rows of an owner that has died.
+const AWAY: Duration = Duration::from_secs(1);
 // A process behind the router of `network`, as its clients see it, and the database as it sees that.
 const BEHIND_ROUTER: &str = "10.77.3.1";
 const DATABASE_THERE: &str = "10.77.1.1";
@@ -229,16 +231,31 @@ impl Running<'_> {
         }
     }
 
-    // Has the first process die between the commit of a change and its delete.
+    // Has a process die between the commit of a change and its delete.
     fn kill(&self, children: &mut [Child; 2]) -> io::Result<()> {
         let row = OF_THE_DYING;
-        self.open(0)?.ask("die", row).expect_err("it isn't answered");
-        children[0].wait()?;
+        let dying = self.process_of(row, 0);
+        self.open(dying)?.ask("die", row).expect_err("it isn't answered");
+        children[dying].wait()?;
+        self.ports[dying].store(0, SeqCst);
         // what is there now was committed
-        let version = self.open(1)?.ask("version", row)?;
+        let version = self.open(1 - dying)?.ask("version", row)?;
         self.rows[row].answered(version[0]);
-        children[0] = self.start(0)?;
+        if self.trial.way.has_owners() {
+            thread::sleep(AWAY);
+        }
+        children[dying] = self.start(dying)?;
         Ok(())
+    }
+
+    // The process that a client asks for a row: the row's own, where it has one, or else the client's.
+    fn process_of(&self, row: usize, of_client: usize) -> usize {
+        let owner = row % 2;
+        match self.trial.way {
+            Way::Handed if self.ports[owner].load(SeqCst) == 0 => 1 - owner,
+            way if way.has_owners() => owner,
+            _ => of_client,
+        }
     }
 
     // (who waits for a database that isn't to be reached would ask for no row that the process still has)
@@ -248,19 +265,20 @@ impl Running<'_> {
         Client::open(host, self.ports[process].load(SeqCst), patience)
     }
 
-    fn be_client(&self, number: u64, process: usize) -> Came {
+    fn be_client(&self, number: u64, of_client: usize) -> Came {
         let (mut came, mut seed) = (Came::default(), 0x9E37_79B9_7F4A_7C15_u64.wrapping_mul(number + 1));
-        let mut kept = None;
+        let mut clients = [None, None];
         while !self.ends.load(SeqCst) {
             let at = drawn(&mut seed);
             let row = self.shares.partition_point(|share| *share < at).min(self.rows.len() - 1);
-            let client = kept.take().map_or_else(|| self.open(process), Ok);
+            let process = self.process_of(row, of_client);
+            let client = clients[process].take().map_or_else(|| self.open(process), Ok);
             let asked = client.and_then(|mut client| {
                 self.ask(&mut client, row, &mut seed, &mut came)?;
                 Ok(client)
             });
             match asked {
-                Ok(client) => kept = Some(client),
+                Ok(client) => clients[process] = Some(client),
                 Err(_) => {
                     came.failed += 1;
                     thread::sleep(Duration::from_millis(20));
