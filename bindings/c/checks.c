@@ -511,20 +511,18 @@ static unsigned in_slot_of_changed(kilambosetry_cache *cache, uint32_t keys) {
 
 /* As many slots as are asked for, within their limits: of n one key in n has that of the changed one. */
 static void check_slots(void) {
-    static const kilambosetry_pool pools[] = {{4096, 40}};
-    static const kilambosetry_flash flash = {512, 1, 3, 1, 1, 100, 8, 8, 0, 2000};
     static const uint32_t asked[] = {0, 16, 64, 1024, 65536, UINT32_MAX};
     unsigned stale[6];
     kilambosetry_cache cache = KILAMBOSETRY_NONE;
     for (int of = 0; of < 6; of++) {
-        CHECK(kilambosetry_new_with_slots(&cache, pools, 1, asked[of]) == KILAMBOSETRY_DONE);
+        CHECK(kilambosetry_new_with_slots(&cache, pools, 2, asked[of]) == KILAMBOSETRY_DONE);
         stale[of] = in_slot_of_changed(&cache, 20000);
-        CHECK(kilambosetry_new_with_flash_and_slots(&cache, pools, 1, &flash, asked[of]) == KILAMBOSETRY_DONE);
+        CHECK(kilambosetry_new_with_flash_and_slots(&cache, pools, 2, &flash, asked[of]) == KILAMBOSETRY_DONE);
         CHECK(in_slot_of_changed(&cache, 20000) == stale[of]);
     }
     CHECK(stale[0] == stale[1] && stale[1] > 1000 && stale[1] < 1500);
     CHECK(stale[2] > 200 && stale[2] < 430 && stale[3] > 5 && stale[3] < 40);
-    CHECK(kilambosetry_new(&cache, pools, 1) == KILAMBOSETRY_DONE);
+    CHECK(kilambosetry_new(&cache, pools, 2) == KILAMBOSETRY_DONE);
     CHECK(stale[4] == stale[5] && stale[4] == in_slot_of_changed(&cache, 20000) && stale[4] < 5);
     CHECK(kilambosetry_new_with_slots(&cache, pools, 0, 16) == KILAMBOSETRY_BAD_POOL && cache.full);
     CHECK(kilambosetry_new_with_flash_and_slots(&cache, pools, 0, &flash, 16) == KILAMBOSETRY_BAD_POOL && cache.full);
