@@ -1,5 +1,5 @@
 use crate::masked::Masked;
-use crate::{Added, Came, Copied, Counts, Engine, Found, Kept, Losses, Operation, Refused, Reply, Take, Ticket, Usage};
+use crate::{Added, Came, Copied, Counts, Engine, Found, Losses, Operation, Refused, Reply, Take, Ticket};
 
 /// The engine of a shard, and what is left of those before it. A shard is cleared by an empty engine in place of the one that it has:
 /// so nothing that was stored before is found, and a ticket of before stores nothing.
@@ -92,18 +92,10 @@ impl Generations {
         Some(Ticket { cache: self.engine.number(), number })
     }
 
-    pub fn tick(&mut self, moment: u64) -> Result<(), Refused> {
-        self.engine.tick(moment)
-    }
-
+    /// The engine of now, for what tells no number of a call or a job.
     #[inline]
-    pub fn set(&mut self, pool: u8, key: &[u8], value: &[u8], ttl: u32) -> Result<(), Refused> {
-        self.engine.set(pool, key, value, ttl)
-    }
-
-    #[inline]
-    pub fn delete(&mut self, key: &[u8]) -> Result<bool, Refused> {
-        self.engine.delete(key)
+    pub fn now(&mut self) -> &mut Masked {
+        &mut self.engine
     }
 
     pub fn add(&mut self, pool: u8, key: &[u8], value: &[u8], ttl: u32) -> Result<Added, Refused> {
@@ -129,10 +121,6 @@ impl Generations {
         })
     }
 
-    pub fn is_expired(&mut self, key: &[u8]) -> Result<bool, Refused> {
-        self.engine.is_expired(key)
-    }
-
     pub fn take_reply(&mut self, call: u64) -> Result<Reply, Refused> {
         match call.checked_sub(self.calls_before) {
             Some(call) => self.engine.take_reply(call),
@@ -142,21 +130,6 @@ impl Generations {
 
     pub fn next_reply(&mut self) -> Option<u64> {
         self.engine.next_reply().map(|call| call + self.calls_before)
-    }
-
-    pub fn ticket(&mut self) -> Option<Ticket> {
-        self.engine.ticket()
-    }
-
-    pub fn set_leased(
-        &mut self,
-        ticket: Ticket,
-        pool: u8,
-        key: &[u8],
-        value: &[u8],
-        ttl: u32,
-    ) -> Result<Kept, Refused> {
-        self.engine.set_leased(ticket, pool, key, value, ttl)
     }
 
     /// What was done so far, by those before too.
@@ -176,14 +149,6 @@ impl Generations {
     /// How many items memory had when it was cleared, all together.
     pub fn cleared(&self) -> u64 {
         self.cleared
-    }
-
-    pub fn usage(&mut self, pool: u8) -> Result<Usage, Refused> {
-        self.engine.usage(pool)
-    }
-
-    pub fn queue_length(&mut self) -> u64 {
-        self.engine.queue_length()
     }
 
     // Whether the engine may write: there is one, and no operation of those before is under way.

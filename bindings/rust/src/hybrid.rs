@@ -180,7 +180,7 @@ impl HybridCache {
     /// than they committed ([`change`](HybridCache::change), [`get_or_load`](HybridCache::get_or_load)).
     pub fn set(&self, key: &[u8], value: &[u8], ttl: u32) -> Result<(), Error> {
         self.step(key, |state, pool| {
-            state.engine.set(pool, key, value, ttl)?;
+            state.engine.now().set(pool, key, value, ttl)?;
             state.end_load(key);
             Ok(())
         })
@@ -335,10 +335,10 @@ fn add_shard(stats: &mut Stats, state: &mut Locked<'_>, shards: &Shards) {
     stats.refused_stores += state.loads.refused;
     stats.waiting += state.calls.len() as u64;
     stats.given_up += state.calls.given_up;
-    stats.queue_length += state.engine.queue_length();
+    stats.queue_length += state.engine.now().queue_length();
     stats.shards_behind += u64::from(shards.device.is_some() && state.engine.is_to_be_written());
     for pool in 0..shards.pools() {
-        let usage = state.engine.usage(pool).unwrap_or_default();
+        let usage = state.engine.now().usage(pool).unwrap_or_default();
         stats.memory_items += usage.items;
         stats.memory_bytes += usage.bytes;
         stats.memory_limit_bytes += usage.limit_bytes;

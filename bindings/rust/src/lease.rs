@@ -255,7 +255,7 @@ impl HybridCache {
         state.loads.begun += 1;
         // (a bar that is due ends here: what is loaded from now on is of behind it)
         state.is_barred(begun.key);
-        let ticket = state.engine.ticket();
+        let ticket = state.engine.now().ticket();
         begun.shards.leave(begun.shard, state);
         Ok(Lease { cache: self.clone(), shard: begun.shard, key, ticket, load: begun.load.take() })
     }

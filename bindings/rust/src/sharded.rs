@@ -134,14 +134,9 @@ impl ShardedCache {
 
     /// What was done so far, of all shards together. Each is asked by itself, so that no two numbers need be of one moment.
     pub fn counts(&self) -> Counts {
-        self.shards.iter().map(|shard| locked(shard).counts()).fold(Counts::default(), |sum, one| Counts {
-            stored: sum.stored + one.stored,
-            hits: sum.hits + one.hits,
-            misses: sum.misses + one.misses,
-            removes: sum.removes + one.removes,
-            losses: sum.losses + one.losses,
-            reads: sum.reads + one.reads,
-            writes: sum.writes + one.writes,
+        self.shards.iter().fold(Counts::default(), |mut sum, shard| {
+            sum += locked(shard).counts();
+            sum
         })
     }
 

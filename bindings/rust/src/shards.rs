@@ -111,7 +111,7 @@ impl State {
 
     /// Takes the key out, and ends its load.
     pub fn delete(&mut self, key: &[u8]) -> Result<bool, Refused> {
-        let was_there = self.engine.delete(key)?;
+        let was_there = self.engine.now().delete(key)?;
         self.end_load(key);
         Ok(was_there)
     }
@@ -128,7 +128,7 @@ impl State {
         if self.is_barred(key) {
             return Ok(Kept::Stale);
         }
-        self.engine.set_leased(ticket, pool, key, value, ttl)
+        self.engine.now().set_leased(ticket, pool, key, value, ttl)
     }
 
     /// Raises a bar on the key, for a change: its number.
@@ -191,7 +191,7 @@ impl State {
     }
 
     fn count_expired(&mut self, key: &[u8], is_miss: bool) {
-        self.misses_expired += u64::from(is_miss && self.engine.is_expired(key) == Ok(true));
+        self.misses_expired += u64::from(is_miss && self.engine.now().is_expired(key) == Ok(true));
     }
 
     // Hands in what came of an operation. What it answers is known by `leave`, before the lock is free.
@@ -209,7 +209,7 @@ impl State {
 // Whether the key could be deleted. (What was loaded before isn't handed on, also where it can't be.)
 fn delete(engine: &mut Generations, loads: &mut Loads, wakes: &mut Wakes, key: &[u8]) -> bool {
     loads.end(key, wakes);
-    engine.delete(key).is_ok()
+    engine.now().delete(key).is_ok()
 }
 
 /// A shard, on lines of the processor's memory of its own.
@@ -357,7 +357,7 @@ impl Shards {
             self.fill_shard(&mut state)?;
         }
         if now > state.now {
-            state.engine.tick(now)?;
+            state.engine.now().tick(now)?;
             state.now = now;
         }
         Ok(state)
@@ -383,7 +383,7 @@ impl Shards {
         }
         let before = state.clear(empty, self.pools());
         let now = state.now.max(now);
-        let _ = state.engine.tick(now); // (where there is one, it isn't refused)
+        let _ = state.engine.now().tick(now); // (where there is one, it isn't refused)
         state.now = now;
         self.leave(shard, state);
         Some(before)
