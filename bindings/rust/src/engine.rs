@@ -205,9 +205,20 @@ impl Engine {
         Ok(Engine::of(handle, flash))
     }
 
-    // A shard without flash. No call of it waits, and it has no work.
-    pub(crate) fn new_shard_in_memory(pools: &[Pool], shards: u8) -> Result<Engine, Refused> {
-        let cache = Cache::new_shard(pools, shards)?;
+    /// An empty cache of these pools, with this flash behind them, and with so many slots for leases, as
+    /// [`Cache::with_slots`].
+    pub fn with_slots(pools: &[Pool], flash: &Flash, slots: u32) -> Result<Engine, Refused> {
+        let mut handle = Handle::none();
+        // SAFETY: as in `new`.
+        done(unsafe {
+            library::kilambosetry_new_with_flash_and_slots(&mut handle, pools.as_ptr(), pools.len(), flash, slots)
+        })?;
+        Ok(Engine::of(handle, flash))
+    }
+
+    // One without flash. No call of it waits, and it has no work.
+    pub(crate) fn in_memory(pools: &[Pool], slots: u32) -> Result<Engine, Refused> {
+        let cache = Cache::with_slots(pools, slots)?;
         Ok(Engine { cache, page: 0, owed: None, forgotten: VecDeque::new() })
     }
 

@@ -51,7 +51,6 @@ mod change;
 mod checked;
 mod clear;
 mod clock;
-mod cores;
 mod digest;
 mod engine;
 mod errors;
@@ -281,6 +280,15 @@ impl Cache {
         Ok(Cache::of(handle))
     }
 
+    /// An empty cache of these pools, with so many slots for leases, of 8 bytes each: for one of many caches, each of which needs
+    /// the fewer. It has 16 where fewer are asked for, and 65,536 where more are.
+    pub fn with_slots(pools: &[Pool], slots: u32) -> Result<Cache, Refused> {
+        let mut handle = Handle::none();
+        // SAFETY: as in `new`.
+        done(unsafe { library::kilambosetry_new_with_slots(&mut handle, pools.as_ptr(), pools.len(), slots) })?;
+        Ok(Cache::of(handle))
+    }
+
     fn of(handle: Handle) -> Cache {
         Cache { handle, number: leases::next_number() }
     }
@@ -431,7 +439,7 @@ impl Cache {
 
     /// Stores what was loaded after the ticket was handed out, as [`set`](Cache::set) does, where no key of its slot was changed
     /// since (by a set, an add or a delete) and no add of one waits; else nothing is stored. A cache has 65,536 slots, by the
-    /// keys' hashes, and a shard of many has fewer. The key's turn is over with either. A ticket of another cache stores nothing.
+    /// keys' hashes, or as many as it was made with, and a shard of many has fewer. The key's turn is over with either. A ticket of another cache stores nothing.
     pub fn set_leased(
         &mut self,
         ticket: Ticket,

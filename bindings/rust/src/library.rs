@@ -49,6 +49,19 @@ extern "C" {
     pub fn kilambosetry_finish_write(cache: *mut Handle, job: u64) -> u8;
     pub fn kilambosetry_finish_failed(cache: *mut Handle, job: u64) -> u8;
     pub fn kilambosetry_new(cache: *mut Handle, pools: *const crate::Pool, pools_len: usize) -> u8;
+    pub fn kilambosetry_new_with_slots(
+        cache: *mut Handle,
+        pools: *const crate::Pool,
+        pools_len: usize,
+        slots: u32,
+    ) -> u8;
+    pub fn kilambosetry_new_with_flash_and_slots(
+        cache: *mut Handle,
+        pools: *const crate::Pool,
+        pools_len: usize,
+        flash: *const crate::Flash,
+        slots: u32,
+    ) -> u8;
     pub fn kilambosetry_new_shard(cache: *mut Handle, pools: *const crate::Pool, pools_len: usize, shards: u8) -> u8;
     pub fn kilambosetry_new_shard_with_flash(
         cache: *mut Handle,

@@ -1,4 +1,3 @@
-use crate::cores;
 use crate::sizing::{self, BESIDE_LARGE, INDEX};
 use crate::{Flash, Pool};
 use std::fmt;
@@ -18,6 +17,9 @@ const DIGEST: u64 = 8;
 // What a slot for tickets takes, and a place for turns, of which there is one to 16 slots.
 const SLOT: u64 = 8;
 const TURN: u64 = 24;
+// Slots of all shards together, and at least of one.
+const SLOTS: u32 = 65_536;
+const LEAST_SLOTS: u32 = 16;
 // What an entry in a bucket takes of its page beside its key and value.
 const BESIDE_SMALL: u64 = 12;
 // What a shard takes beside all that, and where it has flash.
@@ -121,11 +123,17 @@ impl Numbers {
         self.pages().saturating_mul(DIGEST)
     }
 
-    /// Bytes of what the library keeps for leases: slots for tickets, 65,536 or more of all shards together, and places for
-    /// turns.
+    /// Slots for tickets of one shard. All shards together have 65,536 or a few more, so that a load ends without need as seldom
+    /// as in one shard, however many there are.
+    #[must_use]
+    pub fn slots(&self) -> u32 {
+        SLOTS.div_ceil(u32::from(self.shards.max(1))).max(LEAST_SLOTS)
+    }
+
+    /// Bytes of what the library keeps for leases: slots for tickets, and places for turns.
     #[must_use]
     pub fn leases_bytes(&self) -> u64 {
-        let slots = cores::slots_of(&self.share(), self.shards);
+        let slots = u64::from(self.slots());
         u64::from(self.shards) * (slots * SLOT + slots / 16 * TURN)
     }
 

@@ -3,12 +3,11 @@ use crate::bell::Bell;
 use crate::buffer::with_page;
 use crate::calls::{Answer, Call, Calls};
 use crate::checked::Checked;
-use crate::cores;
 use crate::generations::Generations;
 use crate::lease::Waited;
 use crate::loads::{Loads, Outcome};
 use crate::marks::Marks;
-use crate::numbers::{Numbers, Share};
+use crate::numbers::{Numbers, Share, MOST_POOLS};
 use crate::spread::Spread;
 use crate::timer::Timer;
 use crate::told::{Tellings, Told};
@@ -944,7 +943,11 @@ impl Shards {
 
 // An empty engine of one shard, with its clock told.
 fn new_engine(numbers: &Numbers, share: &Share, now: u64) -> Result<Engine, Refused> {
-    let mut engine = cores::core_of(share, numbers.flash.as_ref(), numbers.shards)?;
+    let pools = &[share.pool; MOST_POOLS as usize][..usize::from(share.pools)];
+    let mut engine = match &numbers.flash {
+        Some(flash) => Engine::with_slots(pools, flash, numbers.slots())?,
+        None => Engine::in_memory(pools, numbers.slots())?,
+    };
     engine.tick(now)?;
     Ok(engine)
 }

@@ -27,6 +27,8 @@ static ONE_IN: AtomicU64 = AtomicU64::new(0);
 static REFUSED: AtomicU64 = AtomicU64::new(0);
 // How many allocations are made until one is refused; none, where it is 0.
 static UNTIL: AtomicU64 = AtomicU64::new(0);
+// The bytes that the library's new blocks had.
+static ASKED: AtomicU64 = AtomicU64::new(0);
 // The tests run one after the other, since they share these.
 static ALONE: Mutex<()> = Mutex::new(());
 
@@ -62,6 +64,7 @@ unsafe extern "C" fn malloc(size: usize) -> *mut c_void {
     if is_refused() {
         return ptr::null_mut();
     }
+    ASKED.fetch_add(size as u64, SeqCst);
     __libc_malloc(size)
 }
 
@@ -361,4 +364,20 @@ fn a_key_is_forgotten_though_there_is_no_memory_to_delete_it() {
     HERE.set((0, false));
     assert!(cache.get(&[key]).unwrap().is_none());
     assert!(cache.stats().cleared_items > 0);
+}
+
+#[test]
+fn many_shards_take_little_more_than_one() {
+    let _alone = ALONE.lock();
+    let taken = |shards: u16| {
+        let options = Options { memory: 4_000_000, mean_value: 100, shards, ..Options::default() };
+        let before = ASKED.load(SeqCst);
+        let cache = HybridCache::in_memory(&options).unwrap();
+        let (taken, said) = (ASKED.load(SeqCst) - before, cache.numbers().leases_bytes());
+        assert!(taken >= said && taken < said + u64::from(shards) * 4_400, "{shards}: {taken}, and said {said}");
+        taken
+    };
+    // (of the slots and places of 65,536 tickets each shard has its share)
+    let one = taken(1);
+    assert!(one > 600_000 && taken(64) < one + 300_000 && taken(4_096) < 20_000_000);
 }

@@ -26,9 +26,12 @@ fn options_say_what_they_come_to() {
     let fixed = numbers.leases_bytes() + numbers.shards_bytes();
     let together = numbers.items_bytes() + numbers.digests_bytes() + fixed + parts.iter().sum::<u64>();
     assert_eq!(numbers.memory_bytes(), together);
-    for (shards, slots) in [(1, 65_536), (2, 32_768), (3, 32_768), (4, 16_384), (7, 16_384), (8, 8_192), (16, 4_096)] {
+    // all shards together have the slots of one, and a few more where these can't be divided
+    for (shards, slots) in [(1, 65_536), (2, 32_768), (3, 21_846), (7, 9_363), (8, 8_192), (1_024, 64), (4_096, 16)] {
         let numbers = Options { shards, ..options.clone() }.numbers_in_memory().unwrap();
-        assert_eq!(numbers.leases_bytes(), u64::from(shards) * slots / 16 * (16 * 8 + 24));
+        assert_eq!(numbers.slots(), slots);
+        let (slots, places) = (u64::from(slots), u64::from(slots) / 16);
+        assert_eq!(numbers.leases_bytes(), u64::from(shards) * (slots * 8 + places * 24));
     }
     let text = options.to_string();
     assert_eq!(text, numbers.to_string());
