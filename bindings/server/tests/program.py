@@ -2,6 +2,7 @@
 """Tries the program: that it ends when it is told to, its sockets, the page for Prometheus, what it refuses, and memccapable."""
 import glob
 import os
+import resource
 import shutil
 import signal
 import socket
@@ -261,6 +262,36 @@ def keeps_time():
     shutil.rmtree(folder)
 
 
+def filled(client):
+    """Stores more keys than memory has room for, and returns them."""
+    keys = [b"key%d" % it for it in range(8000)]
+    for at in range(0, len(keys), 100):
+        client.send(b"".join(b"ms %s 1000 q\r\n%s\r\n" % (key, key.ljust(1000)) for key in keys[at : at + 100]) + b"mn\r\n")
+        assert client.line() == b"MN"
+        written(client)
+    return keys
+
+
+def outlives_a_limit_of_its_file():
+    """Where its file may be written no further from some moment on, that is counted, what is found is right, and no signal ends it."""
+    folder = tempfile.mkdtemp()
+    words = ["--memory", 2, "--flash", os.path.join(folder, "flash"), "--flash-size", 50, "--mean-value", 1000]
+    with kilambosetryd(*words) as server:
+        resource.prlimit(server.process.pid, resource.RLIMIT_FSIZE, (100_000, 100_000))
+        client = Client(server.port)
+        keys = filled(client)
+        values = [client.ask(b"mg %s v" % key)[1] for key in keys]
+        assert all(value in (None, key.ljust(1000)) for key, value in zip(keys, values))
+        assert values[-1] is not None and values[0] is None, "they are in memory, or on flash"
+        stats = written(client)
+        assert int(stats[b"flash_write_failures"]) > 0, stats
+        # what it has is whole once more
+        client.send(b"set key0 0 0 5\r\nvalue\r\n")
+        assert client.line() == b"STORED" and client.ask(b"mg key0 v") == (b"VA 5", b"value")
+        assert server.end() == 0, server.said()
+    shutil.rmtree(folder)
+
+
 def has_flash():
     """Its flash is a file that is locked, and what leaves memory is found there."""
     folder = tempfile.mkdtemp()
@@ -270,11 +301,7 @@ def has_flash():
         other = subprocess.run([binary(), "--port", str(free_port()), *map(str, words)], capture_output=True, check=False)
         assert other.returncode == 1 and b"another has the file open" in other.stderr
         client = Client(server.port)
-        keys = [b"key%d" % it for it in range(8000)]
-        for at in range(0, len(keys), 100):
-            client.send(b"".join(b"ms %s 1000 q\r\n%s\r\n" % (key, key.ljust(1000)) for key in keys[at : at + 100]) + b"mn\r\n")
-            assert client.line() == b"MN"
-            written(client)
+        keys = filled(client)
         found = sum(client.ask(b"mg %s v" % key)[1] == key.ljust(1000) for key in keys)
         stats = written(client)
         assert found > 7000 and int(stats[b"hits_from_flash"]) > 4000, (found, stats)
@@ -347,7 +374,7 @@ def main():
     drains(signal.SIGINT)
     sockets = (has_a_unix_socket, has_a_socket_of_its_own_from_the_first, has_a_page, has_a_long_queue)
     limits = (raises_its_handles, is_told_that_its_file_is_too_long, keeps_time)
-    flash = (has_flash, looks_whose_its_flash_is)
+    flash = (has_flash, outlives_a_limit_of_its_file, looks_whose_its_flash_is)
     for check in (ends_in_the_midst_of_a_load, *sockets, *flash, *limits, refuses, runs_as_a_plain_user, is_capable):
         check()
     print("the program: does what it says")
