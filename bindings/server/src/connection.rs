@@ -31,6 +31,8 @@ pub struct Connection<S> {
     answers: Answers<S>,
     // of the bytes in flight, for what is being received
     share: Share,
+    // so many bytes of the line that is being received have come, and been looked through for its end
+    looked_through: usize,
     // bytes of a body that are to be passed over
     passed_over: usize,
     // whether nothing has come yet
@@ -70,7 +72,18 @@ impl<S: Stream> Connection<S> {
         let answers = Answers::new(stream, in_flight, worker.server.patience, counters);
         let is_last = *ends.borrow();
         let received = Buffer::default();
-        Connection { worker, received, answers, share, passed_over: 0, is_new: true, begun: None, ends, is_last }
+        Connection {
+            worker,
+            received,
+            answers,
+            share,
+            looked_through: 0,
+            passed_over: 0,
+            is_new: true,
+            begun: None,
+            ends,
+            is_last,
+        }
     }
 
     /// Serves the client until it or the server ends.
@@ -129,16 +142,20 @@ impl<S: Stream> Connection<S> {
     }
 
     async fn answer_next(&mut self) -> io::Result<Next> {
-        let Connection { worker, received, answers, passed_over, .. } = self;
+        let Connection { worker, received, answers, passed_over, looked_through, .. } = self;
         let received = received.bytes();
         if !answers.has_room_for_line() {
             return Ok(Next::Ends);
         }
-        let (line, length) = match line_of(received) {
+        let (line, length) = match line_of(received, *looked_through) {
             Received::Line(line, length) => (line, length),
-            Received::Part => return Ok(Next::Wants(received.len() + 1)),
+            Received::Part => {
+                *looked_through = received.len();
+                return Ok(Next::Wants(received.len() + 1));
+            }
             Received::TooLong => return Ok(Next::Ends),
         };
+        *looked_through = 0;
         let request = match Request::of(line) {
             None | Some(Ok(Request { command: Command::Quit, .. })) => return Ok(Next::Ends),
             Some(Ok(request)) => request,
@@ -171,7 +188,7 @@ impl<S: Stream> Connection<S> {
     // Refuses the command of which no more can be received, and passes its value over. No: the connection is to be closed.
     async fn refuse_received(&mut self) -> bool {
         let Connection { worker, received, answers, passed_over, .. } = self;
-        let Received::Line(line, length) = line_of(received.bytes()) else {
+        let Received::Line(line, length) = line_of(received.bytes(), 0) else {
             worker.counters.in_flight_refused.one();
             answers.line(b"SERVER_ERROR out of memory reading request");
             return false;

@@ -21,10 +21,12 @@ pub enum Received<'a> {
     TooLong,
 }
 
-/// Looks for the line at the head of these bytes. It ends with a newline, before which a carriage return may stand.
+/// Looks for the line at the head of these bytes, of which the first have no newline: so many were looked through before. It ends
+/// with a newline, before which a carriage return may stand.
 #[must_use]
-pub fn line_of(bytes: &[u8]) -> Received<'_> {
-    let Some(newline) = memchr(b'\n', bytes) else {
+pub fn line_of(bytes: &[u8], looked_through: usize) -> Received<'_> {
+    let (_, new) = bytes.split_at(looked_through.min(bytes.len()));
+    let Some(newline) = memchr(b'\n', new).map(|at| bytes.len() - new.len() + at) else {
         let is_list = bytes.trim_ascii_start().starts_with(b"get ") || bytes.trim_ascii_start().starts_with(b"gets ");
         let most = if is_list { LONGEST_LIST } else { LONGEST_LINE };
         return if bytes.len() > most { Received::TooLong } else { Received::Part };
@@ -121,27 +123,31 @@ mod tests {
 
     #[test]
     fn a_line_ends_with_a_newline() {
-        assert_eq!(line_of(b"get a\r\nget b"), Received::Line(b"get a", 7));
-        assert_eq!(line_of(b"get a\nget b"), Received::Line(b"get a", 6));
-        assert_eq!(line_of(b"get a\r"), Received::Part);
-        assert_eq!(line_of(b""), Received::Part);
-        assert_eq!(line_of(b"\n"), Received::Line(b"", 1));
-        assert_eq!(line_of(b"a\0b\r\n"), Received::Line(b"a", 5));
+        assert_eq!(line_of(b"get a\r\nget b", 0), Received::Line(b"get a", 7));
+        assert_eq!(line_of(b"get a\nget b", 0), Received::Line(b"get a", 6));
+        assert_eq!(line_of(b"get a\r", 0), Received::Part);
+        assert_eq!(line_of(b"", 0), Received::Part);
+        assert_eq!(line_of(b"\n", 0), Received::Line(b"", 1));
+        assert_eq!(line_of(b"a\0b\r\n", 0), Received::Line(b"a", 5));
+        // where the first were looked through before
+        assert_eq!(line_of(b"get a\r\nget b", 6), Received::Line(b"get a", 7));
+        assert_eq!(line_of(b"get a\r", 6), Received::Part);
+        assert_eq!(line_of(b"get a\r\nget b\r\n", 7), Received::Line(b"get a\r\nget b", 14));
     }
 
     #[test]
     fn a_line_that_does_not_end_is_too_long_but_for_a_list_of_keys() {
         let long = vec![b'a'; LONGEST_LINE];
-        assert_eq!(line_of(&long), Received::Part);
-        assert_eq!(line_of(&vec![b'a'; LONGEST_LINE + 1]), Received::TooLong);
+        assert_eq!(line_of(&long, 0), Received::Part);
+        assert_eq!(line_of(&vec![b'a'; LONGEST_LINE + 1], 0), Received::TooLong);
         let mut list = b"gets ".to_vec();
         list.resize(LONGEST_LIST, b'a');
-        assert_eq!(line_of(&list), Received::Part);
+        assert_eq!(line_of(&list, 0), Received::Part);
         list.push(b'a');
-        assert_eq!(line_of(&list), Received::TooLong);
+        assert_eq!(line_of(&list, 0), Received::TooLong);
         let mut whole = vec![b'a'; LONGEST_LINE * 2];
         whole.push(b'\n');
-        assert!(matches!(line_of(&whole), Received::Line(..)));
+        assert!(matches!(line_of(&whole, 0), Received::Line(..)));
     }
 
     #[test]
