@@ -1,5 +1,5 @@
 //! Keys whose rows clients are changing: nothing that was loaded is stored under them meanwhile.
-use std::collections::HashMap;
+use std::collections::{HashMap, TryReserveError};
 use std::sync::{Mutex, MutexGuard, PoisonError};
 use tokio::task::JoinHandle;
 
@@ -25,6 +25,16 @@ struct Bar {
     limit: JoinHandle<()>,
 }
 
+impl Standing {
+    // Makes room for one more bar of the key.
+    fn reserve(&mut self, key: &[u8]) -> Result<(), TryReserveError> {
+        match self.of.get_mut(key) {
+            Some(bars) => bars.try_reserve(1),
+            None => self.of.try_reserve(1),
+        }
+    }
+}
+
 impl Bars {
     fn standing(&self) -> MutexGuard<'_, Standing> {
         self.0.lock().unwrap_or_else(PoisonError::into_inner)
@@ -33,7 +43,7 @@ impl Bars {
     /// Sets a bar of this number: whether there was room for it.
     pub fn raise(&self, key: &[u8], number: u64, limit: JoinHandle<()>) -> bool {
         let mut standing = self.standing();
-        if standing.count == MOST || standing.of.try_reserve(1).is_err() {
+        if standing.count == MOST || standing.reserve(key).is_err() {
             limit.abort();
             return false;
         }

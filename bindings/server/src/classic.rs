@@ -53,9 +53,9 @@ pub async fn run<S: Stream>(
             answers.piece(b"VERSION ");
             VERSION
         }
-        Command::Store(asked) => store(worker, asked, value).await,
-        Command::Delete(key) => delete(worker, key).await,
-        Command::Touch { key, time } => touch(worker, key, *time).await,
+        Command::Store(asked) => store(worker, asked, value).await?,
+        Command::Delete(key) => delete(worker, key).await?,
+        Command::Touch { key, time } => touch(worker, key, *time).await?,
         Command::FlushAll { delay } => flush_all(worker, *delay),
         Command::Verbosity => "OK",
         Command::Quit => return Ok(()),
@@ -102,7 +102,7 @@ async fn get_and_touch<S: Stream>(
             // (without the key's lock, so that it is likely in memory once it is touched)
             finds.next_found().await;
         }
-        let found = touched(worker, key, time, finds.wait()).await;
+        let found = touched(worker, key, time, finds.wait()).await?;
         tell(key, found, with_unique, answers).await?;
     }
     answers.line(b"END");
@@ -133,49 +133,44 @@ async fn tell<S: Stream>(
 }
 
 // The item under the key, which ends at another time from now on.
-async fn touched(worker: &Worker, key: &[u8], time: i32, wait: &mut Wait) -> Option<Item> {
+async fn touched(worker: &Worker, key: &[u8], time: i32, wait: &mut Wait) -> io::Result<Option<Item>> {
     let counters = &worker.counters;
     counters.cmd_touch.one();
-    let change = worker.server.items.change(key).await;
+    let change = worker.server.items.change(key).await?;
     let found = change.find_within(wait).await;
     counters.touch_hits.one_or(found.is_some(), &counters.touch_misses);
-    let mut item = found?;
+    let Some(mut item) = found else { return Ok(None) };
     item.head.expiry = Expiry::of(time, moments::now());
     // (where the cache is out of memory, the item is gone: that may be so at any time)
     let _ = change.store(&mut item).await;
-    Some(item)
+    Ok(Some(item))
 }
 
-async fn touch(worker: &Worker, key: &[u8], time: i32) -> &'static str {
-    match touched(worker, key, time, &mut worker.server.items.wait()).await {
-        Some(_) => "TOUCHED",
-        None => "NOT_FOUND",
-    }
+async fn touch(worker: &Worker, key: &[u8], time: i32) -> io::Result<&'static str> {
+    let found = touched(worker, key, time, &mut worker.server.items.wait()).await?;
+    Ok(if found.is_some() { "TOUCHED" } else { "NOT_FOUND" })
 }
 
-async fn store(worker: &Worker, asked: &Store<'_>, value: &[u8]) -> &'static str {
-    let change = worker.server.items.change(asked.key).await;
-    match changes::store(&change, asked, Beside::default(), value, &worker.counters).await {
+async fn store(worker: &Worker, asked: &Store<'_>, value: &[u8]) -> io::Result<&'static str> {
+    let change = worker.server.items.change(asked.key).await?;
+    Ok(match changes::store(&change, asked, Beside::default(), value, &worker.counters).await {
         Ok(Stored::Yes(_)) => "STORED",
         Ok(Stored::No) => "NOT_STORED",
         Ok(Stored::Exists) => "EXISTS",
         Ok(Stored::NotFound) => "NOT_FOUND",
         Err(why) => refused(&worker.counters, why),
-    }
+    })
 }
 
-async fn delete(worker: &Worker, key: &[u8]) -> &'static str {
-    let change = worker.server.items.change(key).await;
+async fn delete(worker: &Worker, key: &[u8]) -> io::Result<&'static str> {
+    let change = worker.server.items.change(key).await?;
     let found = change.find().await;
     if change.remove().await.is_err() {
-        return NO_MEMORY;
+        return Ok(NO_MEMORY);
     }
     let counters = &worker.counters;
     counters.delete_hits.one_or(found.is_some(), &counters.delete_misses);
-    match found {
-        Some(_) => "DELETED",
-        None => "NOT_FOUND",
-    }
+    Ok(if found.is_some() { "DELETED" } else { "NOT_FOUND" })
 }
 
 async fn count<S: Stream>(
@@ -186,7 +181,7 @@ async fn count<S: Stream>(
     is_quiet: bool,
     answers: &mut Answers<S>,
 ) -> io::Result<()> {
-    let change = worker.server.items.change(key).await;
+    let change = worker.server.items.change(key).await?;
     let text = match changes::count(&change, direction, delta, 0, &worker.counters).await {
         Counted::Now { value, mut item } => match change.store(&mut item).await {
             Ok(()) => {

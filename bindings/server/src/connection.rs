@@ -101,7 +101,7 @@ impl<S: Stream> Connection<S> {
             match self.receive(wanted).await? {
                 Came::All => {}
                 Came::End => return Ok(()),
-                Came::NoRoom if self.refuse_received().await => {}
+                Came::NoRoom if self.refuse_received().await? => {}
                 Came::NoRoom => break,
             }
         }
@@ -171,7 +171,7 @@ impl<S: Stream> Connection<S> {
         };
         let whole = length + value + 2;
         if value > LONGEST_VALUE {
-            refuse(worker, &request, NotKept::TooLarge, answers).await;
+            refuse(worker, &request, NotKept::TooLarge, answers).await?;
             *passed_over = value + 2;
             return Ok(Next::Took(length));
         }
@@ -186,20 +186,20 @@ impl<S: Stream> Connection<S> {
     }
 
     // Refuses the command of which no more can be received, and passes its value over. No: the connection is to be closed.
-    async fn refuse_received(&mut self) -> bool {
+    async fn refuse_received(&mut self) -> io::Result<bool> {
         let Connection { worker, received, answers, passed_over, .. } = self;
         let Received::Line(line, length) = line_of(received.bytes(), 0) else {
             worker.counters.in_flight_refused.one();
             answers.line(b"SERVER_ERROR out of memory reading request");
-            return false;
+            return Ok(false);
         };
-        let Some(Ok(request)) = Request::of(line) else { return false };
-        let Some(value) = value_of(&request) else { return false };
-        refuse(worker, &request, NotKept::NoMemory, answers).await;
+        let Some(Ok(request)) = Request::of(line) else { return Ok(false) };
+        let Some(value) = value_of(&request) else { return Ok(false) };
+        refuse(worker, &request, NotKept::NoMemory, answers).await?;
         *passed_over = value + 2;
         received.advance(length);
         self.begun = None;
-        true
+        Ok(true)
     }
 
     // Waits until there are so many bytes.
@@ -317,7 +317,12 @@ fn is_text(byte: u8) -> bool {
 
 // Answers that a value isn't stored, which is then passed over. What its key had is gone where it was to be replaced whatever it is:
 // else it would be older than what the client believes to be there.
-async fn refuse<S: Stream>(worker: &Worker, request: &Request<'_>, why: NotKept, answers: &mut Answers<S>) {
+async fn refuse<S: Stream>(
+    worker: &Worker,
+    request: &Request<'_>,
+    why: NotKept,
+    answers: &mut Answers<S>,
+) -> io::Result<()> {
     let counters = &worker.counters;
     if why == NotKept::NoMemory {
         counters.in_flight_refused.one();
@@ -328,9 +333,10 @@ async fn refuse<S: Stream>(worker: &Worker, request: &Request<'_>, why: NotKept,
         _ => None,
     };
     if let Some(key) = key {
-        let _ = worker.server.items.change(key).await.remove().await;
+        let _ = worker.server.items.change(key).await?.remove().await;
     }
     answers.line_unless(request.is_quiet, refused(counters, why).as_bytes());
+    Ok(())
 }
 
 fn refuse_chunk<S: Stream>(worker: &Worker, request: &Request<'_>, answers: &mut Answers<S>) {

@@ -6,6 +6,7 @@ use crate::locks::{KeyLock, KeyLocks};
 use crate::moments::{self, Expiry};
 use crate::within::{within, TimeIsUp};
 use kilambosetry::{Error, GetAsync, HybridCache, Refused};
+use std::io;
 use std::sync::atomic::{
     AtomicU32, AtomicU64,
     Ordering::{Relaxed, SeqCst},
@@ -100,10 +101,11 @@ impl Items {
         self.last.fetch_add(1, SeqCst) + 1
     }
 
-    /// Waits until nobody else changes the key.
-    pub async fn change<'a>(&'a self, key: &'a [u8]) -> Change<'a> {
-        let lock = self.locks.lock(key).await;
-        Change { items: self, key, unique: self.next_unique(), lock }
+    /// Waits until nobody else changes the key. Where there is no memory for that, the key keeps what it has, and nobody may be
+    /// told otherwise: the error ends the connection that wants the change.
+    pub async fn change<'a>(&'a self, key: &'a [u8]) -> io::Result<Change<'a>> {
+        let lock = self.locks.lock(key).await.map_err(|_| io::ErrorKind::OutOfMemory)?;
+        Ok(Change { items: self, key, unique: self.next_unique(), lock })
     }
 
     /// Finds that met an item that was flushed.

@@ -1,6 +1,6 @@
 //! A lock for each key that is being changed, so that what reads and then writes is done as one.
 use std::collections::hash_map::{HashMap, RandomState};
-use std::collections::VecDeque;
+use std::collections::{TryReserveError, VecDeque};
 use std::hash::BuildHasher;
 use std::sync::atomic::{AtomicUsize, Ordering::SeqCst};
 use std::sync::{Mutex, MutexGuard, PoisonError};
@@ -46,15 +46,16 @@ impl Default for KeyLocks {
 }
 
 impl KeyLocks {
-    /// Waits until nobody else has the key, and locks it.
-    pub async fn lock<'a>(&'a self, key: &'a [u8]) -> KeyLock<'a> {
-        let mut lock = KeyLock { locks: self, key, turn: self.ask(key) };
+    /// Waits until nobody else has the key, and locks it. Refused, where there is no memory for its place among those that are
+    /// locked, or for one among those who wait for it.
+    pub async fn lock<'a>(&'a self, key: &'a [u8]) -> Result<KeyLock<'a>, TryReserveError> {
+        let mut lock = KeyLock { locks: self, key, turn: self.ask(key)? };
         if let Some(turn) = &mut lock.turn {
             // (who has the key drops no sender without telling it)
             let _ = turn.await;
             lock.turn = None;
         }
-        lock
+        Ok(lock)
     }
 
     /// Whether what is under the key isn't to be found.
@@ -69,16 +70,21 @@ impl KeyLocks {
     }
 
     // Takes the key where it is free, or else a place in the row.
-    fn ask(&self, key: &[u8]) -> Option<oneshot::Receiver<()>> {
+    fn ask(&self, key: &[u8]) -> Result<Option<oneshot::Receiver<()>>, TryReserveError> {
         let mut stripe = self.stripe(key);
-        let key = stripe.entry(key.into()).or_default();
-        if !key.is_locked {
-            key.is_locked = true;
-            return None;
+        let Some(state) = stripe.get_mut(key) else {
+            stripe.try_reserve(1)?;
+            stripe.insert(key.into(), Key { is_locked: true, ..Key::default() });
+            return Ok(None);
+        };
+        if !state.is_locked {
+            state.is_locked = true;
+            return Ok(None);
         }
+        state.waiting.try_reserve(1)?;
         let (tell, told) = oneshot::channel();
-        key.waiting.push_back(tell);
-        Some(told)
+        state.waiting.push_back(tell);
+        Ok(Some(told))
     }
 
     // Hands the key on to the first in the row who still waits.
@@ -157,7 +163,7 @@ mod tests {
     #[test]
     fn a_key_is_handed_on_in_order_and_past_those_who_gave_up() {
         let locks = KeyLocks::default();
-        let Poll::Ready(first) = polled(pin!(locks.lock(b"key"))) else { panic!("it is free") };
+        let Poll::Ready(Ok(first)) = polled(pin!(locks.lock(b"key"))) else { panic!("it is free") };
         let mut second = Box::pin(locks.lock(b"key"));
         let mut third = Box::pin(locks.lock(b"key"));
         let mut fourth = pin!(locks.lock(b"key"));
@@ -167,7 +173,7 @@ mod tests {
         drop(third); // gives up while it waits
         drop(first);
         drop(second); // gives up when it has been handed the key
-        let Poll::Ready(last) = polled(fourth.as_mut()) else { panic!("it is its turn") };
+        let Poll::Ready(Ok(last)) = polled(fourth.as_mut()) else { panic!("it is its turn") };
         drop(last);
         assert_eq!(locks.count(), 0);
     }
@@ -176,7 +182,7 @@ mod tests {
     fn a_key_stays_hidden_until_it_is_shown() {
         let locks = KeyLocks::default();
         let locked = || match polled(pin!(locks.lock(b"key"))) {
-            Poll::Ready(lock) => lock,
+            Poll::Ready(lock) => lock.unwrap(),
             Poll::Pending => panic!("it is free"),
         };
         locked().hide();

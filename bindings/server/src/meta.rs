@@ -15,6 +15,8 @@ use std::time::Duration;
 const NO_MEMORY: &str = "SERVER_ERROR out of memory";
 // Where there is no memory for so many bytes, no bar is set: each keeps its key, a task and its place in tables.
 const OF_A_BAR: usize = 16 * 1024;
+// After the end of a bar that was refused.
+const PAUSE: Duration = Duration::from_millis(100);
 
 /// Does what a meta command asks for, with the value that came with it.
 pub async fn run<S: Stream>(
@@ -25,12 +27,12 @@ pub async fn run<S: Stream>(
 ) -> io::Result<()> {
     match meta.verb {
         Verb::Get => get(worker, meta, answers).await?,
-        Verb::Set { .. } => set(worker, meta, value, answers).await,
+        Verb::Set { .. } => set(worker, meta, value, answers).await?,
         Verb::Delete => match meta.flags.bar {
-            Some(seconds) => bar(worker, meta, seconds, answers).await,
-            None => delete(worker, meta, answers).await,
+            Some(seconds) => bar(worker, meta, seconds, answers).await?,
+            None => delete(worker, meta, answers).await?,
         },
-        Verb::Arithmetic => arithmetic(worker, meta, answers).await,
+        Verb::Arithmetic => arithmetic(worker, meta, answers).await?,
         Verb::Debug => debug(worker, meta, answers).await,
         Verb::NoOp => answers.line(b"MN"),
     }
@@ -74,7 +76,7 @@ struct Told {
 async fn get<S: Stream>(worker: &Worker, meta: &Meta<'_>, answers: &mut Answers<S>) -> io::Result<()> {
     let found = worker.server.items.find(&meta.key).await;
     let found = match found {
-        found if changes_item(&meta.flags, found.as_ref()) => change(worker, meta).await,
+        found if changes_item(&meta.flags, found.as_ref()) => change(worker, meta).await?,
         found => found.map(|item| told(&meta.flags, item, false)),
     };
     count_get(worker, &meta.flags, found.as_ref());
@@ -115,25 +117,22 @@ fn expiry_until(flags: &Flags<'_>, flag: u8, before: Expiry, is_new: bool) -> Ex
 }
 
 // The same get under the key's lock.
-async fn change(worker: &Worker, meta: &Meta<'_>) -> Option<Told> {
-    let change = worker.server.items.change(&meta.key).await;
+async fn change(worker: &Worker, meta: &Meta<'_>) -> io::Result<Option<Told>> {
+    let change = worker.server.items.change(&meta.key).await?;
     let found = change.find().await;
     let is_new = found.is_none();
-    let item = match (found, meta.flags.vivify) {
-        (Some(item), _) => item,
-        (None, Some(_)) => stub(&change, &meta.flags)?,
-        (None, None) => return None,
-    };
+    let stub = || meta.flags.vivify.and_then(|_| stub(&change, &meta.flags));
+    let Some(item) = found.or_else(stub) else { return Ok(None) };
     let mut told = told(&meta.flags, item, is_new);
     let (before, behind) = (told.item.head, head_behind(&meta.flags, &told));
     if behind == before && !is_new {
-        return Some(told);
+        return Ok(Some(told));
     }
     told.item.head = behind;
     let is_stored = change.store(&mut told.item).await.is_ok();
     told.item.head = before;
     // (where a stub can't be stored, nobody has won; an item that can't be is gone, and was found all the same)
-    (is_stored || !is_new).then_some(told)
+    Ok((is_stored || !is_new).then_some(told))
 }
 
 // The empty item that is stored where there is none. When it ends is told, and set, as the flags come.
@@ -237,7 +236,7 @@ pub fn how_of(flags: &Flags<'_>) -> How {
     }
 }
 
-async fn set<S: Stream>(worker: &Worker, meta: &Meta<'_>, value: &[u8], answers: &mut Answers<S>) {
+async fn set<S: Stream>(worker: &Worker, meta: &Meta<'_>, value: &[u8], answers: &mut Answers<S>) -> io::Result<()> {
     let flags = &meta.flags;
     let asked = Store {
         how: how_of(flags),
@@ -248,16 +247,19 @@ async fn set<S: Stream>(worker: &Worker, meta: &Meta<'_>, value: &[u8], answers:
         unique: flags.unique.unwrap_or_default(),
     };
     let beside = Beside { is_binary: flags.is_binary(), takes_stale: flags.has(b'I') };
-    let change = worker.server.items.change(&meta.key).await;
+    let change = worker.server.items.change(&meta.key).await?;
     let stored = changes::store(&change, &asked, beside, value, &worker.counters).await;
     drop(change);
     let (code, unique) = match stored {
-        Ok(Stored::Yes(_)) if flags.is_quiet() => return,
+        Ok(Stored::Yes(_)) if flags.is_quiet() => return Ok(()),
         Ok(Stored::Yes(unique)) => (b"HD", unique),
         Ok(Stored::No) => (b"NS", 0),
         Ok(Stored::Exists) => (b"EX", 0),
         Ok(Stored::NotFound) => (b"NF", 0),
-        Err(why) => return answers.line(refused(&worker.counters, why).as_bytes()),
+        Err(why) => {
+            answers.line(refused(&worker.counters, why).as_bytes());
+            return Ok(());
+        }
     };
     answers.piece(code);
     for word in flags.given() {
@@ -267,12 +269,13 @@ async fn set<S: Stream>(worker: &Worker, meta: &Meta<'_>, value: &[u8], answers:
         }
     }
     answers.end_line();
+    Ok(())
 }
 
-async fn delete<S: Stream>(worker: &Worker, meta: &Meta<'_>, answers: &mut Answers<S>) {
+async fn delete<S: Stream>(worker: &Worker, meta: &Meta<'_>, answers: &mut Answers<S>) -> io::Result<()> {
     let flags = &meta.flags;
     let counters = &worker.counters;
-    let change = worker.server.items.change(&meta.key).await;
+    let change = worker.server.items.change(&meta.key).await?;
     let found = change.find().await;
     let is_other = found.as_ref().is_some_and(|item| flags.unique.is_some_and(|unique| unique != item.head.unique));
     let (code, done) = match found {
@@ -296,18 +299,21 @@ async fn delete<S: Stream>(worker: &Worker, meta: &Meta<'_>, answers: &mut Answe
         Ok(()) if code == b"HD" && flags.is_quiet() => {}
         Ok(()) => meta.short(code, answers),
     }
+    Ok(())
 }
 
 // Sets a bar: until it is ended by a delete of its number, or its seconds are over, nothing that was loaded is stored under the key.
-async fn bar<S: Stream>(worker: &Worker, meta: &Meta<'_>, seconds: u32, answers: &mut Answers<S>) {
-    let change = worker.server.items.change(&meta.key).await;
+async fn bar<S: Stream>(worker: &Worker, meta: &Meta<'_>, seconds: u32, answers: &mut Answers<S>) -> io::Result<()> {
+    let change = worker.server.items.change(&meta.key).await?;
     let number = change.unique();
     if !has_memory(OF_A_BAR) {
-        return answers.line(NO_MEMORY.as_bytes());
+        answers.line(NO_MEMORY.as_bytes());
+        return Ok(());
     }
     let limit = end_bar(worker.clone(), meta.key.to_vec(), number, Duration::from_secs(seconds.into()));
     if !change.bar(tokio::spawn(limit)) {
-        return answers.line(b"SERVER_ERROR too many bars");
+        answers.line(b"SERVER_ERROR too many bars");
+        return Ok(());
     }
     drop(change);
     worker.counters.bars_set.one();
@@ -319,12 +325,19 @@ async fn bar<S: Stream>(worker: &Worker, meta: &Meta<'_>, seconds: u32, answers:
         }
     }
     answers.end_line();
+    Ok(())
 }
 
 // Ends a bar once its time is up: whether the row was changed isn't known, so what is there goes.
 async fn end_bar(worker: Worker, key: Vec<u8>, number: u64, limit: Duration) {
     tokio::time::sleep(limit).await;
-    let change = worker.server.items.change(&key).await;
+    let change = loop {
+        match worker.server.items.change(&key).await {
+            Ok(change) => break change,
+            // (it stands until there is memory for its end)
+            Err(_) => tokio::time::sleep(PAUSE).await,
+        }
+    };
     // (where even that is refused, the key is a miss)
     let _ = change.remove().await;
     worker.counters.bars_ended.one();
@@ -342,17 +355,22 @@ async fn invalidate(change: &Change<'_>, flags: &Flags<'_>, mut item: Item) -> R
     change.store(&mut item).await
 }
 
-async fn arithmetic<S: Stream>(worker: &Worker, meta: &Meta<'_>, answers: &mut Answers<S>) {
+async fn arithmetic<S: Stream>(worker: &Worker, meta: &Meta<'_>, answers: &mut Answers<S>) -> io::Result<()> {
+    let change = worker.server.items.change(&meta.key).await?;
+    count(worker, meta, &change, answers).await;
+    Ok(())
+}
+
+async fn count<S: Stream>(worker: &Worker, meta: &Meta<'_>, change: &Change<'_>, answers: &mut Answers<S>) {
     let flags = &meta.flags;
     let direction = if matches!(flags.mode, Some(b'D' | b'-')) { Direction::Down } else { Direction::Up };
-    let change = worker.server.items.change(&meta.key).await;
     let delta = flags.delta.unwrap_or(1);
-    let counted = changes::count(&change, direction, delta, flags.unique.unwrap_or_default(), &worker.counters).await;
+    let counted = changes::count(change, direction, delta, flags.unique.unwrap_or_default(), &worker.counters).await;
     let (value, item, is_new) = match counted {
         Counted::Now { value, item } => (value, Some(item), false),
         Counted::NoMemory => (0, None, false),
         Counted::NotFound => match flags.vivify {
-            Some(_) => (flags.initial, first(&change, meta), true),
+            Some(_) => (flags.initial, first(change, meta), true),
             None => {
                 count_miss(worker, direction);
                 return meta.short(b"NF", answers);

@@ -5,9 +5,13 @@ mod support;
 
 use std::alloc::{GlobalAlloc, Layout};
 use std::ffi::c_void;
+use std::future::Future;
+use std::io::{self, ErrorKind};
+use std::pin::{pin, Pin};
 use std::ptr;
 use std::sync::atomic::{AtomicBool, AtomicUsize, Ordering::SeqCst};
 use std::sync::Mutex;
+use std::task::{Context, Poll, Waker};
 use support::{fill, in_memory, over, Client, Hanging};
 
 extern "C" {
@@ -131,5 +135,87 @@ fn no_allocation_of_a_size_that_a_client_chooses_ends_the_process() {
         assert!(refused >= least, "{:.20}: {refused} large allocations", command);
     }
     assert_eq!(client.ask("mn\r\n"), "MN");
+    assert!(running.stop());
+}
+
+#[test]
+fn a_key_has_as_many_bars_as_there_is_memory_for() {
+    let _alone = ALONE.lock().unwrap();
+    let running = in_memory(&[]);
+    let mut client = Client::of(&running);
+    UNTIL.store(1, SeqCst);
+    let mut stand = 0;
+    while UNTIL.load(SeqCst) > 0 {
+        let answer = client.ask("md key B300\r\n");
+        assert!(answer.starts_with("HD B") || UNTIL.load(SeqCst) == 0, "{answer}");
+        stand += usize::from(answer.starts_with("HD B"));
+        assert!(stand < 10_000, "their table isn't long");
+    }
+    assert_eq!(running.server.items.bars(), stand);
+    assert!(client.ask("md key B300\r\n").starts_with("HD B"));
+    assert!(running.stop());
+}
+
+fn polled<F: Future>(future: Pin<&mut F>) -> Poll<F::Output> {
+    future.poll(&mut Context::from_waker(Waker::noop()))
+}
+
+fn is_refused<T>(polled: &Poll<io::Result<T>>) -> bool {
+    matches!(polled, Poll::Ready(Err(error)) if error.kind() == ErrorKind::OutOfMemory)
+}
+
+#[test]
+fn who_is_to_wait_for_a_key_is_refused_where_there_is_no_memory_for_that() {
+    let _alone = ALONE.lock().unwrap();
+    let running = in_memory(&[]);
+    let items = &running.server.items;
+    let held = match polled(pin!(items.change(b"key"))) {
+        Poll::Ready(held) => held.unwrap(),
+        Poll::Pending => panic!("it is free"),
+    };
+    let mut waiting = Vec::with_capacity(10_000);
+    UNTIL.store(1, SeqCst);
+    while waiting.len() < 10_000 {
+        let mut next = Box::pin(items.change(b"key"));
+        let polled = polled(next.as_mut());
+        if UNTIL.load(SeqCst) == 0 {
+            assert!(is_refused(&polled));
+            break;
+        }
+        assert!(polled.is_pending());
+        waiting.push(next);
+    }
+    assert_eq!(UNTIL.swap(0, SeqCst), 0, "those who wait take little memory");
+    // the others have it in their turn
+    drop(held);
+    for mut next in waiting {
+        assert!(matches!(polled(next.as_mut()), Poll::Ready(Ok(_))));
+    }
+    assert!(matches!(polled(pin!(items.change(b"key"))), Poll::Ready(Ok(_))));
+    assert!(running.stop());
+}
+
+#[test]
+fn who_is_to_change_a_key_is_refused_where_there_is_no_memory_for_its_lock() {
+    let _alone = ALONE.lock().unwrap();
+    let running = in_memory(&[]);
+    let items = &running.server.items;
+    let keys: Vec<_> = (0..400_000u32).map(u32::to_be_bytes).collect();
+    let mut held = Vec::with_capacity(keys.len());
+    UNTIL.store(1, SeqCst);
+    for key in &keys {
+        let polled = polled(pin!(items.change(key)));
+        if UNTIL.load(SeqCst) == 0 {
+            assert!(is_refused(&polled));
+            break;
+        }
+        match polled {
+            Poll::Ready(change) => held.push(change.unwrap()),
+            Poll::Pending => panic!("it is free"),
+        }
+    }
+    assert_eq!(UNTIL.swap(0, SeqCst), 0, "keys that are locked take little memory");
+    drop(held);
+    assert!(matches!(polled(pin!(items.change(&keys[0]))), Poll::Ready(Ok(_))));
     assert!(running.stop());
 }

@@ -18,14 +18,14 @@ fn items() -> Items {
 }
 
 async fn put(items: &Items, key: &[u8], value: &[u8]) {
-    let change = items.change(key).await;
+    let change = items.change(key).await.unwrap();
     let mut item = Item::new(change.new_head(0, Head::default().expiry), value).unwrap();
     change.store(&mut item).await.unwrap();
 }
 
 // Stores what is under the key anew, as an `append` does; between the two steps comes what `between` does.
 async fn renew(items: &Items, key: &[u8], between: impl FnOnce()) {
-    let change = items.change(key).await;
+    let change = items.change(key).await.unwrap();
     let Some(found) = change.find().await else { return };
     between();
     let mut item = Item::new(change.new_head(0, found.head.expiry), found.value()).unwrap();
