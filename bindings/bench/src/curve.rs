@@ -79,25 +79,11 @@ pub fn points(sampled: &Sampled, sizes: &[u64], options: &Options) -> Vec<Point>
 #[cfg(test)]
 mod tests {
     use super::*;
-    use crate::generate::{Generated, Law, Load};
+    use crate::generate::{tests, Generated, Load};
     use crate::sizes::Sizes;
 
     fn load() -> Load {
-        Load {
-            law: Law::Uniform,
-            keys: 1000,
-            requests: 20_000,
-            key_bytes: 20,
-            sizes: Sizes::List(vec![300]),
-            sets: 0.0,
-            deletes: 0.0,
-            looks: 0.0,
-            once: 0.0,
-            scan_every: 0,
-            scan_keys: 0,
-            ttl: 0,
-            seed: 1,
-        }
+        Load { sizes: Sizes::List(vec![300]), ..tests::load("uniform") }
     }
 
     // Of keys that are all alike, so large a part of the memory that all of them take hits as large a part of the gets.

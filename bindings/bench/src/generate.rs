@@ -174,11 +174,12 @@ impl Source for Generated {
 }
 
 #[cfg(test)]
-mod tests {
+pub mod tests {
     use super::*;
     use std::collections::{HashMap, HashSet};
 
-    fn load(law: &str) -> Load {
+    /// So many requests of so many keys, which are gets alone.
+    pub fn load(law: &str) -> Load {
         Load {
             law: law.parse().unwrap(),
             keys: 1000,
