@@ -276,22 +276,30 @@ static kilambosetry_service_options small_options(void) {
     return options;
 }
 
-static kilambosetry_service *open_small(void) {
-    kilambosetry_service_options options = small_options();
+static kilambosetry_service *open_of(kilambosetry_service_options options) {
     kilambosetry_service *service = NULL;
     CHECK(kilambosetry_service_open_over(&service, &of_device, &options, NULL) == KILAMBOSETRY_DONE && service != NULL);
     return service;
+}
+
+static kilambosetry_service *open_small(void) {
+    return open_of(small_options());
+}
+
+/* The same where one waits for another's load for a second. */
+static kilambosetry_service *open_impatient(void) {
+    kilambosetry_service_options options = small_options();
+    options.patience = 1;
+    return open_of(options);
 }
 
 /* The same with one shard, so that it is known which of its first 60 items memory has, and which flash has alone. */
 static kilambosetry_service *open_tiny(void) {
     static const kilambosetry_pool pool = {4000, 16};
     kilambosetry_service_options options = small_options();
-    kilambosetry_service *service = NULL;
     options.shards = options.writers = options.fillers = 1;
     options.pool = &pool;
-    CHECK(kilambosetry_service_open_over(&service, &of_device, &options, NULL) == KILAMBOSETRY_DONE && service != NULL);
-    return service;
+    return open_of(options);
 }
 
 static uint64_t all(const kilambosetry_losses_t *it) {
@@ -1238,8 +1246,8 @@ static int sooner(const void *one, const void *other) {
 
 /* Ends the load of a lease. */
 static void end_load(kilambosetry_service *service, kilambosetry_lease *lease, const char *how, const uint8_t *bytes, size_t len) {
-    if (strcmp(how, "fails") == 0) {
-        CHECK(kilambosetry_service_fail(service, lease, BYTES("key"), "the database is down") == KILAMBOSETRY_DONE && !lease->full);
+    if (strcmp(how, "fails") == 0 || strncmp(how, "hangs", 5) == 0) {
+        CHECK(kilambosetry_service_fail(service, lease, BYTES("key"), "no answer") == KILAMBOSETRY_DONE && !lease->full);
     } else if (strcmp(how, "is given up") == 0) {
         CHECK(kilambosetry_service_give_up(service, lease, BYTES("key")) == KILAMBOSETRY_DONE);
     } else if (strcmp(how, "finds no such row") == 0) {
@@ -1252,11 +1260,11 @@ static void end_load(kilambosetry_service *service, kilambosetry_lease *lease, c
     }
 }
 
-/* All of them wait for a load, which ends so; and each has this answer, the last one within so many tenths of a load. */
-static void check_handed_on(const char *how, uint8_t expected, const uint8_t *bytes, size_t len, int64_t tenths) {
+/* All of them wait for a load of so many milliseconds, which ends so; and each has this answer, the last one within so many tenths of
+ * a load. */
+static void check_handed_on(kilambosetry_service *service, long ms, const char *how, uint8_t expected, const uint8_t *bytes,
+                            size_t len, int64_t tenths) {
     unsigned many = part < 16 ? ASKERS : 8;
-    long ms = part < 16 ? 1000 : 50;
-    kilambosetry_service *service = open_small();
     kilambosetry_lease lease = KILAMBOSETRY_NO_LEASE;
     pthread_t threads[ASKERS];
     uint8_t out[16];
@@ -1287,11 +1295,15 @@ static void check_handed_on(const char *how, uint8_t expected, const uint8_t *by
 static void check_loads(void) {
     static uint8_t row[5000];
     memset(row, 7, sizeof row);
-    check_handed_on("fails", KILAMBOSETRY_LOAD_FAILED, BYTES("the database is down"), 15);
-    check_handed_on("is given up", KILAMBOSETRY_LOAD_FAILED, BYTES("the load was given up"), 15);
-    check_handed_on("finds no such row", KILAMBOSETRY_ABSENT, BYTES(""), 15);
-    check_handed_on("has a row that is too long", KILAMBOSETRY_DONE, row, sizeof row, 15);
-    check_handed_on("has a row that was changed", KILAMBOSETRY_LEASED, BYTES(""), 22);
+    long ms = part < 16 ? 1000 : 50;
+    check_handed_on(open_small(), ms / 2, "fails", KILAMBOSETRY_LOAD_FAILED, BYTES("no answer"), 15);
+    check_handed_on(open_small(), ms, "is given up", KILAMBOSETRY_LOAD_FAILED, BYTES("the load was given up"), 15);
+    check_handed_on(open_small(), ms, "finds no such row", KILAMBOSETRY_ABSENT, BYTES(""), 15);
+    check_handed_on(open_small(), ms, "has a row that is too long", KILAMBOSETRY_DONE, row, sizeof row, 15);
+    check_handed_on(open_small(), ms, "has a row that was changed", KILAMBOSETRY_LEASED, BYTES(""), 22);
+    /* (a database that hangs: who asks it has a limit of his own, and tells that none came) */
+    check_handed_on(open_small(), 2 * ms, "hangs", KILAMBOSETRY_LOAD_FAILED, BYTES("no answer"), 15);
+    check_handed_on(open_impatient(), 2000, "hangs for longer than they wait", KILAMBOSETRY_LEASED, BYTES(""), 22);
 }
 
 /* That there is no such row is kept, for its time to live, until the row is changed; and no get shows how. */

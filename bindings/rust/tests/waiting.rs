@@ -123,9 +123,14 @@ fn block_on<T>(future: impl Future<Output = T>, most: Duration) -> Option<T> {
 }
 
 // How long the 64 callers wait who miss a key at once, of whom each does this: from when 63 wait for the first one's load, and that
-// begins.
-fn last_of_64(what: &str, call: impl Fn(&HybridCache, &Database) + Sync) -> Duration {
-    let (cache, database) = (in_memory(LONG), Database(OnceLock::new()));
+// begins. The database answers each load behind so much time, and they wait for another's as long as their patience is.
+fn last_of_64(
+    what: &str,
+    load: Duration,
+    patience: Duration,
+    call: impl Fn(&HybridCache, &Database) + Sync,
+) -> Duration {
+    let (cache, database) = (in_memory(patience), Database { first: OnceLock::new(), load });
     let mut answered: Vec<Instant> = thread::scope(|scope| {
         let one = || {
             call(&cache, &database);
@@ -135,26 +140,29 @@ fn last_of_64(what: &str, call: impl Fn(&HybridCache, &Database) + Sync) -> Dura
         all.into_iter().map(|one| one.join().unwrap()).collect()
     });
     answered.sort();
-    let began = *database.0.get().unwrap();
+    let began = *database.first.get().unwrap();
     let (median, last) = (answered[32] - began, answered[63] - began);
-    println!("{what}: a load takes {LOAD:?}, the median is answered behind {median:.2?}, the last behind {last:.2?}");
+    println!("{what}: a load takes {load:?}, the median is answered behind {median:.2?}, the last behind {last:.2?}");
     last
 }
 
-// A slow database, which is first asked then.
-struct Database(OnceLock<Instant>);
+// A slow database: when it was first asked, and how long it takes. One that hangs takes as long as who asks it waits.
+struct Database {
+    first: OnceLock<Instant>,
+    load: Duration,
+}
 
 const LOAD: Duration = Duration::from_millis(1000);
 
 impl Database {
     fn load<T, E>(&self, cache: &HybridCache, answer: Result<T, E>) -> Result<T, E> {
-        self.0.get_or_init(|| {
+        self.first.get_or_init(|| {
             while cache.stats().waits_for_loads < 63 {
                 thread::yield_now();
             }
             Instant::now()
         });
-        thread::sleep(LOAD);
+        thread::sleep(self.load);
         answer
     }
 }
@@ -162,10 +170,12 @@ impl Database {
 // A task that misses the key loads it: what it does with the lease behind that.
 fn by_task(
     what: &str,
+    load: Duration,
+    patience: Duration,
     end: impl Fn(&HybridCache, Lease) + Sync,
     is_right: impl Fn(&Lookup) -> bool + Sync,
 ) -> Duration {
-    last_of_64(what, |cache, database| {
+    last_of_64(what, load, patience, |cache, database| {
         match block_on(cache.get_or_lease_async(b"key"), LONG).expect("it is woken").unwrap() {
             Lookup::Miss(lease) => database.load(cache, Ok::<_, Error>(())).map(|()| end(cache, lease)).unwrap(),
             looked => assert!(is_right(&looked), "{what}: {looked:?}"),
@@ -177,48 +187,86 @@ fn by_task(
 fn what_a_load_comes_to_is_handed_to_all_within_one_load_and_a_half() {
     let _alone = ALONE.lock();
     let long = vec![1; 1_100_000];
-    let row = |what, answer: Result<&[u8], &str>| {
-        last_of_64(what, |cache, database| match cache.get_or_load(b"key", 60, || database.load(cache, answer)) {
-            Ok(row) => assert_eq!(Ok(&row[..]), answer),
-            Err(LoadError::Load(why)) => assert_eq!(Err(why), answer),
-            Err(LoadError::Elsewhere(why)) => assert_eq!(Err(why.as_str()), answer),
-            Err(other) => panic!("{other}"),
+    let row = |what, answer: &[u8]| {
+        last_of_64(what, LOAD, LONG, |cache, database| {
+            assert_eq!(
+                *cache.get_or_load(b"key", 60, || database.load(cache, Ok::<_, Error>(answer))).unwrap(),
+                *answer
+            );
         })
     };
-    let absent = last_of_64("threads, no such row", |cache, database| {
+    let absent = last_of_64("threads, no such row", LOAD, LONG, |cache, database| {
         let none = || database.load(cache, Ok::<_, Error>(Loaded::absent(0)));
         assert_eq!(cache.find_or_load(b"key", none), Ok(None));
     });
+    let task = |what, end: &(dyn Fn(&HybridCache, Lease) + Sync), is_right: &(dyn Fn(&Lookup) -> bool + Sync)| {
+        by_task(what, LOAD, LONG, end, is_right)
+    };
     let times = [
-        row("threads, a row", Ok(b"row")),
-        row("threads, the database is down", Err("the database is down")),
-        row("threads, a row that is too long", Ok(&long)),
+        row("threads, a row", b"row"),
+        row("threads, a row that is too long", &long),
         absent,
-        by_task(
+        task(
             "tasks, a row",
-            |_, it| _ = it.store(b"row", 0),
-            |it| matches!(it, Lookup::Hit(row) if row[..] == *b"row"),
+            &|_, it| _ = it.store(b"row", 0),
+            &|it| matches!(it, Lookup::Hit(row) if row[..] == *b"row"),
         ),
-        by_task(
-            "tasks, the database is down",
-            |_, it| it.fail("down"),
-            |it| matches!(it, Lookup::Failed(why) if why == "down"),
-        ),
-        by_task(
+        task(
             "tasks, a row that is too long",
-            |_, it| assert_eq!(it.store(&long, 0), Err(Error::Refused(Refused::VALUE_TOO_LONG))),
-            |it| matches!(it, Lookup::Hit(row) if row[..] == long),
+            &|_, it| assert_eq!(it.store(&long, 0), Err(Error::Refused(Refused::VALUE_TOO_LONG))),
+            &|it| matches!(it, Lookup::Hit(row) if row[..] == long),
         ),
-        by_task("tasks, no such row", |_, it| _ = it.store_absent(0), |it| matches!(it, Lookup::Absent)),
+        task("tasks, no such row", &|_, it| _ = it.store_absent(0), &|it| matches!(it, Lookup::Absent)),
     ];
     assert!(times.iter().all(|time| *time < LOAD * 3 / 2), "{times:?}");
+}
+
+// Whether a load failed so, his own or another's.
+fn has_failed(row: Result<Vec<u8>, LoadError<&str>>, with: &str) -> bool {
+    match row {
+        Err(LoadError::Load(why)) => why == with,
+        Err(LoadError::Elsewhere(why)) => why == with,
+        _ => false,
+    }
+}
+
+// The last of 64 callers of a database that fails so behind that time.
+fn last_of_failed(what: &str, load: Duration, patience: Duration, is_told: fn(&Lookup) -> bool) -> [Duration; 2] {
+    let by_threads = last_of_64(&format!("threads, {what}"), load, patience, |cache, database| {
+        let row = cache.get_or_load(b"key", 60, || database.load(cache, Err::<&[u8], _>("no answer")));
+        assert!(has_failed(row.map(|row| row.into_vec()), "no answer"));
+    });
+    let by_tasks = by_task(&format!("tasks, {what}"), load, patience, |_, lease| lease.fail("no answer"), is_told);
+    [by_threads, by_tasks]
+}
+
+#[test]
+fn that_a_load_failed_is_told_to_all_within_one_load_and_a_half() {
+    let _alone = ALONE.lock();
+    let load = LOAD / 2;
+    let is_told = |it: &Lookup| matches!(it, Lookup::Failed(why) if why == "no answer");
+    let times = last_of_failed("a load that fails", load, LONG, is_told);
+    assert!(times.iter().all(|time| *time < load * 3 / 2), "{times:?}");
+}
+
+#[test]
+fn a_database_that_hangs_holds_all_up_for_one_load_and_a_half_or_for_patience_and_a_load_of_ones_own() {
+    let _alone = ALONE.lock();
+    // who asks it waits no longer than this
+    let limit = 2 * LOAD;
+    let is_told = |it: &Lookup| matches!(it, Lookup::Failed(why) if why == "no answer");
+    let handed_on = last_of_failed("a database that hangs", limit, LONG, is_told);
+    assert!(handed_on.iter().all(|time| *time < limit * 3 / 2), "{handed_on:?}");
+    // patience is up before that: each asks it himself, and nobody waits for another again
+    let alone = last_of_failed("one that hangs for longer than they wait", limit, LOAD, |_| false);
+    assert!(alone.iter().all(|time| *time > limit && *time < limit * 22 / 10), "{alone:?}");
 }
 
 #[test]
 fn who_waited_for_one_load_loads_by_himself_next() {
     let _alone = ALONE.lock();
     // the key is changed within each load
-    let by_threads = last_of_64("threads, each loads by himself", |cache, database| {
+    let by_threads = last_of_64("threads, each loads by himself", LOAD, LONG, |cache, database| {
         let load = || {
             let row = database.load(cache, Ok::<_, Error>("row"));
             cache.delete(b"key").unwrap();
@@ -228,6 +276,8 @@ fn who_waited_for_one_load_loads_by_himself_next() {
     });
     let by_tasks = by_task(
         "tasks, each loads by himself",
+        LOAD,
+        LONG,
         |cache, lease| {
             cache.delete(b"key").unwrap();
             assert_eq!(lease.store(b"row", 0), Ok(Kept::Stale));
