@@ -797,6 +797,41 @@ fn a_ticket_is_good_for_its_cache_alone() {
     assert_eq!(shards.set_leased(ticket, 0, b"a", b"value", 0), Ok(Kept::Stored));
 }
 
+// How many of 20,000 keys have the slot of the changed one: those that aren't stored by a ticket from before its change.
+fn of_its_slot(mut store_behind_change: impl FnMut(&[u8]) -> Kept) -> usize {
+    (0..20_000u32).filter(|number| store_behind_change(&number.to_be_bytes()) == Kept::Stale).count()
+}
+
+fn of_its_slot_in(mut cache: Cache) -> usize {
+    of_its_slot(|key| {
+        let ticket = cache.ticket().unwrap();
+        cache.delete(b"changed").unwrap();
+        cache.set_leased(ticket, 0, key, b"loaded", 0).unwrap()
+    })
+}
+
+fn of_its_slot_in_engine(mut engine: Engine) -> usize {
+    of_its_slot(|key| {
+        let ticket = engine.ticket().unwrap();
+        engine.delete(b"changed").unwrap();
+        engine.set_leased(ticket, 0, key, b"loaded", 0).unwrap()
+    })
+}
+
+#[test]
+fn a_cache_has_as_many_slots_as_are_asked_for_within_their_limits() {
+    let (pools, flash) = ([Pool { bytes: 200, items: 4 }], small().flash_numbers.unwrap());
+    let keys = [0, 16, 1024, 65_536, u32::MAX].map(|slots| {
+        let keys = of_its_slot_in(Cache::with_slots(&pools, slots).unwrap());
+        assert_eq!(of_its_slot_in_engine(Engine::with_slots(&pools, &flash, slots).unwrap()), keys);
+        keys
+    });
+    // one in as many as there are
+    let [few, least, more, most, many] = keys;
+    assert!((1_000..1_500).contains(&least) && (5..40).contains(&more) && most < 5, "{keys:?}");
+    assert_eq!((few, many, of_its_slot_in(Cache::new(&pools).unwrap())), (least, most, most));
+}
+
 #[test]
 fn a_ticket_knows_its_shard_and_outlasts_no_cache() {
     let (pools, flash) = ([Pool { bytes: 1 << 20, items: 1000 }], small().flash_numbers.unwrap());
