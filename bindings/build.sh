@@ -10,7 +10,8 @@
 #   bindings/build.sh --speed    also the comparison with other caches, where Debian's crate `lru` (librust-lru-dev) is installed
 #   bindings/build.sh --trial    also a service before a slow database, with leases and without, where that crate is installed
 #   bindings/build.sh --stress   also ten minutes of all calls at once over pages that are harmed, and some of it under valgrind
-#   bindings/build.sh --replicas also two processes before PostgreSQL, by each way to tell them of each other's changes
+#   bindings/build.sh --replicas also two processes before PostgreSQL, by each way to tell them of each other's changes; as root,
+#                                where there is ip, also with packets dropped between the database and one of them
 #   bindings/build.sh --memory   also what a cache with flash keeps in memory, beside what its pool says, and what one of a million
 #                                items does
 #   bindings/build.sh --server   also the server's long runs: many lines beside memcached and damaged ones, crowds, flushes, little memory,
