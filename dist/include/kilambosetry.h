@@ -144,6 +144,13 @@ uint8_t kilambosetry_new(kilambosetry_cache *cache, const kilambosetry_pool *poo
 uint8_t kilambosetry_new_with_flash(kilambosetry_cache *cache, const kilambosetry_pool *pools, size_t pools_len,
                                     const kilambosetry_flash *flash);
 
+/* The same two with so many slots for leases, of 8 bytes each, and a sixteenth as many places for turns, of 24 bytes each: for a
+ * cache that is one of many, each of which needs the fewer. It has 16 where fewer are asked for, and 65,536 where more are. Of
+ * n slots about one ticket in n ends without need for each change during a load. */
+uint8_t kilambosetry_new_with_slots(kilambosetry_cache *cache, const kilambosetry_pool *pools, size_t pools_len, uint32_t slots);
+uint8_t kilambosetry_new_with_flash_and_slots(kilambosetry_cache *cache, const kilambosetry_pool *pools, size_t pools_len,
+                                              const kilambosetry_flash *flash, uint32_t slots);
+
 /* Makes an empty shard of a cache of these pools that is cut into `shards` shards, 1 to 16: a cache by itself, which has of
  * each pool its bytes and its items divided by that number and rounded down. A share of less than 64 bytes or one item is
  * KILAMBOSETRY_BAD_POOL. Keep the shards in an array, each beside a lock of its own, and call the one that
@@ -197,8 +204,8 @@ uint8_t kilambosetry_delete(kilambosetry_cache *cache, const uint8_t *key, size_
 uint8_t kilambosetry_ticket(kilambosetry_cache *cache, uint64_t *ticket);
 
 /* Stores what was loaded after the ticket was told, as `kilambosetry_set` does, where no key of its slot was changed since (by
- * a set, an add or a delete; a cache has 65,536 slots, fewer where it is a shard of many) and no add of one waits. Else the
- * status is STALE, and nothing is stored: serve what was loaded. That is asked first, before the key and the pool are. */
+ * a set, an add or a delete; a cache has 65,536 slots, or as many as it was made with, and a shard of many has fewer) and no
+ * add of one waits. Else the status is STALE, and nothing is stored: serve what was loaded. That is asked first, before the key and the pool are. */
 uint8_t kilambosetry_set_leased(kilambosetry_cache *cache, uint64_t ticket, uint8_t pool, const uint8_t *key, size_t key_len,
                                 const uint8_t *value, size_t value_len, uint32_t ttl);
 
