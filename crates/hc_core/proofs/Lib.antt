@@ -5,4 +5,6 @@ pub mod Keeping
 pub mod Opening
 pub mod Calling
 pub mod Joining
+pub mod Resumed
+pub mod Resting
 mod Unread

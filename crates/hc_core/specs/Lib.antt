@@ -4,3 +4,4 @@ pub mod Answers
 pub mod Arguments
 pub mod Holds
 pub mod Plain
+pub mod Resumed

@@ -5,6 +5,7 @@ ghost use Rattle.hc_history.specs.Note.{Note as Meaning};
 ghost use Rattle.hc_history.specs.Stats.{counts_of};
 ghost use Rattle.hc_theorem.specs.runs.Lock.{CallsStayGuarded};
 ghost use Rattle.hc_theorem.specs.headlines.Headline.{NewStands};
+ghost use Rattle.hc_core.specs.Resumed.{ResumedIsLegal};
 
 /// The law that the log of any steps is legal where it is honest, also where nobody keeps it: a new cache has the empty
 /// log, and each step of the machine leads to a cache whose log is the one before with the step's part behind it. So
@@ -18,4 +19,11 @@ pub fn steps_are_legal()
 /// read, its log is legal with no premise. It does nothing when it runs.
 pub fn unread_logs_are_honest()
     ensures { (log : List Meaning) → (counts_of log).reads ≡ 0 → Honest log }
+{}
+
+/// The law of a cache that is closed behind any calls, and of the one that goes on with its parts: what both told, the second behind
+/// the first, is one log, which is legal where it is honest, also where nobody keeps it. `Core::close` gives the parts, and
+/// `Core::from_parts` goes on with them. It does nothing when it runs.
+pub fn resumed_logs_are_legal()
+    ensures { ResumedIsLegal }
 {}

@@ -2,6 +2,7 @@
 pub mod Begun
 pub mod Configured
 pub mod Joining
+pub mod Rested
 pub mod Stepping
 pub mod Unchanged
 pub mod Unkept
