@@ -3,7 +3,7 @@ use Rattle.std.proofs.Common.{◌≡◌, ℕ, ◌+◌, ◌<◌, ◌≤◌, ◌^�
 use mathlib.Core.Bool.{cond}
 use Rattle.std.specs.Prelude.{option_map}
 use Rattle.std.specs.Option.{option_map_or}
-use Rattle.std.proofs.lemmas.Bool.{and_parts, leb-true}
+use Rattle.std.proofs.lemmas.Bool.{and_parts, leb-true, le-leb}
 use Rattle.std.proofs.lemmas.Option.{slice_get-map}
 use Rattle.std.proofs.lemmas.Slice.Eq.{bytes_eq-Decides}
 use Rattle.hc_types.specs.Places.{bucket_at, is_small_by}
@@ -13,7 +13,7 @@ use Rattle.hc_memory.specs.declared.builder.Misfit.TheVariants.{NoPool, NoNumber
 use Rattle.hc_memory.specs.Item.{Item, Open, cost}
 use Rattle.hc_memory.specs.Pool.{Pool, is_at, item_at, without, is_full, bytes_of}
 use Rattle.hc_memory.specs.Charges.{usage_of}
-use Rattle.hc_memory.specs.Clean.{Listing, is_missed, Listed}
+use Rattle.hc_memory.specs.Clean.{Listing, is_listed, is_told, Listed}
 use Rattle.hc_memory.specs.Marks.{is_stale, marked, Numbered}
 use Rattle.hc_memory.specs.Memory.{Memory, linked_at, change_at}
 use Rattle.hc_memory.specs.Sound.{Sound, items_at}
@@ -24,7 +24,7 @@ use Rattle.hc_memory.proofs.Linking.{sound-linked}
 use Rattle.hc_memory.proofs.Making.{there-of}
 use Rattle.hc_memory.proofs.Putting.{put-small}
 use Rattle.hc_memory.proofs.Sounds.{sound-charged}
-use Rattle.hc_memory.proofs.Marking.{length-marked}
+use Rattle.hc_memory.proofs.Marking.{length-marked, listed-same}
 use Rattle.hc_memory.proofs.Restoring.{misfit_by}
 use Rattle.hc_memory.proofs.Unmarked.{bare, off, all_off, pool_off, full-off, item-linked, number-off}
 
@@ -64,6 +64,10 @@ keep_step : (x : Item) (clean lost : Bool) → x.clean ≡ clean → not (x.clea
 keep_step x clean false e h = refl
 keep_step x true true e h = let all : not (true && true) ≡ true = rw e at h in absurd cc
 keep_step x false true e h = λ i. record { number = x.number; pool = x.pool; key = x.key; value = x.value; expiry = x.expiry; clean = sym e i }
+
+missed_step : (clean told : Bool) → (clean ≡ true → told ≡ true) → (clean && not told) ≡ false
+missed_step false told h = refl
+missed_step true told h = ap not (h refl)
 
 module _ (flash : Option FlashConfig) (lost : List ℕ) (pools : List Pool) (charges : List Open) (made : ℕ) (x : Item) where
   abbrev raw : Memory
@@ -179,7 +183,7 @@ module _ (flash : Option FlashConfig) (lost : List ℕ) (pools : List Pool) (cha
     pub long : length new ≡ length pools
     pub listed : Listed flash listing new
 
-  pub linked : {T E : Type 0} (r : Result T E) (new : List Pool) (listing : Listing) → Fits → Sound pools charges made → Listed flash listing pools → is_missed flash listing x ≡ false → OnOk r (new ≡ change_at x.pool push pools) → OnErr r (new ≡ pools) → Holds new listing
+  pub linked : {T E : Type 0} (r : Result T E) (new : List Pool) (listing : Listing) → Fits → Sound pools charges made → Listed flash listing pools → (x.clean ≡ true → is_told flash listing x ≡ true) → OnOk r (new ≡ change_at x.pool push pools) → OnErr r (new ≡ pools) → Holds new listing
   linked (Ok v) new listing f s l told is same =
       let t = there-of pools x.pool f.there in
       let pool : Pool = t.0 in
@@ -188,7 +192,7 @@ module _ (flash : Option FlashConfig) (lost : List ℕ) (pools : List Pool) (cha
       record {
         sound = subst (λ (ps : List Pool). Sound ps charges made) (sym set) (sound_after pool t.1 f s);
         long = ap (λ (ps : List Pool). length ps) set ∙ length-set pools x.pool next;
-        listed = subst (λ (ps : List Pool). Listed flash listing ps) (sym set) (listed-brought flash listing pools x.pool 0 pool next x l told t.1 refl);
+        listed = subst (λ (ps : List Pool). Listed flash listing ps) (sym set) (listed-brought flash listing pools x.pool 0 pool next x l (missed_step x.clean (is_told flash listing x) told) t.1 refl);
       }
   linked (Err e) new listing f s l told is same = record {
     sound = subst (λ (ps : List Pool). Sound ps charges made) (sym same) s;
@@ -203,6 +207,13 @@ module _ (flash : Option FlashConfig) (lost : List ℕ) (pools : List Pool) (cha
       λ p. λ i. record { size = p.size; items = sym (unmarked-push (is_stale flash lost) p.items x ∙ ap (λ y. all_off (is_stale flash lost) p.items ++ y ∷ []) f.stays) i } in
       let pools' : marked flash lost new ≡ change_at x.pool push (marked flash lost pools) = ap (marked flash lost) is ∙ sym (number-off (is_stale flash lost) x.pool push each pools) in
       λ i. record { flash = flash; pools = pools' i; charges = charges; made = made }
+
+-- an item is told of that is listed, once none is newer
+pub told-now : (flash : Option FlashConfig) (old new : Listing) (x : Item) → x.number ≤ new.newest → new.large ≡ old.large → is_listed flash old x.key (length x.value) ≡ true → is_told flash new x ≡ true
+told-now flash old new x least same there =
+    let number : nat_le x.number new.newest ≡ true = le-leb x.number new.newest least in
+    let listed : is_listed flash new x.key (length x.value) ≡ true = listed-same flash old new x.key (length x.value) same there in
+    λ i. number i && listed i
 
 -- a greater number may have come in
 pub more-numbered : (flash : Option FlashConfig) (lost : List ℕ) (old new number made : ℕ) → Numbered flash lost old made → old ≤ new → new ≤ max old number → number ≤ made → Numbered flash lost new made

@@ -4,7 +4,7 @@ ghost use Rattle.std.specs.Str.{bytes_eq};
 ghost use Rattle.hc_types.specs.Loss.{scope_of, covers};
 ghost use Rattle.hc_types.specs.Tally.{count};
 ghost use Rattle.hc_memory.specs.Pool.{is_at};
-ghost use Rattle.hc_memory.specs.Clean.{has_key, is_listed, is_missed, is_hash, large_places, large_at};
+ghost use Rattle.hc_memory.specs.Clean.{has_key, is_listed, is_told, is_hash, large_places, large_at};
 
 use crate::groups::KeyGroups;
 use crate::item::Item;
@@ -138,7 +138,7 @@ impl<A: Allocator + Clone> CleanIndex<A> {
         item: &Item<A>,
     ) -> Result<(), AllocError>
         requires { IfSome flash.now (λ f. f.bits ≤ 64) }
-        ensures told { OnOk result (is_missed flash.now self.new item.now ≡ false) }
+        ensures told { OnOk result (item.now.clean ≡ true → is_told flash.now self.new item.now ≡ true) }
         ensures least { self.old.newest ≤ self.new.newest }
         ensures most { self.new.newest ≤ max self.old.newest item.now.number }
         ensures stay { (other : List ℕ) (n : ℕ) → is_listed flash.now self.old other n ≡ true → is_listed flash.now self.new other n ≡ true }
@@ -147,9 +147,8 @@ impl<A: Allocator + Clone> CleanIndex<A> {
             return Ok(());
         }
         self.list(alloc, flash, &item.key, item.value.len() as u64)?;
-        if self.newest < item.number {
-            self.newest = item.number;
-        }
+        let newest = self.newest().max(item.number);
+        self.set_newest(newest);
         Ok(())
     }
 }
