@@ -9,7 +9,6 @@ use Rattle.std.proofs.lemmas.Slice.Eq.{bytes_eq-Decides}
 use Rattle.hc_types.specs.Places.{bucket_at, is_small_by}
 use Rattle.hc_types.specs.declared.config.FlashConfig.{FlashConfig}
 use Rattle.hc_types.proofs.Tallies.{tally-push}
-use Rattle.hc_memory.specs.declared.builder.Misfit.TheVariants.{NoPool, NoNumber, KeyTwice, NoRoom}
 use Rattle.hc_memory.specs.Item.{Item, Open, cost}
 use Rattle.hc_memory.specs.Pool.{Pool, is_at, item_at, without, is_full, bytes_of}
 use Rattle.hc_memory.specs.Charges.{usage_of}
@@ -45,9 +44,13 @@ sound-from pools made s = record {
 -- ---- why an item isn't taken
 
 -- where no bucket was lost
-stale-none : (flash : Option FlashConfig) (lost : List ℕ) (x : Item) → ((bucket : ℕ) → get_or lost bucket 0 ≡ 0) → is_stale flash lost x ≡ is_stale flash [] x
+pub stale-none : (flash : Option FlashConfig) (lost : List ℕ) (x : Item) → ((bucket : ℕ) → get_or lost bucket 0 ≡ 0) → is_stale flash lost x ≡ is_stale flash [] x
 stale-none None lost x zeros = refl
 stale-none (Some f) lost x zeros = ap (λ n. is_small_by f x.key (length x.value) && nat_le x.number n) (zeros (bucket_at f x.key))
+
+-- in the order of the code's tests
+pub misfit-is : (m : Memory) (x : Item) (a b c d : Bool) → nat_lt x.pool (length m.pools) ≡ a → is_numbered m.flash m.made x ≡ b → is_some (linked_at x.key m.pools) ≡ c → is_full_at m x.pool (cost x) ≡ d → misfit_by a b c d ≡ misfit_of m x
+misfit-is m x a b c d there numbered twice full = λ i. misfit_by (sym there i) (sym numbered i) (sym twice i) (sym full i)
 
 full_step : (test : Item → Bool) (charges : List Open) (number want : ℕ) (o : Option Pool) → option_map_or (λ (p : Pool). is_full p.size (usage_of number charges) want p.items) (option_map (pool_off test) o) true ≡ option_map_or (λ (p : Pool). is_full p.size (usage_of number charges) want p.items) o true
 full_step test charges number want None = refl
@@ -86,46 +89,6 @@ module _ (flash : Option FlashConfig) (lost : List ℕ) (pools : List Pool) (cha
 
   pub once-seen : is_some (linked_at x.key (marked flash lost pools)) ≡ is_some (linked_at x.key pools)
   once-seen = ap is_some (item-linked test x.key pools) ∙ is_some-mapped (off test) (linked_at x.key pools)
-
-  -- as the code tells it
-  pub record Told (a b c d : Bool) : Type 0 where
-    pub there : nat_lt x.pool (length pools) ≡ a
-    pub numbered : (nat_le x.number made && not (x.clean && is_stale flash lost x)) ≡ b
-    pub twice : is_some (linked_at x.key pools) ≡ c
-    pub full : is_full_at seen x.pool (cost x) ≡ d
-
-  pub told : (a b c d : Bool) → ((bucket : ℕ) → get_or lost bucket 0 ≡ 0) → Told a b c d → misfit_of seen x ≡ misfit_by a b c d
-  told a b c d zeros t =
-      let there = ap (λ n. nat_lt x.pool n) (length-marked flash lost pools) ∙ t.there in
-      let numbered = ap (λ s. nat_le x.number made && not (x.clean && s)) (sym (stale-none flash lost x zeros)) ∙ t.numbered in
-      let twice = once-seen ∙ t.twice in
-      λ i. misfit_by (there i) (numbered i) (twice i) (t.full i)
-
-  -- each reason, by the tests that the code makes before it is told
-  module _ (zeros : (bucket : ℕ) → get_or lost bucket 0 ≡ 0) where
-    abbrev given : Bool
-    given = nat_le x.number made && not (x.clean && is_stale flash lost x)
-
-    abbrev twice_there : Bool
-    twice_there = is_some (linked_at x.key pools)
-
-    abbrev full_there : Bool
-    full_there = is_full_at seen x.pool (cost x)
-
-    pub no-pool : nat_lt x.pool (length pools) ≡ false → Some NoPool ≡ misfit_of seen x
-    no-pool there = sym (told false given twice_there full_there zeros (record { there = there; numbered = refl; twice = refl; full = refl }))
-
-    pub no-number : nat_lt x.pool (length pools) ≡ true → given ≡ false → Some NoNumber ≡ misfit_of seen x
-    no-number there numbered = sym (told true false twice_there full_there zeros (record { there = there; numbered = numbered; twice = refl; full = refl }))
-
-    pub key-twice : nat_lt x.pool (length pools) ≡ true → given ≡ true → twice_there ≡ true → Some KeyTwice ≡ misfit_of seen x
-    key-twice there numbered twice = sym (told true true true full_there zeros (record { there = there; numbered = numbered; twice = twice; full = refl }))
-
-    pub no-room : nat_lt x.pool (length pools) ≡ true → given ≡ true → twice_there ≡ false → full_there ≡ true → Some NoRoom ≡ misfit_of seen x
-    no-room there numbered twice full = sym (told true true false true zeros (record { there = there; numbered = numbered; twice = twice; full = full }))
-
-    pub no-misfit : nat_lt x.pool (length pools) ≡ true → given ≡ true → twice_there ≡ false → full_there ≡ false → None ≡ misfit_of seen x
-    no-misfit there numbered twice full = sym (told true true false false zeros (record { there = there; numbered = numbered; twice = twice; full = full }))
 
   -- ---- an item that is taken
 

@@ -1,11 +1,11 @@
 // Pools of items that were kept when a cache was closed.
-ghost use Rattle.std.specs.Prelude.{◌≡◌, ◌<◌, ◌≤◌, ◌^◌, ◌++◌, ◌∷◌, [], ◌&&◌, nat_le, not, is_some, length, map, slice_get, Some, None, IfSome, IfOk, IfErr, OnOk, OnErr};
+ghost use Rattle.std.specs.Prelude.{◌≡◌, ◌<◌, ◌≤◌, ◌^◌, ◌++◌, ◌∷◌, [], ◌&&◌, nat_lt, nat_le, not, is_some, length, map, slice_get, Some, None, IfSome, IfOk, IfErr, OnOk, OnErr};
 ghost use Rattle.hc_types.specs.Limits.{first_wrong};
 ghost use Rattle.hc_memory.specs.Item.{cost};
 ghost use Rattle.hc_memory.specs.Pool.{Pool as Order, bytes_of, item_at};
 ghost use Rattle.hc_memory.specs.Marks.{is_stale};
 ghost use Rattle.hc_memory.specs.Memory.{empty_pool, linked_at, change_at};
-ghost use Rattle.hc_memory.specs.Resting.{is_full_at, misfit_of, after_restore};
+ghost use Rattle.hc_memory.specs.Resting.{is_numbered, is_full_at, misfit_of, after_restore};
 
 use crate::clean::CleanIndex;
 use crate::item::{Held, Item};
@@ -88,20 +88,40 @@ impl<A: Allocator> PoolsBuilder<A> {
     fn misfit(&self, item: &Item<A>) -> Option<Misfit>
         ensures { result ≡ misfit_of self.now item.now }
     {
-        let number = usize::from(item.pool);
-        if number >= self.pools.len() {
+        if !self.has_pool(item) {
             return Some(Misfit::NoPool);
         }
-        if !is_numbered(&self.marks, &self.flash, self.made, item) {
+        if !self.is_numbered(item) {
             return Some(Misfit::NoNumber);
         }
-        if has_key(self.pools.as_slice(), &item.key) {
+        if self.has_key(item) {
             return Some(Misfit::KeyTwice);
         }
         if self.is_full_for(item) {
             return Some(Misfit::NoRoom);
         }
         None
+    }
+
+    /// Whether the item's pool is there.
+    fn has_pool(&self, item: &Item<A>) -> bool
+        ensures { result ≡ nat_lt item.now.pool (length self.now.pools) }
+    {
+        usize::from(item.pool) < self.pools.len()
+    }
+
+    /// Whether the number of the item was given out, and it is as clean as it says.
+    fn is_numbered(&self, item: &Item<A>) -> bool
+        ensures { result ≡ is_numbered self.now.flash self.now.made item.now }
+    {
+        is_given(&self.marks, &self.flash, self.made, item)
+    }
+
+    /// Whether the item's key has an item.
+    fn has_key(&self, item: &Item<A>) -> bool
+        ensures { result ≡ is_some (linked_at item.now.key self.now.pools) }
+    {
+        has_in(self.pools.as_slice(), &item.key)
     }
 
     /// Whether the item doesn't fit into its pool, which is there.
@@ -178,14 +198,14 @@ impl<A: Allocator + Clone> PoolsBuilder<A> {
 }
 
 /// Whether a pool has an item under this key.
-fn has_key<A: Allocator>(pools: &[Pool<A>], key: &Key<A>) -> bool
+fn has_in<A: Allocator>(pools: &[Pool<A>], key: &Key<A>) -> bool
     ensures { result ≡ is_some (linked_at key.now pools.now) }
 {
     held_in(pools, key).is_some()
 }
 
-/// Whether the number of the item was given out, and it is as clean as it says.
-fn is_numbered<A: Allocator>(
+/// Whether the number of the item is at most this one, and its mark isn't lost.
+fn is_given<A: Allocator>(
     marks: &Marks<A>,
     flash: &Option<FlashConfig>,
     made: u64,

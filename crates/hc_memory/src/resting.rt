@@ -25,15 +25,28 @@ impl<A: Allocator> Pools<A> {
         ensures pools { self.new ≡ after_hand_out self.old }
         ensures rest { all_items (without_first self.old.pools) ≡ drop 1 (all_items self.old.pools) }
     {
-        match first_pool(self.pools.as_slice()) {
-            Some(number) => self.evict_oldest(number as u8),
+        match self.first_pool() {
+            Some(pool) => self.evict_oldest(pool),
+            None => None,
+        }
+    }
+
+    /// The number of the first pool that has an item.
+    fn first_pool(&self) -> Option<u8>
+        ensures { result ≡ first_pool self.now.pools }
+    {
+        match first_filled(self.pools.as_slice()) {
+            Some(at) => {
+                let number = at as u8;
+                Some(number)
+            }
             None => None,
         }
     }
 }
 
-/// The number of the first pool that has an item.
-fn first_pool<A: Allocator>(pools: &[Pool<A>]) -> Option<usize>
+/// Where the first pool stands that has an item.
+fn first_filled<A: Allocator>(pools: &[Pool<A>]) -> Option<usize>
     ensures { result ≡ first_pool pools.now }
 {
     for (i, pool) in pools.iter().enumerate() {

@@ -4,7 +4,7 @@ use Rattle.std.proofs.lemmas.List.{drop_all}
 use Rattle.hc_memory.specs.Resting.{first_pool}
 use Rattle.hc_memory.proofs.HandingOut.{passed, arrived}
 use Rattle.hc_memory.proofs.Looking.{unpassed, drop_here}
-use Rattle.hc_memory.proofs.resting.first_pool.Goals as goal
+use Rattle.hc_memory.proofs.resting.first_filled.Goals as goal
 
 pub loop-i-init : goal.loop-i-init
 loop-i-init g c = unpassed (first_pool c.args.pools.now)

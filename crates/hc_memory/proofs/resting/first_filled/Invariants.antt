@@ -1,7 +1,7 @@
 use Rattle.std.proofs.Common.{◌≡◌, ◌+◌, drop}
 use Rattle.std.specs.Prelude.{option_map}
 use Rattle.hc_memory.specs.Resting.{first_pool}
-use Rattle.hc_memory.proofs.resting.first_pool.Given as goal
+use Rattle.hc_memory.proofs.resting.first_filled.Given as goal
 
 -- the pool is among the rest, if there is one
 abbrev pub invariant-loop-i : goal.invariant-loop-i
