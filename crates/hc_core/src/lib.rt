@@ -11,7 +11,7 @@ mod storing;
 mod workers;
 
 pub use cache::Core;
-pub use laws::{steps_are_legal, unread_logs_are_honest};
+pub use laws::{resumed_logs_are_legal, steps_are_legal, unread_logs_are_honest};
 
 // The types of the calls' signatures, so that a caller needs no other crate.
 pub use hc_flash::{IoResult, Order};
