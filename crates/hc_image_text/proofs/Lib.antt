@@ -1,0 +1,4 @@
+-- What is proved of the bytes of records.
+pub mod Rows
+pub mod Again
+pub mod Behind

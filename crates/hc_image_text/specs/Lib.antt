@@ -1,0 +1,7 @@
+-- The bytes of an image: its records, one by one. Of each: its bytes, what bytes are read as, and that these are inverse.
+pub mod Numbers
+pub mod Leads
+pub mod Words
+pub mod Items
+pub mod Counting
+pub mod Regions

@@ -1,0 +1,38 @@
+//! The bytes of what is kept of a cache at rest: each record is written with one spelling, and read as what was written.
+#![tactic(auto)]
+
+ghost use Rattle.hc_image_text.specs.Counting.{CountersReadBack, PoolReadsBack};
+ghost use Rattle.hc_image_text.specs.Items.{ItemReadsBack, KeyReadsBack};
+ghost use Rattle.hc_image_text.specs.Leads.{LeadReadsBack};
+ghost use Rattle.hc_image_text.specs.Numbers.{NumberReadsBack};
+ghost use Rattle.hc_image_text.specs.Regions.{NumbersReadBack, OpenReadsBack, RegionReadsBack};
+ghost use Rattle.hc_image_text.specs.Words.{WordReadsBack};
+
+mod counters;
+mod item;
+mod lead;
+mod numbers;
+mod region;
+mod word;
+
+pub use counters::{Counters, PoolHead, counters_in, pool_in, put_counters, put_pool};
+pub use item::{KeptItem, item_in, key_in, put_entry, put_item, put_key};
+pub use lead::{LEAD, lead_in, put_lead};
+pub use numbers::{number_in, put_number};
+pub use region::{numbers_in, open_in, put_numbers, put_open, put_region, region_in};
+pub use word::{WORD, put_word, word_in};
+
+/// What is written of a record is read again. The function does nothing: its contract is the law. (An entry that waits is read
+/// again by `hc_engines`' law `entry_reads_back`.)
+pub fn records_read_back()
+    ensures numbers { NumberReadsBack }
+    ensures leads { LeadReadsBack }
+    ensures words { WordReadsBack }
+    ensures items { ItemReadsBack }
+    ensures keys { KeyReadsBack }
+    ensures counters { CountersReadBack }
+    ensures pools { PoolReadsBack }
+    ensures lists { NumbersReadBack }
+    ensures open_regions { OpenReadsBack }
+    ensures regions { RegionReadsBack }
+{}
