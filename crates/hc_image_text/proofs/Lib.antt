@@ -2,3 +2,4 @@
 pub mod Rows
 pub mod Again
 pub mod Behind
+pub mod Framed

@@ -5,3 +5,5 @@ pub mod Words
 pub mod Items
 pub mod Counting
 pub mod Regions
+pub mod Frames
+pub mod Heads

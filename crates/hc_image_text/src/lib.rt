@@ -2,6 +2,7 @@
 #![tactic(auto)]
 
 ghost use Rattle.hc_image_text.specs.Counting.{CountersReadBack, PoolReadsBack};
+ghost use Rattle.hc_image_text.specs.Frames.{FrameReadsBack};
 ghost use Rattle.hc_image_text.specs.Items.{ItemReadsBack, KeyReadsBack};
 ghost use Rattle.hc_image_text.specs.Leads.{LeadReadsBack};
 ghost use Rattle.hc_image_text.specs.Numbers.{NumberReadsBack};
@@ -9,6 +10,7 @@ ghost use Rattle.hc_image_text.specs.Regions.{NumbersReadBack, OpenReadsBack, Re
 ghost use Rattle.hc_image_text.specs.Words.{WordReadsBack};
 
 mod counters;
+mod frame;
 mod item;
 mod lead;
 mod numbers;
@@ -16,6 +18,7 @@ mod region;
 mod word;
 
 pub use counters::{Counters, PoolHead, counters_in, pool_in, put_counters, put_pool};
+pub use frame::{FRONT, Kind, cut, put_frame, put_front};
 pub use item::{KeptItem, item_in, key_in, put_entry, put_item, put_key};
 pub use lead::{LEAD, lead_in, put_lead};
 pub use numbers::{number_in, put_number};
@@ -35,4 +38,10 @@ pub fn records_read_back()
     ensures lists { NumbersReadBack }
     ensures open_regions { OpenReadsBack }
     ensures regions { RegionReadsBack }
+{}
+
+/// A record in its frame is cut off again, whatever stands behind it. The function does nothing: its contract is the law.
+#[tactic(auto, using(crate::proofs::Framed::frame_again))]
+pub fn frames_read_back()
+    ensures { FrameReadsBack }
 {}

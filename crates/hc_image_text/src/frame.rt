@@ -1,0 +1,142 @@
+// The frames in which records stand: the kind of each in a byte, and its length in four.
+ghost use Rattle.std.specs.Prelude.{◌≡◌, ◌<◌, ◌^◌, ◌++◌, length, option_map, OnOk};
+ghost use Rattle.hc_image_text.specs.Frames.{kind_byte as kind_byte_seen, kind_in as kind_in_seen, framed, front_bytes, frame_bytes, cut as cut_seen, cut_at as cut_at_seen, cut_of};
+
+use crate::numbers::put_u32;
+use byteorder::{BigEndian, ByteOrder};
+use std::alloc::{AllocError, Allocator};
+
+/// What a record of an image is.
+#[derive(Clone, Copy, Debug)]
+pub enum Kind {
+    /// Whose the image is, its version, and its configuration.
+    Head,
+    /// The counters.
+    Counters,
+    /// A pool, whose items come behind it.
+    Pool,
+    /// An item of memory.
+    Item,
+    /// An entry that waits for flash.
+    Put,
+    /// A key whose copies on flash are stale.
+    Tombstone,
+    /// Words of buckets, in the order of the buckets.
+    Words,
+    /// A region, in the order of their numbers.
+    Region,
+    /// The number of the open region, or none.
+    Open,
+    /// The numbers of the regions that wait for their flush.
+    Sealed,
+    /// The numbers of the regions on flash, in the order of their flushes.
+    Flushed,
+    /// Where hashes lead, in order of the hash.
+    Leads,
+    /// The count of a cache's stamps.
+    Stamps,
+    /// Digests of pages, in the order of the pages.
+    Digests,
+    /// The digest of all bytes before: the image ends.
+    End,
+}
+
+/// How many bytes stand before a record.
+pub const FRONT: usize = 5;
+
+fn kind_byte(kind: Kind) -> u8
+    ensures { result ≡ kind_byte_seen kind }
+{
+    match kind {
+        Kind::Head => b'H',
+        Kind::Counters => b'N',
+        Kind::Pool => b'P',
+        Kind::Item => b'I',
+        Kind::Put => b'Q',
+        Kind::Tombstone => b'T',
+        Kind::Words => b'W',
+        Kind::Region => b'R',
+        Kind::Open => b'O',
+        Kind::Sealed => b'S',
+        Kind::Flushed => b'F',
+        Kind::Leads => b'L',
+        Kind::Stamps => b'A',
+        Kind::Digests => b'D',
+        Kind::End => b'E',
+    }
+}
+
+fn kind_in(byte: u8) -> Option<Kind>
+    ensures { result ≡ kind_in_seen byte }
+{
+    match byte {
+        b'H' => Some(Kind::Head),
+        b'N' => Some(Kind::Counters),
+        b'P' => Some(Kind::Pool),
+        b'I' => Some(Kind::Item),
+        b'Q' => Some(Kind::Put),
+        b'T' => Some(Kind::Tombstone),
+        b'W' => Some(Kind::Words),
+        b'R' => Some(Kind::Region),
+        b'O' => Some(Kind::Open),
+        b'S' => Some(Kind::Sealed),
+        b'F' => Some(Kind::Flushed),
+        b'L' => Some(Kind::Leads),
+        b'A' => Some(Kind::Stamps),
+        b'D' => Some(Kind::Digests),
+        b'E' => Some(Kind::End),
+        _ => None,
+    }
+}
+
+/// The front of a record goes behind the bytes: its kind, and how many bytes it will have. Refused only when out of memory.
+pub fn put_front<A: Allocator + Clone>(
+    out: &mut Vec<u8, A>,
+    kind: Kind,
+    len: u32,
+) -> Result<(), AllocError>
+    ensures { OnOk result (out.new.items ≡ out.old.items ++ front_bytes kind len) }
+{
+    out.push(kind_byte(kind))?;
+    put_u32(out, len)
+}
+
+/// A record in its frame goes behind the bytes. It has fewer than 2^32 bytes. Refused only when out of memory.
+pub fn put_frame<A: Allocator + Clone>(
+    out: &mut Vec<u8, A>,
+    kind: Kind,
+    body: &[u8],
+) -> Result<(), AllocError>
+    requires { length body.now < 2 ^ 32 }
+    ensures { OnOk result (out.new.items ≡ out.old.items ++ frame_bytes (framed kind body.now)) }
+{
+    put_front(out, kind, body.len() as u32)?;
+    out.extend_from_slice(body)
+}
+
+fn cut_at(kind: Kind, len: u32, bytes: &[u8]) -> Option<(Kind, &[u8], &[u8])>
+    ensures { option_map (λ c. cut_of c.0 c.1.now c.2.now) result ≡ cut_at_seen (Some kind) len bytes.now }
+{
+    let len = len as usize;
+    if bytes.len() < len {
+        return None;
+    }
+    Some((kind, &bytes[..len], &bytes[len..]))
+}
+
+/// The first record of the bytes: its kind, its bytes, and those behind it. None where they don't begin with a whole one.
+#[must_use]
+pub fn cut(bytes: &[u8]) -> Option<(Kind, &[u8], &[u8])>
+    ensures { option_map (λ c. cut_of c.0 c.1.now c.2.now) result ≡ cut_seen bytes.now }
+{
+    match bytes {
+        [] => None,
+        [first, behind @ ..] => {
+            if behind.len() < 4 {
+                return None;
+            }
+            let kind = kind_in(*first)?;
+            cut_at(kind, BigEndian::read_u32(&behind[..4]), &behind[4..])
+        }
+    }
+}
