@@ -237,7 +237,7 @@ if has cargo; then
     if [ "$what" != --short ]; then
         (cd "$here/rust" && CARGO_TARGET_DIR="$out/target" cargo test --offline --quiet)
     fi
-    for package in rust service examples/rust; do read_package "$package"; done
+    for package in rust service pictures examples/rust; do read_package "$package"; done
     if [ "$what" != --short ]; then
         for package in server bench; do
             if missing=$("$here/$package/tests/has-crates"); then read_package "$package"; else echo "skipped: the code of $package, for want of crate $missing"; fi

@@ -1,8 +1,6 @@
 //! What the cache does for a load: requests, made up or from a file, are put to it, and what came of them is told in numbers and
 //! pictures. docs/BENCH.md says how it is used.
 pub mod advise;
-pub mod axis;
-pub mod bytes;
 pub mod caches;
 pub mod commands;
 pub mod counts;
@@ -12,13 +10,10 @@ pub mod errors;
 pub mod feed;
 pub mod forms;
 pub mod generate;
-pub mod histogram;
 pub mod json;
 pub mod lines;
 pub mod memcached;
 pub mod output;
-pub mod page;
-pub mod picture;
 pub mod pictures;
 pub mod plain;
 pub mod progress;
@@ -39,3 +34,5 @@ pub mod target;
 pub mod trace;
 pub mod unpack;
 pub mod zipf;
+
+pub use kilambosetry_pictures::{axis, bytes, histogram, page, picture};

@@ -9,6 +9,8 @@ pub enum Unit {
     Bytes,
     Nanoseconds,
     Seconds,
+    /// Minutes, from so many ago, which are 0, up to now.
+    MinutesAgo(u32),
     Number,
     /// The places of names, from 0 on.
     Names(&'static [&'static str]),
@@ -46,8 +48,10 @@ impl Axis {
             true => (1.0, 10.0),
             false => (0.0, most),
         };
-        if self.unit == Unit::Share {
-            most = 1.0;
+        match self.unit {
+            Unit::Share => most = 1.0,
+            Unit::MinutesAgo(span) => (least, most) = (0.0, f64::from(span)),
+            _ => {}
         }
         if most <= least {
             (least, most) = if self.is_log { (least / 2.0, most * 2.0) } else { (least, least + 1.0) };
@@ -66,6 +70,7 @@ impl Axis {
             Unit::Nanoseconds if number < 1e9 => format!("{} ms", number / 1e6),
             Unit::Nanoseconds => format!("{} s", number / 1e9),
             Unit::Seconds => format!("{number} s"),
+            Unit::MinutesAgo(span) => format!("{}", f64::from(span) - number),
             Unit::Number => thousands(number),
             Unit::Names(names) => names.get(number as usize).unwrap_or(&"").to_string(),
         }
@@ -145,6 +150,7 @@ mod tests {
         assert_eq!(marks(Unit::Bytes, true, &[1e6, 2e7]), ["1 MB", "2 MB", "5 MB", "10 MB", "20 MB"]);
         assert_eq!(marks(Unit::Nanoseconds, true, &[900.0, 3e7]), ["1 µs", "10 µs", "100 µs", "1 ms", "10 ms"]);
         assert_eq!(marks(Unit::Seconds, false, &[0.0, 1.1]), ["0 s", "0.2 s", "0.4 s", "0.6 s", "0.8 s", "1 s"]);
+        assert_eq!(marks(Unit::MinutesAgo(60), false, &[59.0]), ["60", "50", "40", "30", "20", "10", "0"]);
         assert_eq!(marks(Unit::Number, false, &[30_000.0]), ["0", "5 k", "10 k", "15 k", "20 k", "25 k", "30 k"][..7]);
     }
 

@@ -47,37 +47,39 @@ pub fn escaped(text: &str) -> String {
 }
 
 impl Picture {
-    /// The picture within a page that has [`STYLE`].
-    #[must_use]
-    pub fn within_a_page(&self) -> String {
-        self.svg("")
+    /// Writes the picture as a part of a page that has [`STYLE`]. Besides what is written to, no piece of memory that this takes grows
+    /// with the points.
+    pub fn write_to_page(&self, page: &mut String) {
+        self.write(page, "");
     }
 
     /// The picture as a file by itself.
     #[must_use]
     pub fn by_itself(&self) -> String {
         let paper = "<rect class=\"paper\" width=\"100%\" height=\"100%\"/>";
-        self.svg(&format!("<style>{STYLE}.picture .paper{{fill:var(--paper)}}</style>\n{paper}\n")) + "\n"
+        let mut svg = String::new();
+        self.write(&mut svg, &format!("<style>{STYLE}.picture .paper{{fill:var(--paper)}}</style>\n{paper}\n"));
+        svg + "\n"
     }
 
-    fn svg(&self, head: &str) -> String {
-        let (mut svg, title) = (String::new(), escaped(&self.title));
+    fn write(&self, svg: &mut String, head: &str) {
+        let title = escaped(&self.title);
         let high = NAMES + NAME * self.named() as f64;
         let _ = writeln!(
             svg,
             "<svg class=\"picture\" xmlns=\"http://www.w3.org/2000/svg\" viewBox=\"0 0 {WIDE} {high}\" role=\"img\" aria-label=\"{title}\">"
         );
-        svg += head;
+        *svg += head;
         let _ = writeln!(svg, "<text class=\"title\" x=\"8\" y=\"18\">{title}</text>");
         let points = || self.lines.iter().flat_map(|line| line.points.iter().copied());
         let (across, up) =
             (self.across.over(points().map(|point| point.0)), self.up.over(points().map(|point| point.1)));
-        self.write_grid(&mut svg, &across, &up);
+        self.write_grid(svg, &across, &up);
         for (number, line) in self.lines.iter().enumerate() {
-            write_line(&mut svg, number, line, &across, &up);
+            write_line(svg, number, line, &across, &up);
         }
-        self.write_names(&mut svg);
-        svg + "</svg>"
+        self.write_names(svg);
+        *svg += "</svg>";
     }
 
     // A line alone needs no name.
@@ -140,11 +142,14 @@ fn y_of(up: &Scale, number: f64) -> f64 {
 fn write_line(svg: &mut String, number: usize, line: &Line, across: &Scale, up: &Scale) {
     let colour = number % COLOURS;
     let place = |(x, y): &(f64, f64)| (x_of(across, *x), y_of(up, *y));
-    let path: Vec<String> = line.points.iter().map(place).map(|(x, y)| format!("{x:.1} {y:.1}")).collect();
-    if path.len() > 1 {
-        let _ = writeln!(svg, "<path class=\"line c{colour}\" d=\"M{}\"/>", path.join("L"));
+    if line.points.len() > 1 {
+        let _ = write!(svg, "<path class=\"line c{colour}\" d=\"");
+        for (i, (x, y)) in line.points.iter().map(place).enumerate() {
+            let _ = write!(svg, "{}{x:.1} {y:.1}", if i == 0 { 'M' } else { 'L' });
+        }
+        *svg += "\"/>\n";
     }
-    if path.len() <= FEW {
+    if line.points.len() <= FEW {
         for (x, y) in line.points.iter().map(place) {
             let _ = writeln!(svg, "<circle class=\"line dot c{colour}\" cx=\"{x:.1}\" cy=\"{y:.1}\" r=\"3\"/>");
         }
@@ -166,9 +171,15 @@ mod tests {
         }
     }
 
+    fn within_a_page(picture: &Picture) -> String {
+        let mut page = String::new();
+        picture.write_to_page(&mut page);
+        page
+    }
+
     #[test]
     fn points_stand_where_their_numbers_say() {
-        let svg = picture(1).within_a_page();
+        let svg = within_a_page(&picture(1));
         let (quarter, three) = (BOTTOM - (BOTTOM - TOP) / 4.0, BOTTOM - (BOTTOM - TOP) * 0.75);
         assert!(svg.contains(&format!("d=\"M{FIRST:.1} {quarter:.1}L{RIGHT:.1} {three:.1}\"")), "{svg}");
         assert!(svg.contains("Hits &amp; &quot;misses&quot;") && !svg.contains("<0>"), "{svg}");
@@ -187,7 +198,7 @@ mod tests {
 
     #[test]
     fn nothing_makes_an_empty_picture() {
-        let svg = picture(0).within_a_page();
+        let svg = within_a_page(&picture(0));
         assert!(svg.ends_with("</svg>") && !svg.contains("NaN") && !svg.contains("inf"), "{svg}");
     }
 }

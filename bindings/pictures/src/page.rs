@@ -1,5 +1,6 @@
 //! A page in HTML, with pictures and tables: one file, without scripts, and without anything from elsewhere.
 use crate::picture::{escaped, Picture, STYLE};
+use std::fmt::Write;
 
 /// A table: the names of its columns, and its rows.
 #[derive(Clone, Debug)]
@@ -18,23 +19,43 @@ main{max-width:1320px;margin:0 auto;padding:16px}h1{font-size:1.5rem;line-height
 figure{margin:0;padding:8px;border:1px solid var(--edge);border-radius:8px}svg{display:block;width:100%;max-width:640px;margin:0 auto;height:auto}\
 .wide{overflow-x:auto}.wide:focus-visible{outline:2px solid var(--link)}table{border-collapse:collapse;font-variant-numeric:tabular-nums}\
 th,td{padding:4px 0 4px 18px;text-align:right;white-space:nowrap;border-bottom:1px solid var(--edge)}th:first-child,td:first-child{text-align:left;padding-left:0}\
-code{overflow-wrap:anywhere}code span{white-space:nowrap}";
+code{overflow-wrap:anywhere}code span{white-space:nowrap}a{color:var(--link)}a:focus-visible{outline:2px solid var(--link);outline-offset:2px}\
+label{display:block;max-width:640px;margin:.6em 0}meter{display:block;width:100%;height:1.4em}";
 
-/// The page.
+/// The page of a run: what was asked for, by which command, and what came of it.
 #[must_use]
 pub fn page(title: &str, said: &str, command: &str, pictures: &[Picture], tables: &[Table]) -> String {
-    let (title, said, command) = (escaped(title), escaped(said), words(command));
-    let mut page = format!(
+    let mut page = String::new();
+    begin(&mut page, title, "");
+    let _ = write!(page, "<p>{}</p>\n<p><code>{}</code></p>\n", escaped(said), words(command));
+    write_pictures(&mut page, pictures);
+    tables.iter().for_each(|table| table.write_to_page(&mut page));
+    page += END;
+    page
+}
+
+/// Begins a page of this title, with these lines of HTML in its head.
+pub fn begin(page: &mut String, title: &str, head: &str) {
+    let title = escaped(title);
+    let _ = write!(
+        page,
         "<!doctype html>\n<html lang=\"en\">\n<meta charset=\"utf-8\">\n<meta name=\"viewport\" content=\"width=device-width\">\n\
-         <title>{title}</title>\n<style>{LOOK}{STYLE}</style>\n<main>\n<h1>{title}</h1>\n<p>{said}</p>\n<p><code>{command}</code></p>\n"
+         {head}<title>{title}</title>\n<style>{LOOK}{STYLE}</style>\n<main>\n<h1>{title}</h1>\n"
     );
-    page += "<div class=\"pictures\">\n";
+}
+
+/// The end of a page.
+pub const END: &str = "</main>\n</html>\n";
+
+/// Writes pictures beside one another, as many as there is room for.
+pub fn write_pictures(page: &mut String, pictures: &[Picture]) {
+    *page += "<div class=\"pictures\">\n";
     for picture in pictures {
-        page += &format!("<figure>{}</figure>\n", picture.within_a_page());
+        *page += "<figure>";
+        picture.write_to_page(page);
+        *page += "</figure>\n";
     }
-    page += "</div>\n";
-    tables.iter().for_each(|table| page += &table.html());
-    page + "</main>\n</html>\n"
+    *page += "</div>\n";
 }
 
 // A command, whose words aren't broken at their hyphens, unless they are long.
@@ -60,20 +81,27 @@ impl Table {
         rows().map(|row| row.iter().enumerate().map(cell).collect::<String>().trim_end().to_string() + "\n").collect()
     }
 
-    fn html(&self) -> String {
+    /// Writes it as a part of a page.
+    pub fn write_to_page(&self, page: &mut String) {
         let title = escaped(&self.title);
-        let row = |cells: &[String], of: &str| {
-            let cells: String = cells.iter().map(|cell| format!("<{of}>{}</{of}>", escaped(cell))).collect();
-            format!("<tr>{cells}</tr>\n")
-        };
-        let (head, rows): (_, String) =
-            (row(&self.head, "th"), self.rows.iter().map(|cells| row(cells, "td")).collect());
         // (what is wider than the screen is moved by the keys too)
-        format!(
-            "<h2>{title}</h2>\n<div class=\"wide\" tabindex=\"0\" role=\"region\" aria-label=\"{title}\">\n\
-             <table>\n<thead>{head}</thead>\n<tbody>{rows}</tbody>\n</table>\n</div>\n"
-        )
+        let _ = write!(
+            page,
+            "<h2>{title}</h2>\n<div class=\"wide\" tabindex=\"0\" role=\"region\" aria-label=\"{title}\">\n<table>\n<thead>"
+        );
+        write_row(page, &self.head, "th");
+        *page += "</thead>\n<tbody>";
+        self.rows.iter().for_each(|cells| write_row(page, cells, "td"));
+        *page += "</tbody>\n</table>\n</div>\n";
     }
+}
+
+fn write_row(page: &mut String, cells: &[String], of: &str) {
+    *page += "<tr>";
+    for cell in cells {
+        let _ = write!(page, "<{of}>{}</{of}>", escaped(cell));
+    }
+    *page += "</tr>\n";
 }
 
 #[cfg(test)]

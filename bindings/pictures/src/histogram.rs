@@ -2,7 +2,8 @@
 
 const STEPS: u64 = 32;
 const BITS: u32 = STEPS.ilog2();
-const PLACES: usize = (64 - BITS as usize + 1) * STEPS as usize;
+/// So many places there are for times.
+pub const PLACES: usize = (64 - BITS as usize + 1) * STEPS as usize;
 
 /// Counts of times, in nanoseconds.
 #[derive(Clone, Debug)]
@@ -18,7 +19,9 @@ impl Default for Histogram {
     }
 }
 
-fn place(time: u64) -> usize {
+/// The place in which a time is counted.
+#[must_use]
+pub fn place(time: u64) -> usize {
     if time < STEPS {
         return time as usize;
     }
@@ -36,6 +39,22 @@ fn longest(place: usize) -> u64 {
 }
 
 impl Histogram {
+    /// Of counts of the places that were kept elsewhere. The longest is told as the quantiles are.
+    #[must_use]
+    pub fn of_counts(counts: impl Iterator<Item = u64>) -> Histogram {
+        let mut all = Histogram::default();
+        all.counts.iter_mut().zip(counts).for_each(|(place, count)| *place = count);
+        all.count = all.counts.iter().sum();
+        all.most = all.counts.iter().rposition(|count| *count > 0).map_or(0, longest);
+        all
+    }
+
+    /// What was added since it was as another is.
+    #[must_use]
+    pub fn since(&self, before: &Histogram) -> Histogram {
+        Histogram::of_counts(self.counts.iter().zip(&before.counts).map(|(count, was)| count.saturating_sub(*was)))
+    }
+
     pub fn add(&mut self, time: u64) {
         self.counts[place(time)] += 1;
         self.count += 1;
@@ -76,8 +95,6 @@ impl Histogram {
 #[cfg(test)]
 mod tests {
     use super::*;
-    use crate::random::Random;
-
     #[test]
     fn each_time_stands_in_its_place() {
         for time in (0..5000).chain((10..64).map(|bit| (1u64 << bit) + 7)).chain([u64::MAX]) {
@@ -89,8 +106,12 @@ mod tests {
 
     #[test]
     fn quantiles_are_those_of_the_sorted_times() {
-        let mut random = Random::new(1);
-        let mut times: Vec<u64> = (0..10_000).map(|_| (random.share() * 20.0).exp() as u64).collect();
+        let mut seed = 1u64;
+        let mut share = || {
+            seed = seed.wrapping_mul(6_364_136_223_846_793_005).wrapping_add(1_442_695_040_888_963_407);
+            (seed >> 11) as f64 / (1u64 << 53) as f64
+        };
+        let mut times: Vec<u64> = (0..10_000).map(|_| (share() * 20.0).exp() as u64).collect();
         let mut halves = [Histogram::default(), Histogram::default()];
         times.iter().enumerate().for_each(|(i, time)| halves[i % 2].add(*time));
         let [mut all, other] = halves;
@@ -103,5 +124,15 @@ mod tests {
         }
         assert_eq!((all.quantile(1.0), all.most(), all.count()), (times[9999], times[9999], 10_000));
         assert_eq!(Histogram::default().quantile(0.5), 0);
+    }
+    #[test]
+    fn what_was_added_since_is_counted_alone() {
+        let mut before = Histogram::default();
+        before.add(5);
+        let mut now = before.clone();
+        (0..3).for_each(|_| now.add(1000));
+        let since = now.since(&before);
+        assert_eq!((since.count(), since.quantile(0.5), since.most()), (3, longest(place(1000)), longest(place(1000))));
+        assert_eq!((before.since(&now).count(), before.since(&now).most()), (0, 0));
     }
 }
