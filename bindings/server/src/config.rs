@@ -73,7 +73,7 @@ pub struct Config {
     #[arg(short = 's', long, value_name = "PATH")]
     pub unix: Option<PathBuf>,
 
-    /// The port of the page for Prometheus, on the same address; 0: none
+    /// The port of the pages, on the same address: /metrics for Prometheus, and / for the eye; 0: none
     #[arg(long, value_name = "PORT", default_value_t = 0)]
     pub metrics_port: u16,
 

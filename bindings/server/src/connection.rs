@@ -10,6 +10,7 @@ use crate::meta::how_of;
 use crate::parse::{line_of, Received};
 use crate::request::{Command, How, Request};
 use crate::server::Worker;
+use crate::times::Kind;
 use crate::within::{within, TimeIsUp};
 use std::future::{poll_fn, Future};
 use std::io;
@@ -166,7 +167,7 @@ impl<S: Stream> Connection<S> {
             }
         };
         let Some(value) = value_of(&request) else {
-            classic::run(worker, request, b"", answers).await?;
+            run(worker, request, b"", answers).await?;
             return Ok(Next::Took(length));
         };
         let whole = length + value + 2;
@@ -179,7 +180,7 @@ impl<S: Stream> Connection<S> {
             return Ok(Next::Wants(whole));
         }
         match received[length..whole].strip_suffix(b"\r\n") {
-            Some(value) => classic::run(worker, request, value, answers).await?,
+            Some(value) => run(worker, request, value, answers).await?,
             None => refuse_chunk(worker, &request, answers),
         }
         Ok(Next::Took(whole))
@@ -295,6 +296,28 @@ impl<S: Stream> Connection<S> {
         };
         let _ = within(LINGER, passed).await;
     }
+}
+
+// Does what a client asks for, and times it where its turn has come: from where it has come whole until its answer is made.
+async fn run<S: Stream>(
+    worker: &Worker,
+    request: Request<'_>,
+    value: &[u8],
+    answers: &mut Answers<S>,
+) -> io::Result<()> {
+    let (begun, kind) = (worker.times.begin(), Kind::of(&request.command));
+    let mut has_waited = false;
+    let mut doing = pin!(classic::run(worker, request, value, answers));
+    let done = poll_fn(|context| {
+        let polled = doing.as_mut().poll(context);
+        has_waited |= polled.is_pending();
+        polled
+    });
+    let done = done.await;
+    if let Some(begun) = begun {
+        worker.times.add(kind.where_it(has_waited), begun.elapsed());
+    }
+    done
 }
 
 // The length of the value that comes behind a request's line.

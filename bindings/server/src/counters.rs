@@ -14,6 +14,12 @@ impl Counter {
         self.add(1);
     }
 
+    /// What was counted.
+    #[must_use]
+    pub fn get(&self) -> u64 {
+        self.0.load(Relaxed)
+    }
+
     /// Counts one where something is so, and else one of another counter.
     pub fn one_or(&self, is_so: bool, other: &Counter) {
         if is_so { self } else { other }.one();
@@ -39,7 +45,7 @@ macro_rules! counters {
             /// The sums of these counts.
             pub fn of<'a>(all: impl Iterator<Item = &'a Counters>) -> Sums {
                 all.fold(Sums::default(), |sums, one| Sums {
-                    $($name: sums.$name + one.$name.0.load(Relaxed),)*
+                    $($name: sums.$name + one.$name.get(),)*
                 })
             }
 

@@ -2,6 +2,7 @@
 use crate::config::Config;
 use crate::connection::Connection;
 use crate::metrics;
+use crate::page::history;
 use crate::server::{Server, Worker};
 use crate::within::within;
 use std::fs::{self, Permissions};
@@ -68,16 +69,23 @@ impl Sockets {
         })
     }
 
-    /// A socket on a port of this machine that is free.
-    pub fn on_any_port() -> io::Result<Sockets> {
-        let tcp = open_tcp(Ipv4Addr::LOCALHOST.into(), 0)?;
-        Ok(Sockets { tcp: Some(tcp), unix: None, metrics: None })
+    /// Sockets on ports of this machine that are free, for the pages too where the command line names a port for them.
+    pub fn on_any_ports(config: &Config) -> io::Result<Sockets> {
+        let open = || open_tcp(Ipv4Addr::LOCALHOST.into(), 0);
+        let metrics = (config.metrics_port > 0).then(open).transpose()?;
+        Ok(Sockets { tcp: Some(open()?), unix: None, metrics })
     }
 
     /// The address that clients connect to.
     #[must_use]
     pub fn address(&self) -> Option<SocketAddr> {
         self.tcp.as_ref()?.local_addr().ok()
+    }
+
+    /// The address of the pages.
+    #[must_use]
+    pub fn pages_address(&self) -> Option<SocketAddr> {
+        self.metrics.as_ref()?.local_addr().ok()
     }
 }
 
@@ -167,6 +175,7 @@ fn listen(server: &Arc<Server>, sockets: Sockets, workers: &Arc<Workers>) -> io:
     if let Some(tcp) = sockets.metrics {
         tcp.set_nonblocking(true)?;
         listening.spawn(metrics::serve(Arc::clone(server), TcpListener::from_std(tcp)?));
+        listening.spawn(history::keep(Arc::clone(server)));
     }
     Ok(listening)
 }
@@ -271,20 +280,22 @@ async fn serve_client(worker: Worker, client: Client, permit: OwnedSemaphorePerm
 pub struct Running {
     pub server: Arc<Server>,
     pub address: SocketAddr,
+    /// That of its pages, if it has them.
+    pub pages: Option<SocketAddr>,
     stop: oneshot::Sender<()>,
     thread: thread::JoinHandle<io::Result<bool>>,
 }
 
 impl Running {
-    /// Serves clients on a port of this machine that is free.
+    /// Serves clients on a port of this machine that is free, and its pages on another where its configuration has them.
     pub fn start(server: Arc<Server>) -> io::Result<Running> {
-        let sockets = Sockets::on_any_port()?;
-        let address = sockets.address().ok_or(io::ErrorKind::AddrNotAvailable)?;
+        let sockets = Sockets::on_any_ports(&server.config)?;
+        let (address, pages) = (sockets.address().ok_or(io::ErrorKind::AddrNotAvailable)?, sockets.pages_address());
         let (stop, stopped) = oneshot::channel();
         let runtime = Builder::new_current_thread().enable_all().build()?;
         let serves = Arc::clone(&server);
         let thread = thread::spawn(move || runtime.block_on(serve(serves, sockets, stopped)));
-        Ok(Running { server, address, stop, thread })
+        Ok(Running { server, address, pages, stop, thread })
     }
 
     /// Ends it: whether all connections had their answers in time.

@@ -1,5 +1,6 @@
-//! The page for Prometheus.
+//! The pages: for Prometheus, and for the eye.
 use crate::limits::has_memory;
+use crate::page;
 use crate::server::Server;
 use crate::within::within;
 use std::collections::VecDeque;
@@ -12,13 +13,21 @@ use tokio::net::{TcpListener, TcpStream};
 use tokio::task::JoinHandle;
 
 const LONGEST_REQUEST: usize = 8 * 1024;
-// A page, as it is made, takes no more; where there is no memory for it, whoever asks has no answer.
+// A page for Prometheus, as it is made, takes no more; where there is no memory for it, whoever asks has no answer.
 const OF_A_PAGE: usize = 128 * 1024;
 const PATIENCE: Duration = Duration::from_secs(5);
 const MOST_AT_ONCE: usize = 16;
 const PAUSE: Duration = Duration::from_millis(100);
 
-/// Serves the page until this is dropped: to the last who came, so that those who say nothing keep nobody out.
+// What is answered: the status, the kind of the text, and the text.
+type Answer = (&'static str, &'static str, String);
+
+const TEXT: &str = "text/plain; version=0.0.4";
+// (nothing comes from elsewhere, and nobody else may show it within a page of theirs)
+const HTML: &str = "text/html; charset=utf-8\r\nCache-Control: no-store\r\n\
+     Content-Security-Policy: default-src 'none'; style-src 'unsafe-inline'; frame-ancestors 'none'";
+
+/// Serves the pages until this is dropped: to the last who came, so that those who say nothing keep nobody out.
 pub async fn serve(server: Arc<Server>, listener: TcpListener) {
     let mut served: VecDeque<JoinHandle<()>> = VecDeque::new();
     loop {
@@ -48,12 +57,12 @@ async fn answer(server: &Server, mut stream: TcpStream) -> io::Result<()> {
         }
     }
     let line = request.split(|byte| *byte == b'\r').next().unwrap_or_default();
-    let (method, path) = method_and_path(line);
-    let (status, text) = match (method, path) {
-        (b"GET" | b"HEAD", b"/metrics") => ("200 OK", page(server)),
-        _ => ("404 Not Found", "The page is /metrics\n".to_string()),
+    let (method, path, query) = parts_of(line);
+    let (status, kind, text) = match (method, path) {
+        (b"GET" | b"HEAD", b"/metrics") => ("200 OK", TEXT, page(server)),
+        (b"GET" | b"HEAD", b"/") => pictures(server, query),
+        _ => ("404 Not Found", TEXT, "The pages are / and /metrics\n".to_string()),
     };
-    let kind = "text/plain; version=0.0.4";
     let length = text.len();
     let head =
         format!("HTTP/1.1 {status}\r\nContent-Type: {kind}\r\nContent-Length: {length}\r\nConnection: close\r\n\r\n");
@@ -64,11 +73,19 @@ async fn answer(server: &Server, mut stream: TcpStream) -> io::Result<()> {
     stream.shutdown().await
 }
 
-// (what follows a question mark asks for nothing else)
-fn method_and_path(line: &[u8]) -> (&[u8], &[u8]) {
+fn pictures(server: &Server, query: &[u8]) -> Answer {
+    match page::html(server, query == page::EVERY) {
+        Some(page) => ("200 OK", HTML, page),
+        None => ("503 Service Unavailable", TEXT, "There is no memory for the page\n".to_string()),
+    }
+}
+
+// The method, the path, and what follows a question mark.
+fn parts_of(line: &[u8]) -> (&[u8], &[u8], &[u8]) {
     let mut words = line.split(|byte| *byte == b' ');
     let (method, target) = (words.next().unwrap_or_default(), words.next().unwrap_or_default());
-    (method, target.split(|byte| *byte == b'?').next().unwrap_or_default())
+    let mut parts = target.splitn(2, |byte| *byte == b'?');
+    (method, parts.next().unwrap_or_default(), parts.next().unwrap_or_default())
 }
 
 /// The cache's counts, and the server's own.

@@ -4,6 +4,8 @@ use crate::counters::{Counters, Sums};
 use crate::finds::Finds;
 use crate::items::Items;
 use crate::limits::{has_memory, InFlight, Patience};
+use crate::page::history::{History, Sample};
+use crate::times::Times;
 use kilambosetry::HybridCache;
 use std::sync::Arc;
 use std::time::Instant;
@@ -28,7 +30,10 @@ pub struct Server {
     /// A permit for each connection that may be open.
     pub free_connections: Arc<Semaphore>,
     pub started: Instant,
+    /// What its page shows of the last hour.
+    pub history: History,
     counters: Vec<Arc<Counters>>,
+    times: Vec<Arc<Times>>,
 }
 
 /// What the connections of one thread share.
@@ -36,25 +41,33 @@ pub struct Server {
 pub struct Worker {
     pub server: Arc<Server>,
     pub counters: Arc<Counters>,
+    pub times: Arc<Times>,
 }
 
 impl Server {
     #[must_use]
     pub fn new(config: Config, cache: HybridCache) -> Arc<Server> {
+        let has_page = config.metrics_port > 0;
         Arc::new(Server {
             items: Items::new(cache, config.flash_wait()),
             in_flight: InFlight::new(config.in_flight_bytes()),
             patience: config.patience(),
             free_connections: Arc::new(Semaphore::new(config.connections as usize)),
             started: Instant::now(),
+            history: History::new(has_page),
             counters: (0..config.threads).map(|_| Arc::default()).collect(),
+            times: (0..config.threads).map(|_| Arc::new(Times::new(has_page))).collect(),
             config,
         })
     }
 
     /// The workers, one a thread.
     pub fn workers(self: &Arc<Server>) -> impl Iterator<Item = Worker> + '_ {
-        self.counters.iter().map(|counters| Worker { server: Arc::clone(self), counters: Arc::clone(counters) })
+        self.counters.iter().zip(&self.times).map(|(counters, times)| Worker {
+            server: Arc::clone(self),
+            counters: Arc::clone(counters),
+            times: Arc::clone(times),
+        })
     }
 
     /// The finds of a command's keys.
@@ -66,6 +79,24 @@ impl Server {
     #[must_use]
     pub fn sums(&self) -> Sums {
         Sums::of(self.counters.iter().map(|counters| &**counters))
+    }
+
+    /// What was counted up to now.
+    #[must_use]
+    pub fn sample(&self) -> Sample {
+        Sample {
+            at: self.started.elapsed(),
+            stats: self.items.cache().stats(),
+            sums: self.sums(),
+            flushed: self.items.found_flushed(),
+            gets: None,
+        }
+    }
+
+    /// Keeps a sample of now for the page.
+    pub fn note(&self) {
+        let times: Vec<&Times> = self.times.iter().map(|times| &**times).collect();
+        self.history.note(self.sample(), Times::of_all(&times));
     }
 
     /// Counts from 0 on anew.

@@ -132,7 +132,9 @@ fn evictions(losses: &Losses) -> u64 {
     losses.no_flash + losses.tombstone + losses.not_admitted + losses.too_large + losses.queue_full
 }
 
-fn losses(losses: &Losses) -> [(&'static str, u64); 11] {
+/// Items that were forgotten, by the reason.
+#[must_use]
+pub fn losses(losses: &Losses) -> [(&'static str, u64); 11] {
     [
         ("lost_no_flash", losses.no_flash),
         ("lost_tombstone", losses.tombstone),

@@ -6,7 +6,8 @@ mod support;
 use std::alloc::{GlobalAlloc, Layout};
 use std::ffi::c_void;
 use std::future::Future;
-use std::io::{self, ErrorKind};
+use std::io::{self, BufRead, BufReader, ErrorKind, Write};
+use std::net::TcpStream;
 use std::pin::{pin, Pin};
 use std::ptr;
 use std::sync::atomic::{AtomicBool, AtomicUsize, Ordering::SeqCst};
@@ -217,5 +218,28 @@ fn who_is_to_change_a_key_is_refused_where_there_is_no_memory_for_its_lock() {
     assert_eq!(UNTIL.swap(0, SeqCst), 0, "keys that are locked take little memory");
     drop(held);
     assert!(matches!(polled(pin!(items.change(&keys[0]))), Poll::Ready(Ok(_))));
+    assert!(running.stop());
+}
+
+#[test]
+fn a_page_for_which_there_is_no_memory_is_refused() {
+    let _alone = ALONE.lock().unwrap();
+    let running = in_memory(&["--metrics-port", "1"]);
+    running.server.note();
+    running.server.note();
+    let mut refused = Vec::new();
+    let count = each_refused(|| {
+        let mut stream = TcpStream::connect(running.pages.unwrap()).unwrap();
+        stream.write_all(b"GET / HTTP/1.1\r\n\r\n").unwrap();
+        let mut line = String::new();
+        let _ = BufReader::new(stream).read_line(&mut line);
+        refused.push(line.trim_end().to_string());
+    });
+    // (who comes where there is little memory isn't answered, and who asks where there is none for the page is told so)
+    assert_eq!(refused[count], "HTTP/1.1 200 OK");
+    assert!(refused.contains(&"HTTP/1.1 503 Service Unavailable".to_string()), "{refused:?}");
+    assert!(refused.iter().all(|it| it.is_empty() || it.starts_with("HTTP/1.1 ")), "{refused:?}");
+    running.server.note();
+    assert_eq!(Client::of(&running).ask("mn\r\n"), "MN");
     assert!(running.stop());
 }

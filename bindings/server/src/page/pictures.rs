@@ -1,0 +1,144 @@
+//! The pictures of the last hour.
+use super::history::{grown, Sample, QUANTILES};
+use crate::stats::losses;
+use kilambosetry_pictures::axis::{Axis, Unit};
+use kilambosetry_pictures::picture::{Line, Picture};
+use std::time::Duration;
+
+const MINUTES: u32 = 60;
+
+// A number of a sample.
+type Number = fn(&Sample) -> u64;
+
+// The samples that pictures are made of.
+struct Samples<'a> {
+    all: &'a [Sample],
+    now: Duration,
+}
+
+/// The pictures that these samples have something to show in, of flash whose pages have so many bytes.
+pub fn all(samples: &[Sample], now: Duration, page: u64) -> Vec<Picture> {
+    let it = Samples { all: samples, now };
+    let mut pictures = vec![it.hits(page > 0), it.commands(), it.times(), it.filled(page > 0)];
+    pictures.push(it.misses());
+    let lost = it.lost();
+    if !lost.lines.is_empty() {
+        pictures.push(lost);
+    }
+    if page > 0 {
+        pictures.push(it.flash(page));
+    }
+    pictures
+}
+
+fn picture(title: &str, unit: Unit, is_log: bool, lines: Vec<Line>) -> Picture {
+    let across = Axis::new("minutes ago", Unit::MinutesAgo(MINUTES), false);
+    Picture { title: title.to_string(), across, up: Axis::new("", unit, is_log), lines }
+}
+
+impl Samples<'_> {
+    // Where a sample stands.
+    fn minute(&self, sample: &Sample) -> f64 {
+        f64::from(MINUTES) - self.now.saturating_sub(sample.at).as_secs_f64() / 60.0
+    }
+
+    // A line of what each two samples in a row tell, as far as they are of the last hour.
+    fn line(&self, name: &str, number: impl Fn(&Sample, &Sample) -> Option<f64>) -> Line {
+        let point = |two: &[Sample]| Some((self.minute(&two[1]), number(&two[0], &two[1])?));
+        let points = self.all.windows(2).filter_map(point).filter(|(minute, _)| *minute >= 0.0).collect();
+        Line { name: name.to_string(), points }
+    }
+
+    // How much more there is a second.
+    fn rate(&self, name: &str, number: impl Fn(&Sample) -> u64) -> Line {
+        self.line(name, |before, now| {
+            let seconds = now.at.saturating_sub(before.at).as_secs_f64();
+            Some(grown(number(before), number(now)) as f64 / seconds.max(1e-3))
+        })
+    }
+
+    fn hits(&self, has_flash: bool) -> Picture {
+        let mut lines = vec![self.line("all", hit_share)];
+        if has_flash {
+            lines.push(self.line("in memory", |before, now| Some(hit_share(before, now)? * memory_share(before, now))));
+        }
+        picture("Hits, of all gets", Unit::Share, false, lines)
+    }
+
+    fn commands(&self) -> Picture {
+        let lines =
+            [("gets", gets as Number), ("stores", |it| it.sums.cmd_set), ("other commands that have a key", others)];
+        let lines = lines.into_iter().map(|(name, number)| self.rate(name, number)).collect();
+        picture("Commands a second", Unit::Number, false, lines)
+    }
+
+    fn times(&self) -> Picture {
+        let of = |(place, (name, _)): (usize, &(&str, f64))| self.line(name, |_, now| Some(now.gets?[place] as f64));
+        let lines = QUANTILES.iter().enumerate().map(of).collect();
+        picture("How long gets take", Unit::Nanoseconds, true, lines)
+    }
+
+    fn filled(&self, has_flash: bool) -> Picture {
+        let share = |part: u64, all: u64| (all > 0).then(|| part as f64 / all as f64);
+        let memory = self.line("memory", |_, now| share(now.stats.memory_bytes, now.stats.memory_limit_bytes));
+        let flash = self.line("flash", |_, now| share(now.stats.flash_bytes, now.stats.flash_limit_bytes));
+        let lines = if has_flash { vec![memory, flash] } else { vec![memory] };
+        picture("Memory and flash that are filled", Unit::Share, false, lines)
+    }
+
+    fn misses(&self) -> Picture {
+        let causes = super::tables::MISSES.iter().map(|(name, number)| self.rate(name, number)).collect();
+        picture("Misses a second, by cause", Unit::Number, false, shown(causes, 1))
+    }
+
+    fn lost(&self) -> Picture {
+        let names = losses(&self.all[0].stats.losses).map(|(name, _)| name);
+        let of = |(place, name): (usize, &str)| {
+            self.rate(&name.trim_start_matches("lost_").replace('_', " "), |sample| {
+                losses(&sample.stats.losses)[place].1
+            })
+        };
+        let causes = names.into_iter().enumerate().map(of).collect();
+        picture("Items forgotten a second, by cause", Unit::Number, false, shown(causes, 0))
+    }
+
+    fn flash(&self, page: u64) -> Picture {
+        let written = self.rate("written", |it| it.stats.device.writes * page);
+        let read = self.rate("read", |it| it.stats.device.reads * page);
+        picture("Bytes of flash a second", Unit::Bytes, false, vec![written, read])
+    }
+}
+
+// The lines in which there is anything, and so many in any case.
+fn shown(lines: Vec<Line>, least: usize) -> Vec<Line> {
+    let has_any = |line: &Line| line.points.iter().any(|(_, number)| *number > 0.0);
+    lines
+        .into_iter()
+        .enumerate()
+        .filter(|(place, line)| *place < least || has_any(line))
+        .map(|(_, line)| line)
+        .collect()
+}
+
+fn gets(sample: &Sample) -> u64 {
+    sample.sums.get_hits + sample.sums.get_misses
+}
+
+// (a get that touches is one of these)
+fn others(sample: &Sample) -> u64 {
+    let it = &sample.sums;
+    it.delete_hits + it.delete_misses + it.incr_hits + it.incr_misses + it.decr_hits + it.decr_misses + it.cmd_touch
+}
+
+fn hit_share(before: &Sample, now: &Sample) -> Option<f64> {
+    let hits = grown(before.sums.get_hits, now.sums.get_hits);
+    let all = hits + grown(before.sums.get_misses, now.sums.get_misses);
+    (all > 0).then(|| hits as f64 / all as f64)
+}
+
+// Of what the cache found, so much was in memory.
+fn memory_share(before: &Sample, now: &Sample) -> f64 {
+    let memory = grown(before.stats.hits_from_memory, now.stats.hits_from_memory);
+    let all = memory + grown(before.stats.hits_from_flash, now.stats.hits_from_flash);
+    memory as f64 / all.max(1) as f64
+}
