@@ -101,7 +101,9 @@ impl Requests {
     /// Whether they can be read more than once.
     #[must_use]
     pub fn can_be_read_again(&self) -> bool {
-        self.trace.as_deref().is_none_or(Path::is_file)
+        // (what isn't there, and a folder, is named as what it is once it is opened)
+        let is_file = |path: &Path| path.metadata().map_or(true, |it| it.is_file() || it.is_dir());
+        self.trace.as_deref().is_none_or(|path| path != Path::new("-") && is_file(path))
     }
 
     /// Begins them.

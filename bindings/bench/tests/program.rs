@@ -127,6 +127,75 @@ fn errors_have_the_file_and_the_line() {
     assert!(text(&told.stderr).starts_with("kilambosetry-bench: /nowhere/at/all: "), "{}", text(&told.stderr));
 }
 
+// What can't be read is told by name, whatever it was to be read for.
+#[test]
+fn each_command_tells_what_is_no_file_of_requests() {
+    let (empty, folder) = (path("empty"), path("folder"));
+    fs::write(&empty, "").unwrap();
+    fs::create_dir(&folder).unwrap();
+    for command in ["run", "curve", "advise", "beside", "read", "make"] {
+        for (file, said) in [(&empty, "it is empty"), (&folder, "it is a directory")] {
+            let told = ran(&[command, file.to_str().unwrap()]);
+            let wanted = format!("kilambosetry-bench: {}: {said}\n", file.display());
+            assert_eq!((told.status.code(), text(&told.stderr)), (Some(1), wanted), "{command}");
+        }
+    }
+    let told = ran(&["advise", "/nowhere/at/all"]);
+    assert!(text(&told.stderr).starts_with("kilambosetry-bench: /nowhere/at/all: "), "{}", text(&told.stderr));
+    fs::remove_file(empty).unwrap();
+    fs::remove_dir(folder).unwrap();
+}
+
+#[test]
+fn a_line_of_ten_megabytes_and_another_encoding_are_told() {
+    let file = path("long");
+    fs::write(&file, format!("key 5\n{}\nkey 5\n", "x".repeat(10_000_000))).unwrap();
+    let name = file.to_str().unwrap();
+    let told = ran(&["run", name]);
+    assert_eq!(text(&told.stderr), format!("kilambosetry-bench: {name}: line 2: it has more than 65536 bytes\n"));
+    let told = ran(&["run", name, "--bad-lines", "0.01"]);
+    assert!(
+        told.status.success() && text(&told.stdout).contains("lines     3, passed over 1"),
+        "{}",
+        text(&told.stdout)
+    );
+    fs::write(&file, "\u{feff}key 5\n".encode_utf16().flat_map(u16::to_le_bytes).collect::<Vec<u8>>()).unwrap();
+    let told = ran(&["curve", name]);
+    assert!(text(&told.stderr).contains("it is UTF-16"), "{}", text(&told.stderr));
+    fs::remove_file(file).unwrap();
+}
+
+// A number of nothing is refused, or there is nothing to tell: none ends the program by a panic.
+#[test]
+fn zeros_are_refused_or_done() {
+    for (words, is_done) in [
+        ("run --memory 0", false),
+        ("run --flash 1", false),
+        ("run --keys 0", false),
+        ("run --key-bytes 0", false),
+        ("run --threads 0", false),
+        ("run --pace 0", false),
+        ("run --load zipf:0", false),
+        ("run --sizes pareto:0:0:0", false),
+        ("curve --sample 0", false),
+        ("advise --memory-at-most 0", false),
+        ("run --sizes 0 --requests 100", true),
+        ("run --shards 0 --requests 100", true), // (as many as memory wants)
+        ("run --requests 0", true),
+        ("run --requests 10 --warm 100", true),
+        ("curve --requests 0", true),
+        ("curve --sizes 0 --requests 100", true),
+        ("beside --requests 0", true),
+        ("make --requests 0", true),
+        ("read --requests 0", true),
+    ] {
+        let told = ran(&words.split(' ').collect::<Vec<_>>());
+        let (status, said) = (told.status.code(), text(&told.stderr));
+        assert_eq!(status == Some(0), is_done, "{words}: {status:?} {said}");
+        assert!(is_done || matches!(status, Some(1 | 2)) && !said.is_empty(), "{words}: {status:?} {said}");
+    }
+}
+
 // Values of no bytes, and keys and values that are longer than the cache takes, are asked for and counted.
 #[test]
 fn sizes_that_no_cache_takes_are_counted() {

@@ -17,6 +17,7 @@ body{margin:0;background:var(--paper);color:var(--ink);font:16px/1.5 system-ui,s
 main{max-width:1320px;margin:0 auto;padding:16px}h1{font-size:1.5rem;line-height:1.25;margin:.4em 0}h2{font-size:1.1rem;margin:1.4em 0 .4em}\
 .pictures{display:grid;gap:16px;grid-template-columns:repeat(auto-fit,minmax(min(100%,380px),1fr))}\
 figure{margin:0;padding:8px;border:1px solid var(--edge);border-radius:8px}svg{display:block;width:100%;max-width:640px;margin:0 auto;height:auto}\
+.tables{display:grid;gap:0 32px;align-items:start;grid-template-columns:repeat(auto-fit,minmax(min(100%,480px),1fr))}section{min-width:0}\
 .wide{overflow-x:auto}.wide:focus-visible{outline:2px solid var(--link)}table{border-collapse:collapse;font-variant-numeric:tabular-nums}\
 th,td{padding:4px 0 4px 18px;text-align:right;white-space:nowrap;border-bottom:1px solid var(--edge)}th:first-child,td:first-child{text-align:left;padding-left:0}\
 code{overflow-wrap:anywhere}code span{white-space:nowrap}a{color:var(--link)}a:focus-visible{outline:2px solid var(--link);outline-offset:2px}\
@@ -54,6 +55,17 @@ pub fn write_pictures(page: &mut String, pictures: &[Picture]) {
         *page += "<figure>";
         picture.write_to_page(page);
         *page += "</figure>\n";
+    }
+    *page += "</div>\n";
+}
+
+/// Writes tables of few columns, beside one another where there is room.
+pub fn write_tables(page: &mut String, tables: &[Table]) {
+    *page += "<div class=\"tables\">\n";
+    for table in tables {
+        *page += "<section>\n";
+        table.write_to_page(page);
+        *page += "</section>\n";
     }
     *page += "</div>\n";
 }

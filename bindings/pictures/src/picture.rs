@@ -50,7 +50,7 @@ impl Picture {
     /// Writes the picture as a part of a page that has [`STYLE`]. Besides what is written to, no piece of memory that this takes grows
     /// with the points.
     pub fn write_to_page(&self, page: &mut String) {
-        self.write(page, "");
+        self.write(page, "", "");
     }
 
     /// The picture as a file by itself.
@@ -58,16 +58,17 @@ impl Picture {
     pub fn by_itself(&self) -> String {
         let paper = "<rect class=\"paper\" width=\"100%\" height=\"100%\"/>";
         let mut svg = String::new();
-        self.write(&mut svg, &format!("<style>{STYLE}.picture .paper{{fill:var(--paper)}}</style>\n{paper}\n"));
+        let wide = " width=\"630\"";
+        self.write(&mut svg, wide, &format!("<style>{STYLE}.picture .paper{{fill:var(--paper)}}</style>\n{paper}\n"));
         svg + "\n"
     }
 
-    fn write(&self, svg: &mut String, head: &str) {
+    fn write(&self, svg: &mut String, wide: &str, head: &str) {
         let title = escaped(&self.title);
         let high = NAMES + NAME * self.named() as f64;
         let _ = writeln!(
             svg,
-            "<svg class=\"picture\" xmlns=\"http://www.w3.org/2000/svg\" viewBox=\"0 0 {WIDE} {high}\" role=\"img\" aria-label=\"{title}\">"
+            "<svg class=\"picture\" xmlns=\"http://www.w3.org/2000/svg\"{wide} viewBox=\"0 0 {WIDE} {high}\" role=\"img\" aria-label=\"{title}\">"
         );
         *svg += head;
         let _ = writeln!(svg, "<text class=\"title\" x=\"8\" y=\"18\">{title}</text>");

@@ -166,22 +166,20 @@ impl<S: Stream> Connection<S> {
                 return Ok(Next::Took(length));
             }
         };
-        let Some(value) = value_of(&request) else {
-            run(worker, request, b"", answers).await?;
-            return Ok(Next::Took(length));
+        let (value, whole) = match value_of(&request) {
+            None => (Some(b"".as_slice()), length),
+            Some(value) if value > LONGEST_VALUE => {
+                refuse(worker, &request, NotKept::TooLarge, answers).await?;
+                *passed_over = value + 2;
+                return Ok(Next::Took(length));
+            }
+            Some(value) if received.len() < length + value + 2 => return Ok(Next::Wants(length + value + 2)),
+            Some(value) => (received[length..length + value + 2].strip_suffix(b"\r\n"), length + value + 2),
         };
-        let whole = length + value + 2;
-        if value > LONGEST_VALUE {
-            refuse(worker, &request, NotKept::TooLarge, answers).await?;
-            *passed_over = value + 2;
-            return Ok(Next::Took(length));
-        }
-        if received.len() < whole {
-            return Ok(Next::Wants(whole));
-        }
-        match received[length..whole].strip_suffix(b"\r\n") {
-            Some(value) => run(worker, request, value, answers).await?,
-            None => refuse_chunk(worker, &request, answers),
+        match (value, worker.times.begin()) {
+            (None, _) => refuse_chunk(worker, &request, answers),
+            (Some(value), None) => classic::run(worker, request, value, answers).await?,
+            (Some(value), Some(begun)) => run_timed(begun, worker, request, value, answers).await?,
         }
         Ok(Next::Took(whole))
     }
@@ -298,15 +296,15 @@ impl<S: Stream> Connection<S> {
     }
 }
 
-// Does what a client asks for, and times it where its turn has come: from where it has come whole until its answer is made.
-async fn run<S: Stream>(
+// Does what a client asks for, whose time counts from where it has come whole until its answer is made.
+async fn run_timed<S: Stream>(
+    begun: Instant,
     worker: &Worker,
     request: Request<'_>,
     value: &[u8],
     answers: &mut Answers<S>,
 ) -> io::Result<()> {
-    let (begun, kind) = (worker.times.begin(), Kind::of(&request.command));
-    let mut has_waited = false;
+    let (kind, mut has_waited) = (Kind::of(&request.command), false);
     let mut doing = pin!(classic::run(worker, request, value, answers));
     let done = poll_fn(|context| {
         let polled = doing.as_mut().poll(context);
@@ -314,9 +312,7 @@ async fn run<S: Stream>(
         polled
     });
     let done = done.await;
-    if let Some(begun) = begun {
-        worker.times.add(kind.where_it(has_waited), begun.elapsed());
-    }
+    worker.times.add(kind.where_it(has_waited), begun.elapsed());
     done
 }
 

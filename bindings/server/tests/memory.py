@@ -8,11 +8,14 @@ limits (of up to 100 refusals under one each). Each answer is one that the pages
 tried to be stored last. Behind it more clients come, set bars, ask for much and stay: each is served, or told that there is no memory,
 and so are those who came first.
 """
+import http.client
 import os
 import random
 import shutil
 import sys
 import tempfile
+import urllib.error
+import urllib.request
 
 from servers import Client, Server, binary, free_port
 
@@ -90,19 +93,35 @@ def more_come(port):
     return served
 
 
+def pages(port):
+    """Asks for its pages, each of which is answered, or not where there is no memory. Returns how many were."""
+    answered = 0
+    for path in ("/", "/metrics") * 20:
+        try:
+            with urllib.request.urlopen(f"http://127.0.0.1:{port}{path}", timeout=60) as answer:
+                answered += answer.read().endswith(b"\n")
+        except urllib.error.HTTPError as error:
+            assert error.code == 503, error
+        except (http.client.HTTPException, OSError) as error:
+            assert not isinstance(error, TimeoutError), error
+    return answered
+
+
 def check(limit, refusals, *words):
     """Fills a server under a limit of its megabytes."""
-    port = free_port()
-    command = ["prlimit", f"--as={limit * 1_000_000}", binary(), "--port", str(port), "--memory", "2000", *words]
-    with Server(command, port) as server:
+    port, page_port = free_port(), free_port()
+    words = ["--memory", "2000", "--metrics-port", str(page_port), *words]
+    with Server(["prlimit", f"--as={limit * 1_000_000}", binary(), "--port", str(port), *words], port) as server:
         load = Load(port, limit)
         load.run(refusals, 4_000_000 * limit)
+        answered = pages(page_port)
         assert server.process.poll() is None, server.said()
         let_in = more_come(port)
         for client in load.clients:
             assert client.ask(b"mn") == (b"MN", None)
         assert server.end() == 0, server.said()[-2000:]
-    return f"{limit} MB: {load.stored} stored, {load.refused} refused, {load.found} found, and {let_in} of {MORE} let in"
+    done = f"{load.stored} stored, {load.refused} refused, {load.found} found"
+    return f"{limit} MB: {done}, {answered} of 40 pages answered, and {let_in} of {MORE} let in"
 
 
 def main():

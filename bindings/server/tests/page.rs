@@ -75,7 +75,7 @@ fn what_was_asked_for_is_shown() {
     assert_eq!(client.ask("delete key0\r\n"), "DELETED");
     running.server.note();
     let page = page_of(&running, "/");
-    for title in ["Hits, of all gets", "Commands a second", "How long gets take", "Misses a second, by cause"] {
+    for title in ["Hits, of all gets", "Commands a second", "How long gets take", "Misses a second, absent"] {
         assert!(page.contains(title), "no {title} in {page}");
     }
     assert_eq!(row(&page, "gets that hit"), ["300", "300"]);

@@ -121,8 +121,14 @@ def watch_modes(path, modes, ends):
             pass
 
 
+def page_of(port, path="/"):
+    """The page for the eye: its head's kind, and its text."""
+    with urllib.request.urlopen(f"http://127.0.0.1:{port}{path}", timeout=10) as answer:
+        return answer.headers["Content-Type"], answer.read().decode()
+
+
 def has_a_page():
-    """Prometheus finds its page, and nothing else."""
+    """Prometheus finds its page, the eye its own, and nobody another."""
     port = free_port()
     with kilambosetryd("--metrics-port", port) as server:
         Client(server.port).ask(b"mg none")
@@ -139,11 +145,32 @@ def has_a_page():
         assert urllib.request.urlopen(f"http://127.0.0.1:{port}/metrics?x=1").status == 200
         head = urllib.request.Request(f"http://127.0.0.1:{port}/metrics", method="HEAD")
         assert urllib.request.urlopen(head).read() == b""
+        kind, page = page_of(port)
+        assert kind == "text/html; charset=utf-8" and f"<h1>kilambosetryd on 127.0.0.1:{server.port}</h1>" in page, page
+        assert "<script" not in page and page.endswith("</html>\n"), page
         # clients that say nothing keep nobody out
         silent = [socket.create_connection(("127.0.0.1", port)) for _ in range(40)]
         assert urllib.request.urlopen(f"http://127.0.0.1:{port}/metrics", timeout=4).status == 200
         for client in silent:
             client.close()
+
+
+def has_pictures_behind_two_samples():
+    """Its page has pictures behind two samples, also after the server was killed and begins anew, and an error where its port is taken."""
+    port = free_port()
+    for _ in range(2):
+        with kilambosetryd("--metrics-port", port) as server:
+            client = Client(server.port)
+            client.ask(b"mg none")
+            assert "There is no picture yet" in page_of(port)[1]
+            until = time.monotonic() + 60
+            while "<svg" not in page_of(port, "/?every=10")[1]:
+                assert time.monotonic() < until, "no sample comes"
+                time.sleep(0.5)
+            words = [binary(), "--port", "0", "--metrics-port", str(port)]
+            ran = subprocess.run(words, capture_output=True, timeout=20, check=False)
+            assert ran.returncode == 1 and b"Address already in use" in ran.stderr, ran
+            server.process.kill()
 
 
 def under(limits, port, *words):
@@ -372,7 +399,7 @@ def main():
     """Tries all of it."""
     drains(signal.SIGTERM)
     drains(signal.SIGINT)
-    sockets = (has_a_unix_socket, has_a_socket_of_its_own_from_the_first, has_a_page, has_a_long_queue)
+    sockets = (has_a_unix_socket, has_a_socket_of_its_own_from_the_first, has_a_page, has_pictures_behind_two_samples, has_a_long_queue)
     limits = (raises_its_handles, is_told_that_its_file_is_too_long, keeps_time)
     flash = (has_flash, outlives_a_limit_of_its_file, looks_whose_its_flash_is)
     for check in (ends_in_the_midst_of_a_load, *sockets, *flash, *limits, refuses, runs_as_a_plain_user, is_capable):

@@ -8,7 +8,7 @@ use crate::pictures::of_curve;
 use crate::requests::Requests;
 use crate::shards::Sampled;
 use crate::stop;
-use clap::Args;
+use clap::{value_parser, Args};
 
 /// The hit ratios of many sizes of memory, by a sample of the keys.
 #[derive(Debug, Args)]
@@ -24,8 +24,8 @@ pub struct Curve {
     memory: Vec<Bytes>,
 
     /// The sample has so many keys at most
-    #[arg(long, value_name = "COUNT", default_value_t = 500_000)]
-    sample: usize,
+    #[arg(long, value_name = "COUNT", default_value_t = 500_000, value_parser = value_parser!(u32).range(1..))]
+    sample: u32,
 
     /// The first so many requests aren't counted
     #[arg(short, long, value_name = "COUNT", default_value_t = 0)]
@@ -36,7 +36,7 @@ impl Curve {
     /// Reads the requests, and tells the curve.
     pub fn go(&self) -> Ended {
         let options = options_of(self.requests.means()?);
-        let sampled = Sampled::new(1.0, self.sample);
+        let sampled = Sampled::new(1.0, self.sample as usize);
         let read = read(self.requests.open()?, sampled, self.warm, self.output.quiet);
         let wanted = match &self.memory[..] {
             [] => sizes(&read.sampled, &options),

@@ -46,7 +46,7 @@ fn write(page: &mut String, samples: &[Sample], now: &Sample, times: Option<Hist
         0 | 1 => *page += TOO_EARLY,
         _ => page::write_pictures(page, &pictures::all(samples, now.at, bytes)),
     }
-    tables::all(samples, now, times, bytes).iter().for_each(|table| table.write_to_page(page));
+    page::write_tables(page, &tables::all(samples, now, times, bytes));
 }
 
 fn title(server: &Server) -> String {
