@@ -19,7 +19,7 @@ main{max-width:1320px;margin:0 auto;padding:16px}h1{font-size:1.5rem;line-height
 figure{margin:0;padding:8px;border:1px solid var(--edge);border-radius:8px}svg{display:block;width:100%;max-width:640px;margin:0 auto;height:auto}\
 .tables{display:grid;gap:0 32px;align-items:start;grid-template-columns:repeat(auto-fit,minmax(min(100%,480px),1fr))}section{min-width:0}\
 .wide{overflow-x:auto}.wide:focus-visible{outline:2px solid var(--link)}table{border-collapse:collapse;font-variant-numeric:tabular-nums}\
-th,td{padding:4px 0 4px 18px;text-align:right;white-space:nowrap;border-bottom:1px solid var(--edge)}th:first-child,td:first-child{text-align:left;padding-left:0}\
+th,td{padding:4px 0 4px 18px;text-align:right;white-space:nowrap;border-bottom:1px solid var(--edge)}th:first-child,td:first-child{text-align:left;padding-left:0;white-space:normal;min-width:7em}\
 code{overflow-wrap:anywhere}code span{white-space:nowrap}a{color:var(--link)}a:focus-visible{outline:2px solid var(--link);outline-offset:2px}\
 label{display:block;max-width:640px;margin:.6em 0}meter{display:block;width:100%;height:1.4em}";
 

@@ -28,7 +28,7 @@ const COMMANDS: [Counted; 11] = [
     ("touched", |it| it.sums.cmd_touch),
     ("leases won", |it| it.sums.leases_won),
     ("stores by leases refused", |it| it.sums.leases_refused),
-    ("connections that were closed, since they stood still", |it| it.sums.stall_kicks + it.sums.idle_kicks),
+    ("connections closed, idle or stalled", |it| it.sums.stall_kicks + it.sums.idle_kicks),
 ];
 
 const FLASH: [Counted; 6] = [
@@ -36,8 +36,8 @@ const FLASH: [Counted; 6] = [
     ("pages read", |it| it.stats.device.reads),
     ("writes that failed", |it| it.stats.device.write_failures),
     ("reads that failed", |it| it.stats.device.read_failures),
-    ("pages that came back otherwise than written", |it| it.stats.device.lies),
-    ("finds given up while they waited", |it| it.stats.given_up),
+    ("pages otherwise than written", |it| it.stats.device.lies),
+    ("finds given up", |it| it.stats.given_up),
 ];
 
 const TIMES: [(&str, f64); 4] = [("p50", 0.5), ("p90", 0.9), ("p99", 0.99), ("p99.9", 0.999)];
@@ -95,7 +95,7 @@ fn times_of(times: &Histograms) -> Table {
     };
     let head = ["microseconds", "timed"].into_iter().chain(TIMES.map(|(name, _)| name));
     Table {
-        title: "How long commands of the last hour took, of one in sixteen".to_string(),
+        title: "How long commands of the last hour took".to_string(),
         head: head.map(str::to_string).collect(),
         rows: KINDS.iter().zip(times).map(row).collect(),
     }
