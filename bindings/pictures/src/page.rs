@@ -20,6 +20,7 @@ figure{margin:0;padding:8px;border:1px solid var(--edge);border-radius:8px}svg{d
 .tables{display:grid;gap:0 32px;align-items:start;grid-template-columns:repeat(auto-fit,minmax(min(100%,480px),1fr))}section{min-width:0}\
 .wide{overflow-x:auto}.wide:focus-visible{outline:2px solid var(--link)}table{border-collapse:collapse;font-variant-numeric:tabular-nums}\
 th,td{padding:4px 0 4px 18px;text-align:right;white-space:nowrap;border-bottom:1px solid var(--edge)}th:first-child,td:first-child{text-align:left;padding-left:0;white-space:normal;min-width:7em}\
+@media (max-width:480px){th,td{padding-left:9px;font-size:14px}th:first-child,td:first-child{min-width:6em}}\
 code{overflow-wrap:anywhere}code span{white-space:nowrap}a{color:var(--link)}a:focus-visible{outline:2px solid var(--link);outline-offset:2px}\
 label{display:block;max-width:640px;margin:.6em 0}meter{display:block;width:100%;height:1.4em}";
 

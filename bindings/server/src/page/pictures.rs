@@ -96,8 +96,10 @@ impl Samples<'_> {
         let share = |part: u64, all: u64| (all > 0).then(|| part as f64 / all as f64);
         let memory = self.line("memory", |_, now| share(now.stats.memory_bytes, now.stats.memory_limit_bytes));
         let flash = self.line("flash", |_, now| share(now.stats.flash_bytes, now.stats.flash_limit_bytes));
-        let lines = if has_flash { vec![memory, flash] } else { vec![memory] };
-        self.picture("Memory and flash that are filled", Unit::Share, false, lines)
+        match has_flash {
+            true => self.picture("Memory and flash that are filled", Unit::Share, false, vec![memory, flash]),
+            false => self.picture("Memory that is filled", Unit::Share, false, vec![memory]),
+        }
     }
 
     fn misses(&self) -> Picture {

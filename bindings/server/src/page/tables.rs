@@ -85,9 +85,10 @@ fn lost(samples: &[Sample], now: &Sample) -> Vec<Vec<String>> {
 }
 
 fn times_of(times: &Histograms) -> Table {
-    let micros = |times: &Histogram, share| match times.count() {
-        0 => "-".to_string(),
-        _ => format!("{:.1}", times.quantile(share) as f64 / 1e3),
+    let micros = |times: &Histogram, share| match (times.count(), times.quantile(share)) {
+        (0, _) => "-".to_string(),
+        (_, long @ 1_000_000..) => count(long / 1000),
+        (_, time) => format!("{:.1}", time as f64 / 1e3),
     };
     let row = |((_, name), times): (&(_, &str), &Histogram)| {
         let shares = TIMES.iter().map(|(_, share)| micros(times, *share));
