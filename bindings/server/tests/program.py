@@ -156,21 +156,20 @@ def has_a_page():
 
 
 def has_pictures_behind_two_samples():
-    """Its page has pictures behind two samples, also after the server was killed and begins anew, and an error where its port is taken."""
+    """Its page has pictures behind two samples, and none once it was killed and begins anew; a port that is taken is an error."""
     port = free_port()
-    for _ in range(2):
-        with kilambosetryd("--metrics-port", port) as server:
-            client = Client(server.port)
-            client.ask(b"mg none")
-            assert "There is no picture yet" in page_of(port)[1]
-            until = time.monotonic() + 60
-            while "<svg" not in page_of(port, "/?every=10")[1]:
-                assert time.monotonic() < until, "no sample comes"
-                time.sleep(0.5)
-            words = [binary(), "--port", "0", "--metrics-port", str(port)]
-            ran = subprocess.run(words, capture_output=True, timeout=20, check=False)
-            assert ran.returncode == 1 and b"Address already in use" in ran.stderr, ran
-            server.process.kill()
+    with kilambosetryd("--metrics-port", port) as server:
+        assert "There is no picture yet" in page_of(port)[1]
+        until = time.monotonic() + 60
+        while "<svg" not in page_of(port, "/?every=10")[1]:
+            assert time.monotonic() < until, "no sample comes"
+            time.sleep(0.5)
+        words = [binary(), "--port", "0", "--metrics-port", str(port)]
+        ran = subprocess.run(words, capture_output=True, timeout=20, check=False)
+        assert ran.returncode == 1 and b"Address already in use" in ran.stderr, ran
+        server.process.kill()
+    with kilambosetryd("--metrics-port", port):
+        assert "There is no picture yet" in page_of(port)[1]
 
 
 def under(limits, port, *words):
