@@ -1,5 +1,5 @@
 -- A record that is spelled is read again.
-use Rattle.std.proofs.Common.{◌≡◌, ℕ, ◌+◌, ◌*◌, ◌<◌, ◌^◌, nat_le, Bool, true, false, List, [], ◌++◌, length, Some, None, refl, sym, ap, arith, ◌∙◌, append-nil, length-append, drop_at}
+use Rattle.std.proofs.Common.{◌≡◌, ℕ, ◌*◌, ◌<◌, ◌^◌, nat_le, Bool, true, false, List, [], ◌++◌, length, Some, None, refl, sym, ap, arith, ◌∙◌, append-nil, length-append, drop_at}
 use Rattle.std.specs.Prelude.{flat_map}
 use Rattle.std.specs.Int.{w32, w64, to_be_bytes}
 use Rattle.std.proofs.lemmas.Bool.{le-leb, lt-ltb}

@@ -19,6 +19,12 @@ two old a b o1 o2 x y = y ∙ ap (λ o. o ++ b) x ∙ append_assoc old a b
 pub four : (old a b c d : List ℕ) (o1 o2 o3 o4 : List ℕ) → o1 ≡ old ++ a → o2 ≡ o1 ++ b → o3 ≡ o2 ++ c → o4 ≡ o3 ++ d → o4 ≡ old ++ (a ++ (b ++ (c ++ d)))
 four old a b c d o1 o2 o3 o4 x1 x2 x3 x4 = two old a (b ++ (c ++ d)) o1 o4 x1 (two o1 b (c ++ d) o2 o4 x2 (two o2 c d o3 o4 x3 x4))
 
+pub three : (old a b c : List ℕ) (o1 o2 o3 : List ℕ) → o1 ≡ old ++ a → o2 ≡ o1 ++ b → o3 ≡ o2 ++ c → o3 ≡ old ++ (a ++ (b ++ c))
+three old a b c o1 o2 o3 x1 x2 x3 = two old a (b ++ c) o1 o3 x1 (two o1 b c o2 o3 x2 x3)
+
+pub five : (old a b c d e : List ℕ) (o1 o2 o3 o4 o5 : List ℕ) → o1 ≡ old ++ a → o2 ≡ o1 ++ b → o3 ≡ o2 ++ c → o4 ≡ o3 ++ d → o5 ≡ o4 ++ e → o5 ≡ old ++ (a ++ (b ++ (c ++ (d ++ e))))
+five old a b c d e o1 o2 o3 o4 o5 x1 x2 x3 x4 x5 = two old a (b ++ (c ++ (d ++ e))) o1 o5 x1 (four o1 b c d e o2 o3 o4 o5 x2 x3 x4 x5)
+
 -- a part, one byte, and a part
 pub marked : (old a : List ℕ) (b : ℕ) (c : List ℕ) (o1 o2 o3 : List ℕ) → o1 ≡ old ++ a → o2 ≡ o1 ++ b ∷ [] → o3 ≡ o2 ++ c → o3 ≡ old ++ (a ++ b ∷ c)
 marked old a b c o1 o2 o3 x1 x2 x3 = two old a (b ∷ c) o1 o3 x1 (two o1 (b ∷ []) c o2 o3 x2 x3)

@@ -1,4 +1,8 @@
--- What is proved of the bytes of records.
+-- What is proved of the bytes of an image.
 pub mod Rows
 pub mod Again
 pub mod Behind
+pub mod Framed
+pub mod Headed
+pub mod Imaged
+pub mod Reading

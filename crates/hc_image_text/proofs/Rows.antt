@@ -18,7 +18,7 @@ module _ {X : Type 0} (width : ℕ) (spell : X → List ℕ) (row : List ℕ →
 
 -- ---- the loop that reads: so many rows are there, and the others are still to be read
 
-next_count : (n i : ℕ) → i < n → n - i ≡ suc (n - (i + 1))
+pub next_count : (n i : ℕ) → i < n → n - i ≡ suc (n - (i + 1))
 next_count n i h = omega arith
 
 pub row_next : {X : Type 0} (width : ℕ) (row : List ℕ → X) (n i : ℕ) (bytes : List ℕ) (seen all : List X) (x : X)

@@ -2,6 +2,9 @@
 #![tactic(auto)]
 
 ghost use Rattle.hc_image_text.specs.Counting.{CountersReadBack, PoolReadsBack};
+ghost use Rattle.hc_image_text.specs.Frames.{FrameReadsBack, CutIsSpelled};
+ghost use Rattle.hc_image_text.specs.Heads.{HeadReadsBack, OtherConfigIsRefused, OtherVersionIsRefused};
+ghost use Rattle.hc_image_text.specs.Images.{ImageReadsBack, ImageIsSpelled, CutImageIsRefused, LongerImageIsRefused, OtherDigestIsRefused, StepsReadBack, DigestOfParts};
 ghost use Rattle.hc_image_text.specs.Items.{ItemReadsBack, KeyReadsBack};
 ghost use Rattle.hc_image_text.specs.Leads.{LeadReadsBack};
 ghost use Rattle.hc_image_text.specs.Numbers.{NumberReadsBack};
@@ -9,6 +12,9 @@ ghost use Rattle.hc_image_text.specs.Regions.{NumbersReadBack, OpenReadsBack, Re
 ghost use Rattle.hc_image_text.specs.Words.{WordReadsBack};
 
 mod counters;
+mod frame;
+mod head;
+mod image;
 mod item;
 mod lead;
 mod numbers;
@@ -16,6 +22,9 @@ mod region;
 mod word;
 
 pub use counters::{Counters, PoolHead, counters_in, pool_in, put_counters, put_pool};
+pub use frame::{FRONT, Kind, cut, fill_front, front_in, put_frame};
+pub use head::{Head, Lengths, Refused, Shard, check_age, head_in, put_head};
+pub use image::{END, ImageReader, ImageWriter, is_whole};
 pub use item::{KeptItem, item_in, key_in, put_entry, put_item, put_key};
 pub use lead::{LEAD, lead_in, put_lead};
 pub use numbers::{number_in, put_number};
@@ -35,4 +44,31 @@ pub fn records_read_back()
     ensures lists { NumbersReadBack }
     ensures open_regions { OpenReadsBack }
     ensures regions { RegionReadsBack }
+{}
+
+/// A record in its frame is cut off again, whatever stands behind it; and what is cut off is spelled so. The function does nothing:
+/// its contract is the laws.
+pub fn frames_read_back()
+    ensures read { FrameReadsBack }
+    ensures spelled { CutIsSpelled }
+{}
+
+/// The head of an image is read again, and that of another configuration or another version is refused. The function does nothing:
+/// its contract is the laws.
+pub fn heads_read_back()
+    ensures read { HeadReadsBack }
+    ensures config { OtherConfigIsRefused }
+    ensures version { OtherVersionIsRefused }
+{}
+
+/// An image is read as the frames that it was made of, at once or as it streams, and no other bytes are one: not an image that was cut
+/// or made longer, nor one with another digest at its end. The function does nothing: its contract is the laws.
+pub fn images_read_back()
+    ensures read { ImageReadsBack }
+    ensures spelled { ImageIsSpelled }
+    ensures cut { CutImageIsRefused }
+    ensures longer { LongerImageIsRefused }
+    ensures digest { OtherDigestIsRefused }
+    ensures steps { StepsReadBack }
+    ensures parts { DigestOfParts }
 {}
