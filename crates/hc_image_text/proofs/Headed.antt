@@ -2,7 +2,7 @@
 use Rattle.std.proofs.Common.{◌≡◌, inr, ℕ, ◌≤◌, ◌==◌, nat_le, nat_eq, Bool, true, false, List, ◌++◌, length, take, drop, refl, sym, ap, arith, append_assoc, length-append, take_at, drop_at, drop-drop, ◌∙◌}
 use Rattle.std.specs.Prelude.{not, Result, Ok, Err, if◌then◌else◌}
 use Rattle.std.specs.Int.{w32, w64, to_be_bytes, from_be_bytes}
-use Rattle.std.specs.Cmp.Lexicographic.{pointwise}
+use Rattle.std.specs.Cmp.Lexicographic.{pointwise, same_text}
 use Rattle.std.proofs.lemmas.Bool.{le-leb}
 use Rattle.std.proofs.lemmas.Cmp.{nat_list_eq_equiv}
 use Rattle.std.proofs.lemmas.Nat.{from_be_bytes-to_be_bytes_4, from_be_bytes-to_be_bytes_8}
@@ -12,7 +12,8 @@ use Rattle.hc_image_text.specs.declared.head.Lengths.{Lengths}
 use Rattle.hc_image_text.specs.declared.head.Refused.{Refused}
 use Rattle.hc_image_text.specs.declared.head.Refused.TheVariants as refused
 use Rattle.hc_image_text.specs.declared.head.Shard.{Shard}
-use Rattle.hc_image_text.specs.Heads.{AreLengths, lengths_bytes, lengths_at, IsHead, told_bytes, told_at, told_in, whose_bytes, name, version, begun, head_in, Reads, HeadReadsBack, OtherConfigIsRefused, OtherVersionIsRefused}
+use Rattle.hc_image_text.specs.Heads.{AreLengths, lengths_bytes, lengths_at, IsHead, told_bytes, told_at, told_in, whose_bytes, name, version, begun, head_bytes, head_in, Reads, HeadReadsBack, OtherConfigIsRefused, OtherVersionIsRefused}
+use Rattle.hc_image_text.proofs.Whose.{whose_tells}
 
 alike : (xs : List ℕ) → pointwise nat_eq xs xs ≡ true
 alike xs = nat_list_eq_equiv.refl xs
@@ -52,9 +53,16 @@ head_again shard config h fits =
     let whose = whose_bytes shard config in
     begins shard config (told_bytes h ++ whose) ∙ told_of whose whose h true fits (alike whose)
 
+other_of : (shard other : Shard) (config changed : Config) (h : Head) (t : Bool) → IsHead h → (whose_bytes other changed ≡ whose_bytes shard config → ⊥)
+    → pointwise nat_eq (whose_bytes other changed) (whose_bytes shard config) ≡ t → head_in shard config (head_bytes other changed h) ≡ Err refused.OtherConfig
+other_of shard other config changed h false fits differs e =
+    begins shard config (told_bytes h ++ whose_bytes other changed) ∙ told_of (whose_bytes shard config) (whose_bytes other changed) h false fits e
+other_of shard other config changed h true fits differs e = absurd (differs (same_text (whose_bytes other changed) (whose_bytes shard config) (sym e)))
+
 pub other_config : OtherConfigIsRefused
-other_config shard other config changed h fits differs =
-    begins shard config (told_bytes h ++ whose_bytes other changed) ∙ told_of (whose_bytes shard config) (whose_bytes other changed) h false fits differs
+other_config shard other config changed h fits is_shard is_config is_other is_changed differs =
+    let apart : whose_bytes other changed ≡ whose_bytes shard config → ⊥ = λ e. let same = whose_tells other shard changed config is_other is_changed is_shard is_config e in differs same.0 same.1 in
+    other_of shard other config changed h (pointwise nat_eq (whose_bytes other changed) (whose_bytes shard config)) fits apart refl
 
 pub other_version : OtherVersionIsRefused
 other_version shard config v more small differs =

@@ -3,6 +3,7 @@ pub mod Rows
 pub mod Again
 pub mod Behind
 pub mod Framed
+pub mod Whose
 pub mod Headed
 pub mod Imaged
 pub mod Reading

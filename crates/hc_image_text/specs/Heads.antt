@@ -1,5 +1,5 @@
 -- The head of an image: its version, the seal that the flash has too, when it was closed, how much comes, and whose it is.
-use Rattle.std.specs.Prelude.{◌≡◌, refl, ◌⊎◌, ℕ, ◌<◌, ◌-◌, ◌^◌, ◌==◌, nat_le, nat_lt, nat_eq, false, not, List, [], ◌∷◌, ◌++◌, length, take, drop, flat_map, Option, Some, None, Result, Ok, Err, if◌then◌else◌}
+use Rattle.std.specs.Prelude.{◌≡◌, refl, ◌⊎◌, ℕ, ◌<◌, ◌-◌, ◌^◌, ◌==◌, nat_le, nat_lt, nat_eq, false, not, List, [], ◌∷◌, ◌++◌, length, take, drop, flat_map, All, Option, Some, None, Result, Ok, Err, if◌then◌else◌}
 use Rattle.std.specs.Int.{w32, w64, to_be_bytes, from_be_bytes}
 use Rattle.std.specs.Cmp.Lexicographic.{pointwise}
 use Rattle.hc_types.specs.declared.config.FlashConfig.{FlashConfig}
@@ -39,6 +39,32 @@ shard_bytes shard = to_be_bytes w32 shard.number ++ to_be_bytes w32 shard.of
 
 abbrev pub whose_bytes : Shard → Config → List ℕ
 whose_bytes shard config = shard_bytes shard ++ config_bytes config
+
+pub record IsShard (s : Shard) : Type 0 where
+  pub number : s.number < 2 ^ 32
+  pub of : s.of < 2 ^ 32
+
+pub record IsPoolSize (p : PoolSize) : Type 0 where
+  pub bytes : p.bytes < 2 ^ 64
+  pub items : p.items < 2 ^ 64
+
+pub record IsFlash (f : FlashConfig) : Type 0 where
+  pub page : f.page < 2 ^ 64
+  pub buckets : f.buckets < 2 ^ 64
+  pub regions : f.regions < 2 ^ 64
+  pub region_pages : f.region_pages < 2 ^ 64
+  pub clean : f.clean < 2 ^ 64
+  pub small_max : f.small_max < 2 ^ 64
+  pub queue : f.queue < 2 ^ 64
+  pub bits : f.bits < 2 ^ 64
+  pub admit_min : f.admit_min < 2 ^ 64
+  pub admit_max : f.admit_max < 2 ^ 64
+
+-- what a configuration's numbers are, whether or not they are within its limits
+pub record IsConfig (c : Config) : Type 0 where
+  pub some : length c.pools < 2 ^ 32
+  pub pools : All IsPoolSize c.pools
+  pub flash : (f : FlashConfig) → c.flash ≡ Some f → IsFlash f
 
 -- ---- how much comes
 
@@ -118,8 +144,8 @@ HeadReadsBack = (shard : Shard) (config : Config) (h : Head) → IsHead h → he
 
 -- an image of another shard, or of another configuration, is refused
 abbrev pub OtherConfigIsRefused : Type 0
-OtherConfigIsRefused = (shard other : Shard) (config changed : Config) (h : Head) → IsHead h
-    → pointwise nat_eq (whose_bytes other changed) (whose_bytes shard config) ≡ false
+OtherConfigIsRefused = (shard other : Shard) (config changed : Config) (h : Head) → IsHead h → IsShard shard → IsConfig config → IsShard other → IsConfig changed
+    → (other ≡ shard → changed ≡ config → ⊥)
     → head_in shard config (head_bytes other changed h) ≡ Err refused.OtherConfig
 
 -- an image of another version is refused, whatever stands behind the version
