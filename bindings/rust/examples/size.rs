@@ -5,9 +5,9 @@
 //!
 //! The words, each with what it is by default: `items` (1000000), `value` (300), `memory`, `flash` and `shards` (those of
 //! `Options`), `index_memory` (none), `threads` (4), `gets` (1000000, of all threads), `writers` and `fillers` (2), `flush` (0:
-//! never; else each thread waits after so many sets until all is written), `own` (0: times are the clock's; 1: they are those of the
-//! thread alone, whatever else the machine does). `path=FILE` is the file of the flash; without it there is none. Linux alone tells
-//! what is resident.
+//! never; else each thread waits after so many sets until all is written), `direct` (0; 1: the system keeps no copies of pages), `own`
+//! (0: times are the clock's; 1: they are those of the thread alone, whatever else the machine does). `path=FILE` is the file of the
+//! flash; without it there is none. Linux alone tells what is resident.
 use kilambosetry::{share_one_heap, HybridCache, Options, Stats};
 use std::collections::HashMap;
 use std::error::Error;
@@ -45,6 +45,7 @@ impl Words {
             shards: u16::try_from(self.number("shards", 0)).expect("shards are 4,096 or fewer"),
             writers: self.number("writers", 2),
             fillers: self.number("fillers", 2),
+            direct: self.number("direct", 0) != 0,
             ..default
         }
     }
