@@ -153,7 +153,7 @@ hit-value (Some x) value e = let same : x.value ≡ value = cc in ap Some same
 abbrev pub found_if : Bool → List ℕ → Cache → Moved
 found_if t key cache = if t then answers (Waits cache.calls) (wait_for key ToFind cache) else find_now (find_reply (live cache.now (in_memory cache key))) (used key cache)
 
-hit-is : (config : Config) (older : List Note) (cache : Cache) (finder : ℕ) (key value : List ℕ) (b : Bool) → must_wait cache key ≡ b → Agrees config older cache
+pub hit-is : (config : Config) (older : List Note) (cache : Cache) (finder : ℕ) (key value : List ℕ) (b : Bool) → must_wait cache key ≡ b → Agrees config older cache
     → (found_if b key (record cache { calls = cache.calls + 1 })).answer ≡ Replied (Hit value) → value_at config.flash older key ≡ Some value
 hit-is config older cache finder key value true w g e = absurd cc
 hit-is config older cache finder key value false w g e =

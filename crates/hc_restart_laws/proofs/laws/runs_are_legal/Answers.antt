@@ -1,0 +1,5 @@
+use Rattle.hc_restart_laws.proofs.Running as by
+use Rattle.hc_restart_laws.proofs.laws.runs_are_legal.Goals as goal
+
+pub returns : goal.returns
+returns c = by.runs-are-legal
