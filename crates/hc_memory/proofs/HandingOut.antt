@@ -69,7 +69,7 @@ left_step size [] pools again h =
     let r = again (mapped-none suc (first_pool pools) h) in
     record { none = r.none; same = ap (λ ps. record { size = size; items = [] } ∷ ps) r.same }
 left_step size (x ∷ xs) pools again h =
-    let z : Some 0 ≡ None = sym (ap (λ b. cond b (option_map suc (first_pool pools)) (Some 0)) (not_empty x xs)) ∙ h in
+    let z : ◌≡◌ {A = Option ℕ} (Some 0) None = sym (ap (λ b. cond b (option_map suc (first_pool pools)) (Some 0)) (not_empty x xs)) ∙ h in
     absurd cc
 
 pub none-left : (pools : List Pool) → first_pool pools ≡ None → NoneLeft pools

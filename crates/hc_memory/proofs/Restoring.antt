@@ -208,7 +208,7 @@ numbered m are none = none-of (λ (x : Item). not (is_numbered m.flash m.made x)
     let unmarked : early m.flash x ≡ false = zero_one (early m.flash x) (omega (arith, late, none)) in
     let itself : ◌≡◌ {A = ℕ} (cond (x.number == x.number) 1 0) 1 = ap {B = ℕ} (λ b. cond b 1 0) (eq-eqb x.number x.number refl) in
     let given : nat_le x.number m.made ≡ true = made_step x.number m.made (nat_le x.number m.made) refl (λ more.
-    let mine = tally-get (λ (y : Item). cond (x.number == y.number) 1 0) (all_items m.pools) j x at in
+    let mine = tally-get (λ (y : Item). cond (y.number == x.number) 1 0) (all_items m.pools) j x at in
     omega (arith, mine, itself, are x.number more)) in
     both_step (nat_le x.number m.made) (early m.flash x) given unmarked)
 

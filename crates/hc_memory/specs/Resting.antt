@@ -68,7 +68,7 @@ emptied memory = record memory { pools = map (λ (pool : Pool). empty_pool pool.
 
 -- no item has a number that is still to come
 abbrev pub AreMade : Memory → Type 0
-AreMade memory = (number : ℕ) → memory.made < number → count (λ (item : Item). number == item.number) (all_items memory.pools) ≡ 0
+AreMade memory = (number : ℕ) → memory.made < number → count (λ (item : Item). item.number == number) (all_items memory.pools) ≡ 0
 
 -- what these pools hand out fills them again, to what they were
 abbrev pub ComeAgain : Memory → Type 0

@@ -1,5 +1,5 @@
 // Pools of items that were kept when a cache was closed.
-ghost use Rattle.std.specs.Prelude.{◌≡◌, ◌<◌, ◌≤◌, ◌^◌, ◌++◌, ◌∷◌, [], ◌&&◌, nat_lt, nat_le, not, is_some, length, map, slice_get, Some, None, IfSome, IfOk, IfErr, OnOk, OnErr};
+ghost use Rattle.std.specs.Prelude.{◌≡◌, ◌+◌, ◌<◌, ◌≤◌, ◌^◌, ◌++◌, ◌∷◌, [], ◌&&◌, nat_lt, nat_le, not, is_some, length, map, slice_get, Some, None, IfSome, IfOk, IfErr, OnOk, OnErr};
 ghost use Rattle.hc_types.specs.Limits.{first_wrong};
 ghost use Rattle.hc_memory.specs.Item.{cost};
 ghost use Rattle.hc_memory.specs.Pool.{Pool as Order, bytes_of, item_at};

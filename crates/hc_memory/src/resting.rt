@@ -8,8 +8,9 @@ use crate::pools::Pools;
 use std::alloc::Allocator;
 
 impl<A: Allocator> Pools<A> {
-    /// How many charges were made. With it, what the pools hand out fills such pools again: where none of their items has a
-    /// number that is still to come, a `PoolsBuilder` refuses none of them, and what it builds are these pools.
+    /// How many charges were made. With it, what the pools hand out fills pools of their sizes again, with their flash behind
+    /// them: where no charge is open, and none of their items has a number that is still to come, a `PoolsBuilder` refuses none
+    /// of them but for want of memory, and what it builds are these pools.
     #[must_use]
     pub fn made(&self) -> u64
         ensures value { result ≡ self.now.made }

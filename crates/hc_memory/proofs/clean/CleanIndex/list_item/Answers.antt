@@ -11,7 +11,7 @@ returns-clause-told g c = λ clean.
     let newest = ap (λ (l : Listing). l.newest) c.set_newest.ensures in
     let number = ap (λ (y : Item). y.number) c.item.view_is in
     let keys = ap (λ (y : Item). y.key) c.item.view_is in
-    let lens = c.len.ensures ∙ ap (λ (y : Item). length y.value) c.item.view_is in
+    let lens = c.len.ensures.value ∙ ap (λ (y : Item). length y.value) c.item.view_is in
     let there = sym (λ i. is_listed c.args.flash.now c.list.new.self (keys i) (lens i)) ∙ c.in_ok-list.ensures.listed in
     told-now c.args.flash.now c.list.new.self c.set_newest.new.self x (omega (arith, newest, number, c.max-newest.ensures)) (ap (λ (l : Listing). l.large) c.set_newest.ensures) there
 
