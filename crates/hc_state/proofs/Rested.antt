@@ -1,41 +1,39 @@
 -- Caches at rest: what is handed out, and an item that comes back.
-use Rattle.std.proofs.Common.{◌≡◌, ℕ, ◌+◌, ◌<◌, ◌≤◌, nat_lt, nat_le, suc, Bool, true, false, cond, not, ◌&&◌, List, [], ◌∷◌, ◌++◌, length, Option, Some, None, refl, sym, ap, ◌∙◌, subst, slice_get, arith}
+use Rattle.std.proofs.Common.{◌≡◌, ℕ, ◌+◌, ◌<◌, ◌≤◌, nat_lt, nat_le, Bool, true, false, cond, not, ◌&&◌, List, [], ◌∷◌, length, Option, Some, None, refl, sym, ap, ◌∙◌, subst, arith}
 use Rattle.std.specs.Prelude.{◌==◌, is_some, if◌then◌else◌}
 use Rattle.std.specs.List.{list_any}
-use Rattle.std.specs.Str.{bytes_eq}
-use Rattle.std.proofs.lemmas.Bool.{eqb-true}
+use Rattle.std.proofs.lemmas.Bool.{eqb-true, ltb-true}
 use Rattle.hc_types.specs.Tally.{tally, count}
 use Rattle.hc_types.proofs.Tallies.{tally-push}
-use Rattle.hc_memory.specs.Item.{Item, Open, cost}
-use Rattle.hc_memory.specs.Pool.{Pool, is_at}
+use Rattle.hc_memory.specs.Item.{Item, cost}
+use Rattle.hc_memory.specs.Pool.{is_at}
 use Rattle.hc_memory.specs.Memory.{Memory, linked_at}
 use Rattle.hc_memory.specs.declared.builder.Misfit.{Misfit}
 use Rattle.hc_memory.specs.declared.builder.Misfit.TheVariants.{NoPool, NoNumber, KeyTwice, NoRoom}
 use Rattle.hc_memory.specs.Resting.{misfit_of, is_numbered, is_full_at}
 use Rattle.hc_memory.proofs.Keyed.{same_bytes}
 use Rattle.hc_memory.proofs.Keys as keys
+use Rattle.hc_memory.proofs.Making.{there-of}
 use Rattle.hc_machine.specs.items.Items.{items_of, item_has, open_has}
 use Rattle.hc_machine.proofs.items.Flat.{linked-flat, pushed-flat}
 use Rattle.hc_machine.specs.Nvm.{Nvm, Fill, is_put_of, is_fill_of}
-use Rattle.hc_machine.specs.Cache.{Cache, Owed}
+use Rattle.hc_machine.specs.Cache.{Cache}
 use Rattle.hc_machine.specs.Calls.{waiting_at, queue_of}
 use Rattle.hc_invariant.specs.Good.{fills_of}
 use Rattle.hc_invariant.specs.Jobs.{AllWishes}
-use Rattle.hc_invariant.specs.Structure.{Structured}
 use Rattle.hc_proof.proofs.frames.ByNumber.{none-counted}
 use Rattle.hc_proof.proofs.frames.Lists.{any-counts}
-use Rattle.hc_nvm.specs.Resting.{rests}
 use Rattle.hc_state.specs.Resting.{flash_rests, is_at_rest, IsCache, with_item}
 
 -- ---- what a cache at rest has none of
 
-both_hold : (a b : Bool) → (a && b) ≡ true → (a ≡ true) × (b ≡ true)
+pub both_hold : (a b : Bool) → (a && b) ≡ true → (a ≡ true) × (b ≡ true)
 both_hold true b e = (refl, e)
 both_hold false b e = absurd cc
 
-nothing_in : {X : Type 0} (xs : List X) → (length xs == 0) ≡ true → xs ≡ []
+pub nothing_in : {X : Type 0} (xs : List X) → (length xs == 0) ≡ true → xs ≡ []
 nothing_in [] e = refl
-nothing_in (x ∷ xs) e = absurd cc
+nothing_in (x ∷ xs) e = let same = eqb-true (length (x ∷ xs)) 0 e in absurd (omega (arith, same))
 
 pub no-replies : (cache : Cache) → is_at_rest cache ≡ true → cache.owed ≡ []
 no-replies cache h =
@@ -67,18 +65,13 @@ none_of : {X : Type 0} (o : Option X) → is_some o ≡ false → o ≡ None
 none_of None e = refl
 none_of (Some x) e = absurd cc
 
-there : {X : Type 0} (xs : List X) (n : ℕ) → nat_lt n (length xs) ≡ true → (x : X) × (slice_get xs n ≡ Some x)
-there [] n e = absurd (grind (arith, e))
-there (x ∷ xs) 0 e = (x, refl)
-there (x ∷ xs) (suc n) e = there xs n e
-
 -- it counts nothing, or is the only one
 once_more : (b : Bool) (old others : ℕ) → (b ≡ true → old + others ≡ 0) → old + others ≤ 1 → (old + cond b 1 0) + others ≤ 1
 once_more true old others none one = omega (arith, none refl)
 once_more false old others none one = omega (arith, one)
 
 module _ (cache : Cache) (item : Item) (h : IsCache cache) (alone : list_any (item_has item.number) (items_of cache.memory.pools) ≡ false) (apart : waiting_at cache.nvm item.key ≡ None) (fits : misfit_of cache.memory item ≡ None) where
-  memory : Memory
+  abbrev memory : Memory
   memory = cache.memory
 
   is_fitting : (not (nat_lt item.pool (length memory.pools)) ≡ false) × (not (is_numbered memory.flash memory.made item) ≡ false) × (is_some (linked_at item.key memory.pools) ≡ false)
@@ -86,7 +79,7 @@ module _ (cache : Cache) (item : Item) (h : IsCache cache) (alone : list_any (it
 
   new_sum : (f : Item → ℕ) → tally f (items_of (with_item item cache).memory.pools) ≡ tally f (items_of memory.pools) + f item
   new_sum f =
-      let found = there memory.pools item.pool (not_not _ is_fitting.0) in
+      let found = there-of memory.pools item.pool (ltb-true item.pool (length memory.pools) (not_not (nat_lt item.pool (length memory.pools)) is_fitting.0)) in
       pushed-flat f item.pool item found.0 memory.pools found.1 ∙ tally-push f (items_of memory.pools) item
 
   no_items : count (is_at item.key) (items_of memory.pools) ≡ 0

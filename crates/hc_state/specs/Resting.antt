@@ -5,6 +5,7 @@ use Rattle.std.specs.List.{list_any}
 use Rattle.std.specs.Option.{option_or}
 use Rattle.hc_types.specs.Config.{Config}
 use Rattle.hc_memory.specs.Item.{Item}
+use Rattle.hc_memory.specs.Pool.{Pool}
 use Rattle.hc_memory.specs.Memory.{Memory, empty_pool}
 use Rattle.hc_memory.specs.declared.builder.Misfit.{Misfit}
 use Rattle.hc_memory.specs.declared.builder.Misfit.TheVariants as pools
@@ -82,6 +83,12 @@ abbrev pub with_items : List Item → Cache → Option Cache
 with_items [] cache = Some cache
 with_items (item ∷ items) cache = if is_some (item_misfit cache item) then None else with_items items (with_item item cache)
 
+-- Its pools are of the configuration's sizes, and the same flash stands behind them. What a cache tells of itself says so
+-- (hc_invariant, `Tells`), its structure doesn't.
+pub record IsSized (cache : Cache) : Type 0 where
+  pub sizes : map (λ (pool : Pool). pool.size) cache.memory.pools ≡ cache.config.pools
+  pub flash : cache.memory.flash ≡ cache.config.flash
+
 -- the items that the cache hands out make it that cache again
 abbrev pub ComesBack : Cache → Type 0
-ComesBack cache = with_items (items_of cache.memory.pools) (emptied cache) ≡ Some cache
+ComesBack cache = with_items (items_of cache.memory.pools) (begun cache.config cache.memory.made cache.now cache.calls cache.nvm) ≡ Some cache

@@ -7,7 +7,7 @@ ghost use Rattle.hc_machine.specs.Calls.{queue_of};
 ghost use Rattle.hc_machine.specs.items.Items.{items_of};
 ghost use Rattle.hc_invariant.specs.Structure.{Structured, stones_of};
 ghost use Rattle.hc_state.specs.Whole.{nvm_of};
-ghost use Rattle.hc_state.specs.Resting.{is_at_rest, less_put, less_stone, ComesBack};
+ghost use Rattle.hc_state.specs.Resting.{is_at_rest, less_put, less_stone, IsSized, ComesBack};
 
 use crate::state::State;
 use hc_history::Listener;
@@ -122,10 +122,10 @@ impl<A: Allocator + Clone + Copy> Parts<A> {
     }
 
     /// The items that are handed out make the cache again, where a `PartsBuilder` takes them in behind what waits for flash: it
-    /// refuses none of them but for want of memory. So do the puts and the tombstones by `Nvm::comes_back`. A law to call where
-    /// a proof asks for it. It does nothing.
+    /// refuses none of them but for want of memory. So do the puts and the tombstones by `Nvm::comes_back`. The builder makes its
+    /// pools by the configuration, so theirs have to be of its sizes. A law to call where a proof asks for it. It does nothing.
     pub fn comes_back(&self)
-        ensures { Structured self.now → ComesBack self.now }
+        ensures { Structured self.now → IsSized self.now → ComesBack self.now }
     {
         let _made = self.pools.made();
     }
