@@ -23,7 +23,7 @@ mod word;
 
 pub use counters::{Counters, PoolHead, counters_in, pool_in, put_counters, put_pool};
 pub use frame::{FRONT, Kind, cut, fill_front, front_in, put_frame};
-pub use head::{Head, Lengths, Refused, Shard, check_age, head_in, put_head};
+pub use head::{Head, Refused, Shard, check_age, head_in, put_head};
 pub use image::{END, ImageReader, ImageWriter, is_whole};
 pub use item::{KeptItem, item_in, key_in, put_entry, put_item, put_key};
 pub use lead::{LEAD, lead_in, put_lead};
