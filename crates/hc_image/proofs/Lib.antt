@@ -1,0 +1,8 @@
+-- What is proved of the image of a cache.
+pub mod Alone
+pub mod Behind
+pub mod Giving
+pub mod Idle
+pub mod Right
+pub mod Again
+pub mod Streams
