@@ -1,0 +1,171 @@
+//! How a cache begins with what an earlier one kept.
+use crate::digest::Running;
+use crate::disk;
+use crate::image::{Age, Loader, Place, Seal};
+use crate::keep::{Began, Keep, Progress, WasKept, WhyEmpty};
+use crate::kept_file::{Head, Reader};
+use crate::numbers::{Numbers, Share};
+use crate::shards::{drawn, Shards};
+use crate::spread::Spread;
+use crate::{OpenError, Options};
+use std::io;
+
+const NO_SEAL: Seal = [0; 16];
+// The second of the day's date is told anew by each process, rounded: so a moment of the one before may be as many seconds ahead.
+const ROUNDED: u64 = 2;
+// So many bytes of the file are read before somebody is told again.
+const TOLD_EACH: u64 = 4 << 20;
+
+/// Refused where the options ask for what can't be kept, or there is something else in the place of the file. Nothing is touched by
+/// then.
+pub(crate) fn check(options: &Options, has_flash: bool) -> Result<(), OpenError> {
+    let Some(keep) = &options.keep else { return Ok(()) };
+    if !has_flash || options.unnamed {
+        return Err(OpenError::NoSeal);
+    }
+    let new = disk::unfinished(&keep.path).map_err(|_| OpenError::NoMemory)?;
+    for path in [&keep.path, &new] {
+        disk::check_ours(path).map_err(|why| OpenError::of_file(path, why))?;
+    }
+    Ok(())
+}
+
+/// Has the shards, which are empty, have what an earlier cache kept over this device, if it fits. Whatever comes of it, the device has
+/// no seal then, and the file is gone: so it is used once, and before any call is answered.
+pub(crate) fn begin(shards: &mut Shards, options: &Options) -> Result<Began, OpenError> {
+    let seal = match shards.device.as_ref().map(|device| device.seal()) {
+        None => NO_SEAL,
+        Some(Ok(seal)) => seal,
+        Some(Err(error)) if error.kind() != io::ErrorKind::Unsupported => return Err(error.into()),
+        Some(Err(_)) if options.keep.is_some() => return Err(OpenError::NoSeal),
+        Some(Err(_)) => NO_SEAL,
+    };
+    let began = match &options.keep {
+        None => Began::Empty(WhyEmpty::NotAsked),
+        Some(_) if seal == NO_SEAL => Began::Empty(WhyEmpty::NoSeal),
+        Some(keep) => match load(shards, keep, seal) {
+            Ok(kept) => Began::Kept(kept),
+            Err(why) => {
+                forget(shards)?;
+                Began::Empty(why)
+            }
+        },
+    };
+    if let Some(device) = shards.device.as_ref().filter(|_| seal != NO_SEAL) {
+        device.put_seal(NO_SEAL)?;
+    }
+    if let Some(keep) = &options.keep {
+        disk::remove(&keep.path);
+        if let Ok(new) = disk::unfinished(&keep.path) {
+            disk::remove(&new);
+        }
+    }
+    Ok(began)
+}
+
+// The shards have what can't be used, or a part of it: they are to be empty.
+fn forget(shards: &mut Shards) -> Result<(), OpenError> {
+    shards.spread = Spread::new();
+    shards.absent = drawn();
+    if let Some(device) = &shards.device {
+        (0..shards.numbers.pages()).for_each(|page| device.set_digest(page, 0));
+    }
+    Ok(shards.empty()?)
+}
+
+fn load(shards: &mut Shards, keep: &Keep, seal: Seal) -> Result<WasKept, WhyEmpty> {
+    let file = disk::open(&keep.path).map_err(|error| WhyEmpty::Unread(error.kind()))?;
+    let mut reader = Reader::new(file.ok_or(WhyEmpty::NoFile)?)?;
+    let head = reader.head()?;
+    let now = shards.clock.now();
+    let age = age_of(shards, keep, &head, &seal, now)?;
+    shards.spread = Spread::of(head.spread);
+    shards.absent = head.absent;
+    let of = shards.len() as u64;
+    let mut kept = WasKept { of, seconds: age.now - head.closed, ..WasKept::default() };
+    for shard in 0..shards.len() {
+        let place = Place { shard: shard as u32, of: head.shards };
+        let mut loading = Loading { reader: &mut reader, keep, place, told: 0 };
+        kept.shards += u64::from(loading.shard(shards, &seal, age)?);
+        keep.watch.tell(Progress { bytes: reader.bytes(), shards: shard as u64 + 1, of });
+    }
+    reader.end()?;
+    kept.bytes = reader.bytes();
+    kept.items = (0..shards.len()).map(|shard| shards.lock(shard).engine.now().items(shards.pools())).sum();
+    let pages = shards.device.as_ref().map_or(0, |device| device.counts().pages);
+    kept.flash_bytes = pages * shards.numbers.flash.map_or(0, |flash| flash.page);
+    kept.beside = head.beside;
+    Ok(kept)
+}
+
+// Whether the file is of this flash and these options, and of a moment that isn't too long ago.
+fn age_of(shards: &Shards, keep: &Keep, head: &Head, seal: &Seal, now: u64) -> Result<Age, WhyEmpty> {
+    if head.seal != *seal {
+        return Err(WhyEmpty::OtherSeal);
+    }
+    if head.shards as usize != shards.len() || head.options != options_of(shards) {
+        return Err(WhyEmpty::OtherOptions);
+    }
+    if head.closed > now.saturating_add(ROUNDED) {
+        return Err(WhyEmpty::ClockWentBack);
+    }
+    let age = Age { now: now.max(head.closed), longest: keep.for_at_most.as_secs() };
+    if age.now - head.closed > age.longest {
+        return Err(WhyEmpty::TooOld);
+    }
+    Ok(age)
+}
+
+// The file as a shard is read of it.
+struct Loading<'a> {
+    reader: &'a mut Reader,
+    keep: &'a Keep,
+    place: Place,
+    told: u64,
+}
+
+impl Loading<'_> {
+    // Whether the shard was kept.
+    fn shard(&mut self, shards: &mut Shards, seal: &Seal, age: Age) -> Result<bool, WhyEmpty> {
+        let Some(pad) = self.reader.shard()? else { return Ok(false) };
+        if let Some(device) = &shards.device {
+            let (pages, shard) = (u64::from(shards.pages), u64::from(self.place.shard));
+            self.reader.numbers(pages, |page, digest| device.set_digest(shard * pages + page, digest))?;
+        }
+        let loader = Loader::new(&shards.numbers, &shards.share, seal, self.place, age);
+        let mut loader = loader.map_err(|_| WhyEmpty::NoMemory)?;
+        while let Some(mut part) = self.reader.part()? {
+            while !part.is_empty() {
+                match loader.take(part)? {
+                    0 => return Err(WhyEmpty::NotWhole),
+                    taken => part = &part[taken..],
+                }
+            }
+            self.tell(shards.len() as u64);
+        }
+        let engine = loader.finish(&shards.numbers)?;
+        shards.put_resumed(self.place.shard as usize, engine, pad);
+        Ok(true)
+    }
+
+    fn tell(&mut self, of: u64) {
+        let bytes = self.reader.bytes();
+        if bytes - self.told >= TOLD_EACH {
+            self.told = bytes;
+            self.keep.watch.tell(Progress { bytes, shards: u64::from(self.place.shard), of });
+        }
+    }
+}
+
+/// A digest of what the options came to, as far as what is kept depends on it.
+pub(crate) fn options_of(shards: &Shards) -> u64 {
+    let (Numbers { flash, .. }, Share { pool, pools }) = (&shards.numbers, shards.share);
+    let mut digest = Running::new();
+    let mut add = |numbers: &[u64]| numbers.iter().for_each(|number| digest.add(&number.to_le_bytes()));
+    add(&[pool.bytes, pool.items, u64::from(pools), u64::from(shards.numbers.slots())]);
+    if let Some(flash) = flash {
+        add(&[flash.page, flash.buckets, flash.regions, flash.region_pages, flash.clean]);
+        add(&[flash.small_max, flash.queue, flash.bits, flash.admit_min, flash.admit_max]);
+    }
+    digest.end()
+}

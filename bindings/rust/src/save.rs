@@ -1,0 +1,197 @@
+//! How a cache that is closed is kept.
+use crate::disk;
+use crate::image::{Part, Place, Saver, Seal};
+use crate::keep::{Keep, NotKept, Progress, Saved};
+use crate::kept_file::{Filled, Head, Writer, MOST_BESIDE};
+use crate::shards::{drawn, Shards, PAUSE};
+use crate::{resume, Refused};
+use std::io;
+use std::sync::{Mutex, PoisonError};
+use std::thread;
+use std::time::Instant;
+
+// So many bytes of the file are written before somebody is told again.
+const TOLD_EACH: u64 = 4 << 20;
+
+/// What keeps a cache.
+#[derive(Debug)]
+pub(crate) struct Keeper {
+    pub keep: Keep,
+    phase: Mutex<Phase>,
+}
+
+#[derive(Clone, Copy, Debug, PartialEq, Eq)]
+enum Phase {
+    Open,
+    Closing,
+    // a key was changed behind the close
+    Changed,
+    Sealed,
+}
+
+// What stands at the close: until when it may take, what is told of it, and what the owner keeps beside.
+struct Closing<'a> {
+    shards: &'a Shards,
+    keep: &'a Keep,
+    seal: Seal,
+    until: Instant,
+    told: u64,
+}
+
+impl Keeper {
+    pub fn new(keep: Keep) -> Keeper {
+        Keeper { keep, phase: Mutex::new(Phase::Open) }
+    }
+
+    /// The close begins: whether this is the first one.
+    pub fn begin(&self) -> bool {
+        let mut phase = self.phase.lock().unwrap_or_else(PoisonError::into_inner);
+        let is_first = *phase == Phase::Open;
+        if is_first {
+            *phase = Phase::Closing;
+        }
+        is_first
+    }
+
+    /// A key was changed, or all, behind the close, where that can't be refused any more: nothing is kept.
+    pub fn forget(&self, shards: &Shards) {
+        let mut phase = self.phase.lock().unwrap_or_else(PoisonError::into_inner);
+        if *phase == Phase::Sealed {
+            unseal(shards, &self.keep);
+        }
+        *phase = Phase::Changed;
+    }
+
+    /// Writes what the shards have, which are closed, and then the seal.
+    pub fn save(&self, shards: &Shards, beside: &[u8], until: Instant) -> Result<Saved, NotKept> {
+        let closing = Closing { shards, keep: &self.keep, seal: drawn_seal(), until, told: 0 };
+        let seal = closing.seal;
+        let new = disk::unfinished(&self.keep.path)?;
+        let saved = closing.write(&new, beside);
+        if saved.is_err() {
+            disk::remove(&new);
+        }
+        let saved = saved?;
+        let mut phase = self.phase.lock().unwrap_or_else(PoisonError::into_inner);
+        if *phase == Phase::Changed {
+            disk::remove(&self.keep.path);
+            return Err(NotKept::Changed);
+        }
+        let device = shards.device.as_ref();
+        let put = device.map_or(Err(io::ErrorKind::Unsupported.into()), |device| device.put_seal(seal));
+        if let Err(error) = put {
+            // (it may be there all the same)
+            unseal(shards, &self.keep);
+            return Err(error.into());
+        }
+        *phase = Phase::Sealed;
+        Ok(saved)
+    }
+}
+
+// Takes away what was kept.
+fn unseal(shards: &Shards, keep: &Keep) {
+    if let Some(device) = &shards.device {
+        let _ = device.put_seal([0; 16]); // (the file goes too: either is enough)
+    }
+    disk::remove(&keep.path);
+}
+
+// A number that no other close has.
+fn drawn_seal() -> Seal {
+    loop {
+        let seal = drawn();
+        if seal != [0; 16] {
+            return seal;
+        }
+    }
+}
+
+impl Closing<'_> {
+    fn write(mut self, new: &std::path::Path, beside: &[u8]) -> Result<Saved, NotKept> {
+        if beside.len() > MOST_BESIDE {
+            return Err(NotKept::Io(io::ErrorKind::InvalidInput.into()));
+        }
+        let mut writer = Writer::new(disk::create(new)?)?;
+        writer.head(&self.head(beside)?)?;
+        let mut saved = Saved { of: self.shards.len() as u64, ..Saved::default() };
+        for shard in 0..self.shards.len() {
+            saved.shards += u64::from(self.write_shard(&mut writer, shard)?);
+            self.tell(writer.bytes(), shard as u64 + 1);
+        }
+        if saved.shards == 0 {
+            return Err(NotKept::Busy);
+        }
+        let (file, bytes) = writer.end()?;
+        saved.bytes = bytes;
+        self.is_in_time()?;
+        let put = disk::put(&file, new, &self.keep.path);
+        if put.is_err() {
+            disk::remove(&self.keep.path);
+        }
+        put?;
+        Ok(saved)
+    }
+
+    fn head(&self, beside: &[u8]) -> Result<Head, Refused> {
+        Ok(Head {
+            seal: self.seal,
+            closed: self.shards.last_second(),
+            shards: self.shards.len() as u32,
+            options: resume::options_of(self.shards),
+            spread: self.shards.spread.number(),
+            absent: self.shards.absent,
+            beside: crate::held::copied(beside)?,
+        })
+    }
+
+    // Whether the shard is kept.
+    fn write_shard(&mut self, writer: &mut Writer, shard: usize) -> Result<bool, NotKept> {
+        let place = Place { shard: shard as u32, of: self.shards.len() as u32 };
+        let Some((engine, pad)) = self.shards.take_at_rest(shard) else {
+            writer.no_shard()?;
+            return Ok(false);
+        };
+        let Ok(mut saver) = Saver::of(engine, &self.seal, place) else {
+            writer.no_shard()?;
+            return Ok(false);
+        };
+        writer.shard(&pad)?;
+        if let Some(device) = &self.shards.device {
+            let pages = u64::from(self.shards.pages);
+            writer.numbers(device.digests(shard as u64 * pages, pages))?;
+        }
+        while writer.part(|out| self.next_of(&mut saver, out))? {
+            if writer.bytes() - self.told >= TOLD_EACH {
+                self.tell(writer.bytes(), shard as u64);
+            }
+        }
+        Ok(true)
+    }
+
+    // The next bytes of an image. Where there is no memory for them, it waits for that.
+    fn next_of(&self, saver: &mut Saver, out: &mut [u8]) -> Result<Filled, NotKept> {
+        loop {
+            self.is_in_time()?;
+            match saver.next(out) {
+                Ok(Part::Bytes(length)) => return Ok(Filled::Bytes(length)),
+                Ok(Part::Wants(length)) => return Ok(Filled::Wants(length)),
+                Ok(Part::End) => return Ok(Filled::End),
+                Err(Refused::NO_MEMORY) => thread::sleep(PAUSE),
+                Err(refused) => return Err(refused.into()),
+            }
+        }
+    }
+
+    fn is_in_time(&self) -> Result<(), NotKept> {
+        match Instant::now() < self.until {
+            true => Ok(()),
+            false => Err(NotKept::TimeIsUp),
+        }
+    }
+
+    fn tell(&mut self, bytes: u64, shards: u64) {
+        self.told = bytes;
+        self.keep.watch.tell(Progress { bytes, shards, of: self.shards.len() as u64 });
+    }
+}
