@@ -256,9 +256,8 @@ fn each_byte_that_is_changed_and_each_end_is_told() {
         drop(cache);
         bytes.len()
     };
-    let length = tried(&|bytes| bytes.push(0));
-    let step = if length > 20_000 { 97 } else { 31 };
-    for at in (16..length).filter(|at| *at < 200 || at % step == 0 || *at > length - 20) {
+    let length = tried(&|bytes| bytes.push(0)) - 1;
+    for at in (16..length).filter(|at| *at < 100 || at % 997 == 0 || *at > length - 10) {
         tried(&|bytes| bytes[at] ^= 1 << (at % 8));
         tried(&|bytes| bytes.truncate(at));
     }

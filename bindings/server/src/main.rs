@@ -7,13 +7,18 @@ mod reserve;
 use clap::Parser;
 use kilambosetryd::config::Config;
 use kilambosetryd::handles;
-use kilambosetryd::listen::{serve, Sockets};
+use kilambosetryd::listen::{serve, Ended, Sockets};
 use kilambosetryd::server::Server;
 use std::error::Error;
+use std::future::Future;
 use std::io::{self, Write};
 use std::process::exit;
+use std::sync::Arc;
+use std::thread;
+use std::time::Duration;
 use tokio::runtime::Builder;
 use tokio::signal::unix::{signal, Signal, SignalKind};
+use tokio::sync::{oneshot, watch};
 
 #[global_allocator]
 static HEAP: reserve::Reserved = reserve::Reserved::new();
@@ -50,22 +55,64 @@ fn run(mut config: Config) -> Result<(), Box<dyn Error>> {
         say(&format!("{name} {value}"));
     }
     say(&cache.numbers().to_string());
+    if config.keep.is_some() {
+        say(&cache.kept().to_string());
+    }
     let server = Server::new(config, cache);
-    let has_drained = runtime.block_on(async {
+    runtime.block_on(async {
         say("ready");
-        serve(server.clone(), sockets, end(told)).await
-    })?;
-    say(&server.items.cache().stats().to_string());
-    say(if has_drained { "ended" } else { "ended, and not all connections had their answers in time" });
+        let (tell, signals) = watch::channel(0);
+        tokio::spawn(count(told, tell));
+        tokio::select! {
+            ended = serve_and_close(server, sockets, has_come(1, signals.clone())) => ended?,
+            () = has_come(2, signals) => say("ended at once"),
+        }
+        Ok(())
+    })
+}
+
+// Counts how often the process is told to end.
+async fn count([mut terminate, mut interrupt]: [Signal; 2], tell: watch::Sender<u32>) {
+    loop {
+        tokio::select! {
+            _ = terminate.recv() => {}
+            _ = interrupt.recv() => {}
+        }
+        tell.send_modify(|signals| *signals += 1);
+    }
+}
+
+// Waits for so many signals.
+async fn has_come(count: u32, mut signals: watch::Receiver<u32>) {
+    while *signals.borrow_and_update() < count {
+        let _ = signals.changed().await; // (who counts them doesn't end)
+    }
+}
+
+async fn serve_and_close(server: Arc<Server>, sockets: Sockets, stop: impl Future) -> io::Result<()> {
+    let ended = serve(Arc::clone(&server), sockets, stop).await?;
+    match (&server.config.keep, ended) {
+        (Some(_), Ended::Hangs) => say("not kept: a connection hangs"),
+        (Some(_), _) => close(&server).await?,
+        (None, _) => say(&server.items.cache().stats().to_string()),
+    }
+    say(if ended == Ended::Drained { "ended" } else { "ended, and not all connections had their answers in time" });
     Ok(())
 }
 
-// Waits until the process is told to end.
-async fn end([mut terminate, mut interrupt]: [Signal; 2]) {
-    tokio::select! {
-        _ = terminate.recv() => {}
-        _ = interrupt.recv() => {}
+// Waits for a close whose device hangs so much longer than it may take.
+const LONGER: Duration = Duration::from_secs(2);
+
+// Closes the cache by a thread of its own: a device that hangs, and a signal, end the process all the same.
+async fn close(server: &Arc<Server>) -> io::Result<()> {
+    let (tell, told) = oneshot::channel();
+    let closes = Arc::clone(server);
+    thread::Builder::new().name("close".to_string()).spawn(move || tell.send(closes.close().to_string()))?;
+    match tokio::time::timeout(server.config.close().saturating_add(LONGER), told).await {
+        Ok(Ok(closed)) => say(&closed),
+        _ => say("not kept: the close took too long"),
     }
+    Ok(())
 }
 
 // Prints a line. Where nobody reads it, the server goes on.
