@@ -43,6 +43,14 @@ pub(crate) fn check_ours(path: &Path) -> Result<(), FileError> {
     }
 }
 
+// (which takes no memory)
+fn not_ours(why: FileError) -> io::Error {
+    match why {
+        FileError::Io(error) => error,
+        _ => io::ErrorKind::AlreadyExists.into(),
+    }
+}
+
 /// The file, to be read; none, where there is none.
 pub(crate) fn open(path: &Path) -> io::Result<Option<File>> {
     step(Step::Open)?;
@@ -66,7 +74,7 @@ pub(crate) fn read(file: &mut File, out: &mut [u8]) -> io::Result<usize> {
 /// An empty file, in place of one that may be there, for its owner alone.
 pub(crate) fn create(path: &Path) -> io::Result<File> {
     step(Step::Create)?;
-    check_ours(path).map_err(io::Error::other)?;
+    check_ours(path).map_err(not_ours)?;
     match fs::remove_file(path) {
         Err(error) if error.kind() != io::ErrorKind::NotFound => return Err(error),
         _ => {}
@@ -85,7 +93,7 @@ pub(crate) fn put(file: &File, from: &Path, to: &Path) -> io::Result<()> {
     step(Step::Sync)?;
     file.sync_all()?;
     step(Step::Rename)?;
-    check_ours(to).map_err(io::Error::other)?;
+    check_ours(to).map_err(not_ours)?;
     fs::rename(from, to)?;
     step(Step::SyncFolder)?;
     let folder = to.parent().filter(|folder| !folder.as_os_str().is_empty()).unwrap_or(Path::new("."));

@@ -229,7 +229,7 @@ impl PageDevice for PageFile {
         };
         put().map_err(|why| match why {
             FileError::Io(error) => error,
-            other => io::Error::other(other),
+            _ => io::ErrorKind::Other.into(),
         })
     }
 }

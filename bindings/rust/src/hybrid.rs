@@ -8,7 +8,7 @@ use crate::save::Keeper;
 use crate::shards::{Locked, Shards, State, ABSENT};
 use crate::shared::{boxed, Shared};
 use crate::{
-    resume, Added, Began, Closed, Error, Found, Held, NotKept, OpenError, Options, PageFile, Refused, Reply, Saved,
+    resume, Added, Began, Closed, Error, Found, Held, Keep, NotKept, OpenError, Options, PageFile, Refused, Reply, Saved,
     Stats, Value,
 };
 use std::cell::Cell;
@@ -95,6 +95,7 @@ impl HybridCache {
     ) -> Result<HybridCache, OpenError> {
         let mut shards = Shards::new(&numbers, options)?;
         resume::check(options, numbers.flash.is_some())?;
+        let keeper = options.keep.as_ref().map(Keep::try_clone).transpose()?.map(Keeper::new);
         shards.device = open()?.map(|device| Checked::new(device, numbers.pages())).transpose()?;
         let began = resume::begin(&mut shards, options)?;
         let has_flash = shards.device.is_some();
@@ -105,7 +106,7 @@ impl HybridCache {
             keeps_time: OnceLock::new(),
             process: process::id(),
             began,
-            keeper: options.keep.clone().map(Keeper::new),
+            keeper,
             ended: OnceLock::new(),
         };
         let cache = HybridCache { inner: Shared::new(inner)? };

@@ -2,6 +2,7 @@
 use crate::shared::{boxed, Shared};
 use crate::{Refused, Stats};
 use std::alloc::{self, Layout};
+use std::ffi::OsString;
 use std::path::PathBuf;
 use std::time::Duration;
 use std::{error, fmt, io};
@@ -61,6 +62,15 @@ impl Keep {
             close_within: Duration::from_secs(10),
             watch: Watch::nobody(),
         }
+    }
+
+    // A copy, or a refusal. (`clone` ends the process where it is out of memory.)
+    pub(crate) fn try_clone(&self) -> Result<Keep, Refused> {
+        let mut path = OsString::new();
+        path.try_reserve_exact(self.path.as_os_str().len()).map_err(|_| Refused::NO_MEMORY)?;
+        path.push(&self.path);
+        let Keep { what, for_at_most, close_within, ref watch, .. } = *self;
+        Ok(Keep { path: path.into(), what, for_at_most, close_within, watch: watch.clone() })
     }
 }
 

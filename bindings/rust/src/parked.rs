@@ -5,7 +5,6 @@
 use crate::digest::digest_of;
 use crate::library::Handle;
 use crate::{Flash, Pool};
-use std::collections::HashMap;
 use std::ptr;
 use std::slice;
 use std::sync::{Mutex, PoisonError};
@@ -38,13 +37,26 @@ struct Parked(Handle);
 // SAFETY: what a handle holds may change threads, and it is taken out of the place whole.
 unsafe impl Send for Parked {}
 
-type Places = (u64, HashMap<u64, Parked>);
+// So many caches may be parked. (Nothing here takes memory, so that a test can refuse all that is asked for.)
+const MOST: usize = 1 << 16;
 
-static PLACES: Mutex<Option<Places>> = Mutex::new(None);
+static PLACES: Mutex<(usize, [Option<Parked>; MOST])> = Mutex::new((0, [const { None }; MOST]));
 
-fn with_places<T>(work: impl FnOnce(&mut Places) -> T) -> T {
+// Parks it at the next place, and answers its number.
+fn park(parked: Parked) -> u64 {
     let mut places = PLACES.lock().unwrap_or_else(PoisonError::into_inner);
-    work(places.get_or_insert_with(Places::default))
+    let place = places.0 % MOST;
+    places.0 += 1;
+    if let Some(mut before) = places.1[place].replace(parked) {
+        // SAFETY: the handle was the place's own, and nobody else has it any more.
+        unsafe { crate::library::kilambosetry_free(&mut before.0) };
+    }
+    place as u64
+}
+
+fn unpark(place: u64) -> Option<Parked> {
+    let mut places = PLACES.lock().unwrap_or_else(PoisonError::into_inner);
+    places.1.get_mut(place as usize)?.take()
 }
 
 /// An image that is handed out.
@@ -83,17 +95,25 @@ impl Loader {
     }
 }
 
-// The frame with this number. The first has an odd length.
-fn frame(number: u64, place: u64, seal: &[u8; 16], shard: u32, shards: u32) -> Vec<u8> {
-    let mut bytes = vec![number as u8; if number == 0 { 777 } else { FRAME }];
+// The bytes of the frame with this number. The first has an odd length.
+fn length_of(number: u64) -> usize {
+    if number == 0 {
+        777
+    } else {
+        FRAME
+    }
+}
+
+fn frame(number: u64, place: u64, seal: &[u8; 16], shard: u32, shards: u32) -> [u8; FRAME] {
+    let mut bytes = [number as u8; FRAME];
     bytes[..8].copy_from_slice(&place.to_le_bytes());
     bytes[8..24].copy_from_slice(seal);
     bytes[24..28].copy_from_slice(&shard.to_le_bytes());
     bytes[28..32].copy_from_slice(&shards.to_le_bytes());
     bytes[32..40].copy_from_slice(&number.to_le_bytes());
-    let end = bytes.len() - 8;
+    let end = length_of(number) - 8;
     let digest = digest_of(&bytes[..end]).to_le_bytes();
-    bytes[end..].copy_from_slice(&digest);
+    bytes[end..end + 8].copy_from_slice(&digest);
     bytes
 }
 
@@ -118,11 +138,7 @@ pub unsafe fn kilambosetry_close(
     // SAFETY: the seal has so many bytes.
     kept.copy_from_slice(unsafe { slice::from_raw_parts(seal, 16) });
     let parked = Parked(std::mem::replace(cache, Handle::none()));
-    let place = with_places(|(last, places)| {
-        *last += 1;
-        places.insert(*last, parked);
-        *last
-    });
+    let place = park(parked);
     *saver = Saver { place, seal: kept, shard, shards, next: 0, full: true };
     DONE
 }
@@ -139,9 +155,10 @@ pub unsafe fn kilambosetry_saver_next(saver: *mut Saver, out: *mut u8, out_len: 
     }
     while saver.next <= MORE {
         let bytes = frame(saver.next, saver.place, &saver.seal, saver.shard, saver.shards);
-        let Some(room) = out.get_mut(*len..*len + bytes.len()) else { break };
-        room.copy_from_slice(&bytes);
-        *len += bytes.len();
+        let length = length_of(saver.next);
+        let Some(room) = out.get_mut(*len..*len + length) else { break };
+        room.copy_from_slice(&bytes[..length]);
+        *len += length;
         saver.next += 1;
     }
     if *len == 0 {
@@ -162,7 +179,7 @@ pub unsafe fn kilambosetry_saver_free(saver: *mut Saver) {
 }
 
 fn drop_parked(place: u64) {
-    if let Some(mut parked) = with_places(|(_, places)| places.remove(&place)) {
+    if let Some(mut parked) = unpark(place) {
         // SAFETY: the handle is the place's own, and nobody else has it any more.
         unsafe { crate::library::kilambosetry_free(&mut parked.0) };
     }
@@ -203,7 +220,7 @@ pub unsafe fn kilambosetry_loader_take(
     }
     loop {
         let rest = &bytes[*taken..];
-        let length = if loader.next == 0 { 777 } else { FRAME };
+        let length = length_of(loader.next);
         if rest.len() < length {
             return DONE;
         }
@@ -216,7 +233,7 @@ pub unsafe fn kilambosetry_loader_take(
         if rest[8..24] != loader.seal || rest[24..28] != loader.shard.to_le_bytes() {
             return OTHER_CONFIG;
         }
-        if rest[..length] != frame(loader.next, loader.place, &loader.seal, loader.shard, loader.shards) {
+        if rest[..length] != frame(loader.next, loader.place, &loader.seal, loader.shard, loader.shards)[..length] {
             return NOT_WHOLE;
         }
         loader.next += 1;
@@ -230,7 +247,7 @@ pub unsafe fn kilambosetry_loader_finish(loader: *mut Loader, cache: *mut Handle
     if !loader.full || loader.next != MORE + 1 {
         return NOT_WHOLE;
     }
-    match with_places(|(_, places)| places.remove(&loader.place)) {
+    match unpark(loader.place) {
         Some(parked) => {
             // SAFETY: the handle is the caller's own.
             unsafe { ptr::write(cache, parked.0) };

@@ -12,6 +12,7 @@ pub const TOO_SMALL: u8 = 68;
 pub const SYSTEM: u8 = 69;
 pub const CLOSED: u8 = 70;
 pub const FAULT: u8 = 71;
+pub const NO_SEAL: u8 = 72;
 pub const MISS: u8 = 100;
 pub const EMPTY: u8 = 101;
 pub const SHORT: u8 = 102;
