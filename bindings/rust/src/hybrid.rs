@@ -8,8 +8,8 @@ use crate::save::Keeper;
 use crate::shards::{Locked, Shards, State, ABSENT};
 use crate::shared::{boxed, Shared};
 use crate::{
-    resume, Added, Began, Closed, Error, Found, Held, Keep, NotKept, OpenError, Options, PageFile, Refused, Reply, Saved,
-    Stats, Value,
+    resume, Added, Began, Closed, Error, Found, Held, Keep, NotKept, OpenError, Options, PageFile, Refused, Reply,
+    Saved, Stats, Value,
 };
 use std::cell::Cell;
 use std::path::Path;

@@ -3,6 +3,7 @@ use crate::shared::{boxed, Shared};
 use crate::{Refused, Stats};
 use std::alloc::{self, Layout};
 use std::ffi::OsString;
+use std::panic::{RefUnwindSafe, UnwindSafe};
 use std::path::PathBuf;
 use std::time::Duration;
 use std::{error, fmt, io};
@@ -130,6 +131,10 @@ impl Watch {
     }
 }
 
+// (a panic of it leaves nothing kept, and a seal and its file as they were)
+impl UnwindSafe for Watch {}
+impl RefUnwindSafe for Watch {}
+
 impl fmt::Debug for Watch {
     fn fmt(&self, f: &mut fmt::Formatter<'_>) -> fmt::Result {
         f.write_str(if self.0.is_some() { "Watch" } else { "Watch(nobody)" })
@@ -238,7 +243,6 @@ impl fmt::Display for WhyEmpty {
 
 /// What came of a close.
 #[derive(Debug)]
-#[must_use]
 #[non_exhaustive]
 pub struct Closed {
     /// What the cache did, and what it had.
