@@ -4,12 +4,13 @@ use crate::image::{Part, Place, Saver, Seal};
 use crate::keep::{Keep, NotKept, Progress, Saved};
 use crate::kept_file::{Filled, Head, Writer, MOST_BESIDE};
 use crate::shards::{drawn, Shards, PAUSE};
-use crate::{resume, Refused};
+use crate::{resume, Engine, Refused};
 use std::io;
 use std::sync::{Mutex, PoisonError};
 use std::thread;
 use std::time::Instant;
 
+const NO_SEAL: Seal = [0; 16];
 // So many bytes of the file are written before somebody is told again.
 const TOLD_EACH: u64 = 4 << 20;
 
@@ -64,6 +65,9 @@ impl Keeper {
 
     /// Writes what the shards have, which are closed, and then the seal.
     pub fn save(&self, shards: &Shards, beside: &[u8], until: Instant) -> Result<Saved, NotKept> {
+        let device = shards.device.as_ref().ok_or_else(|| io::Error::from(io::ErrorKind::Unsupported))?;
+        // (there is none: but so what was written is there for good, which may take long, before the file is begun)
+        device.put_seal(NO_SEAL)?;
         let closing = Closing { shards, keep: &self.keep, seal: drawn_seal(), until, told: 0 };
         let seal = closing.seal;
         let new = disk::unfinished(&self.keep.path)?;
@@ -77,9 +81,7 @@ impl Keeper {
             disk::remove(&self.keep.path);
             return Err(NotKept::Changed);
         }
-        let device = shards.device.as_ref();
-        let put = device.map_or(Err(io::ErrorKind::Unsupported.into()), |device| device.put_seal(seal));
-        if let Err(error) = put {
+        if let Err(error) = device.put_seal(seal) {
             // (it may be there all the same)
             unseal(shards, &self.keep);
             return Err(error.into());
@@ -92,7 +94,7 @@ impl Keeper {
 // Takes away what was kept.
 fn unseal(shards: &Shards, keep: &Keep) {
     if let Some(device) = &shards.device {
-        let _ = device.put_seal([0; 16]); // (the file goes too: either is enough)
+        let _ = device.put_seal(NO_SEAL); // (the file goes too: either is enough)
     }
     disk::remove(&keep.path);
 }
@@ -101,7 +103,7 @@ fn unseal(shards: &Shards, keep: &Keep) {
 fn drawn_seal() -> Seal {
     loop {
         let seal = drawn();
-        if seal != [0; 16] {
+        if seal != NO_SEAL {
             return seal;
         }
     }
@@ -152,7 +154,7 @@ impl Closing<'_> {
             writer.no_shard()?;
             return Ok(false);
         };
-        let Ok(mut saver) = Saver::of(engine, &self.seal, place) else {
+        let Some(mut saver) = self.saver_of(engine, place)? else {
             writer.no_shard()?;
             return Ok(false);
         };
@@ -167,6 +169,19 @@ impl Closing<'_> {
             }
         }
         Ok(true)
+    }
+
+    // None: the library refuses it. Where there is no memory for it, it waits for that.
+    fn saver_of(&self, mut engine: Engine, place: Place) -> Result<Option<Saver>, NotKept> {
+        loop {
+            self.is_in_time()?;
+            engine = match Saver::of(engine, &self.seal, place) {
+                Ok(saver) => return Ok(Some(saver)),
+                Err((engine, Refused::NO_MEMORY)) => engine,
+                Err(_) => return Ok(None),
+            };
+            thread::sleep(PAUSE);
+        }
     }
 
     // The next bytes of an image. Where there is no memory for them, it waits for that.

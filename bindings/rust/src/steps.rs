@@ -154,7 +154,7 @@ mod tests {
         let cache = folder.filled();
         let (closed, steps) = tried(Fails::None, || cache.close());
         closed.kept.unwrap();
-        let order = [Create, Write, Sync, Rename, SyncFolder, SyncFlash, WriteHead, SyncFlash];
+        let order = [WriteHead, SyncFlash, Create, Write, Sync, Rename, SyncFolder, SyncFlash, WriteHead, SyncFlash];
         assert_eq!(without_repeats(steps), order);
         let (cache, steps) = tried(Fails::None, || folder.open(true).unwrap());
         assert_eq!(without_repeats(steps), [ReadHead, Open, Read, WriteHead, SyncFlash, Remove]);

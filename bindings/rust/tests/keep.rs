@@ -79,23 +79,24 @@ const MANY: u32 = 2_000;
 fn fill(cache: &HybridCache) {
     for number in 0..MANY {
         cache.set(&key(number), &value(number), 0).unwrap();
-        if number % 50 == 0 {
+        if number % 8 == 0 {
             cache.flush().unwrap();
         }
     }
     cache.flush().unwrap();
 }
 
-// How many are there, each of them as it was stored.
+// How many are there, each of them as it was stored. (What they push out of memory finds its place in the queue.)
 fn count(cache: &HybridCache) -> usize {
-    let found = (0..MANY).filter(|number| match cache.get(&key(*number)).unwrap() {
-        Some(found) => {
-            assert_eq!(found[..], value(*number)[..]);
-            true
+    let found = |number: &u32| {
+        if number % 8 == 0 {
+            cache.flush().unwrap();
         }
-        None => false,
-    });
-    found.count()
+        let found = cache.get(&key(*number)).unwrap();
+        assert!(found.as_ref().is_none_or(|found| found[..] == value(*number)[..]));
+        found.is_some()
+    };
+    (0..MANY).filter(found).count()
 }
 
 fn why(cache: &HybridCache) -> WhyEmpty {
@@ -120,8 +121,8 @@ fn what_a_cache_had_the_next_one_has() {
             (1.., Began::Kept(kept)) => {
                 assert_eq!((kept.shards, kept.of, kept.seconds, &kept.beside[..]), (3, 3, 7, &b"ours"[..]));
                 assert!(kept.items > 100 && kept.flash_bytes > 500_000 && kept.bytes > 5_000, "{kept}");
-                assert_eq!(count(&cache), all);
                 assert!(cache.get(b"new").unwrap().is_none() == (round == 1));
+                assert_eq!(count(&cache), all);
                 cache.set(b"new", b"of this round", 0).unwrap();
             }
             (_, other) => panic!("{round}: {other}"),
@@ -134,6 +135,21 @@ fn what_a_cache_had_the_next_one_has() {
         assert_eq!(place.has_files(), (true, false));
         place.second.fetch_add(7, SeqCst);
     }
+}
+
+#[test]
+fn a_flash_past_the_systems_copies_is_kept() {
+    let place = Place::new("direct");
+    let options = Options { direct: true, ..place.options.clone() };
+    let cache = match HybridCache::open(place.folder.join("flash"), &options) {
+        Ok(cache) => cache,
+        Err(error) => return println!("skipped: no direct operations in this folder ({error})"),
+    };
+    fill(&cache);
+    let all = count(&cache);
+    cache.close().kept.unwrap();
+    // (whether it is used so doesn't matter to what is kept)
+    assert_eq!(count(&place.open()), all);
 }
 
 #[test]
@@ -399,7 +415,7 @@ fn calls_that_wait_have_their_answers_first() {
                 scope.spawn(move || cache.get(&key(number)).map(|found| found.is_some()))
             })
             .collect();
-        while cache.stats().waiting < 10 {
+        while cache.stats().waiting < 12 {
             thread::sleep(Duration::from_millis(1));
         }
         let closes = scope.spawn(|| cache.clone().close());
@@ -409,8 +425,9 @@ fn calls_that_wait_have_their_answers_first() {
         pages.hangs.store(false, SeqCst);
         let closed = closes.join().unwrap();
         assert_eq!(closed.kept.unwrap().shards, 3);
-        let found = gets.into_iter().map(|get| get.join().unwrap().unwrap());
-        assert!(found.filter(|found| *found).count() > 10);
+        // (a thread may have begun its get behind the close)
+        let found = gets.into_iter().map(|get| get.join().unwrap());
+        assert!(found.filter(|found| *found == Ok(true)).count() >= 10);
     });
     drop(cache);
     let cache = HybridCache::over(pages, &place.options).unwrap();

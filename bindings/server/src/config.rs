@@ -2,7 +2,7 @@
 use crate::head::HEAD;
 use crate::limits::Patience;
 use clap::Parser;
-use kilambosetry::{HybridCache, Keep, KeepWhat, OpenError, Options};
+use kilambosetry::{HybridCache, Keep, KeepWhat, OpenError, Options, Watch};
 use std::net::IpAddr;
 use std::path::PathBuf;
 use std::time::Duration;
@@ -154,9 +154,18 @@ impl Config {
 
     /// The cache: an empty one, but for what was kept.
     pub fn open(&self) -> Result<HybridCache, OpenError> {
+        self.open_watched(Watch::nobody())
+    }
+
+    /// The same, where somebody is told how far what is kept is read, and written in the end.
+    pub fn open_watched(&self, watch: Watch) -> Result<HybridCache, OpenError> {
+        let mut options = self.options();
+        if let Some(keep) = &mut options.keep {
+            keep.watch = watch;
+        }
         match &self.flash {
-            Some(path) => HybridCache::open(path, &self.options()),
-            None => HybridCache::in_memory(&self.options()),
+            Some(path) => HybridCache::open(path, &options),
+            None => HybridCache::in_memory(&options),
         }
     }
 

@@ -5,6 +5,7 @@
 mod reserve;
 
 use clap::Parser;
+use kilambosetry::{HybridCache, Watch};
 use kilambosetryd::config::Config;
 use kilambosetryd::handles;
 use kilambosetryd::listen::{serve, Ended, Sockets};
@@ -13,9 +14,9 @@ use std::error::Error;
 use std::future::Future;
 use std::io::{self, Write};
 use std::process::exit;
-use std::sync::Arc;
+use std::sync::{Arc, Mutex, PoisonError};
 use std::thread;
-use std::time::Duration;
+use std::time::{Duration, Instant};
 use tokio::runtime::Builder;
 use tokio::signal::unix::{signal, Signal, SignalKind};
 use tokio::sync::{oneshot, watch};
@@ -49,25 +50,60 @@ fn run(mut config: Config) -> Result<(), Box<dyn Error>> {
         say(&format!("{connections} connections and no more: the process may have no more file handles"));
         config.connections = connections;
     }
-    let cache = config.open()?;
-    let sockets = Sockets::open(&config)?;
-    for (name, value) in config.named() {
+    let (tell, signals) = watch::channel(0);
+    runtime.spawn(count(told, tell));
+    let Some(cache) = runtime.block_on(opened(&config, signals.clone())) else {
+        say("ended as it opened");
+        return Ok(());
+    };
+    let server = Server::new(config, cache?);
+    let sockets = Sockets::open(&server.config).inspect_err(|_| {
+        server.close(); // (what was kept is for the next one)
+    })?;
+    for (name, value) in server.config.named() {
         say(&format!("{name} {value}"));
     }
-    say(&cache.numbers().to_string());
-    if config.keep.is_some() {
-        say(&cache.kept().to_string());
+    say(&server.items.cache().numbers().to_string());
+    if server.config.keep.is_some() {
+        say(&server.items.cache().kept().to_string());
     }
-    let server = Server::new(config, cache);
     runtime.block_on(async {
         say("ready");
-        let (tell, signals) = watch::channel(0);
-        tokio::spawn(count(told, tell));
         tokio::select! {
             ended = serve_and_close(server, sockets, has_come(1, signals.clone())) => ended?,
             () = has_come(2, signals) => say("ended at once"),
         }
         Ok(())
+    })
+}
+
+// Opens the cache, by a thread of its own: reading what was kept may take long, and who tells the process to end isn't to wait for that.
+// None: it is told to end. What was kept is there for the next one then, unless it was taken already.
+async fn opened(config: &Config, signals: watch::Receiver<u32>) -> Option<Result<HybridCache, Box<dyn Error>>> {
+    let (tell, told) = oneshot::channel();
+    let opens = config.clone();
+    let started = thread::Builder::new().name("open".to_string()).spawn(move || {
+        // (who has gone has no use for it)
+        drop(tell.send(opens.open_watched(told_each_second())));
+    });
+    if let Err(error) = started {
+        return Some(Err(error.into()));
+    }
+    tokio::select! {
+        opened = told => Some(opened.map_err(Into::into).and_then(|opened| opened.map_err(Into::into))),
+        () = has_come(1, signals) => None,
+    }
+}
+
+// Tells how far what is kept is read or written, once a second.
+fn told_each_second() -> Watch {
+    let last = Mutex::new(Instant::now());
+    Watch::new(move |progress| {
+        let mut last = last.lock().unwrap_or_else(PoisonError::into_inner);
+        if last.elapsed() >= Duration::from_secs(1) {
+            *last = Instant::now();
+            say(&format!("{} of {} shards, {} MB", progress.shards, progress.of, progress.bytes / 1_000_000));
+        }
     })
 }
 
