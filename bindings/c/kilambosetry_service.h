@@ -53,10 +53,10 @@ enum {
     KILAMBOSETRY_CLOSED = 70,       /* the cache was shut */
     KILAMBOSETRY_FAULT = 71,        /* a fault in the library's own code: what the call did isn't known. It is on stderr */
     KILAMBOSETRY_NO_SEAL = 72,      /* `keep` is given, and there is no flash with a name, which could have a seal */
-    KILAMBOSETRY_TIMED_OUT = 110,   /* the time limit passed first: the call is given up */
-    KILAMBOSETRY_LEASED = 111,      /* a miss: the caller is to load the value */
-    KILAMBOSETRY_LOAD_FAILED = 112, /* another was loading the value, and its load failed */
-    KILAMBOSETRY_ABSENT = 113       /* it is known that there is no such row */
+    KILAMBOSETRY_TIMED_OUT = 120,   /* the time limit passed first: the call is given up */
+    KILAMBOSETRY_LEASED = 121,      /* a miss: the caller is to load the value */
+    KILAMBOSETRY_LOAD_FAILED = 122, /* another was loading the value, and its load failed */
+    KILAMBOSETRY_ABSENT = 123       /* it is known that there is no such row */
 };
 
 /* A word for a status, of this header or of kilambosetry.h. */

@@ -1,22 +1,39 @@
-//! An engine at rest as bytes, handed out and taken in one part after another: the library's calls for that, and nothing else.
+//! An engine at rest as bytes, which are given and taken in one part after another: the library's calls for that, and nothing else. A
+//! part is as many whole frames as fit; a frame says in front how long it is.
 use crate::keep::WhyEmpty;
 use crate::library::Handle;
 use crate::numbers::{Numbers, Share, MOST_POOLS};
-// (to be those of `library`)
-use crate::parked::{self as calls, CLOCK_WENT_BACK, NOT_WHOLE, OTHER_CONFIG, OTHER_VERSION, TOO_OLD, UNFIT};
-use crate::{done, Engine, Refused, SHORT};
-use std::ptr;
+// (to be `library`, once the library that is linked has these calls)
+use crate::parked as calls;
+use crate::{done, Engine, Refused};
+use calls::{Mark, CLOCK_WENT_BACK, NOT_WHOLE, OTHER_CONFIG, OTHER_SEAL, OTHER_VERSION, TOO_OLD, UNFIT};
 
-const FINISHED: u8 = 105;
+const IDLE: u8 = 104;
+// What a frame has in front of its record: a letter, and the record's length.
+const FRONT: usize = 5;
 
 /// The number that an image and its flash have; zeros for none.
 pub(crate) type Seal = [u8; 16];
 
-/// Which shard an image is of, from 0, and of how many.
+/// Which image it is.
 #[derive(Clone, Copy, Debug)]
-pub(crate) struct Place {
+pub(crate) struct Which {
+    pub seal: Seal,
+    /// The second of the close; as it is read, the one that it is.
+    pub second: u64,
+    /// Which shard it is of, from 0, and of how many.
     pub shard: u32,
     pub of: u32,
+}
+
+impl Which {
+    fn mark(&self) -> Mark {
+        let (mut first, mut last) = ([0; 8], [0; 8]);
+        first.copy_from_slice(&self.seal[..8]);
+        last.copy_from_slice(&self.seal[8..]);
+        let (seal_first, seal_last) = (u64::from_be_bytes(first), u64::from_be_bytes(last));
+        Mark { seal_first, seal_last, second: self.second, shard: self.shard, shards: self.of }
+    }
 }
 
 /// What a part of an image comes to.
@@ -30,121 +47,155 @@ pub(crate) enum Part {
     End,
 }
 
-/// An engine that is handed out. Nothing of it is left in the end.
+/// An engine that is given as bytes. Nothing of it is left in the end.
 #[derive(Debug)]
-pub(crate) struct Saver(calls::Saver);
+pub(crate) struct Saver {
+    image: calls::Image,
+    // the length of a frame that was made, and found no room yet
+    waits: Option<usize>,
+}
 
 // SAFETY: the library proves that what a handle holds may change threads.
 unsafe impl Send for Saver {}
 
 impl Saver {
-    /// The engine, for this image. Where it isn't at rest, or is refused otherwise, it comes back.
-    pub fn of(mut engine: Engine, seal: &Seal, place: Place) -> Result<Saver, (Engine, Refused)> {
-        let mut saver = calls::Saver::none();
-        // SAFETY: the handle is the engine's own, the seal has 16 bytes, and the saver is an empty one.
-        let status =
-            unsafe { calls::kilambosetry_close(engine.handle(), seal.as_ptr(), place.shard, place.of, &mut saver) };
+    /// The engine, for this image. Where it isn't at rest, or is refused otherwise, it comes back; out of memory it may be empty then.
+    pub fn of(mut engine: Engine, which: &Which) -> Result<Saver, (Engine, Refused)> {
+        let mut image = calls::Image::none();
+        // SAFETY: the handle is the engine's own, and the image's is an empty one.
+        let status = unsafe { calls::kilambosetry_close(engine.handle(), &which.mark(), &mut image) };
         match done(status) {
-            Ok(()) => Ok(Saver(saver)),
+            Ok(()) => Ok(Saver { image, waits: None }),
             Err(refused) => Err((engine, refused)),
         }
     }
 
-    /// Copies the next bytes of the image to the head of `out`: whole frames, as many as fit. Refused with
-    /// [`Refused::NO_MEMORY`], it may be asked again.
+    /// Copies the next frames to the head of `out`, as many as fit. Refused, nothing more comes of the image.
     pub fn next(&mut self, out: &mut [u8]) -> Result<Part, Refused> {
         let mut length = 0;
-        // SAFETY: `out` is valid for its length, and nothing that is written overlaps.
-        match unsafe { calls::kilambosetry_saver_next(&mut self.0, out.as_mut_ptr(), out.len(), &mut length) } {
-            FINISHED => Ok(Part::End),
-            SHORT => Ok(Part::Wants(length)),
-            status => done(status).map(|()| Part::Bytes(length)),
+        while let Some(frame) = self.frame()? {
+            let Some(room) = out[length..].get_mut(..frame) else {
+                self.waits = Some(frame);
+                return Ok(if length > 0 { Part::Bytes(length) } else { Part::Wants(frame) });
+            };
+            self.copy(room)?;
+            length += frame;
         }
+        Ok(if length > 0 { Part::Bytes(length) } else { Part::End })
+    }
+
+    // The length of the next frame, which is to be copied; none, where there is no more.
+    fn frame(&mut self) -> Result<Option<usize>, Refused> {
+        let mut length = 0;
+        match self.waits.take() {
+            Some(frame) => Ok(Some(frame)),
+            // SAFETY: both are valid for the call.
+            None => match unsafe { calls::kilambosetry_image_next(&mut self.image, &mut length) } {
+                IDLE => Ok(None),
+                status => done(status).map(|()| Some(length)),
+            },
+        }
+    }
+
+    fn copy(&mut self, out: &mut [u8]) -> Result<(), Refused> {
+        let mut length = 0;
+        // SAFETY: `out` is valid for its length, and nothing that is written overlaps.
+        done(unsafe { calls::kilambosetry_image_copy(&mut self.image, 0, out.as_mut_ptr(), out.len(), &mut length) })
     }
 }
 
 impl Drop for Saver {
     fn drop(&mut self) {
-        // SAFETY: the saver is this value's own.
-        unsafe { calls::kilambosetry_saver_free(&mut self.0) }
+        // SAFETY: the image is this value's own.
+        unsafe { calls::kilambosetry_image_free(&mut self.image) }
     }
 }
 
-/// When an image may have been closed.
-#[derive(Clone, Copy, Debug)]
-pub(crate) struct Age {
-    /// The second that it is.
-    pub now: u64,
-    /// So many seconds ago, at most.
-    pub longest: u64,
-}
-
-/// An image that is taken in.
+/// An image that is taken.
 #[derive(Debug)]
-pub(crate) struct Loader(calls::Loader);
+pub(crate) struct Loader(calls::Image);
 
 // SAFETY: the library proves that what a handle holds may change threads.
 unsafe impl Send for Loader {}
 
 impl Loader {
-    /// One for the image with this seal, of this shard of a cache with these numbers.
-    pub fn new(numbers: &Numbers, share: &Share, seal: &Seal, place: Place, age: Age) -> Result<Loader, Refused> {
-        let mut loader = calls::Loader::none();
+    /// One for this image of a shard of a cache with these numbers, which was closed so many seconds ago at most.
+    pub fn new(numbers: &Numbers, share: &Share, which: &Which, at_most: u64) -> Result<Loader, Refused> {
+        let mut image = calls::Image::none();
         let pools = &[share.pool; MOST_POOLS as usize][..usize::from(share.pools)];
-        let flash = numbers.flash.as_ref().map_or(ptr::null(), ptr::from_ref);
-        // SAFETY: all are valid for the call, the flash is null or one, and the seal has 16 bytes.
+        let (at, many, mark) = (pools.as_ptr(), pools.len(), which.mark());
+        // SAFETY: all are valid for the call, and the handle is an empty one.
         done(unsafe {
-            calls::kilambosetry_loader_new(
-                &mut loader,
-                pools.as_ptr(),
-                pools.len(),
-                flash,
-                numbers.slots(),
-                place.shard,
-                place.of,
-                seal.as_ptr(),
-                age.now,
-                age.longest,
-            )
+            match &numbers.flash {
+                Some(flash) => calls::kilambosetry_load_with_flash(&mut image, at, many, flash, &mark, at_most),
+                None => calls::kilambosetry_load(&mut image, at, many, &mark, at_most),
+            }
         })?;
-        Ok(Loader(loader))
+        Ok(Loader(image))
     }
 
-    /// Takes the whole frames that these bytes begin with, and answers how many bytes those are.
-    pub fn take(&mut self, bytes: &[u8]) -> Result<usize, WhyEmpty> {
-        let mut taken = 0;
-        // SAFETY: the bytes are valid for their length, and nothing that is written overlaps.
-        let status = unsafe { calls::kilambosetry_loader_take(&mut self.0, bytes.as_ptr(), bytes.len(), &mut taken) };
-        accepted(status).map(|()| taken)
+    /// Takes the frames of a part.
+    pub fn take(&mut self, mut part: &[u8]) -> Result<(), WhyEmpty> {
+        while !part.is_empty() {
+            let (frame, rest) = cut(part).ok_or(WhyEmpty::NotWhole)?;
+            // SAFETY: the bytes are valid for their length.
+            taken(unsafe { calls::kilambosetry_image_take(&mut self.0, frame.as_ptr(), frame.len()) })?;
+            part = rest;
+        }
+        Ok(())
     }
 
     /// The engine of the image, which is whole.
     pub fn finish(mut self, numbers: &Numbers) -> Result<Engine, WhyEmpty> {
         let mut handle = Handle::none();
-        // SAFETY: both are valid for the call, and the handle is an empty one.
-        accepted(unsafe { calls::kilambosetry_loader_finish(&mut self.0, &mut handle) })?;
+        // SAFETY: both are valid for the call, and the cache's handle is an empty one.
+        taken(unsafe { calls::kilambosetry_load_end(&mut self.0, &mut handle, numbers.slots()) })?;
         Ok(Engine::resumed(handle, numbers.flash.as_ref()))
     }
 }
 
 impl Drop for Loader {
     fn drop(&mut self) {
-        // SAFETY: the loader is this value's own.
-        unsafe { calls::kilambosetry_loader_free(&mut self.0) }
+        // SAFETY: the image is this value's own.
+        unsafe { calls::kilambosetry_image_free(&mut self.0) }
     }
 }
 
+// The first frame of these bytes, and the rest.
+fn cut(bytes: &[u8]) -> Option<(&[u8], &[u8])> {
+    let (front, _) = bytes.split_at_checked(FRONT)?;
+    let length = u32::from_be_bytes([front[1], front[2], front[3], front[4]]) as usize;
+    bytes.split_at_checked(FRONT.checked_add(length)?)
+}
+
 // Why an image isn't taken.
-fn accepted(status: u8) -> Result<(), WhyEmpty> {
+fn taken(status: u8) -> Result<(), WhyEmpty> {
     Err(match status {
         0 => return Ok(()),
         NOT_WHOLE => WhyEmpty::NotWhole,
         OTHER_VERSION => WhyEmpty::OtherVersion,
         OTHER_CONFIG => WhyEmpty::OtherOptions,
-        CLOCK_WENT_BACK => WhyEmpty::ClockWentBack,
+        OTHER_SEAL => WhyEmpty::OtherSeal,
         TOO_OLD => WhyEmpty::TooOld,
+        CLOCK_WENT_BACK => WhyEmpty::ClockWentBack,
         UNFIT => WhyEmpty::Unfit,
         status if Refused(status) == Refused::NO_MEMORY => WhyEmpty::NoMemory,
         _ => WhyEmpty::Unfit,
     })
+}
+
+#[cfg(test)]
+mod tests {
+    use super::*;
+
+    #[test]
+    fn frames_are_cut_by_their_front() {
+        let part = [b'I', 0, 0, 0, 2, 7, 8, b'E', 0, 0, 0, 0];
+        let (frame, rest) = cut(&part).unwrap();
+        assert_eq!((frame, rest), (&part[..7], &part[7..]));
+        assert_eq!(cut(rest), Some((rest, &[][..])));
+        for short in [&part[..4], &part[..6], &[b'I', 255, 255, 255, 255, 0]] {
+            assert_eq!(cut(short), None);
+        }
+    }
 }

@@ -1,35 +1,24 @@
-//! A stand-in for calls that the library hasn't got yet: `image.rs` calls these, as kilambosetry.h is to declare them. A cache that
-//! is closed is parked in the process as it is, and its image has the number of its place, in frames as long as others: so all that
-//! stands above these calls can be tried, in one process. To be replaced by declarations in `library.rs`.
+//! A stand-in for the library's calls on images, for as long as the library that is linked has none: the same names, parameters and
+//! statuses as in `library.rs`. A cache that is closed is parked in the process as it is, and its image has the number of its place, in
+//! frames as the library's are: so all that stands above these calls can be tried, in one process. What another process kept is
+//! `Unfit`. To be removed, with the line of `image.rs` that names it.
 #![allow(clippy::missing_safety_doc)]
 use crate::digest::digest_of;
-use crate::library::Handle;
+use crate::library::{self, Handle};
+pub use crate::library::{Mark, CLOCK_WENT_BACK, NOT_WHOLE, OTHER_CONFIG, OTHER_SEAL, OTHER_VERSION, TOO_OLD, UNFIT};
 use crate::{Flash, Pool};
 use std::ptr;
 use std::slice;
 use std::sync::{Mutex, PoisonError};
 
 const DONE: u8 = 0;
-const NOT_READY: u8 = 20;
 const EMPTY: u8 = 101;
-const SHORT: u8 = 102;
+const WAITS: u8 = 103;
 const IDLE: u8 = 104;
-const FINISHED: u8 = 105;
-/// An image ends too early, or isn't as it was written.
-pub const NOT_WHOLE: u8 = 26;
-/// It is of another version.
-pub const OTHER_VERSION: u8 = 27;
-/// It is of another configuration, or another shard.
-pub const OTHER_CONFIG: u8 = 28;
-/// What it has can't be of a cache.
-pub const UNFIT: u8 = 29;
-/// It was closed at a later second than it is now.
-pub const CLOCK_WENT_BACK: u8 = 30;
-/// It was closed longer ago than is allowed.
-pub const TOO_OLD: u8 = 31;
 
-// Frames have so many bytes, and there are so many behind the first.
-const FRAME: usize = 1000;
+// A frame is a letter, the length of its record, and the record. There are so many behind the first.
+const FRONT: usize = 5;
+const LONGEST: usize = 1_000;
 const MORE: u64 = 30;
 
 struct Parked(Handle);
@@ -49,7 +38,7 @@ fn park(parked: Parked) -> u64 {
     places.0 += 1;
     if let Some(mut before) = places.1[place].replace(parked) {
         // SAFETY: the handle was the place's own, and nobody else has it any more.
-        unsafe { crate::library::kilambosetry_free(&mut before.0) };
+        unsafe { library::kilambosetry_free(&mut before.0) };
     }
     place as u64
 }
@@ -59,206 +48,183 @@ fn unpark(place: u64) -> Option<Parked> {
     places.1.get_mut(place as usize)?.take()
 }
 
-/// An image that is handed out.
-#[repr(C)]
+/// An image that is written or read.
 #[derive(Debug)]
-pub struct Saver {
+pub struct Image {
     place: u64,
-    seal: [u8; 16],
-    shard: u32,
-    shards: u32,
+    mark: Mark,
+    at_most: u64,
     next: u64,
+    is_read: bool,
     full: bool,
 }
 
-impl Saver {
-    pub const fn none() -> Saver {
-        Saver { place: 0, seal: [0; 16], shard: 0, shards: 0, next: 0, full: false }
+impl Image {
+    pub const fn none() -> Image {
+        let mark = Mark { seal_first: 0, seal_last: 0, second: 0, shard: 0, shards: 0 };
+        Image { place: 0, mark, at_most: 0, next: 0, is_read: false, full: false }
     }
 }
 
-/// An image that is taken in.
-#[repr(C)]
-#[derive(Debug)]
-pub struct Loader {
-    place: u64,
-    seal: [u8; 16],
-    shard: u32,
-    shards: u32,
-    next: u64,
-    full: bool,
-}
-
-impl Loader {
-    pub const fn none() -> Loader {
-        Loader { place: 0, seal: [0; 16], shard: 0, shards: 0, next: 0, full: false }
-    }
-}
-
-// The bytes of the frame with this number. The first has an odd length.
+// The length of the frame with this number. The first and the last are shorter.
 fn length_of(number: u64) -> usize {
-    if number == 0 {
-        777
-    } else {
-        FRAME
+    match number {
+        0 => 777,
+        MORE => 13,
+        _ => LONGEST,
     }
 }
 
-fn frame(number: u64, place: u64, seal: &[u8; 16], shard: u32, shards: u32) -> [u8; FRAME] {
-    let mut bytes = [number as u8; FRAME];
-    bytes[..8].copy_from_slice(&place.to_le_bytes());
-    bytes[8..24].copy_from_slice(seal);
-    bytes[24..28].copy_from_slice(&shard.to_le_bytes());
-    bytes[28..32].copy_from_slice(&shards.to_le_bytes());
-    bytes[32..40].copy_from_slice(&number.to_le_bytes());
-    let end = length_of(number) - 8;
-    let digest = digest_of(&bytes[..end]).to_le_bytes();
-    bytes[end..end + 8].copy_from_slice(&digest);
+// The bytes of the frame with this number.
+fn frame(number: u64, place: u64, mark: &Mark) -> [u8; LONGEST] {
+    let mut bytes = [number as u8; LONGEST];
+    let length = length_of(number);
+    bytes[0] = b'I';
+    bytes[1..FRONT].copy_from_slice(&((length - FRONT) as u32).to_be_bytes());
+    if number < MORE {
+        let fields = [place, mark.seal_first, mark.seal_last, mark.second, number];
+        for (field, to) in fields.iter().zip(bytes[FRONT..].chunks_exact_mut(8)) {
+            to.copy_from_slice(&field.to_be_bytes());
+        }
+        bytes[45..49].copy_from_slice(&mark.shard.to_be_bytes());
+        bytes[49..53].copy_from_slice(&mark.shards.to_be_bytes());
+    }
+    let digest = digest_of(&bytes[..length - 8]).to_be_bytes();
+    bytes[length - 8..length].copy_from_slice(&digest);
     bytes
 }
 
-pub unsafe fn kilambosetry_close(
-    cache: *mut Handle,
-    seal: *const u8,
-    shard: u32,
-    shards: u32,
-    saver: *mut Saver,
-) -> u8 {
-    // SAFETY: both are valid for the call.
-    let (cache, saver) = unsafe { (&mut *cache, &mut *saver) };
+pub unsafe fn kilambosetry_close(cache: *mut Handle, mark: *const Mark, image: *mut Image) -> u8 {
+    // SAFETY: all are valid for the call.
+    let (cache, mark, image) = unsafe { (&mut *cache, &*mark, &mut *image) };
     if !cache.is_full() {
         return EMPTY;
     }
     // (all that can be asked of whether it is at rest)
     // SAFETY: the handle is the cache's own.
-    if unsafe { crate::library::kilambosetry_filler_has_work(cache) } != IDLE {
-        return NOT_READY;
+    if unsafe { library::kilambosetry_filler_has_work(cache) } != IDLE {
+        return WAITS;
     }
-    let mut kept = [0; 16];
-    // SAFETY: the seal has so many bytes.
-    kept.copy_from_slice(unsafe { slice::from_raw_parts(seal, 16) });
     let parked = Parked(std::mem::replace(cache, Handle::none()));
-    let place = park(parked);
-    *saver = Saver { place, seal: kept, shard, shards, next: 0, full: true };
+    *image = Image { place: park(parked), mark: *mark, full: true, ..Image::none() };
     DONE
 }
 
-pub unsafe fn kilambosetry_saver_next(saver: *mut Saver, out: *mut u8, out_len: usize, len: *mut usize) -> u8 {
-    // SAFETY: all are valid for the call.
-    let (saver, out, len) = unsafe { (&mut *saver, slice::from_raw_parts_mut(out, out_len), &mut *len) };
-    *len = 0;
-    if !saver.full {
+pub unsafe fn kilambosetry_image_next(image: *mut Image, len: *mut usize) -> u8 {
+    // SAFETY: both are valid for the call.
+    let (image, len) = unsafe { (&mut *image, &mut *len) };
+    if !image.full || image.is_read {
         return EMPTY;
     }
-    if saver.next > MORE {
-        return FINISHED;
+    if image.next > MORE {
+        return IDLE;
     }
-    while saver.next <= MORE {
-        let bytes = frame(saver.next, saver.place, &saver.seal, saver.shard, saver.shards);
-        let length = length_of(saver.next);
-        let Some(room) = out.get_mut(*len..*len + length) else { break };
-        room.copy_from_slice(&bytes[..length]);
-        *len += length;
-        saver.next += 1;
-    }
-    if *len == 0 {
-        *len = FRAME;
-        return SHORT;
-    }
+    *len = length_of(image.next);
+    image.next += 1;
     DONE
 }
 
-pub unsafe fn kilambosetry_saver_free(saver: *mut Saver) {
+pub unsafe fn kilambosetry_image_copy(
+    image: *mut Image,
+    from: usize,
+    out: *mut u8,
+    out_len: usize,
+    len: *mut usize,
+) -> u8 {
+    // SAFETY: all are valid for the call.
+    let (image, out, len) = unsafe { (&mut *image, slice::from_raw_parts_mut(out, out_len), &mut *len) };
+    if !image.full || image.next == 0 {
+        return EMPTY;
+    }
+    let number = image.next - 1;
+    let bytes = frame(number, image.place, &image.mark);
+    let piece = bytes[..length_of(number)].get(from..).unwrap_or_default();
+    *len = piece.len().min(out.len());
+    out[..*len].copy_from_slice(&piece[..*len]);
+    DONE
+}
+
+pub unsafe fn kilambosetry_image_free(image: *mut Image) {
     // SAFETY: it is valid for the call.
-    let saver = unsafe { &mut *saver };
-    if saver.full && saver.next <= MORE {
-        // (an image that wasn't handed out whole is of no use)
-        drop_parked(saver.place);
+    let image = unsafe { &mut *image };
+    if image.full && !image.is_read && image.next <= MORE {
+        // (an image that wasn't given whole is of no use)
+        if let Some(mut parked) = unpark(image.place) {
+            // SAFETY: the handle is the place's own, and nobody else has it any more.
+            unsafe { library::kilambosetry_free(&mut parked.0) };
+        }
     }
-    *saver = Saver::none();
+    *image = Image::none();
 }
 
-fn drop_parked(place: u64) {
-    if let Some(mut parked) = unpark(place) {
-        // SAFETY: the handle is the place's own, and nobody else has it any more.
-        unsafe { crate::library::kilambosetry_free(&mut parked.0) };
-    }
-}
-
-#[allow(clippy::too_many_arguments)]
-pub unsafe fn kilambosetry_loader_new(
-    loader: *mut Loader,
+pub unsafe fn kilambosetry_load(
+    image: *mut Image,
     _pools: *const Pool,
     _pools_len: usize,
-    _flash: *const Flash,
-    _slots: u32,
-    shard: u32,
-    shards: u32,
-    seal: *const u8,
-    _now: u64,
-    _longest: u64,
+    mark: *const Mark,
+    at_most: u64,
 ) -> u8 {
-    let mut kept = [0; 16];
-    // SAFETY: the seal has so many bytes.
-    kept.copy_from_slice(unsafe { slice::from_raw_parts(seal, 16) });
-    // SAFETY: it is valid for the call.
-    unsafe { *loader = Loader { place: 0, seal: kept, shard, shards, next: 0, full: true } };
+    // SAFETY: both are valid for the call.
+    unsafe { *image = Image { mark: *mark, at_most, is_read: true, full: true, ..Image::none() } };
     DONE
 }
 
-pub unsafe fn kilambosetry_loader_take(
-    loader: *mut Loader,
-    bytes: *const u8,
-    bytes_len: usize,
-    taken: *mut usize,
+pub unsafe fn kilambosetry_load_with_flash(
+    image: *mut Image,
+    pools: *const Pool,
+    pools_len: usize,
+    _flash: *const Flash,
+    mark: *const Mark,
+    at_most: u64,
 ) -> u8 {
-    // SAFETY: all are valid for the call.
-    let (loader, bytes, taken) = unsafe { (&mut *loader, slice::from_raw_parts(bytes, bytes_len), &mut *taken) };
-    *taken = 0;
-    if !loader.full {
-        return EMPTY;
-    }
-    loop {
-        let rest = &bytes[*taken..];
-        let length = length_of(loader.next);
-        if rest.len() < length {
-            return DONE;
-        }
-        if loader.next > MORE {
-            return NOT_WHOLE;
-        }
-        if loader.next == 0 {
-            loader.place = u64::from_le_bytes(rest[..8].try_into().unwrap_or_default());
-        }
-        if rest[8..24] != loader.seal || rest[24..28] != loader.shard.to_le_bytes() {
-            return OTHER_CONFIG;
-        }
-        if rest[..length] != frame(loader.next, loader.place, &loader.seal, loader.shard, loader.shards)[..length] {
-            return NOT_WHOLE;
-        }
-        loader.next += 1;
-        *taken += length;
-    }
+    // SAFETY: as there.
+    unsafe { kilambosetry_load(image, pools, pools_len, mark, at_most) }
 }
 
-pub unsafe fn kilambosetry_loader_finish(loader: *mut Loader, cache: *mut Handle) -> u8 {
+pub unsafe fn kilambosetry_image_take(image: *mut Image, bytes: *const u8, bytes_len: usize) -> u8 {
     // SAFETY: both are valid for the call.
-    let (loader, cache) = unsafe { (&mut *loader, &mut *cache) };
-    if !loader.full || loader.next != MORE + 1 {
+    let (image, bytes) = unsafe { (&mut *image, slice::from_raw_parts(bytes, bytes_len)) };
+    if !image.full || !image.is_read {
+        return EMPTY;
+    }
+    if image.next > MORE || bytes.len() != length_of(image.next) {
         return NOT_WHOLE;
     }
-    match unpark(loader.place) {
+    if image.next == 0 {
+        let number = |at: usize| bytes[at..at + 8].iter().fold(0, |number, byte| number << 8 | u64::from(*byte));
+        image.place = number(FRONT);
+        let closed = number(FRONT + 24);
+        if [number(FRONT + 8), number(FRONT + 16)] != [image.mark.seal_first, image.mark.seal_last] {
+            return OTHER_SEAL;
+        }
+        if closed > image.mark.second {
+            return CLOCK_WENT_BACK;
+        }
+        if image.mark.second - closed > image.at_most {
+            return TOO_OLD;
+        }
+        image.mark.second = closed;
+    }
+    if bytes != &frame(image.next, image.place, &image.mark)[..bytes.len()] {
+        return NOT_WHOLE;
+    }
+    image.next += 1;
+    DONE
+}
+
+pub unsafe fn kilambosetry_load_end(image: *mut Image, cache: *mut Handle, _slots: u32) -> u8 {
+    // SAFETY: both are valid for the call.
+    let (image, cache) = unsafe { (&mut *image, &mut *cache) };
+    let read = std::mem::replace(image, Image::none());
+    if !read.full || read.next != MORE + 1 {
+        return NOT_WHOLE;
+    }
+    match unpark(read.place) {
         Some(parked) => {
-            // SAFETY: the handle is the caller's own.
+            // SAFETY: the handle is the caller's own, and has nothing.
             unsafe { ptr::write(cache, parked.0) };
-            *loader = Loader::none();
             DONE
         }
         None => UNFIT,
     }
-}
-
-pub unsafe fn kilambosetry_loader_free(loader: *mut Loader) {
-    // SAFETY: it is valid for the call.
-    unsafe { *loader = Loader::none() };
 }

@@ -1,7 +1,7 @@
 //! How a cache begins with what an earlier one kept.
 use crate::digest::Running;
 use crate::disk;
-use crate::image::{Age, Loader, Place, Seal};
+use crate::image::{Loader, Seal, Which};
 use crate::keep::{Began, Keep, Progress, WasKept, WhyEmpty};
 use crate::kept_file::{Head, Reader};
 use crate::numbers::{Numbers, Share};
@@ -77,16 +77,15 @@ fn load(shards: &mut Shards, keep: &Keep, seal: Seal) -> Result<WasKept, WhyEmpt
     let file = disk::open(&keep.path).map_err(|error| WhyEmpty::Unread(error.kind()))?;
     let mut reader = Reader::new(file.ok_or(WhyEmpty::NoFile)?)?;
     let head = reader.head()?;
-    let now = shards.clock.now();
-    let age = age_of(shards, keep, &head, &seal, now)?;
+    let now = now_for(shards, keep, &head, &seal)?;
     shards.spread = Spread::of(head.spread);
     shards.absent = head.absent;
     let of = shards.len() as u64;
-    let mut kept = WasKept { of, seconds: age.now - head.closed, ..WasKept::default() };
+    let mut kept = WasKept { of, seconds: now - head.closed, ..WasKept::default() };
     for shard in 0..shards.len() {
-        let place = Place { shard: shard as u32, of: head.shards };
-        let mut loading = Loading { reader: &mut reader, keep, place, told: 0 };
-        kept.shards += u64::from(loading.shard(shards, &seal, age)?);
+        let which = Which { seal, second: now, shard: shard as u32, of: head.shards };
+        let mut loading = Loading { reader: &mut reader, keep, which, told: 0 };
+        kept.shards += u64::from(loading.shard(shards)?);
         keep.watch.tell(Progress { bytes: reader.bytes(), shards: shard as u64 + 1, of });
     }
     reader.end()?;
@@ -98,8 +97,9 @@ fn load(shards: &mut Shards, keep: &Keep, seal: Seal) -> Result<WasKept, WhyEmpt
     Ok(kept)
 }
 
-// Whether the file is of this flash and these options, and of a moment that isn't too long ago.
-fn age_of(shards: &Shards, keep: &Keep, head: &Head, seal: &Seal, now: u64) -> Result<Age, WhyEmpty> {
+// The second that it is. The file is of this flash and these options, and of a moment that isn't too long ago.
+fn now_for(shards: &Shards, keep: &Keep, head: &Head, seal: &Seal) -> Result<u64, WhyEmpty> {
+    let now = shards.clock.now();
     if head.seal != *seal {
         return Err(WhyEmpty::OtherSeal);
     }
@@ -109,42 +109,37 @@ fn age_of(shards: &Shards, keep: &Keep, head: &Head, seal: &Seal, now: u64) -> R
     if head.closed > now.saturating_add(ROUNDED) {
         return Err(WhyEmpty::ClockWentBack);
     }
-    let age = Age { now: now.max(head.closed), longest: keep.for_at_most.as_secs() };
-    if age.now - head.closed > age.longest {
+    if now.saturating_sub(head.closed) > keep.for_at_most.as_secs() {
         return Err(WhyEmpty::TooOld);
     }
-    Ok(age)
+    Ok(now.max(head.closed))
 }
 
 // The file as a shard is read of it.
 struct Loading<'a> {
     reader: &'a mut Reader,
     keep: &'a Keep,
-    place: Place,
+    which: Which,
     told: u64,
 }
 
 impl Loading<'_> {
     // Whether the shard was kept.
-    fn shard(&mut self, shards: &mut Shards, seal: &Seal, age: Age) -> Result<bool, WhyEmpty> {
+    fn shard(&mut self, shards: &mut Shards) -> Result<bool, WhyEmpty> {
         let Some(pad) = self.reader.shard()? else { return Ok(false) };
         if let Some(device) = &shards.device {
-            let (pages, shard) = (u64::from(shards.pages), u64::from(self.place.shard));
+            let (pages, shard) = (u64::from(shards.pages), u64::from(self.which.shard));
             self.reader.numbers(pages, |page, digest| device.set_digest(shard * pages + page, digest))?;
         }
-        let loader = Loader::new(&shards.numbers, &shards.share, seal, self.place, age);
+        let at_most = self.keep.for_at_most.as_secs();
+        let loader = Loader::new(&shards.numbers, &shards.share, &self.which, at_most);
         let mut loader = loader.map_err(|_| WhyEmpty::NoMemory)?;
-        while let Some(mut part) = self.reader.part()? {
-            while !part.is_empty() {
-                match loader.take(part)? {
-                    0 => return Err(WhyEmpty::NotWhole),
-                    taken => part = &part[taken..],
-                }
-            }
+        while let Some(part) = self.reader.part()? {
+            loader.take(part)?;
             self.tell(shards.len() as u64);
         }
         let engine = loader.finish(&shards.numbers)?;
-        shards.put_resumed(self.place.shard as usize, engine, pad);
+        shards.put_resumed(self.which.shard as usize, engine, pad);
         Ok(true)
     }
 
@@ -152,7 +147,7 @@ impl Loading<'_> {
         let bytes = self.reader.bytes();
         if bytes - self.told >= TOLD_EACH {
             self.told = bytes;
-            self.keep.watch.tell(Progress { bytes, shards: u64::from(self.place.shard), of });
+            self.keep.watch.tell(Progress { bytes, shards: u64::from(self.which.shard), of });
         }
     }
 }

@@ -1,6 +1,6 @@
 //! How a cache that is closed is kept.
 use crate::disk;
-use crate::image::{Part, Place, Saver, Seal};
+use crate::image::{Part, Saver, Seal, Which};
 use crate::keep::{Keep, NotKept, Progress, Saved};
 use crate::kept_file::{Filled, Head, Writer, MOST_BESIDE};
 use crate::shards::{drawn, Shards, PAUSE};
@@ -35,6 +35,7 @@ struct Closing<'a> {
     shards: &'a Shards,
     keep: &'a Keep,
     seal: Seal,
+    second: u64,
     until: Instant,
     told: u64,
 }
@@ -68,8 +69,8 @@ impl Keeper {
         let device = shards.device.as_ref().ok_or_else(|| io::Error::from(io::ErrorKind::Unsupported))?;
         // (there is none: but so what was written is there for good, which may take long, before the file is begun)
         device.put_seal(NO_SEAL)?;
-        let closing = Closing { shards, keep: &self.keep, seal: drawn_seal(), until, told: 0 };
-        let seal = closing.seal;
+        let (seal, second) = (drawn_seal(), shards.last_second());
+        let closing = Closing { shards, keep: &self.keep, seal, second, until, told: 0 };
         let new = disk::unfinished(&self.keep.path)?;
         let saved = closing.write(&new, beside);
         if saved.is_err() {
@@ -138,7 +139,7 @@ impl Closing<'_> {
     fn head(&self, beside: &[u8]) -> Result<Head, Refused> {
         Ok(Head {
             seal: self.seal,
-            closed: self.shards.last_second(),
+            closed: self.second,
             shards: self.shards.len() as u32,
             options: resume::options_of(self.shards),
             spread: self.shards.spread.number(),
@@ -149,12 +150,13 @@ impl Closing<'_> {
 
     // Whether the shard is kept.
     fn write_shard(&mut self, writer: &mut Writer, shard: usize) -> Result<bool, NotKept> {
-        let place = Place { shard: shard as u32, of: self.shards.len() as u32 };
+        let (seal, second, of) = (self.seal, self.second, self.shards.len() as u32);
+        let which = Which { seal, second, shard: shard as u32, of };
         let Some((engine, pad)) = self.shards.take_at_rest(shard) else {
             writer.no_shard()?;
             return Ok(false);
         };
-        let Some(mut saver) = self.saver_of(engine, place)? else {
+        let Some(mut saver) = self.saver_of(engine, &which)? else {
             writer.no_shard()?;
             return Ok(false);
         };
@@ -171,11 +173,11 @@ impl Closing<'_> {
         Ok(true)
     }
 
-    // None: the library refuses it. Where there is no memory for it, it waits for that.
-    fn saver_of(&self, mut engine: Engine, place: Place) -> Result<Option<Saver>, NotKept> {
+    // None: the library refuses it. Where there is no memory for it, and it wasn't lost by that, it waits for some.
+    fn saver_of(&self, mut engine: Engine, which: &Which) -> Result<Option<Saver>, NotKept> {
         loop {
             self.is_in_time()?;
-            engine = match Saver::of(engine, &self.seal, place) {
+            engine = match Saver::of(engine, which) {
                 Ok(saver) => return Ok(Some(saver)),
                 Err((engine, Refused::NO_MEMORY)) => engine,
                 Err(_) => return Ok(None),
@@ -184,18 +186,14 @@ impl Closing<'_> {
         }
     }
 
-    // The next bytes of an image. Where there is no memory for them, it waits for that.
+    // The next bytes of an image.
     fn next_of(&self, saver: &mut Saver, out: &mut [u8]) -> Result<Filled, NotKept> {
-        loop {
-            self.is_in_time()?;
-            match saver.next(out) {
-                Ok(Part::Bytes(length)) => return Ok(Filled::Bytes(length)),
-                Ok(Part::Wants(length)) => return Ok(Filled::Wants(length)),
-                Ok(Part::End) => return Ok(Filled::End),
-                Err(Refused::NO_MEMORY) => thread::sleep(PAUSE),
-                Err(refused) => return Err(refused.into()),
-            }
-        }
+        self.is_in_time()?;
+        Ok(match saver.next(out)? {
+            Part::Bytes(length) => Filled::Bytes(length),
+            Part::Wants(length) => Filled::Wants(length),
+            Part::End => Filled::End,
+        })
     }
 
     fn is_in_time(&self) -> Result<(), NotKept> {

@@ -79,7 +79,7 @@ const MANY: u32 = 2_000;
 fn fill(cache: &HybridCache) {
     for number in 0..MANY {
         cache.set(&key(number), &value(number), 0).unwrap();
-        if number % 8 == 0 {
+        if number.is_multiple_of(8) {
             cache.flush().unwrap();
         }
     }
@@ -89,7 +89,7 @@ fn fill(cache: &HybridCache) {
 // How many are there, each of them as it was stored. (What they push out of memory finds its place in the queue.)
 fn count(cache: &HybridCache) -> usize {
     let found = |number: &u32| {
-        if number % 8 == 0 {
+        if number.is_multiple_of(8) {
             cache.flush().unwrap();
         }
         let found = cache.get(&key(*number)).unwrap();
