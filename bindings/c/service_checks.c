@@ -723,7 +723,7 @@ static void check_keeping_memory(void) {
     kilambosetry_service_options options = keeping_options();
     unsigned kept_times = 0;
     uint64_t many = 0, at = 1;
-    for (; at <= many + 1; at += part) {
+    for (; at <= many + 1; at++) {
         kilambosetry_kept kept, again;
         unlink(file);
         kilambosetry_service *service = open_keeping(&options);
