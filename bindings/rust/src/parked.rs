@@ -31,9 +31,25 @@ const MOST: usize = 1 << 16;
 
 static PLACES: Mutex<(usize, [Option<Parked>; MOST])> = Mutex::new((0, [const { None }; MOST]));
 
+// Frees what is parked as the process ends, so that nothing seems lost.
+extern "C" fn free_all() {
+    (0..MOST as u64).filter_map(unpark).for_each(|mut parked| {
+        // SAFETY: the handle was the place's own, and nobody else has it any more.
+        unsafe { library::kilambosetry_free(&mut parked.0) };
+    });
+}
+
+extern "C" {
+    fn atexit(call: extern "C" fn()) -> i32;
+}
+
 // Parks it at the next place, and answers its number.
 fn park(parked: Parked) -> u64 {
     let mut places = PLACES.lock().unwrap_or_else(PoisonError::into_inner);
+    if places.0 == 0 {
+        // SAFETY: the C library's, which keeps the function until the end.
+        unsafe { atexit(free_all) };
+    }
     let place = places.0 % MOST;
     places.0 += 1;
     if let Some(mut before) = places.1[place].replace(parked) {
