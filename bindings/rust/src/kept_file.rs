@@ -280,3 +280,98 @@ impl Reader {
         }
     }
 }
+
+#[cfg(test)]
+mod tests {
+    use super::*;
+    use std::fs;
+    use std::path::PathBuf;
+
+    struct Temporary(PathBuf);
+
+    impl Drop for Temporary {
+        fn drop(&mut self) {
+            let _ = fs::remove_file(&self.0);
+        }
+    }
+
+    fn head() -> Head {
+        let beside = b"the owner's".to_vec();
+        Head { seal: [3; 16], closed: 1_000, shards: 2, options: 7, spread: 8, absent: [9; 16], beside }
+    }
+
+    // A part longer than what is written at once, and short ones.
+    fn parts() -> [Vec<u8>; 3] {
+        [vec![1; 10], (0..3 * AT_ONCE).map(|at| (at / 7) as u8).collect(), vec![2; 77]]
+    }
+
+    fn written(path: &PathBuf, head: &Head, digests: u64) -> u64 {
+        let mut writer = Writer::new(disk::create(path).unwrap()).unwrap();
+        writer.head(head).unwrap();
+        writer.no_shard().unwrap();
+        writer.shard(&Pad::of([5; Pad::LENGTH])).unwrap();
+        writer.numbers(0..digests).unwrap();
+        for part in parts() {
+            let fill = |out: &mut [u8]| match out.get_mut(..part.len()) {
+                Some(room) => {
+                    room.copy_from_slice(&part);
+                    Ok::<_, io::Error>(Filled::Bytes(part.len()))
+                }
+                None => Ok(Filled::Wants(part.len())),
+            };
+            assert!(writer.part(fill).unwrap());
+        }
+        assert!(!writer.part(|_| Ok::<_, io::Error>(Filled::End)).unwrap());
+        writer.end().unwrap().1
+    }
+
+    fn read(path: &PathBuf, digests: u64) -> Result<(Head, Vec<Vec<u8>>), WhyEmpty> {
+        let mut reader = Reader::new(disk::open(path).unwrap().unwrap())?;
+        let head = reader.head()?;
+        assert!(reader.shard()?.is_none());
+        assert_eq!(reader.shard()?.map(|pad| *pad.bytes()), Some([5; Pad::LENGTH]));
+        reader.numbers(digests, |at, number| assert_eq!(at, number))?;
+        let mut parts = Vec::new();
+        while let Some(part) = reader.part()? {
+            parts.push(part.to_vec());
+        }
+        reader.end()?;
+        assert_eq!(reader.bytes(), fs::metadata(path).unwrap().len());
+        Ok((head, parts))
+    }
+
+    #[test]
+    fn what_is_written_is_read_again() {
+        let file = Temporary(std::env::temp_dir().join(format!("kept-file-{}", std::process::id())));
+        for digests in [0, 1, AT_ONCE as u64 / 8, AT_ONCE as u64 / 4 + 3] {
+            let bytes = written(&file.0, &head(), digests);
+            assert_eq!(fs::metadata(&file.0).unwrap().len(), bytes);
+            assert_eq!(read(&file.0, digests), Ok((head(), parts().to_vec())));
+        }
+        let empty = Head { beside: Vec::new(), ..head() };
+        written(&file.0, &empty, 0);
+        assert_eq!(read(&file.0, 0).map(|(head, _)| head), Ok(empty));
+        written(&file.0, &Head { beside: vec![0; MOST_BESIDE + 1], ..head() }, 0);
+        assert_eq!(read(&file.0, 0), Err(WhyEmpty::NotWhole));
+    }
+
+    #[test]
+    fn the_bytes_are_those_of_the_page_on_formats() {
+        let file = Temporary(std::env::temp_dir().join(format!("kept-bytes-{}", std::process::id())));
+        written(&file.0, &head(), 2);
+        let bytes = fs::read(&file.0).unwrap();
+        let number = |at: usize| u64::from_le_bytes(bytes[at..at + 8].try_into().unwrap());
+        assert_eq!(bytes[..24], *b"Kilambosetryfile\x01\0\0\0\x02\0\0\0");
+        assert_eq!((&bytes[24..40], number(40), number(48), number(56)), (&[3; 16][..], 1_000, 7, 8));
+        assert_eq!((&bytes[64..80], number(80), &bytes[88..99]), (&[9; 16][..], 11, &b"the owner's"[..]));
+        // no first shard; the second one's pad, its digests, and the first part of its image
+        assert_eq!((bytes[99], bytes[100], &bytes[101..356]), (0, 1, &[5; 255][..]));
+        assert_eq!(
+            (number(356), number(364), &bytes[372..386]),
+            (0, 1, &[10, 0, 0, 0, 1, 1, 1, 1, 1, 1, 1, 1, 1, 1][..])
+        );
+        let end = bytes.len() - 8;
+        assert_eq!(bytes[end - 4..end], [0; 4]);
+        assert_eq!(number(end), crate::digest::digest_of(&bytes[..end]));
+    }
+}

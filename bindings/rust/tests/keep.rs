@@ -4,7 +4,9 @@ use kilambosetry::{
 };
 use std::fs;
 use std::io;
-use std::path::PathBuf;
+use std::os::unix::fs::PermissionsExt;
+use std::path::{Path, PathBuf};
+use std::process::Command;
 use std::sync::atomic::{AtomicBool, AtomicU64, AtomicUsize, Ordering::SeqCst};
 use std::sync::{Arc, Mutex};
 use std::thread;
@@ -133,6 +135,8 @@ fn what_a_cache_had_the_next_one_has() {
         assert_eq!((saved.shards, saved.of, saved.bytes), (3, 3, fs::metadata(place.kept()).unwrap().len()));
         assert!(closed.stats.memory_items > 100);
         assert_eq!(place.has_files(), (true, false));
+        let mode = fs::metadata(place.kept()).unwrap().permissions().mode();
+        assert_eq!(mode & 0o777, 0o600, "it is for its owner alone");
         place.second.fetch_add(7, SeqCst);
     }
 }
@@ -150,6 +154,42 @@ fn a_flash_past_the_systems_copies_is_kept() {
     cache.close().kept.unwrap();
     // (whether it is used so doesn't matter to what is kept)
     assert_eq!(count(&place.open()), all);
+}
+
+// A loop device over a file, which is taken apart in the end.
+struct Loop(PathBuf);
+
+impl Loop {
+    fn over(file: &Path) -> Option<Loop> {
+        let ran = Command::new("losetup").args(["--find", "--show"]).arg(file).output().ok()?;
+        let name = String::from_utf8(ran.stdout).ok()?;
+        ran.status.success().then(|| Loop(PathBuf::from(name.trim())))
+    }
+}
+
+impl Drop for Loop {
+    fn drop(&mut self) {
+        let _ = Command::new("losetup").arg("--detach").arg(&self.0).status();
+    }
+}
+
+#[test]
+fn a_block_device_is_kept() {
+    let place = Place::new("device");
+    let file = place.folder.join("image");
+    fs::File::create(&file).unwrap().set_len(8 << 20).unwrap();
+    let Some(device) = Loop::over(&file) else { return println!("skipped: no loop device (it wants root)") };
+    let open = || HybridCache::open(&device.0, &place.options).unwrap();
+    let cache = open();
+    assert_eq!(why(&cache), WhyEmpty::NoSeal);
+    fill(&cache);
+    let all = count(&cache);
+    cache.close().kept.unwrap();
+    let cache = open();
+    assert!(matches!(cache.kept(), Began::Kept(_)), "{}", cache.kept());
+    assert_eq!(count(&cache), all);
+    drop(cache);
+    assert_eq!(why(&open()), WhyEmpty::NoSeal);
 }
 
 #[test]
