@@ -282,12 +282,13 @@ async fn work(worker: Worker, mut clients: mpsc::UnboundedReceiver<Admitted>, mu
     // (whoever hands clients over has ended, or is about to tell)
     let _ = ends.changed().await;
     let _ = tell_end.send(true);
-    loop {
+    while *ends.borrow_and_update() != Stage::CutsOff {
         tokio::select! {
             ended = connections.join_next() => if ended.is_none() { return },
-            Ok(()) = ends.changed() => connections.abort_all(),
+            Ok(()) = ends.changed() => {}
         }
     }
+    connections.shutdown().await;
 }
 
 async fn serve_client(worker: Worker, client: Client, permit: OwnedSemaphorePermit, ends: watch::Receiver<bool>) {

@@ -139,8 +139,14 @@ fn a_key_with_a_bar_and_a_lease_of_before_are_gone() {
 
 #[test]
 fn a_client_that_takes_no_answers_is_cut_off_and_the_rest_is_kept() {
+    for drain in ["1", "0"] {
+        cut_off(drain);
+    }
+}
+
+fn cut_off(drain: &str) {
     let place = Place::new("cut");
-    let running = place.start(&["--drain", "1"]);
+    let running = place.start(&["--drain", drain]);
     let mut client = Client::of(&running);
     assert_eq!(client.ask(&format!("set long 0 0 300000\r\n{}\r\n", "x".repeat(300_000))), "STORED");
     assert_eq!(client.ask("set key 0 0 1\r\nx\r\n"), "STORED");
