@@ -285,7 +285,7 @@ impl Reader {
 mod tests {
     use super::*;
     use std::fs;
-    use std::path::PathBuf;
+    use std::path::{Path, PathBuf};
 
     struct Temporary(PathBuf);
 
@@ -305,7 +305,7 @@ mod tests {
         [vec![1; 10], (0..3 * AT_ONCE).map(|at| (at / 7) as u8).collect(), vec![2; 77]]
     }
 
-    fn written(path: &PathBuf, head: &Head, digests: u64) -> u64 {
+    fn written(path: &Path, head: &Head, digests: u64) -> u64 {
         let mut writer = Writer::new(disk::create(path).unwrap()).unwrap();
         writer.head(head).unwrap();
         writer.no_shard().unwrap();
@@ -325,7 +325,7 @@ mod tests {
         writer.end().unwrap().1
     }
 
-    fn read(path: &PathBuf, digests: u64) -> Result<(Head, Vec<Vec<u8>>), WhyEmpty> {
+    fn read(path: &Path, digests: u64) -> Result<(Head, Vec<Vec<u8>>), WhyEmpty> {
         let mut reader = Reader::new(disk::open(path).unwrap().unwrap())?;
         let head = reader.head()?;
         assert!(reader.shard()?.is_none());

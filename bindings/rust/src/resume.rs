@@ -16,8 +16,8 @@ const ROUNDED: u64 = 2;
 // So many bytes of the file are read before somebody is told again.
 const TOLD_EACH: u64 = 4 << 20;
 
-/// Refused where the options ask for what can't be kept, or there is something else in the place of the file. Nothing is touched by
-/// then.
+/// Refused where the options ask for what can't be kept, there is something else in the place of the file, or none can be made there:
+/// else that would be told at the close alone. The flash isn't touched by then.
 pub(crate) fn check(options: &Options, has_flash: bool) -> Result<(), OpenError> {
     let Some(keep) = &options.keep else { return Ok(()) };
     if !has_flash || options.unnamed {
@@ -27,6 +27,8 @@ pub(crate) fn check(options: &Options, has_flash: bool) -> Result<(), OpenError>
     for path in [&keep.path, &new] {
         disk::check_ours(path).map_err(|why| OpenError::of_file(path, why))?;
     }
+    disk::create(&new).map_err(|error| OpenError::of_file(&new, error.into()))?;
+    disk::remove(&new);
     Ok(())
 }
 
@@ -56,9 +58,6 @@ pub(crate) fn begin(shards: &mut Shards, options: &Options) -> Result<Began, Ope
     }
     if let Some(keep) = &options.keep {
         disk::remove(&keep.path);
-        if let Ok(new) = disk::unfinished(&keep.path) {
-            disk::remove(&new);
-        }
     }
     Ok(began)
 }

@@ -333,6 +333,11 @@ fn what_is_not_ours_is_left_alone() {
         assert!(!place.folder.join("flash").exists(), "it wasn't begun");
         fs::remove_file(place.folder.join(name)).unwrap();
     }
+    // a folder that isn't there is told as the cache is opened, and not as it is closed
+    let nowhere = place.keeping(|keep| keep.path = place.folder.join("nowhere").join("kept"));
+    let error = HybridCache::open(place.folder.join("flash"), &nowhere).unwrap_err();
+    assert!(error.to_string().contains("nowhere/kept.new"), "{error}");
+    assert!(!place.folder.join("flash").exists(), "it wasn't begun");
     // put there while the cache is open
     let cache = place.open();
     cache.set(b"key", b"value", 0).unwrap();
