@@ -1,10 +1,9 @@
 //! An engine at rest as bytes, which are given and taken in one part after another: the library's calls for that, and nothing else. A
 //! part is as many whole frames as fit; a frame says in front how long it is.
 use crate::keep::WhyEmpty;
+use crate::library as calls;
 use crate::library::Handle;
 use crate::numbers::{Numbers, Share, MOST_POOLS};
-// (to be `library`, once the library that is linked has these calls)
-use crate::parked as calls;
 use crate::{done, Engine, Refused};
 use calls::{Mark, CLOCK_WENT_BACK, NOT_WHOLE, OTHER_CONFIG, OTHER_SEAL, OTHER_VERSION, TOO_OLD, UNFIT};
 

@@ -76,7 +76,6 @@ mod marks;
 mod masked;
 mod numbers;
 mod options;
-mod parked;
 mod refused;
 mod rest;
 mod resume;

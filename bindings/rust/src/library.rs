@@ -28,7 +28,6 @@ pub struct Operation {
 }
 
 /// What holds an image.
-#[allow(dead_code)] // (as long as `parked` stands in)
 pub type Image = Handle;
 
 /// Which image it is: the two halves of its seal, the second at which its cache is closed, or that it is as the image is read, and
@@ -52,7 +51,6 @@ pub const TOO_OLD: u8 = 111;
 pub const CLOCK_WENT_BACK: u8 = 112;
 pub const UNFIT: u8 = 113;
 
-#[allow(dead_code)] // (as long as `parked` stands in)
 extern "C" {
     pub fn kilambosetry_close(cache: *mut Handle, mark: *const Mark, image: *mut Handle) -> u8;
     pub fn kilambosetry_image_next(image: *mut Handle, len: *mut usize) -> u8;

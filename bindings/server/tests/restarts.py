@@ -1,14 +1,12 @@
 #!/usr/bin/env python3
 """A server that keeps what it has ends again and again, in order or not, while clients read and change rows. Counts stale reads.
 
-    restarts.py [COUNT] [SEED] [--stand-in]
+    restarts.py [COUNT] [SEED]
 
 Threads read and change rows by leases, as `ring.py` says. The server has its flash in a file, and `--keep`. COUNT times it ends at a
 random moment: killed while it serves, as it opens or as it closes; told to end, and told again; or told to end once, which it does with
 status 0. It is started anew at once. A delete that isn't answered is repeated until it is, also over a restart. Nothing that is read may
 be older than a change whose delete was answered before the read began; and what was kept by an end in order is there again.
-
-With `--stand-in`, for a library that has no images yet, nothing is asked of what is kept.
 """
 import collections
 import os
@@ -125,8 +123,8 @@ class Load:
 class Restarts:
     """Servers, one after the other, over the same files."""
 
-    def __init__(self, folder, seed, is_stand_in):
-        self.draw, self.is_stand_in = random.Random(seed), is_stand_in
+    def __init__(self, folder, seed):
+        self.draw = random.Random(seed)
         self.port, self.words = free_port(), ["--memory", 2, "--flash", f"{folder}/flash", "--flash-size", 20]
         self.words += ["--keep", f"{folder}/kept", "--threads", 2, "--drain", 1, "--mean-value", 2000, "--shards", 4]
         self.folder, self.began = folder, collections.Counter()
@@ -175,14 +173,14 @@ def main():
     words = [word for word in sys.argv[1:] if not word.startswith("-")]
     count, seed = int(words[0]) if words else 20, int(words[1]) if len(words) > 1 else 1
     folder = tempfile.mkdtemp()
-    restarts = Restarts(folder, seed, "--stand-in" in sys.argv)
+    restarts = Restarts(folder, seed)
     load, hows = Load(restarts.port, seed), collections.Counter()
     # whether what the last one had is to be there: None, where it may be
     is_kept = False
     try:
         for number in range(count):
             server, began = restarts.start()
-            if is_kept is not None and not restarts.is_stand_in:
+            if is_kept is not None:
                 assert is_kept == began.startswith("kept"), f"{began}, and it is to be kept: {is_kept}"
             how = "in order" if number == 0 else restarts.draw.choice(HOWS)
             hows[how] += 1
