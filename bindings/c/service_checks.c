@@ -1732,7 +1732,7 @@ static void check_opening_memory(void) {
         CHECK(in_memory.ended == 0);
         CHECK(four.ended == 2 * two.ended);
         CHECK(of_file.ended == four.ended || strlen(file) >= 384); /* (a path that is longer is copied) */
-        CHECK(of_kept.ended == of_file.ended || strlen(file) >= 379);
+        CHECK(of_kept.ended <= of_file.ended || strlen(file) >= 379); /* (what was kept differs, and with it how many allocations there are) */
         CHECK(four.ended <= 5 * four.threads); /* (four each, with Rust 1.95) */
     }
     printf("of the allocations of opening %u refused it, and %u of %u threads ended the process\n", four.refused, four.ended, four.threads);
