@@ -459,7 +459,7 @@ static void check_words(void) {
     CHECK(strcmp(kilambosetry_strerror(103), "Waits") == 0);
     CHECK(strcmp(kilambosetry_strerror(105), "Finished") == 0);
     CHECK(strcmp(kilambosetry_strerror(106), "Stale") == 0);
-    CHECK(strcmp(kilambosetry_strerror(107), "Unknown") == 0);
+    CHECK(strcmp(kilambosetry_strerror(113), "Unfit") == 0 && strcmp(kilambosetry_strerror(114), "Unknown") == 0);
 }
 
 /* Shards: which a key is of, what a shard's share is, and what is refused. */

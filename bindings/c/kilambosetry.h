@@ -130,7 +130,14 @@ enum {
     KILAMBOSETRY_WAITS = 103,         /* the call waits for flash; of a turn: another loads the key */
     KILAMBOSETRY_IDLE = 104,          /* there is nothing to do, or to tell */
     KILAMBOSETRY_FINISHED = 105,      /* the job is over */
-    KILAMBOSETRY_STALE = 106          /* a key was changed since the ticket was told: what was loaded isn't stored */
+    KILAMBOSETRY_STALE = 106,         /* a key was changed since the ticket was told: what was loaded isn't stored */
+    KILAMBOSETRY_NOT_WHOLE = 107,     /* the bytes are no image, or one that was cut or changed; or it didn't end */
+    KILAMBOSETRY_OTHER_VERSION = 108, /* the image is of another version */
+    KILAMBOSETRY_OTHER_CONFIG = 109,  /* it is of a cache with other numbers, or of another shard */
+    KILAMBOSETRY_OTHER_SEAL = 110,    /* it has another seal */
+    KILAMBOSETRY_TOO_OLD = 111,       /* its cache was closed longer ago than is asked for */
+    KILAMBOSETRY_CLOCK_WENT_BACK = 112, /* its cache was closed at a later second than it is */
+    KILAMBOSETRY_UNFIT = 113          /* what it has can't be a cache's */
 };
 
 /* Whether a status is a refusal, 1 to 99: the call did nothing, but for what is said of sets and adds. All others are answers. */
@@ -167,6 +174,57 @@ uint8_t kilambosetry_shard_of(const uint8_t *key, size_t key_len, uint8_t shards
 
 /* Frees the cache. A handle without one is left as it is. */
 void kilambosetry_free(kilambosetry_cache *cache);
+
+/* What holds an image: what is kept of a cache that was closed, so that another goes on where it stood, also in another process. It
+ * begins as KILAMBOSETRY_NONE, as the others do. */
+typedef struct {
+    void *at;
+    bool full;
+} kilambosetry_image;
+
+/* Which image it is. */
+typedef struct {
+    uint64_t seal_first; /* a number of 128 bits, drawn by chance for each close, by which the image is known from others */
+    uint64_t seal_last;
+    uint64_t second;     /* the second at which the cache is closed; as it is read, the one that it is */
+    uint32_t shard;      /* which shard, from 0, */
+    uint32_t shards;     /* and of how many: 0 of 1, where it isn't cut */
+} kilambosetry_mark;
+
+/* Closes the cache, which is at rest: the handle has none afterwards, and the image's handle has its image, in place of what it had.
+ * WAITS, where a job is out, a call waits, or a reply wasn't taken: then the cache stays. Refused with NO_MEMORY it stays too, or is
+ * gone. */
+uint8_t kilambosetry_close(kilambosetry_cache *cache, const kilambosetry_mark *mark, kilambosetry_image *image);
+
+/* Makes the next frame of the image, and tells how many bytes it has; what it has leaves memory. IDLE, where the image ended with the
+ * frame before. Refused with NO_MEMORY, the image is of no use any more. */
+uint8_t kilambosetry_image_next(kilambosetry_image *image, size_t *len);
+
+/* Copies the bytes of the frame that was made last from place `from` on to the head of `out`, as many as there are and fit, and tells
+ * how many. */
+uint8_t kilambosetry_image_copy(kilambosetry_image *image, size_t from, uint8_t *out, size_t out_len, size_t *len);
+
+/* Frees the image, with what wasn't given of it. A handle without one is left as it is. */
+void kilambosetry_image_free(kilambosetry_image *image);
+
+/* Has the handle take the image with this seal, of this shard of a cache with these numbers, which was closed so many seconds ago at
+ * most. Where it is refused, the handle keeps what it has. */
+uint8_t kilambosetry_load(kilambosetry_image *image, const kilambosetry_pool *pools, size_t pools_len,
+                          const kilambosetry_mark *mark, uint64_t at_most);
+
+/* The same of a cache with flash behind its pools. */
+uint8_t kilambosetry_load_with_flash(kilambosetry_image *image, const kilambosetry_pool *pools, size_t pools_len,
+                                     const kilambosetry_flash *flash, const kilambosetry_mark *mark, uint64_t at_most);
+
+/* Takes the next frame, which is all of these bytes: one byte, the length of what follows in four, the highest first, and that. Where it
+ * can't be the next frame of the image that is asked for, one of the seven statuses from NOT_WHOLE on says why, and nothing comes of
+ * the image any more. */
+uint8_t kilambosetry_image_take(kilambosetry_image *image, const uint8_t *frame, size_t frame_len);
+
+/* The image is whole: its cache goes on, in place of one that the cache's handle has, which is freed, with so many slots for leases as
+ * `kilambosetry_new_with_slots` has it. No ticket of before is good. NOT_WHOLE, UNFIT or NO_MEMORY, where it can't, and then that
+ * handle keeps what it has. The image's has nothing afterwards. */
+uint8_t kilambosetry_load_end(kilambosetry_image *image, kilambosetry_cache *cache, uint32_t slots);
 
 /* Moves the clock on to `moment`, in seconds; an earlier one is ignored. The clock begins at 0: tick to the day's seconds
  * before the first item with a time to live is stored. */
@@ -303,9 +361,10 @@ static inline const char *kilambosetry_strerror(uint8_t status) {
         "ForeignHandle", "Exists", "Unknown", "UnknownCall", "NotReady", "UnknownJob", "NoMemory", "TooManyClients",
         "BadShards", "WrongShard",
     };
-    static const char *const others[] = {"Miss", "Empty", "Short", "Waits", "Idle", "Finished", "Stale"};
+    static const char *const others[] = {"Miss", "Empty", "Short", "Waits", "Idle", "Finished", "Stale",
+                                         "NotWhole", "OtherVersion", "OtherConfig", "OtherSeal", "TooOld", "ClockWentBack", "Unfit"};
     if (status < sizeof refusals / sizeof *refusals) return refusals[status];
-    if (status >= KILAMBOSETRY_MISS && status <= KILAMBOSETRY_STALE) return others[status - KILAMBOSETRY_MISS];
+    if (status >= KILAMBOSETRY_MISS && status <= KILAMBOSETRY_UNFIT) return others[status - KILAMBOSETRY_MISS];
     return "Unknown";
 }
 

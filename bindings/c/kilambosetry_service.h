@@ -3,7 +3,7 @@
  * It is the cache of the Cargo crate, `HybridCache`, behind calls for C: link `libkilambosetry_service.a`, or the shared library of
  * that name. Both have the calls of `kilambosetry.h` too. The cache is cut into shards, and a call locks its key's shard alone. No
  * lock is held while a device reads or writes. Threads of its own write what is evicted. A page that comes back otherwise than it
- * was written is a miss. Nothing outlasts the cache: it begins empty, whatever the file has.
+ * was written is a miss. Nothing outlasts the cache, and it begins empty, whatever the file has, unless `keep` is given.
  *
  *     kilambosetry_service_options options = KILAMBOSETRY_SERVICE_OPTIONS;
  *     kilambosetry_service *cache;
@@ -52,17 +52,19 @@ enum {
     KILAMBOSETRY_SYSTEM = 69,       /* the system refused to open the file or to start a thread: `kilambosetry_why` has errno */
     KILAMBOSETRY_CLOSED = 70,       /* the cache was shut */
     KILAMBOSETRY_FAULT = 71,        /* a fault in the library's own code: what the call did isn't known. It is on stderr */
-    KILAMBOSETRY_TIMED_OUT = 110,   /* the time limit passed first: the call is given up */
-    KILAMBOSETRY_LEASED = 111,      /* a miss: the caller is to load the value */
-    KILAMBOSETRY_LOAD_FAILED = 112, /* another was loading the value, and its load failed */
-    KILAMBOSETRY_ABSENT = 113       /* it is known that there is no such row */
+    KILAMBOSETRY_NO_SEAL = 72,      /* `keep` is given, and there is no flash with a name, which could have a seal */
+    KILAMBOSETRY_TIMED_OUT = 120,   /* the time limit passed first: the call is given up */
+    KILAMBOSETRY_LEASED = 121,      /* a miss: the caller is to load the value */
+    KILAMBOSETRY_LOAD_FAILED = 122, /* another was loading the value, and its load failed */
+    KILAMBOSETRY_ABSENT = 123       /* it is known that there is no such row */
 };
 
 /* A word for a status, of this header or of kilambosetry.h. */
 static inline const char *kilambosetry_service_strerror(uint8_t status) {
-    static const char *const opening[] = {"BadNumber", "InUse", "NotOurs", "OtherKind", "TooSmall", "System", "Closed", "Fault"};
+    static const char *const opening[] = {"BadNumber", "InUse", "NotOurs", "OtherKind", "TooSmall", "System", "Closed", "Fault",
+                                          "NoSeal"};
     static const char *const others[] = {"TimedOut", "Leased", "LoadFailed", "Absent"};
-    if (status >= KILAMBOSETRY_BAD_NUMBER && status <= KILAMBOSETRY_FAULT) return opening[status - KILAMBOSETRY_BAD_NUMBER];
+    if (status >= KILAMBOSETRY_BAD_NUMBER && status <= KILAMBOSETRY_NO_SEAL) return opening[status - KILAMBOSETRY_BAD_NUMBER];
     if (status >= KILAMBOSETRY_TIMED_OUT && status <= KILAMBOSETRY_ABSENT) return others[status - KILAMBOSETRY_TIMED_OUT];
     return kilambosetry_strerror(status);
 }
@@ -92,11 +94,18 @@ typedef struct {
     const kilambosetry_flash *flash_numbers; /* the numbers of a shard's flash, in place of those of `flash`; or null */
     uint64_t (*clock)(void *context);       /* a clock of seconds; the system's, where it is null. It waits for nothing */
     void *clock_context;
+    const char *keep;      /* the file by which the next cache has again what this one had: see below; null: nothing is kept */
+    uint64_t keep_for;     /* seconds, behind which what was kept is forgotten */
+    uint64_t close_within; /* seconds that the end may take where something is to be kept; what isn't by then never is */
+    bool keep_flash;       /* what memory has goes to flash at the end, and no more than flash has is kept */
+    void (*watch)(void *context, uint64_t bytes, uint64_t shards, uint64_t of); /* is told how far that file is; or null */
+    void *watch_context;
 } kilambosetry_service_options;
 
 /* 64 MB of memory, 1 GB of flash, keys of 24 bytes, values of 1000. */
 #define KILAMBOSETRY_SERVICE_OPTIONS \
-    {64000000, 1000000000, 0, 24, 1000, 0, 2, 2, 4096, 10, 60, false, false, false, NULL, NULL, NULL, NULL}
+    {64000000, 1000000000, 0, 24, 1000, 0, 2, 2, 4096, 10, 60, false, false, false, NULL, NULL, NULL, NULL, \
+     NULL, 300, 10, false, NULL, NULL}
 
 /* What the options come to, for all shards together, and the memory that it takes once all is full. */
 typedef struct {
@@ -144,7 +153,7 @@ typedef struct {
 
 /* ---- opening and closing */
 
-/* Opens an empty cache with its flash in this file, or on this block device. A file is made where there is none, readable and
+/* Opens a cache with its flash in this file, or on this block device: an empty one, but for what was kept. A file is made where there is none, readable and
  * writable for its owner alone. It is locked as long as the cache is open. What has something and isn't ours is refused, and left
  * alone; so is a block device that is mounted, or otherwise in use. Where it is refused, `*service` is null. `why` may be null. */
 uint8_t kilambosetry_service_open(kilambosetry_service **service, const char *path,
@@ -166,6 +175,61 @@ void kilambosetry_service_shut(kilambosetry_service *service);
 /* The same, and frees it. Calls that wait are answered CLOSED, and are over, first; none may begin any more. Null is left as it
  * is. */
 void kilambosetry_service_close(kilambosetry_service *service);
+
+/* ---- what is kept for the next cache. Where `keep` names a file, the end of a cache writes what it has to that file, and a seal to
+ * its flash, and the next cache that is opened with both, and with the same numbers, has it again: each key, or a miss. It is used
+ * once: the seal and the file are gone before the first call is answered, and each cache that is opened takes the seal away, whether
+ * or not it is to keep anything. A process that ends otherwise keeps nothing.
+ *
+ * What is found again is as it was at the end. So who changes a row repeats the delete of its key until that is answered (and not
+ * CLOSED), also over a restart; or nothing is to be kept. What can't be told from a restart is a volume that is set back as a whole,
+ * the flash and the file together: `keep_for` bounds it. The file has what the cache had, in the clear, for its owner alone. A change
+ * that was begun and isn't ended takes its key out. */
+
+/* What a cache began with, or keeps: KILAMBOSETRY_KEPT, or why not. */
+enum {
+    KILAMBOSETRY_KEPT = 0,
+    KILAMBOSETRY_KEPT_NOT_ASKED = 80,       /* `keep` is null */
+    KILAMBOSETRY_KEPT_NO_SEAL = 81,         /* the flash has no seal: it is new, or the cache before ended otherwise, or kept nothing */
+    KILAMBOSETRY_KEPT_NO_FILE = 82,         /* there is no file */
+    KILAMBOSETRY_KEPT_OTHER_SEAL = 83,      /* the file is of another flash, or an earlier one */
+    KILAMBOSETRY_KEPT_UNREAD = 84,          /* the file can't be read */
+    KILAMBOSETRY_KEPT_NOT_WHOLE = 85,       /* it ends too early, or isn't as it was written */
+    KILAMBOSETRY_KEPT_OTHER_VERSION = 86,   /* another version wrote it */
+    KILAMBOSETRY_KEPT_OTHER_OPTIONS = 87,   /* it is of other options */
+    KILAMBOSETRY_KEPT_CLOCK_WENT_BACK = 88, /* it was written at a later second than it is now */
+    KILAMBOSETRY_KEPT_TOO_OLD = 89,         /* it was written longer ago than `keep_for` */
+    KILAMBOSETRY_KEPT_UNFIT = 90,           /* what it says can't be of a cache */
+    KILAMBOSETRY_KEPT_NO_MEMORY = 91,
+    KILAMBOSETRY_KEPT_ELSEWHERE = 92,       /* at the end: another thread shut the cache */
+    KILAMBOSETRY_KEPT_CHANGED = 93,         /* a key was changed behind the end */
+    KILAMBOSETRY_KEPT_BUSY = 94,            /* no shard came to rest in time */
+    KILAMBOSETRY_KEPT_TIME_IS_UP = 95,      /* the file wasn't whole in time */
+    KILAMBOSETRY_KEPT_UNWRITTEN = 96        /* the file or the seal can't be written: `system` has errno, where there is one */
+};
+
+typedef struct {
+    uint8_t status;
+    int system;
+    uint64_t shards;      /* shards that are kept, or were: the others weren't at rest in time */
+    uint64_t of;          /* shards in all */
+    uint64_t items;       /* items in memory */
+    uint64_t flash_bytes; /* bytes of the pages of flash */
+    uint64_t bytes;       /* bytes of the file */
+    uint64_t seconds;     /* of what was kept, the seconds since */
+} kilambosetry_kept;
+
+/* Tells what the cache began with. */
+void kilambosetry_service_tell_kept(const kilambosetry_service *service, kilambosetry_kept *kept);
+
+/* Copies what was given to `kilambosetry_service_shut_and_keep` to the head of `out`, and tells its length: DONE; SHORT, where `out`
+ * is shorter; MISS, where the cache began empty. */
+uint8_t kilambosetry_service_beside(const kilambosetry_service *service, uint8_t *out, size_t out_len, size_t *len);
+
+/* As `kilambosetry_service_shut`, and tells what is kept. Up to 65536 bytes of the caller's own are kept beside it. Calls that wait have
+ * their answers first, within half of `close_within`. */
+void kilambosetry_service_shut_and_keep(kilambosetry_service *service, const uint8_t *beside, size_t beside_len,
+                                        kilambosetry_kept *kept);
 
 /* ---- the calls. A limit is in milliseconds. Where a call has none, its thread makes its read of flash itself; else a filler
  * does, since a read can't be given up once it is begun, unless the system has the page in memory. */

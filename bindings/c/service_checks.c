@@ -606,6 +606,149 @@ static void check_file(bool direct) {
     unlink(file);
 }
 
+/* ---- what is kept ---- */
+
+static char kept_file[sizeof file + 8];
+
+static kilambosetry_service_options keeping_options(void) {
+    kilambosetry_service_options options = small_options();
+    snprintf(kept_file, sizeof kept_file, "%s.kept", file);
+    options.keep = kept_file;
+    options.writers = options.fillers = 1;
+    return options;
+}
+
+static kilambosetry_service *open_keeping(const kilambosetry_service_options *options) {
+    kilambosetry_service *service = NULL;
+    CHECK(kilambosetry_service_open(&service, file, options, NULL) == KILAMBOSETRY_DONE && service != NULL);
+    return service;
+}
+
+/* How many of the rows there are, each as it was stored. */
+static unsigned count_rows(kilambosetry_service *service, unsigned many) {
+    unsigned found = 0;
+    for (unsigned i = 0; i < many; i++) {
+        uint8_t key[32], row[1024];
+        size_t len = 0, key_len = key_of(i, key);
+        uint8_t status = kilambosetry_service_get(service, key, key_len, row, sizeof row, &len, KILAMBOSETRY_FOREVER);
+        CHECK(status == KILAMBOSETRY_MISS || (status == KILAMBOSETRY_DONE && version_of(i, row, len) == 7));
+        found += status == KILAMBOSETRY_DONE;
+    }
+    return found;
+}
+
+static void store_rows(kilambosetry_service *service, unsigned many) {
+    for (unsigned i = 0; i < many; i++) {
+        uint8_t key[32], row[1024];
+        size_t key_len = key_of(i, key), len = row_of(i, 7, row);
+        CHECK(kilambosetry_service_set(service, key, key_len, row, len, 0) == KILAMBOSETRY_DONE);
+        if (i % 16 == 0) CHECK(kilambosetry_service_flush(service) == KILAMBOSETRY_DONE);
+    }
+}
+
+static unsigned shards_told;
+
+static void count_shards(void *context, uint64_t bytes, uint64_t shards, uint64_t of) {
+    CHECK(context == &shards_told && bytes > 0 && shards <= of && of == 4);
+    shards_told++;
+}
+
+/* Ends it in order: what was kept is there again, once. */
+static void check_keeping(void) {
+    kilambosetry_service_options options = keeping_options();
+    kilambosetry_kept kept;
+    uint8_t beside[8];
+    size_t len = 0;
+    unlink(file);
+    kilambosetry_service *service = open_keeping(&options);
+    kilambosetry_service_tell_kept(service, &kept);
+    CHECK(kept.status == KILAMBOSETRY_KEPT_NO_SEAL && kept.shards == 0);
+    CHECK(kilambosetry_service_beside(service, beside, sizeof beside, &len) == KILAMBOSETRY_MISS);
+    store_rows(service, 200);
+    unsigned all = count_rows(service, 200);
+    CHECK(all > 100);
+    options.watch = count_shards;
+    options.watch_context = &shards_told;
+    kilambosetry_service_shut_and_keep(service, (const uint8_t *)"mine", 4, &kept);
+    CHECK(kept.status == KILAMBOSETRY_KEPT && kept.shards == 4 && kept.of == 4 && kept.items > 0 && kept.flash_bytes > 0 && kept.bytes > 0);
+    CHECK(kilambosetry_service_delete(service, (const uint8_t *)"key", 3) == KILAMBOSETRY_CLOSED);
+    kilambosetry_service_shut_and_keep(service, (const uint8_t *)"", 0, &kept);
+    CHECK(kept.status == KILAMBOSETRY_KEPT_ELSEWHERE);
+    kilambosetry_service_close(service);
+    CHECK(access(kept_file, F_OK) == 0);
+    service = open_keeping(&options);
+    CHECK(access(kept_file, F_OK) != 0 && shards_told == 4);
+    kilambosetry_service_tell_kept(service, &kept);
+    CHECK(kept.status == KILAMBOSETRY_KEPT && kept.shards == 4 && kept.seconds == 0 && kept.items > 0 && kept.bytes > 0);
+    CHECK(kilambosetry_service_beside(service, beside, 3, &len) == KILAMBOSETRY_SHORT && len == 4);
+    CHECK(kilambosetry_service_beside(service, beside, sizeof beside, &len) == KILAMBOSETRY_DONE && memcmp(beside, "mine", 4) == 0);
+    CHECK(count_rows(service, 200) == all);
+    /* by `close` too, and not by a cache that keeps nothing */
+    kilambosetry_service_close(service);
+    CHECK(access(kept_file, F_OK) == 0 && shards_told == 8);
+    options.keep = NULL;
+    service = open_keeping(&options);
+    kilambosetry_service_tell_kept(service, &kept);
+    CHECK(kept.status == KILAMBOSETRY_KEPT_NOT_ASKED && count_rows(service, 200) == 0);
+    kilambosetry_service_shut_and_keep(service, beside, 0, &kept);
+    CHECK(kept.status == KILAMBOSETRY_KEPT_NOT_ASKED);
+    kilambosetry_service_close(service);
+    options.keep = kept_file;
+    kilambosetry_why why;
+    service = NULL;
+    CHECK(kilambosetry_service_open_in_memory(&service, &options, &why) == KILAMBOSETRY_NO_SEAL && service == NULL);
+    CHECK(strcmp(kilambosetry_service_strerror(KILAMBOSETRY_NO_SEAL), "NoSeal") == 0);
+    service = open_keeping(&options);
+    kilambosetry_service_tell_kept(service, &kept);
+    CHECK(kept.status == KILAMBOSETRY_KEPT_NO_SEAL && access(kept_file, F_OK) != 0);
+    /* what is kept for no time at all, and by no time at all */
+    kilambosetry_service_close(service);
+    options.keep_for = 3;
+    set_second(second + 4);
+    service = open_keeping(&options);
+    kilambosetry_service_tell_kept(service, &kept);
+    CHECK(kept.status == KILAMBOSETRY_KEPT_TOO_OLD);
+    kilambosetry_service_close(service);
+    options.close_within = 0;
+    service = open_keeping(&options);
+    kilambosetry_service_shut_and_keep(service, beside, 0, &kept);
+    CHECK(kept.status == KILAMBOSETRY_KEPT_TIME_IS_UP || kept.status == KILAMBOSETRY_KEPT_BUSY);
+    kilambosetry_service_close(service);
+    unlink(file);
+    unlink(kept_file);
+}
+
+/* Each allocation of an end is refused in turn: all is kept, or nothing. */
+static void check_keeping_memory(void) {
+    kilambosetry_service_options options = keeping_options();
+    unsigned kept_times = 0;
+    uint64_t many = 0, at = 1;
+    for (; at <= many + 1; at++) {
+        kilambosetry_kept kept, again;
+        unlink(file);
+        kilambosetry_service *service = open_keeping(&options);
+        store_rows(service, 100);
+        unsigned all = count_rows(service, 100);
+        refuse(at, 0);
+        kilambosetry_service_shut_and_keep(service, (const uint8_t *)"mine", 4, &kept);
+        many = refuse(0, 0);
+        kilambosetry_service_close(service);
+        CHECK(kept.status == KILAMBOSETRY_KEPT || kept.status == KILAMBOSETRY_KEPT_NO_MEMORY);
+        service = open_keeping(&options);
+        kilambosetry_service_tell_kept(service, &again);
+        CHECK(again.status == (kept.status == KILAMBOSETRY_KEPT ? KILAMBOSETRY_KEPT : KILAMBOSETRY_KEPT_NO_SEAL));
+        CHECK(count_rows(service, 100) == (kept.status == KILAMBOSETRY_KEPT ? all * kept.shards / 4 : 0) || kept.shards % 4 != 0);
+        kept_times += kept.status == KILAMBOSETRY_KEPT;
+        options.keep = NULL;
+        kilambosetry_service_close(service);
+        options.keep = kept_file;
+        unlink(kept_file);
+    }
+    CHECK(kept_times > 0 && kept_times < at);
+    printf("each of %llu allocations of an end that keeps was refused\n", (unsigned long long)at - 1);
+    unlink(file);
+}
+
 /* ---- time limits ---- */
 
 /* Begins a get of the first item from this one on that flash has alone, and answers its number. (What is read pushes another out of
@@ -1260,8 +1403,23 @@ static void end_load(kilambosetry_service *service, kilambosetry_lease *lease, c
     }
 }
 
+/* How many milliseconds too late the machine wakes a thread, at most, as long as it is busy with others. */
+static atomic_bool is_timed = false;
+
+static void *time_machine(void *of) {
+    int64_t *late = of;
+    while (atomic_load(&is_timed)) {
+        int64_t began = now_ms();
+        sleep_ms(1);
+        int64_t over = now_ms() - began - 1;
+        if (over > *late) *late = over;
+    }
+    return NULL;
+}
+
 /* All of them wait for a load of so many milliseconds, which ends so; and each has this answer, the last one within so many tenths of
- * a load. */
+ * a load, and what the machine adds: up to four threads wake one behind the other (who ends the load, who loads next, once more as that
+ * is done, and the last of all). */
 static void check_handed_on(kilambosetry_service *service, long ms, const char *how, uint8_t expected, const uint8_t *bytes,
                             size_t len, int64_t tenths) {
     unsigned many = part < 16 ? ASKERS : 8;
@@ -1270,6 +1428,8 @@ static void check_handed_on(kilambosetry_service *service, long ms, const char *
     uint8_t out[16];
     size_t out_len = 0;
     CHECK(kilambosetry_service_get_or_lease(service, BYTES("key"), out, 16, &out_len, &lease, 0) == KILAMBOSETRY_LEASED);
+    pthread_t timer;
+    int64_t late = 0;
     for (unsigned i = 0; i < many; i++) {
         askers[i].service = service;
         askers[i].ms = ms;
@@ -1277,18 +1437,22 @@ static void check_handed_on(kilambosetry_service *service, long ms, const char *
         CHECK(pthread_create(&threads[i], NULL, ask, &askers[i]) == 0);
     }
     wait_until(service, 0, many);
+    atomic_store(&is_timed, true);
+    CHECK(pthread_create(&timer, NULL, time_machine, &late) == 0);
     int64_t began = now_ms();
     sleep_ms(ms);
     end_load(service, &lease, how, bytes, len);
     for (unsigned i = 0; i < many; i++) pthread_join(threads[i], NULL);
+    atomic_store(&is_timed, false);
+    pthread_join(timer, NULL);
     for (unsigned i = 0; i < many; i++) {
         CHECK(askers[i].status == expected && askers[i].len == len && memcmp(askers[i].out, bytes, len) == 0);
     }
     qsort(askers, many, sizeof askers[0], sooner);
     int64_t median = askers[many / 2].answered - began, last = askers[many - 1].answered - began;
-    printf("%u wait for a load of %ld ms that %s: the median is answered behind %d ms, the last behind %d ms\n", many, ms, how,
-           (int)median, (int)last);
-    if (part < 16) CHECK(last * 10 < ms * tenths); /* (under valgrind all take longer) */
+    printf("%u wait for a load of %ld ms that %s: the median is answered behind %d ms, the last behind %d ms (the machine up to %d too late)\n",
+           many, ms, how, (int)median, (int)last, (int)late);
+    if (part < 16) CHECK(last * 10 < ms * tenths + 40 * late); /* (under valgrind all take longer) */
     kilambosetry_service_close(service);
 }
 
@@ -1517,7 +1681,7 @@ static void check_replies(void) {
 
 /* What is opened: a cache in memory, or over a device or a file, with so many threads. */
 struct opening {
-    enum { IN_MEMORY, OVER_DEVICE, OVER_FILE } over;
+    enum { IN_MEMORY, OVER_DEVICE, OVER_FILE, OVER_KEPT } over;
     unsigned threads;
     unsigned refused, ended; /* what it came to, of its allocations */
 };
@@ -1527,6 +1691,10 @@ static uint8_t open_as(const struct opening *opening, kilambosetry_service **ser
     options.writers = options.fillers = opening->threads / 2;
     if (opening->over == IN_MEMORY) return kilambosetry_service_open_in_memory(service, &options, NULL);
     if (opening->over == OVER_DEVICE) return kilambosetry_service_open_over(service, &of_device, &options, NULL);
+    if (opening->over == OVER_KEPT) {
+        kilambosetry_service_options keeping = keeping_options();
+        options.keep = keeping.keep;
+    }
     return kilambosetry_service_open(service, file, &options, NULL);
 }
 
@@ -1534,6 +1702,12 @@ static uint8_t open_as(const struct opening *opening, kilambosetry_service **ser
 static int open_refused(const struct opening *opening, uint64_t at) {
     kilambosetry_service *service = NULL;
     int how = 0;
+    if (opening->over == OVER_KEPT) {
+        CHECK(open_as(opening, &service) == KILAMBOSETRY_DONE);
+        store_rows(service, 20);
+        kilambosetry_service_close(service); /* (its threads have ended) */
+        service = NULL;
+    }
     fflush(stdout);
     pid_t child = fork();
     if (child == 0) {
@@ -1562,21 +1736,24 @@ static void refuse_opening(struct opening *opening) {
     }
     CHECK(how == 0 && opening->refused > 0);
     unlink(file);
+    unlink(kept_file);
 }
 
 /* The process is ended by what Rust's own library allocates for each thread, which has no other answer, and by nothing else. (Before any
  * thread is begun here: a fork has one alone.) */
 static void check_opening_memory(void) {
     struct opening in_memory = {IN_MEMORY, 4, 0, 0}, two = {OVER_DEVICE, 2, 0, 0}, four = {OVER_DEVICE, 4, 0, 0};
-    struct opening of_file = {OVER_FILE, 4, 0, 0};
+    struct opening of_file = {OVER_FILE, 4, 0, 0}, of_kept = {OVER_KEPT, 4, 0, 0};
     refuse_opening(&in_memory);
     refuse_opening(&two);
     refuse_opening(&four);
     refuse_opening(&of_file);
+    refuse_opening(&of_kept);
     if (part == 1) {
         CHECK(in_memory.ended == 0);
         CHECK(four.ended == 2 * two.ended);
         CHECK(of_file.ended == four.ended || strlen(file) >= 384); /* (a path that is longer is copied) */
+        CHECK(of_kept.ended <= of_file.ended || strlen(file) >= 379); /* (what was kept differs, and with it how many allocations there are) */
         CHECK(four.ended <= 5 * four.threads); /* (four each, with Rust 1.95) */
     }
     printf("of the allocations of opening %u refused it, and %u of %u threads ended the process\n", four.refused, four.ended, four.threads);
@@ -1620,6 +1797,8 @@ int main(int len, char **words) {
     check_lost_writes();
     check_file(false);
     check_file(true);
+    check_keeping();
+    check_keeping_memory();
     check_limits();
     check_many();
     check_many_limits();

@@ -107,7 +107,7 @@ class Gen:
         owed = len([r for r in cache.replies.values() if r is not None])
         weights = {
             "set": 8, "add": 2, "get": 6, "del": 1, "now": 0.6, "writer": 6, "filler": 4, "reclaim": 1.2,
-            "io": 0.15 + 5 * min(orders, 3), "done": 0.15 + 5 * min(jobs - orders, 3), "reply": 0.2 + 2 * min(owed, 4), "odd": 0.1,
+            "io": 0.15 + 5 * min(orders, 3), "done": 0.15 + 5 * min(jobs - orders, 3), "reply": 0.2 + 2 * min(owed, 4), "odd": 0.1, "restart": 0.3,
         }
         weights["writer"] *= 1.5 if self.can_write(cache) else 0.05
         weights["filler"] *= 2 if any(not fill.taken and not self.is_busy(cache, fill.key) for fill in cache.fills) else 0.05

@@ -807,6 +807,10 @@ class Cache:
                 pass
         self.answer_calls(fill.key, fill.calls, found.value if found else None)
 
+    def restart(self):
+        """A cache that is closed and goes on is as it was."""
+        return "busy" if self.jobs or self.fills or self.replies else "restarted"
+
     def reclaim(self):
         if not self.flash or sum(r.state == "clean" for r in self.regions) >= self.clean_min:
             return "idle"
@@ -898,7 +902,7 @@ class Replay:
                 return False
             self.cache = Cache(self.pools, flash)
             return True
-        forms = {b"set": 4, b"add": 4, b"get": 1, b"del": 1, b"now": 1, b"writer": 0, b"filler": 0, b"reclaim": 0, b"done": 1, b"reply": 1}
+        forms = {b"set": 4, b"add": 4, b"get": 1, b"del": 1, b"now": 1, b"writer": 0, b"filler": 0, b"reclaim": 0, b"done": 1, b"reply": 1, b"restart": 0}
         if word == b"io":
             if len(fields) not in (1, 2) or fields[1:] not in ([], [b"fail"]):
                 raise Fault
@@ -920,7 +924,7 @@ class Replay:
                 b"done": lambda: cache.done(n),
             }[word]
         else:
-            run = {b"writer": cache.writer_take, b"filler": cache.filler_take, b"reclaim": cache.reclaim}[word]
+            run = {b"writer": cache.writer_take, b"filler": cache.filler_take, b"reclaim": cache.reclaim, b"restart": cache.restart}[word]
         try:
             answer = run()
         except Refused as refused:

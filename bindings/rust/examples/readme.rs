@@ -54,7 +54,7 @@ fn main() -> Result<(), Box<dyn Error>> {
     }
     rename(&cache, "user:7", "Ada")?;
     assert!(profile(&cache, "user:7")?.starts_with(b"Ada has"));
-    let stats = cache.close();
+    let stats = cache.close().stats;
     fs::remove_file(path)?;
     println!("{stats}");
     assert!(stats.hits() > 49_000 && stats.hits_from_flash > 40_000);

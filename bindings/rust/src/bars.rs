@@ -75,6 +75,11 @@ impl Bars {
         !is_over
     }
 
+    /// The keys that have a bar.
+    pub fn keys(&self) -> impl Iterator<Item = &[u8]> {
+        self.standing.keys().map(|key| &**key)
+    }
+
     /// Ends those that are due, each time that there are twice as many as were left the last time.
     pub fn end_due(&mut self, mut delete: impl FnMut(&[u8]) -> bool) {
         if self.standing.len() < self.many.max(FEW) {

@@ -36,6 +36,9 @@ impl HybridCache {
     /// may be lost. Then what is loaded isn't stored for [`unknown_for`](crate::Options::unknown_for) more, and once that is over
     /// the key is deleted again. (A commit that surely changed nothing, or surely did, is an `Ok` of its own.)
     ///
+    /// A cache that is closed forgets all that it has kept, since the key can't be deleted there: close it once no change is begun
+    /// any more. One that was begun before the close may end behind it.
+    ///
     /// ```
     /// use kilambosetry::{HybridCache, Options};
     /// use std::io;
@@ -59,10 +62,16 @@ impl HybridCache {
     pub fn begin_change(&self, key: &[u8]) -> Change {
         let shard = self.shards().of(key);
         let mut change = Change { cache: self.clone(), shard, key: None, is_known: false };
-        while let Err(Error::Refused(Refused::NO_MEMORY)) = change.begin(key) {
-            thread::sleep(PAUSE);
+        loop {
+            match change.begin(key) {
+                Err(Error::Refused(Refused::NO_MEMORY)) => thread::sleep(PAUSE),
+                Err(Error::Closed) => {
+                    self.keep_nothing(); // (what was kept would be older than this change)
+                    return change;
+                }
+                _ => return change,
+            }
         }
-        change
     }
 
     // Ends this change of the key: deletes the key, and lowers the bar. Answers whether the change wasn't over.

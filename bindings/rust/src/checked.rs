@@ -1,4 +1,5 @@
 use crate::digest::digest_of;
+use crate::image::Seal;
 use crate::Refused;
 use std::alloc::{self, Layout};
 use std::fmt;
@@ -23,6 +24,17 @@ pub trait PageDevice: Send + Sync {
     fn read_now(&self, page: u32, out: &mut [u8]) -> Option<io::Result<()>> {
         let _ = (page, out);
         None
+    }
+    /// The seal that the device has, by which a cache that is opened knows what an earlier one kept ([`Keep`](crate::Keep)): zeros for
+    /// none. An error says that it can have none, and a cache over it keeps nothing.
+    fn seal(&self) -> io::Result<[u8; 16]> {
+        Err(io::ErrorKind::Unsupported.into())
+    }
+    /// Puts this seal there, for good, once all pages that were written are there for good; or, as zeros, takes it away. It answers
+    /// once that is so, also where the machine fails. A device must not say so before: else what is found may be stale.
+    fn put_seal(&self, seal: [u8; 16]) -> io::Result<()> {
+        let _ = seal;
+        Err(io::ErrorKind::Unsupported.into())
     }
 }
 
@@ -127,6 +139,32 @@ impl Checked {
         true
     }
 
+    /// The device's seal, and how it is put there.
+    pub fn seal(&self) -> io::Result<Seal> {
+        called(|| self.device.seal())
+    }
+
+    pub fn put_seal(&self, seal: Seal) -> io::Result<()> {
+        called(|| self.device.put_seal(seal))
+    }
+
+    /// The digests of so many pages, from this one on.
+    pub fn digests(&self, from: u64, pages: u64) -> impl Iterator<Item = u64> + '_ {
+        let digests = self.digests.iter().skip(from as usize).take(pages as usize);
+        digests.map(|digest| digest.load(Relaxed))
+    }
+
+    /// The page has this digest, or is one of which nothing is known, where it is 0.
+    pub fn set_digest(&self, page: u64, digest: u64) {
+        let Some(place) = self.digests.get(page as usize) else { return };
+        match (place.swap(digest, Relaxed), digest) {
+            (0, 0) => {}
+            (0, _) => _ = self.counters.pages.fetch_add(1, Relaxed),
+            (_, 0) => _ = self.counters.pages.fetch_sub(1, Relaxed),
+            _ => {}
+        }
+    }
+
     pub fn counts(&self) -> DeviceCounts {
         let Counters { reads, writes, read_failures, write_failures, lies, pages } = &self.counters;
         DeviceCounts {
@@ -167,6 +205,11 @@ fn attempted(operate: impl FnOnce() -> Option<io::Result<()>>) -> Option<bool> {
         Ok(done) => done.map(|done| done.is_ok()),
         Err(_) => Some(false),
     }
+}
+
+// What the device answers. It may panic.
+fn called<T>(call: impl FnOnce() -> io::Result<T>) -> io::Result<T> {
+    panic::catch_unwind(AssertUnwindSafe(call)).unwrap_or_else(|_| Err(io::ErrorKind::Other.into()))
 }
 
 #[cfg(test)]

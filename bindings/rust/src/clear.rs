@@ -17,7 +17,7 @@ impl HybridCache {
     ///
     /// How long it takes doesn't depend on how much the cache has: each shard gets an empty table of its flash in place of the one that
     /// it has. Many items are freed behind it by a thread, and take memory until then. It can't be refused: where there is no memory
-    /// for the empty ones, the calls of those shards are refused until there is.
+    /// for the empty ones, the calls of those shards are refused until there is. What a cache that is closed has kept is forgotten.
     ///
     /// ```
     /// use kilambosetry::{HybridCache, Kept, Lookup, Options};
@@ -35,6 +35,9 @@ impl HybridCache {
         let mut before = Vec::new();
         for shard in 0..shards.len() {
             let engine = shards.clear(shard);
+            if engine.is_none() {
+                self.keep_nothing(); // (it is closed, and may be kept)
+            }
             // (where there is no memory to keep it, it is freed here)
             if before.try_reserve(1).is_ok() {
                 before.extend(engine);
@@ -50,8 +53,8 @@ impl HybridCache {
 
     /// Deletes the key, for a notice that its row was changed elsewhere: by another process, say. What was loaded before isn't stored
     /// after it. It can't be refused, but may wait: where there is no memory for the delete, it is tried for a tenth of a second, and
-    /// then all of the key's shard is forgotten, as by [`clear`](HybridCache::clear). (A key that a cache can't have, and a cache
-    /// that is closed, have nothing to be deleted.)
+    /// then all of the key's shard is forgotten, as by [`clear`](HybridCache::clear). (A key that a cache can't have has nothing
+    /// to be deleted. What a cache that is closed has kept is forgotten whole.)
     ///
     /// ```
     /// use kilambosetry::{HybridCache, Options};
@@ -66,10 +69,13 @@ impl HybridCache {
         for _ in 0..TRIES {
             match self.delete(key) {
                 Err(Error::Refused(Refused::NO_MEMORY)) => thread::sleep(PAUSE),
+                Err(Error::Closed) => return self.keep_nothing(),
                 _ => return,
             }
         }
         let shards = self.shards();
-        drop(shards.clear(shards.of(key)));
+        if shards.clear(shards.of(key)).is_none() {
+            self.keep_nothing();
+        }
     }
 }

@@ -22,6 +22,50 @@ fn sip<const EACH: usize, const LAST: usize>(key: [u64; 2], bytes: &[u8]) -> u64
     state.end::<LAST>()
 }
 
+/// The digest of bytes that come one part after the other.
+pub(crate) struct Running {
+    state: State,
+    // the bytes of a word that isn't whole yet
+    begun: [u8; 8],
+    length: u64,
+}
+
+impl Running {
+    pub fn new() -> Running {
+        Running { state: State::new([0, 0]), begun: [0; 8], length: 0 }
+    }
+
+    /// These bytes come next.
+    pub fn add(&mut self, bytes: &[u8]) {
+        let at = (self.length % 8) as usize;
+        self.length = self.length.wrapping_add(bytes.len() as u64);
+        let (first, rest) = bytes.split_at(bytes.len().min((8 - at) % 8));
+        self.begun[at..at + first.len()].copy_from_slice(first);
+        if at + first.len() < 8 && at > 0 {
+            return;
+        }
+        if at > 0 {
+            self.state.mix::<1>(u64::from_le_bytes(self.begun));
+        }
+        let mut words = rest.chunks_exact(8);
+        for word in &mut words {
+            self.state
+                .mix::<1>(u64::from_le_bytes([word[0], word[1], word[2], word[3], word[4], word[5], word[6], word[7]]));
+        }
+        self.begun[..words.remainder().len()].copy_from_slice(words.remainder());
+    }
+
+    /// The digest of all.
+    pub fn end(mut self) -> u64 {
+        let mut last = [0; 8];
+        let at = (self.length % 8) as usize;
+        last[..at].copy_from_slice(&self.begun[..at]);
+        last[7] = self.length as u8;
+        self.state.mix::<1>(u64::from_le_bytes(last));
+        self.state.end::<3>().max(1)
+    }
+}
+
 struct State([u64; 4]);
 
 impl State {
@@ -98,6 +142,20 @@ mod tests {
             let mut hasher = DefaultHasher::new();
             hasher.write(&counting(length));
             assert_eq!(digest_of(&counting(length)), hasher.finish().max(1), "{length}");
+        }
+    }
+
+    #[test]
+    fn parts_have_the_digest_of_the_whole() {
+        let whole = counting(100);
+        for first in 0..40 {
+            for second in 0..40 {
+                let mut running = Running::new();
+                running.add(&whole[..first]);
+                running.add(&whole[first..first + second]);
+                running.add(&whole[first + second..]);
+                assert_eq!(running.end(), digest_of(&whole), "{first} and {second}");
+            }
         }
     }
 

@@ -227,6 +227,17 @@ impl Engine {
         Engine { cache: Cache::of(Handle::none()), page: 0, owed: None, forgotten: VecDeque::new() }
     }
 
+    // One that an image was of.
+    pub(crate) fn resumed(handle: Handle, flash: Option<&Flash>) -> Engine {
+        let page = flash.map_or(0, |flash| flash.page as usize);
+        Engine { cache: Cache::of(handle), page, owed: None, forgotten: VecDeque::new() }
+    }
+
+    // What the library knows it by.
+    pub(crate) fn handle(&mut self) -> &mut Handle {
+        &mut self.cache.handle
+    }
+
     // What tells its tickets from those of others.
     pub(crate) fn number(&self) -> u64 {
         self.cache.number

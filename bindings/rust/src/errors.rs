@@ -107,9 +107,12 @@ pub enum OpenError {
         /// Why.
         why: FileError,
     },
+    /// Something is to be kept ([`Options::keep`](crate::Options)), and there is no place for a seal: the cache is in memory alone, or its
+    /// flash is a file without a name, or a device of one's own that has none.
+    NoSeal,
     /// Memory was refused.
     NoMemory,
-    /// The system refused to start a thread.
+    /// The system refused to start a thread, or the device to have its seal taken away.
     Io(io::Error),
 }
 
@@ -183,6 +186,7 @@ impl fmt::Display for OpenError {
             OpenError::Page(given) => write!(f, "page is {given}, and not 512, 1024, 2048 or 4096"),
             OpenError::Refused(refused) => refused.fmt(f),
             OpenError::File { path, why } => write!(f, "{}: {why}", path.display()),
+            OpenError::NoSeal => f.write_str("keep is given, and there is no flash that could have a seal"),
             OpenError::NoMemory => f.write_str("out of memory"),
             OpenError::Io(error) => error.fmt(f),
         }

@@ -1,5 +1,7 @@
 use crate::buffer::with_page;
 use crate::digest::digest_of;
+use crate::image::Seal;
+use crate::steps::{step, Step};
 use crate::{FileError, OpenError, Options, PageDevice};
 use std::collections::hash_map::RandomState;
 use std::fs::{self, File, OpenOptions, TryLockError};
@@ -13,6 +15,12 @@ use std::path::Path;
 const HEAD: u64 = 4096;
 const NAME: [u8; 16] = *b"Kilambosetry\r\n\x1a\n";
 const VERSION: u32 = 1;
+// What its digest is of, and which of these bytes are the seal.
+const FIELDS: usize = 64;
+const SEAL: std::ops::Range<usize> = 48..64;
+const NO_SEAL: Seal = [0; 16];
+// Stands for a seal that is being taken away: no image has it.
+const TAKEN: Seal = [255; 16];
 
 // So much at each end of a file or device that isn't ours is looked at, for anything but zeros: file systems, partitions, volumes
 // and the like have their marks there.
@@ -23,14 +31,18 @@ const LOOKED_AT: u64 = 1 << 20;
 pub struct PageFile {
     file: File,
     page: u64,
+    pages: u64,
+    // the seal that it had as it was opened
+    seal: Seal,
     // whether the system keeps copies of pages
     is_cached: bool,
 }
 
 impl PageFile {
     /// Opens the file or block device, or makes the file (readable and writable for its owner alone), for so many pages of so many
-    /// bytes. An empty file gets its length, and room on the disk as it is written. What it has is never read: a cache begins
-    /// empty. One that has anything and isn't ours is refused, as [`Options::overwrite`] says, and a block device that is in use.
+    /// bytes. An empty file gets its length, and room on the disk as it is written. One that has anything and isn't ours is refused,
+    /// as [`Options::overwrite`] says, and a block device that is in use. A seal that it has is taken from it here, unless something
+    /// is to be kept ([`Options::keep`]): then it is for the cache to take.
     pub fn open(path: &Path, pages: u64, page: u64, options: &Options) -> Result<PageFile, OpenError> {
         PageFile::made(path, pages, page, options).map_err(|why| OpenError::of_file(path, why))
     }
@@ -44,9 +56,16 @@ impl PageFile {
             TryLockError::WouldBlock => FileError::InUse,
             TryLockError::Error(error) => FileError::Io(error),
         })?;
-        take(&mut file, HEAD + pages * page, options.overwrite)?;
-        write_head(&file, pages, page)?;
-        Ok(PageFile { file, page, is_cached: !options.direct })
+        let (found, is_long) = take(&mut file, HEAD + pages * page, options.overwrite)?;
+        let kept = found.filter(|_| is_long && options.keep.is_some());
+        let seal = kept.map_or(NO_SEAL, |head| seal_of(&head, pages, page));
+        if seal == NO_SEAL {
+            match found.is_some_and(|head| head[SEAL] != NO_SEAL) {
+                true => take_seal(&file, pages, page)?,
+                false => write_head(&file, pages, page, NO_SEAL)?,
+            }
+        }
+        Ok(PageFile { file, page, pages, seal, is_cached: !options.direct })
     }
 
     fn place_of(&self, page: u32) -> u64 {
@@ -76,8 +95,11 @@ fn opened(as_given: &OpenOptions, path: &Path, flags: i32, options: &Options) ->
     })
 }
 
-// Sees that it is ours to write, and has so many bytes.
-fn take(file: &mut File, wanted: u64, overwrites: bool) -> Result<(), FileError> {
+type Head = [u8; FIELDS + 8];
+
+// Sees that it is ours to write, and has so many bytes. Answers the head that it had, where that was ours, and whether it had as many
+// bytes.
+fn take(file: &mut File, wanted: u64, overwrites: bool) -> Result<(Option<Head>, bool), FileError> {
     let kind = file.metadata()?.file_type();
     if !kind.is_file() && !kind.is_block_device() {
         return Err(FileError::OtherKind);
@@ -86,15 +108,42 @@ fn take(file: &mut File, wanted: u64, overwrites: bool) -> Result<(), FileError>
     if kind.is_block_device() && found < wanted {
         return Err(FileError::TooSmall { found, wanted });
     }
-    let is_ours = found >= HEAD && read_head(file)?.starts_with(&NAME);
-    if !is_ours && !overwrites && has_anything(file, found, kind.is_file())? {
+    let head = if found >= HEAD { Some(read_head(file)?) } else { None };
+    let head = head.filter(|head| head.starts_with(&NAME));
+    if head.is_none() && !overwrites && has_anything(file, found, kind.is_file())? {
         return Err(FileError::NotOurs);
     }
-    if kind.is_file() && (!is_ours || found != wanted) {
+    let is_long = found == wanted || kind.is_block_device();
+    if kind.is_file() && (head.is_none() || !is_long) {
         file.set_len(0)?;
         file.set_len(wanted)?;
     }
-    Ok(())
+    Ok((head, is_long))
+}
+
+// The seal of a head that is whole, and of so many pages of so many bytes, if it wasn't taken.
+fn seal_of(head: &Head, pages: u64, page: u64) -> Seal {
+    let mut seal = NO_SEAL;
+    let is_whole = head[FIELDS..] == digest_of(&head[..FIELDS]).to_le_bytes();
+    if is_whole && head[16..32] == of_pages(pages, page) && head[SEAL] != TAKEN {
+        seal.copy_from_slice(&head[SEAL]);
+    }
+    seal
+}
+
+// The version, and what the pages are.
+fn of_pages(pages: u64, page: u64) -> [u8; 16] {
+    let mut bytes = [0; 16];
+    bytes[..4].copy_from_slice(&VERSION.to_le_bytes());
+    bytes[4..8].copy_from_slice(&(page as u32).to_le_bytes());
+    bytes[8..].copy_from_slice(&pages.to_le_bytes());
+    bytes
+}
+
+// Answers once all that was written is on the disk.
+fn sync(file: &File) -> Result<(), FileError> {
+    step(Step::SyncFlash)?;
+    Ok(file.sync_data()?)
 }
 
 // By the thread's buffer. Where there is none it is as if the system had no memory for it.
@@ -103,29 +152,23 @@ fn in_buffer<T>(bytes: u64, work: impl FnOnce(&mut [u8]) -> io::Result<T>) -> Re
     Ok(done.unwrap_or_else(|| Err(io::ErrorKind::OutOfMemory.into()))?)
 }
 
-fn read_head(file: &File) -> Result<[u8; NAME.len()], FileError> {
-    let read = |out: &mut [u8]| -> io::Result<[u8; NAME.len()]> {
+fn read_head(file: &File) -> Result<Head, FileError> {
+    step(Step::ReadHead)?;
+    let read = |out: &mut [u8]| -> io::Result<Head> {
         file.read_exact_at(out, 0)?;
-        let mut name = NAME;
-        name.copy_from_slice(&out[..NAME.len()]);
-        Ok(name)
+        let mut head = [0; FIELDS + 8];
+        head.copy_from_slice(&out[..FIELDS + 8]);
+        Ok(head)
     };
     in_buffer(HEAD, read)
 }
 
 // Whose it is: the name and the version, what the pages are, a number drawn by chance, the seal of a restart (none: zeros), and a
 // digest of these.
-fn write_head(file: &File, pages: u64, page: u64) -> Result<(), FileError> {
+fn write_head(file: &File, pages: u64, page: u64, seal: Seal) -> Result<(), FileError> {
+    step(Step::WriteHead)?;
     let drawn = || RandomState::new().build_hasher().finish().to_le_bytes();
-    let fields = [
-        &NAME[..],
-        &VERSION.to_le_bytes(),
-        &(page as u32).to_le_bytes(),
-        &pages.to_le_bytes(),
-        &drawn(),
-        &drawn(),
-        &[0; 16],
-    ];
+    let fields = [&NAME[..], &of_pages(pages, page), &drawn(), &drawn(), &seal];
     let write = |out: &mut [u8]| {
         out.fill(0);
         let mut at = 0;
@@ -138,6 +181,14 @@ fn write_head(file: &File, pages: u64, page: u64) -> Result<(), FileError> {
         file.write_all_at(out, 0)
     };
     in_buffer(HEAD, write)
+}
+
+// Takes the seal away for good. As long as the disk may still have it, another stands in its place that no image has: so if this process
+// ends before that is synced, or it can't be, the next one takes it away again.
+fn take_seal(file: &File, pages: u64, page: u64) -> Result<(), FileError> {
+    write_head(file, pages, page, TAKEN)?;
+    sync(file)?;
+    write_head(file, pages, page, NO_SEAL)
 }
 
 // Whether there is anything in it, of what is looked at. A file that has room alone has nothing.
@@ -171,6 +222,25 @@ impl PageDevice for PageFile {
     fn read_now(&self, page: u32, out: &mut [u8]) -> Option<io::Result<()>> {
         let is_read = self.is_cached && read_copy(&self.file, out, self.place_of(page));
         is_read.then_some(Ok(()))
+    }
+
+    fn seal(&self) -> io::Result<Seal> {
+        Ok(self.seal)
+    }
+
+    fn put_seal(&self, seal: Seal) -> io::Result<()> {
+        let put = || -> Result<(), FileError> {
+            if seal == NO_SEAL {
+                return take_seal(&self.file, self.pages, self.page);
+            }
+            sync(&self.file)?;
+            write_head(&self.file, self.pages, self.page, seal)?;
+            sync(&self.file)
+        };
+        put().map_err(|why| match why {
+            FileError::Io(error) => error,
+            _ => io::ErrorKind::Other.into(),
+        })
     }
 }
 

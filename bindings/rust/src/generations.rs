@@ -1,4 +1,4 @@
-use crate::masked::Masked;
+use crate::masked::{Masked, Pad};
 use crate::{Added, Came, Copied, Counts, Engine, Found, Losses, Operation, Refused, Reply, Take, Ticket};
 
 /// The engine of a shard, and what is left of those before it. A shard is cleared by an empty engine in place of the one that it has:
@@ -59,6 +59,25 @@ impl Generations {
         self.operations_before += std::mem::take(&mut self.operations);
         self.is_there = engine.is_some();
         std::mem::replace(&mut self.engine, Masked::new(engine.unwrap_or_else(Engine::none))).into_engine()
+    }
+
+    /// The same of an engine that was kept, with the pad that its keys have.
+    pub fn resumed(engine: Engine, pad: Pad) -> Generations {
+        Generations { number: engine.number(), engine: Masked::with(engine, pad), ..Generations::new(Engine::none()) }
+    }
+
+    /// Takes the engine out, with the pad that its keys have. What was done is still counted.
+    pub fn take(&mut self) -> (Engine, Pad) {
+        self.counts += self.engine.counts();
+        self.losses += self.engine.losses();
+        self.is_there = false;
+        let pad = self.engine.pad().clone();
+        (std::mem::replace(&mut self.engine, Masked::new(Engine::none())).into_engine(), pad)
+    }
+
+    /// Whether there is an engine, and no operation is under way.
+    pub fn rests(&self) -> bool {
+        self.is_there && self.operations == 0 && self.operations_before == 0
     }
 
     /// Whether there is an engine.

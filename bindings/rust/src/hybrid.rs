@@ -4,9 +4,13 @@ use crate::engine::{Copied, Engine};
 use crate::future::GetAsync;
 use crate::loads::after;
 use crate::numbers::Numbers;
+use crate::save::Keeper;
 use crate::shards::{Locked, Shards, State, ABSENT};
 use crate::shared::{boxed, Shared};
-use crate::{Added, Error, Found, Held, OpenError, Options, PageFile, Refused, Reply, Stats, Value};
+use crate::{
+    resume, Added, Began, Closed, Error, Found, Held, Keep, NotKept, OpenError, Options, PageFile, Refused, Reply,
+    Saved, Stats, Value,
+};
 use std::cell::Cell;
 use std::path::Path;
 use std::sync::atomic::Ordering::Relaxed;
@@ -34,8 +38,8 @@ use std::{fmt, process};
 ///
 /// It is cut into shards, and a call locks its key's shard alone. Evicted items are written to flash by threads of its own. A
 /// get that finds its value on flash alone makes the read itself, unless another thread does so already, with no lock held. A
-/// page that comes back otherwise than it was written, and one that can't be read, is a miss. Nothing outlasts the cache: it
-/// begins empty, whatever the file has.
+/// page that comes back otherwise than it was written, and one that can't be read, is a miss. Nothing outlasts the cache, and it
+/// begins empty, whatever the file has, unless it is to be kept ([`Options::keep`]).
 ///
 /// Before a database read by [`get_or_load`](HybridCache::get_or_load): of many threads that miss a key one loads its row, and a
 /// row that was loaded before a change of its key is never stored after it. Rows are changed by [`change`](HybridCache::change).
@@ -53,10 +57,14 @@ struct Inner {
     keeps_time: OnceLock<bool>,
     // the one that has the threads
     process: u32,
+    began: Began,
+    keeper: Option<Keeper>,
+    // what was done and had as it was closed, where it was kept
+    ended: OnceLock<Stats>,
 }
 
 impl HybridCache {
-    /// An empty cache with its flash in this file, or on this block device. A file is made where there is none, readable and
+    /// A cache with its flash in this file, or on this block device: an empty one, but for what was kept ([`Options::keep`]). A file is made where there is none, readable and
     /// writable for its owner alone. It is locked as long as the cache is open. What has anything and isn't ours is refused, and
     /// left alone ([`Options::overwrite`]); so is a block device that is mounted, or otherwise in use. What the cache has lies
     /// there in the clear, also once it is closed ([`Options::unnamed`]).
@@ -69,7 +77,7 @@ impl HybridCache {
         })
     }
 
-    /// An empty cache with its flash on a device of your own, which has as many pages as `options.numbers()` tells.
+    /// The same with its flash on a device of your own, which has as many pages as `options.numbers()` tells.
     pub fn over(device: impl PageDevice + 'static, options: &Options) -> Result<HybridCache, OpenError> {
         HybridCache::make(options.numbers()?, options, || Ok(Some(boxed(device)?)))
     }
@@ -86,7 +94,10 @@ impl HybridCache {
         open: impl FnOnce() -> Result<Option<Box<dyn PageDevice>>, OpenError>,
     ) -> Result<HybridCache, OpenError> {
         let mut shards = Shards::new(&numbers, options)?;
+        resume::check(options, numbers.flash.is_some())?;
+        let keeper = options.keep.as_ref().map(Keep::try_clone).transpose()?.map(Keeper::new);
         shards.device = open()?.map(|device| Checked::new(device, numbers.pages())).transpose()?;
+        let began = resume::begin(&mut shards, options)?;
         let has_flash = shards.device.is_some();
         let inner = Inner {
             shards: Shared::new(shards)?,
@@ -94,6 +105,9 @@ impl HybridCache {
             workers: Workers::default(),
             keeps_time: OnceLock::new(),
             process: process::id(),
+            began,
+            keeper,
+            ended: OnceLock::new(),
         };
         let cache = HybridCache { inner: Shared::new(inner)? };
         if has_flash {
@@ -243,6 +257,10 @@ impl HybridCache {
     /// What was done so far, and what the cache has.
     #[must_use]
     pub fn stats(&self) -> Stats {
+        self.inner.ended.get().copied().unwrap_or_else(|| self.stats_now())
+    }
+
+    fn stats_now(&self) -> Stats {
         let Inner { shards, numbers, .. } = &*self.inner;
         let clears = shards.clears.load(Relaxed);
         let mut stats = Stats { lock_waits: shards.lock_waits(), clears, ..Stats::default() };
@@ -263,11 +281,48 @@ impl HybridCache {
         self.inner.numbers
     }
 
+    /// What it began with.
+    #[must_use]
+    pub fn kept(&self) -> &Began {
+        &self.inner.began
+    }
+
     /// Ends the cache for all its handles: calls that wait, and later ones, are [`Error::Closed`]. It waits for the operations
-    /// of the device that are under way, and answers what was done. What isn't written yet never is.
-    pub fn close(self) -> Stats {
+    /// of the device that are under way, and answers what was done, and whether what it had is kept ([`Options::keep`]): then calls
+    /// that wait have their answers first. What isn't kept, and isn't written yet, never is. Where another handle closes it already,
+    /// this waits until that is over.
+    ///
+    /// A cache that is dropped instead keeps nothing.
+    pub fn close(self) -> Closed {
+        self.close_with(&[])
+    }
+
+    /// The same, where these bytes are kept beside what the cache has, up to 65,536, for who opens the next one
+    /// ([`WasKept::beside`](crate::WasKept)).
+    pub fn close_with(self, beside: &[u8]) -> Closed {
+        let kept = self.close_and_keep(beside);
         self.inner.end();
-        self.stats()
+        Closed { stats: self.stats(), kept }
+    }
+
+    fn close_and_keep(&self, beside: &[u8]) -> Result<Saved, NotKept> {
+        let Inner { shards, keeper, process, ended, .. } = &*self.inner;
+        let keeper = keeper.as_ref().filter(|_| *process == process::id()).ok_or(NotKept::NotAsked)?;
+        // (one of the cache's own threads may be what is waited for)
+        let _closing = keeper.begin(!WORKS.get()).ok_or(NotKept::Elsewhere)?;
+        let within = keeper.keep.close_within;
+        let (pushed, rested, until) = (after(within / 4), after(within / 2), after(within));
+        shards.rest(keeper.keep.what, pushed, rested);
+        shards.close();
+        let _ = ended.set(self.stats_now());
+        keeper.save(shards, beside, until)
+    }
+
+    // Something was changed that the cache can't be told any more, since it is closed: so nothing is kept of it.
+    pub(crate) fn keep_nothing(&self) {
+        if let Some(keeper) = &self.inner.keeper {
+            keeper.forget(&self.inner.shards);
+        }
     }
 
     /// The shard that the key is of, from 0. Calls on keys of one shard wait for each other, and for no others.

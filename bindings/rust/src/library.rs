@@ -2,7 +2,7 @@
 use std::ffi::c_void;
 use std::ptr;
 
-/// What holds a cache, a value that is read, or a page of flash.
+/// What holds a cache, a value that is read, a page of flash, or an image.
 #[repr(C)]
 #[derive(Debug)]
 pub struct Handle {
@@ -25,6 +25,60 @@ impl Handle {
 pub struct Operation {
     pub page: u32,
     pub writes: bool,
+}
+
+/// What holds an image.
+pub type Image = Handle;
+
+/// Which image it is: the two halves of its seal, the second at which its cache is closed, or that it is as the image is read, and
+/// the shard, from 0, and of how many.
+#[repr(C)]
+#[derive(Clone, Copy, Debug, PartialEq, Eq)]
+pub struct Mark {
+    pub seal_first: u64,
+    pub seal_last: u64,
+    pub second: u64,
+    pub shard: u32,
+    pub shards: u32,
+}
+
+// Why an image isn't taken.
+pub const NOT_WHOLE: u8 = 107;
+pub const OTHER_VERSION: u8 = 108;
+pub const OTHER_CONFIG: u8 = 109;
+pub const OTHER_SEAL: u8 = 110;
+pub const TOO_OLD: u8 = 111;
+pub const CLOCK_WENT_BACK: u8 = 112;
+pub const UNFIT: u8 = 113;
+
+extern "C" {
+    pub fn kilambosetry_close(cache: *mut Handle, mark: *const Mark, image: *mut Handle) -> u8;
+    pub fn kilambosetry_image_next(image: *mut Handle, len: *mut usize) -> u8;
+    pub fn kilambosetry_image_copy(
+        image: *mut Handle,
+        from: usize,
+        out: *mut u8,
+        out_len: usize,
+        len: *mut usize,
+    ) -> u8;
+    pub fn kilambosetry_image_free(image: *mut Handle);
+    pub fn kilambosetry_load(
+        image: *mut Handle,
+        pools: *const crate::Pool,
+        pools_len: usize,
+        mark: *const Mark,
+        at_most: u64,
+    ) -> u8;
+    pub fn kilambosetry_load_with_flash(
+        image: *mut Handle,
+        pools: *const crate::Pool,
+        pools_len: usize,
+        flash: *const crate::Flash,
+        mark: *const Mark,
+        at_most: u64,
+    ) -> u8;
+    pub fn kilambosetry_image_take(image: *mut Handle, frame: *const u8, frame_len: usize) -> u8;
+    pub fn kilambosetry_load_end(image: *mut Handle, cache: *mut Handle, slots: u32) -> u8;
 }
 
 extern "C" {

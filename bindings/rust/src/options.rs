@@ -1,4 +1,4 @@
-use crate::{Clock, Flash, Pool};
+use crate::{Clock, Flash, Keep, Pool};
 use std::fmt;
 use std::time::Duration;
 
@@ -63,6 +63,8 @@ pub struct Options {
     pub flash_numbers: Option<Flash>,
     /// The clock of times to live.
     pub clock: Clock,
+    /// What is to be kept for the next cache, and where. Without it nothing is, and the cache begins empty.
+    pub keep: Option<Keep>,
 }
 
 impl Default for Options {
@@ -87,6 +89,7 @@ impl Default for Options {
             pool: None,
             flash_numbers: None,
             clock: Clock::system(),
+            keep: None,
         }
     }
 }

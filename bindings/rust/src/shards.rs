@@ -7,6 +7,7 @@ use crate::generations::Generations;
 use crate::lease::Waited;
 use crate::loads::{Loads, Outcome};
 use crate::marks::Marks;
+use crate::masked::Pad;
 use crate::numbers::{Numbers, Share, MOST_POOLS};
 use crate::spread::Spread;
 use crate::timer::Timer;
@@ -48,7 +49,21 @@ pub(crate) struct State {
     // what tasks began, and fillers are to go on with; and how many jobs are out that may come to be
     left: VecDeque<Left>,
     lent: usize,
+    /// How far it has come to rest, before it is closed.
+    pub rest: Rest,
     closed: bool,
+}
+
+/// How far a shard has come to rest, so that it may be kept.
+#[derive(Clone, Copy, Debug, Default, PartialEq, Eq, PartialOrd, Ord)]
+pub(crate) enum Rest {
+    /// It hasn't begun.
+    #[default]
+    Not,
+    /// No call begins.
+    Shut,
+    /// And nothing is written that isn't being written.
+    Still,
 }
 
 // A job that somebody would have had to wait for: for the device, or for memory.
@@ -70,8 +85,37 @@ impl State {
             writing: 0,
             left: VecDeque::new(),
             lent: 0,
+            rest: Rest::Not,
             closed: false,
         }
+    }
+
+    // The state of a shard that has what an earlier one had.
+    fn resumed(engine: Engine, pad: Pad, now: u64) -> State {
+        State { engine: Generations::resumed(engine, pad), ..State::new(Engine::none(), now) }
+    }
+
+    /// Whether no call waits, no reply is owed, and no operation is under way.
+    pub fn rests(&self) -> bool {
+        let is_quiet = self.writing == 0 && self.lent == 0 && self.left.is_empty();
+        is_quiet && self.engine.rests() && !self.calls.is_owed()
+    }
+
+    /// Whether writers have nothing to do, and do nothing.
+    pub fn has_written(&mut self) -> bool {
+        self.writing == 0 && !self.engine.is_to_be_written()
+    }
+
+    /// Deletes all keys whose rows are being changed, or may still come to be: what they have may be old by the time that it is found
+    /// again. Answers whether it could.
+    pub fn delete_barred(&mut self) -> bool {
+        let State { engine, bars, .. } = self;
+        bars.keys().all(|key| engine.now().delete(key).is_ok())
+    }
+
+    /// Whether the shard is closed.
+    pub fn is_closed(&self) -> bool {
+        self.closed
     }
 
     // Keeps what a call that waits needs, before the engine is asked.
@@ -227,11 +271,11 @@ pub(crate) struct Shards {
     shards: Vec<Shard>,
     pub device: Option<Checked>,
     page: usize,
-    pages: u32,
-    share: Share,
-    numbers: Numbers,
-    spread: Spread,
-    clock: Clock,
+    pub pages: u32,
+    pub share: Share,
+    pub numbers: Numbers,
+    pub spread: Spread,
+    pub clock: Clock,
     pub patience: Duration,
     pub unknown_for: Duration,
     // the value that says that there is no such row. Nobody else can have it, since it is drawn by chance, and never shown
@@ -254,7 +298,7 @@ impl RefUnwindSafe for Shards {}
 pub(crate) const ABSENT: usize = 16;
 
 // As many bytes as the platform draws by chance.
-fn drawn() -> [u8; ABSENT] {
+pub(crate) fn drawn() -> [u8; ABSENT] {
     let half = || RandomState::new().build_hasher().finish().to_le_bytes();
     let mut drawn = [0; ABSENT];
     drawn[..ABSENT / 2].copy_from_slice(&half());
@@ -349,7 +393,7 @@ impl Shards {
     pub fn enter(&self, shard: usize) -> Result<Locked<'_>, Error> {
         let now = self.clock.now();
         let mut state = self.lock(shard);
-        if state.closed {
+        if state.closed || state.rest != Rest::Not {
             return Err(Error::Closed);
         }
         if !state.engine.is_there() {
@@ -360,6 +404,39 @@ impl Shards {
             state.now = now;
         }
         Ok(state)
+    }
+
+    /// Has the shard have what an earlier one had, and was told this second. (That may be later than the clock's: a close that told the
+    /// next cache less would let the clock go back by a bit at each restart.)
+    pub fn put_resumed(&mut self, shard: usize, engine: Engine, pad: Pad, second: u64) {
+        let state = self.shards[shard].state.get_mut().unwrap_or_else(PoisonError::into_inner);
+        *state = State::resumed(engine, pad, second);
+    }
+
+    /// Has all shards be empty, as new ones.
+    pub fn empty(&mut self) -> Result<(), Refused> {
+        let now = self.clock.now();
+        for shard in &mut self.shards {
+            let engine = new_engine(&self.numbers, &self.share, now)?;
+            *shard.state.get_mut().unwrap_or_else(PoisonError::into_inner) = State::new(engine, now);
+        }
+        Ok(())
+    }
+
+    /// The last second that a shard was told, or that it is by the clock.
+    pub fn last_second(&self) -> u64 {
+        (0..self.len()).map(|shard| self.lock(shard).now).fold(self.clock.now(), u64::max)
+    }
+
+    /// Waits until the shard may be at rest, or something changed: a while at most.
+    pub fn wait_for_rest<'a>(&'a self, shard: usize, state: Locked<'a>) -> Locked<'a> {
+        let waited = self.shards[shard].quiet.wait_timeout(state, PAUSE);
+        waited.unwrap_or_else(PoisonError::into_inner).0
+    }
+
+    /// Has writers look at the shard.
+    pub fn ring_writers(&self, shard: usize) {
+        self.writers.ring(shard);
     }
 
     // Makes the engine for which there was no memory as the shard was cleared.
@@ -390,11 +467,12 @@ impl Shards {
 
     /// Lets the shard go after a step that may have answered calls or made work: who waits for that is told.
     pub fn leave(&self, shard: usize, mut state: Locked<'_>) {
-        let State { engine, calls, wakes, left, .. } = &mut *state;
+        let State { engine, calls, wakes, left, rest, .. } = &mut *state;
         calls.sweep(engine, wakes);
         let has_reads = calls.is_owed() && (calls.is_held_up || engine.filler_has_work() != Ok(false));
         let has_fills = has_reads || !left.is_empty();
-        let has_writes = self.device.is_some() && engine.writer_has_work() != Ok(false);
+        let may_write = self.device.is_some() && *rest != Rest::Still;
+        let has_writes = may_write && engine.writer_has_work() != Ok(false);
         let woken = wakes.take();
         drop(state);
         if has_writes {
@@ -887,6 +965,9 @@ impl Shards {
             let mut state = self.lock(shard);
             if state.closed {
                 return;
+            }
+            if state.rest == Rest::Still {
+                continue;
             }
             match take_write(&mut state.engine) {
                 Ok(take) => {

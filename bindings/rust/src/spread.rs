@@ -11,6 +11,16 @@ impl Spread {
         Spread(RandomState::new().build_hasher().finish())
     }
 
+    /// The one of this number, which an earlier cache had.
+    pub fn of(number: u64) -> Spread {
+        Spread(number)
+    }
+
+    /// Its number.
+    pub fn number(&self) -> u64 {
+        self.0
+    }
+
     /// A hash of the key, in the time that a few products take. What is folded has the state in both factors, so that no word makes
     /// one of them 0 for who doesn't know it.
     #[inline]

@@ -64,7 +64,7 @@ fn calls(text: &str, begins: &str, types: fn(&str) -> Vec<String>) -> BTreeMap<S
 
 // What both call so: handles have one type in Rust, and a name for each use in C.
 fn plain(types: &[String]) -> Vec<String> {
-    let handles = ["cache", "value", "page", "handle"];
+    let handles = ["cache", "value", "page", "image", "handle"];
     let plain = |of: &String| {
         let name = of.trim_start_matches('*');
         if handles.contains(&name) {

@@ -747,7 +747,7 @@ fn closing_answers_who_waits_for_a_load() {
         thread::scope(|scope| {
             let waits = scope.spawn(|| cache.get_or_load(b"key", 0, || Ok::<_, Error>("row")));
             wait_for(&cache, 1);
-            assert_eq!(cache.clone().close().loads, 1);
+            assert_eq!(cache.clone().close().stats.loads, 1);
             assert_eq!(waits.join().unwrap().as_deref(), Ok(&b"row"[..])); // by itself
         });
         assert_eq!(first.store(b"row", 0), Err(Error::Closed));
@@ -918,7 +918,7 @@ fn a_future_waits_for_a_load_and_is_woken() {
             |cache: &HybridCache, _| cache.set(b"key", b"row", 0).unwrap(),
             |_: &HybridCache, lease: Lease| assert_eq!(lease.store(b"row", 0), Ok(Kept::Stored)),
             |_: &HybridCache, lease| drop(lease),
-            |cache: &HybridCache, _| assert_eq!(cache.clone().close().loads, 4),
+            |cache: &HybridCache, _| assert_eq!(cache.clone().close().stats.loads, 4),
         ]
         .into_iter()
         .enumerate()

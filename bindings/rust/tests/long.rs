@@ -394,7 +394,7 @@ fn a_thread_with_little_stack_may_call_the_cache() {
         }
         cache.set(b"large", &vec![1; 1 << 20], 0).unwrap();
         assert_eq!(cache.get(b"large").unwrap().map(|value| value.len()), Some(1 << 20));
-        cache.close().hits()
+        cache.close().stats.hits()
     };
     // (tests are compiled with little optimization; 64 KiB are enough with more)
     let small = thread::Builder::new().stack_size(128 << 10).spawn(work).unwrap();

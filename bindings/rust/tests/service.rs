@@ -216,7 +216,7 @@ fn threads_share_memory_and_flash() {
     let place = Place::new("share");
     let cache = HybridCache::open(&place.0, &small()).unwrap();
     let (gets, hits) = play(&cache, 8, 20_000);
-    let stats = cache.close();
+    let stats = cache.close().stats;
     assert_adds_up(&stats, gets, hits);
     assert!(stats.hits_from_memory > 0 && stats.hits_from_flash > 0, "{stats}");
     assert!(stats.device.reads > 0 && stats.device.writes > 0, "{stats}");
@@ -307,7 +307,7 @@ fn spoiled(name: &str, spoil: impl Fn(&File, &mut u64) -> io::Result<()> + Sync)
         let (gets, hits) = play(&cache, 8, 20_000);
         assert_adds_up(&cache.stats(), gets, hits);
     });
-    cache.close()
+    cache.close().stats
 }
 
 fn pages() -> u64 {
@@ -522,7 +522,7 @@ fn closing_and_dropping_end_all_threads() {
     let (cache, ram) = over_ram(&small());
     filled(&cache, 400);
     let other = cache.clone();
-    assert_eq!(other.close().stored, 400);
+    assert_eq!(other.close().stats.stored, 400);
     assert_eq!(cache.get(&key(1)), Err(Error::Closed));
     assert_eq!(cache.set(&key(1), b"", 0), Err(Error::Closed));
     assert_eq!(cache.flush(), Err(Error::Closed));
@@ -546,7 +546,7 @@ fn closing_answers_who_waits() {
         waits.into_iter().for_each(|one| assert_eq!(one.join().unwrap(), Err(Error::Closed)));
         ram.hang(false);
         assert_eq!(reads.join().unwrap(), Err(Error::Closed));
-        assert_eq!(closes.join().unwrap().stored, 400);
+        assert_eq!(closes.join().unwrap().stats.stored, 400);
     });
     drop(cache);
     assert_ended(&ram);
@@ -787,7 +787,7 @@ fn memory_alone_has_no_threads() {
     assert_eq!(cache.get(&key(9_999)).unwrap().unwrap().into_vec(), value(9_999, 0));
     assert!(cache.get(&key(0)).unwrap().is_none());
     assert_eq!(cache.add(&key(9_999), b"", 0), Ok(false));
-    let stats = cache.close();
+    let stats = cache.close().stats;
     assert_eq!((stats.hits_from_memory, stats.misses_absent, stats.stored), (1, 1, 10_000));
     assert!(stats.losses.no_flash > 0 && stats.device == Default::default());
     assert_eq!((stats.queue_length, stats.shards_behind), (0, 0));

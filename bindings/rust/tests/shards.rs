@@ -60,7 +60,7 @@ fn a_key_is_of_one_shard_whoever_asks() {
         for_each(KEYS, |key| while load(&cache, key) == Kept::Stale {});
         assert_eq!(cache.stats().memory_items, KEYS);
         for_each(KEYS, |key| assert_eq!(cache.delete(key), Ok(true)));
-        let stats = cache.close();
+        let stats = cache.close().stats;
         assert_eq!(stats.memory_items, 0, "{shards}");
     }
 }
@@ -146,7 +146,7 @@ fn many_shards_share_a_device() {
             };
             assert_eq!(found, Some(value(number)), "{number} of {shards} shards");
         }
-        let Stats { hits_from_memory, hits_from_flash, losses, stored, .. } = cache.close();
+        let Stats { hits_from_memory, hits_from_flash, losses, stored, .. } = cache.close().stats;
         assert_eq!((hits_from_memory + hits_from_flash, stored), (items, items));
         assert!(hits_from_flash > items / 4, "{hits_from_flash}");
         assert_eq!(losses, Default::default());

@@ -69,6 +69,11 @@ impl Bars {
         self.standing().of.contains_key(key)
     }
 
+    /// Tells each key that has one.
+    pub fn each(&self, tell: impl FnMut(&[u8])) {
+        self.standing().of.keys().map(|key| &**key).for_each(tell);
+    }
+
     /// How many stand.
     pub fn count(&self) -> usize {
         self.standing().count

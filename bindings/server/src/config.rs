@@ -2,7 +2,7 @@
 use crate::head::HEAD;
 use crate::limits::Patience;
 use clap::Parser;
-use kilambosetry::{HybridCache, OpenError, Options};
+use kilambosetry::{HybridCache, Keep, KeepWhat, OpenError, Options, Watch};
 use std::net::IpAddr;
 use std::path::PathBuf;
 use std::time::Duration;
@@ -105,6 +105,22 @@ pub struct Config {
     #[arg(long, value_name = "MILLISECONDS", default_value_t = 1000)]
     pub flash_wait: u64,
 
+    /// The file by which the next server has again what this one had, where both have this option, the same flash and the same numbers
+    #[arg(long, value_name = "FILE", requires = "flash", conflicts_with = "unnamed")]
+    pub keep: Option<PathBuf>,
+
+    /// What was kept longer ago is forgotten
+    #[arg(long, value_name = "SECONDS", default_value_t = 300)]
+    pub keep_for: u64,
+
+    /// What memory has is written to flash as the server ends, and only what flash has is kept
+    #[arg(long)]
+    pub keep_flash: bool,
+
+    /// How long the end may take, once clients are gone, where something is to be kept; what isn't by then is lost
+    #[arg(long, value_name = "SECONDS", default_value_t = 60)]
+    pub close: u64,
+
     /// How long clients have, once the server is told to end, to send what they have begun and to take their answers
     #[arg(long, value_name = "SECONDS", default_value_t = 5)]
     pub drain: u64,
@@ -126,15 +142,30 @@ impl Config {
             direct: self.direct,
             overwrite: self.overwrite,
             unnamed: self.unnamed,
+            keep: self.keep.as_ref().map(|path| Keep {
+                what: if self.keep_flash { KeepWhat::Flash } else { KeepWhat::All },
+                for_at_most: Duration::from_secs(self.keep_for),
+                close_within: self.close(),
+                ..Keep::at(path)
+            }),
             ..Options::default()
         }
     }
 
-    /// An empty cache.
+    /// The cache: an empty one, but for what was kept.
     pub fn open(&self) -> Result<HybridCache, OpenError> {
+        self.open_watched(Watch::nobody())
+    }
+
+    /// The same, where somebody is told how far what is kept is read, and written in the end.
+    pub fn open_watched(&self, watch: Watch) -> Result<HybridCache, OpenError> {
+        let mut options = self.options();
+        if let Some(keep) = &mut options.keep {
+            keep.watch = watch;
+        }
         match &self.flash {
-            Some(path) => HybridCache::open(path, &self.options()),
-            None => HybridCache::in_memory(&self.options()),
+            Some(path) => HybridCache::open(path, &options),
+            None => HybridCache::in_memory(&options),
         }
     }
 
@@ -156,6 +187,11 @@ impl Config {
     #[must_use]
     pub fn drain(&self) -> Duration {
         Duration::from_secs(self.drain)
+    }
+
+    #[must_use]
+    pub fn close(&self) -> Duration {
+        Duration::from_secs(self.close)
     }
 
     #[must_use]
@@ -209,6 +245,10 @@ impl Config {
             ("stall_timeout", self.stall.to_string()),
             ("command_timeout", self.command.to_string()),
             ("drain_timeout", self.drain.to_string()),
+            ("close_timeout", self.close.to_string()),
+            ("keep", path(&self.keep)),
+            ("keep_for", self.keep_for.to_string()),
+            ("keep_flash_alone", if self.keep_flash { "yes" } else { "no" }.to_string()),
             ("flash", path(&self.flash)),
             ("flash_bytes", self.flash_size.saturating_mul(MEGABYTE).to_string()),
             ("flash_wait_milliseconds", self.flash_wait.to_string()),

@@ -1,11 +1,12 @@
 //! The items of the cache, found by anyone, and changed under the lock of their key.
 use crate::bars::Bars;
+use crate::beside::Beside;
 use crate::finds::{Asked, Found};
 use crate::head::{Head, Item, HEAD, LONGEST_VALUE};
 use crate::locks::{KeyLock, KeyLocks};
 use crate::moments::{self, Expiry};
 use crate::within::{within, TimeIsUp};
-use kilambosetry::{Error, GetAsync, HybridCache, Refused};
+use kilambosetry::{Began, Error, GetAsync, HybridCache, Refused};
 use std::io;
 use std::sync::atomic::{
     AtomicU32, AtomicU64,
@@ -77,13 +78,16 @@ pub enum NotKept {
 }
 
 impl Items {
-    /// The items of an empty cache. A find waits for flash so long at most, and is a miss then.
+    /// The items of an empty cache, or of one that has what an earlier server kept. A find waits for flash so long at most, and is a
+    /// miss then.
     #[must_use]
     pub fn new(cache: HybridCache, patience: Duration) -> Items {
+        let before = kept(&cache);
         // A unique of this run is greater than those of earlier ones: a lease of a server that was started anew meanwhile is none.
         let started = SystemTime::now().duration_since(UNIX_EPOCH).map_or(0, |time| time.as_nanos() as u64);
-        let last = AtomicU64::new(started);
-        let (flushed, bars) = (Flushed::default(), Bars::default());
+        let last = AtomicU64::new(started.max(before.last));
+        let flushed = Flushed { before: before.before.into(), due: before.due.into(), ..Flushed::default() };
+        let bars = Bars::default();
         let (found_flushed, found_expired) = (AtomicU64::new(0), AtomicU64::new(0));
         let longest = |admitted| usize::try_from(admitted).unwrap_or(usize::MAX).min(HEAD + LONGEST_VALUE);
         let longest_on_flash = cache.numbers().flash.map(|flash| longest(flash.admit_max));
@@ -105,6 +109,7 @@ impl Items {
     /// told otherwise: the error ends the connection that wants the change.
     pub async fn change<'a>(&'a self, key: &'a [u8]) -> io::Result<Change<'a>> {
         let lock = self.locks.lock(key).await.map_err(|_| io::ErrorKind::OutOfMemory)?;
+        self.first_kept(moments::now()); // (a flush that is due comes before it)
         Ok(Change { items: self, key, unique: self.next_unique(), lock })
     }
 
@@ -194,6 +199,19 @@ impl Items {
         self.flushed.due.store(0, SeqCst);
     }
 
+    /// What the next server is to know of the items, where they are kept. No command is under way any more. Keys whose rows clients
+    /// are changing, and those that are hidden, are deleted: no later server knows of that.
+    pub fn end(&self) -> Beside {
+        self.bars.each(|key| self.cache.invalidate(key));
+        self.locks.each_hidden(|key| self.cache.invalidate(key));
+        let _turn = self.flushed.turn.lock().unwrap_or_else(PoisonError::into_inner);
+        Beside {
+            before: self.flushed.before.load(SeqCst),
+            due: self.flushed.due.load(SeqCst),
+            last: self.last.load(SeqCst),
+        }
+    }
+
     /// Ends all items, now or in a moment that comes. The last call counts.
     pub fn flush(&self, when: Expiry) {
         self.first_kept(moments::now());
@@ -203,6 +221,15 @@ impl Items {
             _ => self.end_all(),
         }
     }
+}
+
+// What an earlier server knew of the items that it kept. Where it says nothing of them, none is to be found.
+fn kept(cache: &HybridCache) -> Beside {
+    let Began::Kept(kept) = cache.kept() else { return Beside::default() };
+    Beside::read(&kept.beside).unwrap_or_else(|| {
+        cache.clear();
+        Beside::default()
+    })
 }
 
 fn is_due(second: u32, now: u32) -> bool {

@@ -7,6 +7,7 @@
 mod answers;
 mod bars;
 mod base64;
+mod beside;
 mod buffer;
 mod changes;
 mod classic;

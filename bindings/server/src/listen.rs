@@ -129,10 +129,24 @@ fn bind_within(inner: &Path, path: &Path) -> io::Result<(unix::UnixListener, Nam
     }
 }
 
+/// How the connections of a server ended.
+#[derive(Clone, Copy, Debug, PartialEq, Eq)]
+pub enum Ended {
+    /// All had their answers.
+    Drained,
+    /// Some didn't take theirs in time, and were closed.
+    CutOff,
+    /// A thread that serves some doesn't come to its end.
+    Hangs,
+}
+
+// Once no more time is left for answers, connections have so long to end.
+const CUT_OFF: Duration = Duration::from_secs(5);
+
 /// Serves clients until `stop` is over. Then none is let in any more, and those that are there have so long to send what they have
-/// begun and to take their answers. Whether all did.
-pub async fn serve(server: Arc<Server>, sockets: Sockets, stop: impl Future) -> io::Result<bool> {
-    let (tell_end, ends) = watch::channel(false);
+/// begun and to take their answers. Those that don't are closed.
+pub async fn serve(server: Arc<Server>, sockets: Sockets, stop: impl Future) -> io::Result<Ended> {
+    let (tell_end, ends) = watch::channel(Stage::Serves);
     let (alive, mut all_ended) = mpsc::channel::<()>(1);
     let workers = server.workers().map(|worker| start(worker, ends.clone(), alive.clone()));
     let workers = Arc::new(Workers { queues: workers.collect::<io::Result<_>>()?, next: AtomicUsize::new(0) });
@@ -141,9 +155,22 @@ pub async fn serve(server: Arc<Server>, sockets: Sockets, stop: impl Future) -> 
     drop(workers);
     stop.await;
     listening.shutdown().await;
-    let _ = tell_end.send(true);
+    let _ = tell_end.send(Stage::Drains);
     // (it has its answer once no worker holds the other end)
-    Ok(within(server.config.drain(), all_ended.recv()).await.is_ok())
+    if within(server.config.drain(), all_ended.recv()).await.is_ok() {
+        return Ok(Ended::Drained);
+    }
+    let _ = tell_end.send(Stage::CutsOff);
+    let has_ended = within(CUT_OFF, all_ended.recv()).await.is_ok();
+    Ok(if has_ended { Ended::CutOff } else { Ended::Hangs })
+}
+
+// What workers are told of the end.
+#[derive(Clone, Copy, Debug, PartialEq, Eq)]
+enum Stage {
+    Serves,
+    Drains,
+    CutsOff,
 }
 
 // Where clients go, one worker after the other.
@@ -223,7 +250,7 @@ fn reject(server: &Server, client: Client, text: &[u8]) {
 // Starts a thread that serves connections, and answers how it gets them.
 fn start(
     worker: Worker,
-    ends: watch::Receiver<bool>,
+    ends: watch::Receiver<Stage>,
     alive: mpsc::Sender<()>,
 ) -> io::Result<mpsc::UnboundedSender<Admitted>> {
     let (queue, clients) = mpsc::unbounded_channel();
@@ -238,7 +265,7 @@ fn start(
 
 // Serves the clients that come, until no more do and all have ended. They wait for the end by a channel of this thread's own: whoever
 // waits takes its lock.
-async fn work(worker: Worker, mut clients: mpsc::UnboundedReceiver<Admitted>, mut ends: watch::Receiver<bool>) {
+async fn work(worker: Worker, mut clients: mpsc::UnboundedReceiver<Admitted>, mut ends: watch::Receiver<Stage>) {
     let (tell_end, told) = watch::channel(false);
     let mut connections = JoinSet::new();
     loop {
@@ -255,7 +282,13 @@ async fn work(worker: Worker, mut clients: mpsc::UnboundedReceiver<Admitted>, mu
     // (whoever hands clients over has ended, or is about to tell)
     let _ = ends.changed().await;
     let _ = tell_end.send(true);
-    while connections.join_next().await.is_some() {}
+    while *ends.borrow_and_update() != Stage::CutsOff {
+        tokio::select! {
+            ended = connections.join_next() => if ended.is_none() { return },
+            Ok(()) = ends.changed() => {}
+        }
+    }
+    connections.shutdown().await;
 }
 
 async fn serve_client(worker: Worker, client: Client, permit: OwnedSemaphorePermit, ends: watch::Receiver<bool>) {
@@ -283,7 +316,7 @@ pub struct Running {
     /// That of its pages, if it has them.
     pub pages: Option<SocketAddr>,
     stop: oneshot::Sender<()>,
-    thread: thread::JoinHandle<io::Result<bool>>,
+    thread: thread::JoinHandle<io::Result<Ended>>,
 }
 
 impl Running {
@@ -302,6 +335,6 @@ impl Running {
     #[must_use]
     pub fn stop(self) -> bool {
         let _ = self.stop.send(());
-        matches!(self.thread.join(), Ok(Ok(true)))
+        matches!(self.thread.join(), Ok(Ok(Ended::Drained)))
     }
 }

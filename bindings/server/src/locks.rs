@@ -64,6 +64,14 @@ impl KeyLocks {
         self.hidden.load(SeqCst) > 0 && self.stripe(key).get(key).is_some_and(|key| key.is_hidden)
     }
 
+    /// Tells each key that is hidden.
+    pub fn each_hidden(&self, mut tell: impl FnMut(&[u8])) {
+        for stripe in &self.stripes {
+            let stripe = stripe.lock().unwrap_or_else(PoisonError::into_inner);
+            stripe.iter().filter(|(_, key)| key.is_hidden).for_each(|(key, _)| tell(key));
+        }
+    }
+
     fn stripe(&self, key: &[u8]) -> MutexGuard<'_, Keys> {
         let stripe = self.hasher.hash_one(key) as usize % STRIPES;
         self.stripes[stripe].lock().unwrap_or_else(PoisonError::into_inner)
@@ -187,6 +195,9 @@ mod tests {
         };
         locked().hide();
         assert!(locks.is_hidden(b"key") && !locks.is_hidden(b"other"));
+        let mut hidden = Vec::new();
+        locks.each_hidden(|key| hidden.push(key.to_vec()));
+        assert_eq!(hidden, [b"key"]);
         let lock = locked();
         lock.hide();
         assert!(locks.is_hidden(b"key"));

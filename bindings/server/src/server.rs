@@ -6,7 +6,7 @@ use crate::items::Items;
 use crate::limits::{has_memory, InFlight, Patience};
 use crate::page::history::{History, Sample};
 use crate::times::Times;
-use kilambosetry::HybridCache;
+use kilambosetry::{Closed, HybridCache};
 use std::sync::Arc;
 use std::time::Instant;
 use tokio::sync::Semaphore;
@@ -59,6 +59,12 @@ impl Server {
             times: (0..config.threads).map(|_| Arc::new(Times::new(has_page))).collect(),
             config,
         })
+    }
+
+    /// Closes the cache, and keeps what it has where that is asked for. No connection is served any more.
+    pub fn close(&self) -> Closed {
+        let beside = self.items.end();
+        self.items.cache().clone().close_with(&beside.bytes())
     }
 
     /// The workers, one a thread.

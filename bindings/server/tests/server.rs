@@ -181,6 +181,19 @@ fn items_end_at_their_time_and_as_a_flush_says() {
     assert!(running.stop());
 }
 
+#[test]
+fn what_is_stored_behind_a_flush_that_was_due_stays() {
+    let running = in_memory(&[]);
+    let mut client = Client::of(&running);
+    assert_eq!(client.ask("set before 0 0 1\r\nx\r\n"), "STORED");
+    assert_eq!(client.ask("flush_all 1\r\n"), "OK");
+    thread::sleep(Duration::from_millis(2100));
+    // (nothing was asked for meanwhile)
+    assert_eq!(client.ask("set after 0 0 1\r\nx\r\n"), "STORED");
+    assert_eq!((client.value("after").as_deref(), client.value("before")), (Some("x"), None));
+    assert!(running.stop());
+}
+
 // What agents read of `stats` (Telegraf's, Datadog's and collectd's plugins, and the exporter for Prometheus, without slabs).
 const ROWS: &str = "accepting_conns auth_cmds auth_errors bytes bytes_read bytes_written cas_badval cas_hits cas_misses cmd_flush cmd_get \
     cmd_set cmd_touch conn_yields connection_structures curr_connections curr_items decr_hits decr_misses delete_hits delete_misses \

@@ -5,6 +5,7 @@
 mod begun;
 mod calls;
 mod inside;
+mod kept;
 mod loads;
 mod many;
 mod opening;

@@ -1,7 +1,8 @@
 use crate::status::{answered, DONE};
 use crate::why::Why;
-use kilambosetry::{Clock, Flash, Numbers, OpenError, Options, Pool};
-use std::ffi::c_void;
+use kilambosetry::{Clock, Flash, Keep, KeepWhat, Numbers, OpenError, Options, Pool, Watch};
+use std::ffi::{c_char, c_void, CStr, OsStr, OsString};
+use std::os::unix::ffi::OsStrExt;
 use std::time::Duration;
 
 /// What a cache is to be: `kilambosetry_service_options`.
@@ -25,6 +26,12 @@ pub struct ServiceOptions {
     flash_numbers: *const Flash,
     clock: Option<extern "C" fn(context: *mut c_void) -> u64>,
     clock_context: *mut c_void,
+    keep: *const c_char,
+    keep_for: u64,
+    close_within: u64,
+    keep_flash: bool,
+    watch: Option<extern "C" fn(context: *mut c_void, bytes: u64, shards: u64, of: u64)>,
+    watch_context: *mut c_void,
 }
 
 // A place of the caller's that threads may share.
@@ -63,7 +70,28 @@ impl ServiceOptions {
             let context = Context::new(self.clock_context);
             options.clock = Clock::try_new(move || clock(context.at()))?;
         }
+        options.keep = self.to_keep()?;
         Ok(options)
+    }
+
+    fn to_keep(&self) -> Result<Option<Keep>, OpenError> {
+        if self.keep.is_null() {
+            return Ok(None);
+        }
+        // SAFETY: the path is a text of the caller's, which ends with a zero.
+        let given = OsStr::from_bytes(unsafe { CStr::from_ptr(self.keep) }.to_bytes());
+        let mut path = OsString::new();
+        path.try_reserve_exact(given.len()).map_err(|_| OpenError::NoMemory)?;
+        path.push(given);
+        let mut keep = Keep::at(path);
+        keep.for_at_most = Duration::from_secs(self.keep_for);
+        keep.close_within = Duration::from_secs(self.close_within);
+        keep.what = if self.keep_flash { KeepWhat::Flash } else { KeepWhat::All };
+        if let Some(watch) = self.watch {
+            let context = Context::new(self.watch_context);
+            keep.watch = Watch::try_new(move |it| watch(context.at(), it.bytes, it.shards, it.of))?;
+        }
+        Ok(Some(keep))
     }
 
     fn put_lengths(&self, options: &mut Options) {

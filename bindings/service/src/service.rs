@@ -1,6 +1,6 @@
 use crate::inside::Inside;
 use crate::status::answered;
-use kilambosetry::{Error, HybridCache};
+use kilambosetry::{Closed, Error, HybridCache};
 
 /// What C has a pointer to.
 pub struct Service {
@@ -30,13 +30,20 @@ impl Service {
         });
     }
 
-    /// Ends the cache, and waits for all that is under way.
+    /// Ends the cache, keeps what it has where that is asked for, and waits for all that is under way.
     pub fn shut(&self) {
+        let _ = self.shut_with(&[]);
+    }
+
+    /// The same with these bytes beside it, and answers what came of it; nothing, where it panicked.
+    pub fn shut_with(&self, beside: &[u8]) -> Option<Closed> {
         self.inside.shut();
+        let mut closed = None;
         answered(|| {
-            self.cache.clone().close();
+            closed = Some(self.cache.clone().close_with(beside));
             Ok(0)
         });
         self.inside.wait();
+        closed
     }
 }

@@ -12,15 +12,16 @@ pub const TOO_SMALL: u8 = 68;
 pub const SYSTEM: u8 = 69;
 pub const CLOSED: u8 = 70;
 pub const FAULT: u8 = 71;
+pub const NO_SEAL: u8 = 72;
 pub const MISS: u8 = 100;
 pub const EMPTY: u8 = 101;
 pub const SHORT: u8 = 102;
 pub const WAITS: u8 = 103;
 pub const STALE: u8 = 106;
-pub const TIMED_OUT: u8 = 110;
-pub const LEASED: u8 = 111;
-pub const LOAD_FAILED: u8 = 112;
-pub const ABSENT: u8 = 113;
+pub const TIMED_OUT: u8 = 120;
+pub const LEASED: u8 = 121;
+pub const LOAD_FAILED: u8 = 122;
+pub const ABSENT: u8 = 123;
 
 /// What the work answers. A panic ends here.
 pub fn answered(work: impl FnOnce() -> Result<u8, Error>) -> u8 {

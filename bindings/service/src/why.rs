@@ -1,4 +1,4 @@
-use crate::status::{BAD_NUMBER, IN_USE, NOT_OURS, OTHER_KIND, SYSTEM, TOO_SMALL};
+use crate::status::{BAD_NUMBER, IN_USE, NOT_OURS, NO_SEAL, OTHER_KIND, SYSTEM, TOO_SMALL};
 use kilambosetry::{FileError, OpenError, Refused};
 use std::ffi::{c_char, CStr};
 use std::io;
@@ -55,6 +55,7 @@ impl Why {
             OpenError::Page(given) => self.note_number("page", given, 512, 4096),
             OpenError::Refused(refused) => refused.number(),
             OpenError::NoMemory => Refused::NO_MEMORY.number(),
+            OpenError::NoSeal => NO_SEAL,
             OpenError::File { why, .. } => self.note_file(&why),
             OpenError::Io(error) => self.note_system(&error),
             _ => SYSTEM,

@@ -104,6 +104,7 @@ fn types_are_those_of_the_header() {
         ("begun", "ServiceBegun"),
         ("wanted", "ServiceWanted"),
         ("service_stats", "ServiceStats"),
+        ("kept", "ServiceKept"),
     ];
     let of_c = c_types();
     assert_eq!(of_c.len(), names.len(), "{:?}", of_c.keys());
@@ -130,6 +131,18 @@ fn calls_are_those_of_the_header() {
     let of_rust = calls(&sources(), "extern \"C\" fn kilambosetry_service_", ")", rust_field);
     assert!(of_c.len() > 20, "{of_c:?}");
     assert_eq!(of_c, of_rust);
+}
+
+#[test]
+fn what_is_said_of_what_was_kept_is_of_the_header() {
+    let header = header();
+    let kept = text_of("src/kept.rs");
+    let constants: Vec<_> = pieces(&kept, "\nconst ", ";").collect();
+    assert!(constants.len() > 15);
+    for (_, constant) in constants {
+        let (name, number) = constant.split_once(": u8 = ").unwrap();
+        assert!(header.contains(&format!("KILAMBOSETRY_KEPT_{name} = {number}")), "{name}");
+    }
 }
 
 #[test]

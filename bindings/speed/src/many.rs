@@ -79,7 +79,7 @@ pub fn table(folder: &Path) {
         let [one, many] =
             medians(&cache, |round| (0..AT_ONCE).map(|at| key((round * AT_ONCE + at) * APART % all)).collect());
         let how = if is_direct { "O_DIRECT" } else { "the system's copies of pages" };
-        let stats = cache.close();
+        let stats = cache.close().stats;
         assert!(stats.hits_from_flash > 2 * ROUNDS * AT_ONCE * 9 / 10, "{stats}");
         println!("on flash, {fillers} fillers, {how}: {one:6.0} {many:6.0}   {:.1} times as fast", one / many);
     }

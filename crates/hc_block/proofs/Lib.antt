@@ -15,3 +15,7 @@ pub mod Works
 pub mod Segments
 pub mod Peeks
 pub mod Rested
+pub mod Listed
+pub mod Quiet
+pub mod Misfits
+pub mod Handing

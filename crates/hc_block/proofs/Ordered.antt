@@ -1,16 +1,24 @@
 -- The entries of an ordered map whose keys are numbers: what a call leaves of them.
-use Rattle.std.proofs.Common.{◌≡◌, ℕ, ◌≤◌, ◌==◌, nat_lt, Bool, true, false, List, [], ◌∷◌, Some, None, refl, sym, ap, subst, arith, ◌∙◌, Less, Equal, Greater}
+use Rattle.std.proofs.Common.{◌≡◌, ℕ, ◌<◌, ◌≤◌, ◌==◌, nat_lt, Bool, true, false, List, [], ◌∷◌, Some, None, refl, sym, ap, subst, arith, ◌∙◌, Less, Equal, Greater}
 use Rattle.std.specs.Prelude.{if◌then◌else◌}
 use Rattle.std.specs.Ordering.{nat_cmp}
 use Rattle.std.specs.BTreeMap.{is_at, insert_entry}
 use Rattle.std.specs.Map.{lookup, remove_entry, set_value, keys_of}
 use Rattle.std.specs.List.{AllByRecursion}
 use Rattle.std.specs.List.Sorted.{IsStrictlySortedBy}
-use Rattle.std.proofs.lemmas.Bool.{eqb-true}
+use Rattle.std.proofs.lemmas.Bool.{eqb-true, ltb-true}
 
 -- all these keys are above this one
 abbrev AllAbove : ℕ → List ℕ → Type 0
 AllAbove n keys = AllByRecursion (λ y. nat_cmp n y ≡ Less) keys
+
+pub less-is : (m y : ℕ) → nat_cmp m y ≡ Less → m < y
+less-is m y h = go (nat_lt m y) refl (m == y) refl h
+  where
+    go : (a : Bool) → nat_lt m y ≡ a → (b : Bool) → (m == y) ≡ b → nat_cmp m y ≡ Less → m < y
+    go true p b q h = ltb-true m y p
+    go false p true q h = let k : Equal ≡ Less = (rw (p, q) at h) in absurd (cc)
+    go false p false q h = let k : Greater ≡ Less = (rw (p, q) at h) in absurd (cc)
 
 not_key : (n m y : ℕ) → n ≤ m → nat_cmp m y ≡ Less → ((y == n) ≡ false) × (nat_lt y n ≡ false)
 not_key n m y le h = go (nat_lt m y) refl (m == y) refl h

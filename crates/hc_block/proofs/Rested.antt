@@ -1,24 +1,23 @@
--- An engine of parts that were kept and checked: what holds of every engine holds of it.
-use Rattle.std.proofs.Common.{◌≡◌, ℕ, zero, suc, ◌+◌, ◌*◌, ◌<◌, ◌≤◌, ◌==◌, nat_lt, nat_le, Bool, true, false, not, ◌&&◌, List, [], ◌∷◌, ◌++◌, length, replicate, set, get_or, drop, Option, Some, None, refl, sym, ap, subst, arith, ◌∙◌}
-use Rattle.std.specs.Prelude.{if◌then◌else◌, nat_eq, ⊤, Result, Ok, Err, IfOk, IfSome}
+-- An engine of parts that were kept and tested: what holds of every engine holds of it.
+use Rattle.std.proofs.Common.{◌≡◌, ℕ, zero, suc, ◌+◌, ◌<◌, ◌≤◌, ◌==◌, nat_lt, nat_le, Bool, true, false, not, List, [], ◌∷◌, length, replicate, set, get_or, Option, Some, None, refl, sym, ap, subst, arith, ◌∙◌}
+use Rattle.std.specs.Prelude.{if◌then◌else◌, nat_eq, ⊤}
 use Rattle.std.specs.List.{list_all, AllByRecursion, IsDistinct}
-use Rattle.std.proofs.lemmas.Bool.{and_parts, ltb-true, leb-true, lt-ltb, le-leb, and_from, eqb-true}
-use Rattle.std.proofs.lemmas.List.{drop_all, drop_more, length-set}
+use Rattle.std.proofs.lemmas.Bool.{and_parts, ltb-true, leb-true, eqb-true}
+use Rattle.std.proofs.lemmas.List.{length-set, length-replicate}
 use Rattle.hc_types.specs.declared.config.FlashConfig.{FlashConfig}
 use Rattle.hc_types.specs.Limits.{flash_wrong}
-use Rattle.hc_types.specs.Tally.{count}
 use Rattle.hc_engines.specs.large.Region.{Status, Clean, Open, Sealed, Flushing, OnFlash, Draining, is_clean, is_draining, Appended, Region, clean_region, region_at, region_len, filled_to}
-use Rattle.hc_engines.specs.large.Index.{Place, Indexed, place_at, leading}
+use Rattle.hc_engines.specs.large.Index.{Place, Indexed, place_at}
 use Rattle.hc_engines.specs.large.Block.{Block}
 use Rattle.hc_engines.specs.large.Numbers.{is_in}
-use Rattle.hc_engines.specs.large.Within.{AllWithin}
-use Rattle.hc_engines.specs.large.Sound.{is_live, is_flushing, is_stored, is_out, is_filling, is_listed, IsRising, EarlyHolds, Holds, Sound}
-use Rattle.hc_region.specs.CleanNumbers.{clean_from}
+use Rattle.hc_engines.specs.large.Sound.{is_live, is_filling, is_listed, IsRising, Holds}
 use Rattle.hc_region.specs.declared.resting.AtRest.{AtRest}
 use Rattle.hc_region.specs.declared.resting.AtRest.TheVariants as rests
 use Rattle.hc_region.specs.Resting.{status_at, is_rising, is_blank, can_stand, can_rest}
-use Rattle.hc_block.specs.Large.{Kept, IsKept}
-use Rattle.hc_block.specs.Resting.{block_at, leads_well, is_behind, all_lead, AllOnce, StandsIf, LeadsWell, AreParts, stands_at, can_come, once_from}
+use Rattle.hc_block.specs.declared.reason.Reason.{Reason}
+use Rattle.hc_block.specs.declared.reason.Reason.TheVariants as reasons
+use Rattle.hc_block.specs.Large.{Kept}
+use Rattle.hc_block.specs.Resting.{block_at, stands_at, is_of, is_open, can_come, once_from, all_once, leads_well, misfit, AllOnce, LeadsWell}
 use Rattle.hc_engines.proofs.small.Limited.{limits_from as small_from}
 use Rattle.hc_block.proofs.Making.{limits_from}
 
@@ -119,101 +118,12 @@ region_holds flash [] h r = (clean_holds flash, omega arith)
 region_holds flash (region ∷ regions) h zero = let t = tested flash region (and_parts (can_rest flash region) _ h).0 in (stands flash region t region.status refl, t.filled)
 region_holds flash (region ∷ regions) h (suc r) = region_holds flash regions (and_parts (can_rest flash region) _ h).1 r
 
--- ---- what was appended
-
-pub listed_at : (xs : List Appended) (i : ℕ) (x : Appended) (hash offset : ℕ) → i < length xs → x ≡ get_or xs i x → x.hash ≡ hash → x.offset ≡ offset → is_listed hash offset xs ≡ true
-listed_at [] i x hash offset lt is h o = absurd (omega arith)
-listed_at (y ∷ ys) zero x hash offset lt is h o =
-    let a : (y.hash == hash) ≡ true = grind (arith, is, h) in
-    let b : (y.offset == offset) ≡ true = grind (arith, is, o) in
-    rw (a, b) refl
-listed_at (y ∷ ys) (suc i) x hash offset lt is h o = go ((y.hash == hash) && (y.offset == offset)) (listed_at ys i x hash offset (omega arith) is h o)
-  where
-    go : (t : Bool) → is_listed hash offset ys ≡ true → (if t then true else is_listed hash offset ys) ≡ true
-    go true e = refl
-    go false e = e
-
 -- ---- the index
 
--- the hashes of these pairs are below this one
-abbrev pub AllBelow : ℕ → List Indexed → Type 0
-AllBelow hash [] = ⊤
-AllBelow hash (x ∷ xs) = (x.hash < hash) × AllBelow hash xs
-
--- they end with this one
-abbrev pub IsUpTo : Option ℕ → List Indexed → Type 0
-IsUpTo None index = index ≡ []
-IsUpTo (Some last) index = AllBelow (last + 1) index
-
-below_more : (m n : ℕ) (index : List Indexed) → m ≤ n → AllBelow m index → AllBelow n index
-below_more m n [] le h = tt
-below_more m n (x ∷ xs) le h = (omega (arith, h.0), below_more m n xs le h.1)
-
-below_last : (last : Option ℕ) (hash : ℕ) (index : List Indexed) → IsUpTo last index → is_behind last hash ≡ true → AllBelow hash index
-below_last None hash index u h = subst (λ (xs : List Indexed). AllBelow hash xs) (sym u) tt
-below_last (Some last) hash index u h = below_more (last + 1) hash index (omega (arith, ltb-true last hash h)) u
-
-pub leads_last : (hash : ℕ) (place : Place) (index : List Indexed) → AllBelow hash index → leading hash place index ≡ index ++ record { hash = hash; place = place } ∷ []
-leads_last hash place [] h = refl
-leads_last hash place (x ∷ xs) h = rw (lt-ltb x.hash hash h.0) (ap (λ (more : List Indexed). x ∷ more) (leads_last hash place xs h.1))
-
-up_to_last : (hash : ℕ) (place : Place) (index : List Indexed) → AllBelow hash index → AllBelow (hash + 1) (index ++ record { hash = hash; place = place } ∷ [])
-up_to_last hash place [] h = (omega arith, tt)
-up_to_last hash place (x ∷ xs) h = (omega (arith, h.0), up_to_last hash place xs h.1)
-
--- what was taken in so far, what it ends with, and what is still to come
-pub record Indexing (flash : FlashConfig) (regions : List Region) (leads index : List Indexed) (last : Option ℕ) (rest : List Indexed) : Type 0 where
-  pub all : index ++ rest ≡ leads
-  pub up_to : IsUpTo last index
-  pub tests : all_lead flash regions last rest ≡ all_lead flash regions None leads
-
-append_cons : (xs : List Indexed) (x : Indexed) (ys : List Indexed) → (xs ++ x ∷ []) ++ ys ≡ xs ++ x ∷ ys
-append_cons [] x ys = refl
-append_cons (y ∷ xs) x ys = ap (λ (more : List Indexed). y ∷ more) (append_cons xs x ys)
-
-pub one_lead : (flash : FlashConfig) (regions : List Region) (leads index new : List Indexed) (last : Option ℕ) (x : Indexed) (rest : List Indexed) → is_behind last x.hash ≡ true → leads_well flash regions x ≡ true
-    → new ≡ leading x.hash x.place index → Indexing flash regions leads index last (x ∷ rest) → Indexing flash regions leads new (Some x.hash) rest
-one_lead flash regions leads index new last x rest b w n i =
-    let under : AllBelow x.hash index = below_last last x.hash index i.up_to b in
-    let is : new ≡ index ++ x ∷ [] = n ∙ leads_last x.hash x.place index under in
-    record {
-      all = ap (λ (xs : List Indexed). xs ++ rest) is ∙ append_cons index x rest ∙ i.all;
-      up_to = subst (λ (xs : List Indexed). AllBelow (x.hash + 1) xs) (sym is) (up_to_last x.hash x.place index under);
-      tests = sym (rw (b, w) refl) ∙ i.tests;
-    }
-
-pub next_lead : (flash : FlashConfig) (regions : List Region) (leads index new : List Indexed) (last : Option ℕ) (i n : ℕ) (x : Indexed) → i < length leads → x ≡ get_or leads i x → n ≡ x.hash → is_behind last x.hash ≡ true → leads_well flash regions x ≡ true
-    → new ≡ leading x.hash x.place index → Indexing flash regions leads index last (drop i leads) → Indexing flash regions leads new (Some n) (drop (i + 1) leads)
-next_lead flash regions leads index new last i n x lt is e b w h inv =
-    let rest : drop i leads ≡ x ∷ drop (i + 1) leads = drop_more leads i x lt ∙ ap (λ (y : Indexed). y ∷ drop (i + 1) leads) (sym is) in
-    subst (λ (m : ℕ). Indexing flash regions leads new (Some m) (drop (i + 1) leads)) (sym e)
-    (one_lead flash regions leads index new last x (drop (i + 1) leads) b w h (subst (λ (ys : List Indexed). Indexing flash regions leads index last ys) rest inv))
-
-append_nil : (xs : List Indexed) → xs ++ [] ≡ xs
-append_nil [] = refl
-append_nil (x ∷ xs) = ap (λ (more : List Indexed). x ∷ more) (append_nil xs)
-
-pub all_led : (flash : FlashConfig) (regions : List Region) (leads index : List Indexed) (last : Option ℕ) → Indexing flash regions leads index last [] → (index ≡ leads) × (all_lead flash regions None leads ≡ true)
-all_led flash regions leads index last i = (sym (append_nil index) ∙ i.all, sym i.tests)
-
-pub all_are_led : (flash : FlashConfig) (regions : List Region) (leads index : List Indexed) (last : Option ℕ) (i : ℕ) → length leads ≤ i → Indexing flash regions leads index last (drop i leads) → (index ≡ leads) × (all_lead flash regions None leads ≡ true)
-all_are_led flash regions leads index last i le inv = all_led flash regions leads index last (subst (λ (ys : List Indexed). Indexing flash regions leads index last ys) (drop_all i leads le) inv)
-
-pub none_yet : (flash : FlashConfig) (regions : List Region) (leads index : List Indexed) → index ≡ [] → Indexing flash regions leads index None leads
-none_yet flash regions leads index e = record { all = ap (λ (xs : List Indexed). xs ++ leads) e; up_to = e; tests = refl }
-
--- all that is asked of where a hash leads
-pub led_so : (flash : FlashConfig) (regions : List Region) (x : Indexed) → is_listed x.hash x.place.offset (region_at x.place.region regions).appended ≡ true → 14 + flash.small_max < x.place.length → x.place.offset + x.place.length ≤ filled_to flash (region_at x.place.region regions) → leads_well flash regions x ≡ true
-led_so flash regions x l m n = and_from _ _ l (and_from _ _ (lt-ltb (14 + flash.small_max) x.place.length m) (le-leb (x.place.offset + x.place.length) (filled_to flash (region_at x.place.region regions)) n))
-
 -- where the index leads, a hash leads well
-pub led_well : (flash : FlashConfig) (regions : List Region) (last : Option ℕ) (leads : List Indexed) (hash : ℕ) (place : Place) → all_lead flash regions last leads ≡ true → place_at hash leads ≡ Some place
-    → leads_well flash regions (record { hash = hash; place = place }) ≡ true
-led_well flash regions last [] hash place h e = absurd (cc)
-led_well flash regions last (x ∷ xs) hash place h e =
-    let parts = and_parts (is_behind last x.hash) (leads_well flash regions x && all_lead flash regions (Some x.hash) xs) h in
-    let more = and_parts (leads_well flash regions x) (all_lead flash regions (Some x.hash) xs) parts.1 in
-    go more.0 (λ e. led_well flash regions (Some x.hash) xs hash place more.1 e) (x.hash == hash) refl e
+pub led_well : (flash : FlashConfig) (regions : List Region) (index : List Indexed) (hash : ℕ) (place : Place) → list_all (leads_well flash regions) index ≡ true → place_at hash index ≡ Some place → leads_well flash regions (record { hash = hash; place = place }) ≡ true
+led_well flash regions [] hash place h e = absurd (cc)
+led_well flash regions (x ∷ xs) hash place h e = let parts = and_parts (leads_well flash regions x) (list_all (leads_well flash regions) xs) h in go parts.0 (λ e. led_well flash regions xs hash place parts.1 e) (x.hash == hash) refl e
   where
     same : (a b : Place) → Some a ≡ Some b → a ≡ b
     same a b e = cc
@@ -312,59 +222,87 @@ once_told : (rest : AtRest) (regions : List Region) (seen : List Bool) (rs : Lis
 once_told rest regions seen [] n h = tt
 once_told rest regions seen (r ∷ rs) n h =
     let a = and_parts (can_come rest regions seen r) (once_from rest regions (set seen r true) rs) h in
-    let b = and_parts (nat_lt r (length regions)) (stands_at rest (region_at r regions).status && not (get_or seen r false)) a.0 in
-    let c = and_parts (stands_at rest (region_at r regions).status) (not (get_or seen r false)) b.1 in
-    let lt : r < length seen = subst (λ (m : ℕ). r < m) (sym n) (ltb-true r (length regions) b.0) in
-    (stands_so rest (region_at r regions).status c.0, lt, not-true (get_or seen r false) c.1, once_told rest regions (set seen r true) rs (length-set seen r true ∙ n) a.1)
+    let b = and_parts (is_of rest regions r) (not (get_or seen r false)) a.0 in
+    let c = and_parts (nat_lt r (length regions)) (stands_at rest (region_at r regions).status) b.0 in
+    let lt : r < length seen = subst (λ (m : ℕ). r < m) (sym n) (ltb-true r (length regions) c.0) in
+    (stands_so rest (region_at r regions).status c.1, lt, not-true (get_or seen r false) b.1, once_told rest regions (set seen r true) rs (length-set seen r true ∙ n) a.1)
 
 -- what the walk over the numbers comes to
-pub once_all : (rest : AtRest) (regions : List Region) (seen : List Bool) (rs : List ℕ) → length seen ≡ length regions → once_from rest regions seen rs ≡ true → AllOnce (status_at rest) regions rs
-once_all rest regions seen rs n h = once_all_from (status_at rest) regions seen rs (once_told rest regions seen rs n h)
+once_all : (rest : AtRest) (regions : List Region) (rs : List ℕ) → all_once rest regions rs ≡ true → AllOnce (status_at rest) regions rs
+once_all rest regions rs h = let seen = replicate {A = Bool} (length regions) false in once_all_from (status_at rest) regions seen rs (once_told rest regions seen rs (length-replicate {A = Bool} (length regions) false) h)
+
+-- the open region
+inner : (a b : ℕ) → Some a ≡ Some b → a ≡ b
+inner a b e = cc
+
+open_stands : (regions : List Region) (current : Option ℕ) → is_open regions current ≡ true → (r : ℕ) → current ≡ Some r → (region_at r regions).status ≡ Open
+open_stands regions None h r e = absurd (cc)
+open_stands regions (Some c) h r e =
+    let parts = and_parts (nat_lt c (length regions)) (stands_at rests.Open (region_at c regions).status) h in
+    subst (λ (n : ℕ). (region_at n regions).status ≡ Open) (inner c r e) (stands_so rests.Open (region_at c regions).status parts.1)
+
+-- ---- the tests, one after the other
+
+-- the parts of this state pass each test
+pub record Passes (flash : FlashConfig) (s : Block) : Type 0 where
+  pub count : (length s.regions == flash.regions) ≡ true
+  pub rest : list_all (can_rest flash) s.regions ≡ true
+  pub current : is_open s.regions s.current ≡ true
+  pub sealed : all_once rests.Sealed s.regions s.sealed ≡ true
+  pub flushed : all_once rests.OnFlash s.regions s.flushed ≡ true
+  pub index : list_all (leads_well flash s.regions) s.index ≡ true
+
+if_passed : (t : Bool) (why : Reason) (o : Option Reason) → (if t then o else Some why) ≡ None → (t ≡ true) × (o ≡ None)
+if_passed true why o h = (refl, h)
+if_passed false why o h = absurd (cc)
+
+pub passes : (flash : FlashConfig) (s : Block) → misfit flash s ≡ None → Passes flash s
+passes flash s h =
+    let a = if_passed (length s.regions == flash.regions) reasons.Count _ h in
+    let b = if_passed (list_all (can_rest flash) s.regions) reasons.Region _ a.1 in
+    let c = if_passed (is_open s.regions s.current) reasons.Current _ b.1 in
+    let d = if_passed (all_once rests.Sealed s.regions s.sealed) reasons.Sealed _ c.1 in
+    let e = if_passed (all_once rests.OnFlash s.regions s.flushed) reasons.Flushed _ d.1 in
+    let f = if_passed (list_all (leads_well flash s.regions) s.index) reasons.Index _ e.1 in
+    record { count = a.0; rest = b.0; current = c.0; sealed = d.0; flushed = e.0; index = f.0 }
 
 -- ---- the engine
 
-pub resting_kept : (flash : FlashConfig) (regions : List Region) (current : Option ℕ) (sealed flushed : List ℕ) (leads : List Indexed) → flash_wrong flash ≡ None → length regions ≡ flash.regions → list_all (can_rest flash) regions ≡ true
-    → StandsIf Open regions current → AllOnce Sealed regions sealed → AllOnce OnFlash regions flushed → all_lead flash regions None leads ≡ true → Kept flash (block_at regions current sealed flushed leads)
-resting_kept flash regions current sealed flushed leads right n all c s f l = record {
-  limits = limits_from flash right;
-  count = n;
-  filled = λ r. (region_holds flash regions all r).1;
-  sound = record {
-    current = c;
-    sealed = s.stand;
-    flushed = λ r h. rw (f.stand r h) refl;
-    listed = λ hash place e. (and_parts (is_listed hash place.offset (region_at place.region regions).appended) _ (led_well flash regions None leads hash place l e)).0;
-    regions = λ r. (region_holds flash regions all r).0;
-    works = tt;
-    single = λ n. omega arith;
-  };
-  sealed_once = s.once;
-  flushed_once = f.once;
-}
+pub rested_kept : (flash : FlashConfig) (regions : List Region) (current : Option ℕ) (sealed flushed : List ℕ) (index : List Indexed) → flash_wrong flash ≡ None → misfit flash (block_at regions current sealed flushed index) ≡ None → Kept flash (block_at regions current sealed flushed index)
+rested_kept flash regions current sealed flushed index right fit =
+    let p = passes flash (block_at regions current sealed flushed index) fit in
+    let waiting = once_all rests.Sealed regions sealed p.sealed in
+    let stored = once_all rests.OnFlash regions flushed p.flushed in
+    record {
+      limits = limits_from flash right;
+      count = eqb-true (length regions) flash.regions p.count;
+      filled = λ r. (region_holds flash regions p.rest r).1;
+      sound = record {
+        current = λ r e. open_stands regions current p.current r e;
+        sealed = waiting.stand;
+        flushed = λ r h. rw (stored.stand r h) refl;
+        listed = λ hash place e. (and_parts (is_listed hash place.offset (region_at place.region regions).appended) _ (led_well flash regions index hash place p.index e)).0;
+        regions = λ r. (region_holds flash regions p.rest r).0;
+        works = tt;
+        single = λ n. omega arith;
+      };
+      sealed_once = waiting.once;
+      flushed_once = stored.once;
+    }
 
-pub resting_leads : (flash : FlashConfig) (regions : List Region) (current : Option ℕ) (sealed flushed : List ℕ) (leads : List Indexed) → all_lead flash regions None leads ≡ true → LeadsWell flash (block_at regions current sealed flushed leads)
-resting_leads flash regions current sealed flushed leads l = record { places = λ hash place e. led_well flash regions None leads hash place l e }
+pub rested_leads : (flash : FlashConfig) (s : Block) → misfit flash s ≡ None → LeadsWell flash s
+rested_leads flash s fit = record { places = λ hash place e. led_well flash s.regions s.index hash place (passes flash s fit).index e }
 
--- what the walk over the regions says of how far they are filled
+-- regions that passed: how far they are filled, and that what was appended is in order
 pub short_regions : (flash : FlashConfig) (regions : List Region) → flash_wrong flash ≡ None → list_all (can_rest flash) regions ≡ true → (r : ℕ) → filled_to flash (region_at r regions) < 4294967296
 short_regions flash regions right all r = omega (arith, (region_holds flash regions all r).1, (limits_from flash right).region_len)
 
+pub rising_regions : (flash : FlashConfig) (regions : List Region) → list_all (can_rest flash) regions ≡ true → (r : ℕ) → IsRising 0 (region_at r regions).appended (filled_to flash (region_at r regions))
+rising_regions flash regions all r = (region_holds flash regions all r).0.rising
+
+-- how many there are
+pub few_regions : (flash : FlashConfig) (s : Block) → flash_wrong flash ≡ None → misfit flash s ≡ None → length s.regions ≤ 65536
+few_regions flash s right fit = omega (arith, eqb-true (length s.regions) flash.regions (passes flash s fit).count, (limits_from flash right).regions)
+
 pub small_limit : (flash : FlashConfig) → flash_wrong flash ≡ None → flash.small_max ≤ 4096
 small_limit flash right = let l = small_from flash right in omega (arith, l.small, l.most_page)
-
-pub are_parts : (flash : FlashConfig) (regions : List Region) (current : Option ℕ) (sealed flushed : List ℕ) (leads index : List Indexed) → flash_wrong flash ≡ None → length regions ≡ flash.regions → list_all (can_rest flash) regions ≡ true
-    → StandsIf Open regions current → AllOnce Sealed regions sealed → AllOnce OnFlash regions flushed → index ≡ leads → all_lead flash regions None leads ≡ true → AreParts flash regions current sealed flushed leads index
-are_parts flash regions current sealed flushed leads index right n all c s f i l =
-    let l2 : all_lead flash regions None index ≡ true = subst (λ (xs : List Indexed). all_lead flash regions None xs ≡ true) (sym i) l in
-    record { led = i; kept = resting_kept flash regions current sealed flushed index right n all c s f l2; large = resting_leads flash regions current sealed flushed index l2 }
-
-pub parts_of : (flash : FlashConfig) (rs regions : List Region) (current : Option ℕ) (sealed flushed : List ℕ) (ls leads index : List Indexed) → rs ≡ regions → ls ≡ leads → flash_wrong flash ≡ None → length rs ≡ flash.regions → list_all (can_rest flash) rs ≡ true
-    → StandsIf Open rs current → AllOnce Sealed rs sealed → AllOnce OnFlash rs flushed → index ≡ ls → all_lead flash rs None ls ≡ true → AreParts flash regions current sealed flushed leads index
-parts_of flash rs regions current sealed flushed ls leads index e g right n all c s f i l =
-    subst (λ (xs : List Region). AreParts flash xs current sealed flushed leads index) e
-    (subst (λ (ys : List Indexed). AreParts flash rs current sealed flushed ys index) g (are_parts flash rs current sealed flushed ls index right n all c s f i l))
-
-pub if_some_more : {X E : Type 0} {P Q : X → Type 0} → ((x : X) → P x → Q x) → (r : Result (Option X) E) → IfOk r (λ (o : Option X). IfSome o P) → IfOk r (λ (o : Option X). IfSome o Q)
-if_some_more f (Ok (Some x)) h = f x h
-if_some_more f (Ok None) h = h
-if_some_more f (Err e) h = h

@@ -5,7 +5,7 @@ use Rattle.std.proofs.Math.Nat.{div-mul-le_self}
 use Rattle.std.proofs.lemmas.Nat.{le-div, pow_pos}
 use Rattle.std.proofs.lemmas.Bool.{eqb-true, ltb-true, ltb-false, lt-ltb}
 use Rattle.hc_engines.specs.large.Index.{Place, Indexed, place_at, leading, without}
-use Rattle.hc_block.specs.Indexes.{segment_of, joined, AllOf, AreApart}
+use Rattle.hc_block.specs.Indexes.{segment_of, joined, AllOf, AreApart, AllAbove, Rises}
 
 -- ---- which hashes are where
 
@@ -30,11 +30,6 @@ later_larger shift a b lt = go (nat_lt a b) refl
         let k = less_or (a / (2 ^ shift)) (b / (2 ^ shift)) quotients in
         absurd (omega (arith, k, lt))
 
--- all these hashes are above this one
-abbrev AllAbove : ℕ → List Indexed → Type 0
-AllAbove hash [] = Unit {0}
-AllAbove hash (x ∷ xs) = (hash < x.hash) × AllAbove hash xs
-
 all_above : (shift hash n : ℕ) (xs ys : List Indexed) → segment_of shift hash < n → AllOf shift n xs → AllAbove hash ys → AllAbove hash (xs ++ ys)
 all_above shift hash n [] ys lt all more = more
 all_above shift hash n (x ∷ xs) ys lt all more = (later_larger shift hash x.hash (let e = all.0 in omega (arith, e, lt)), all_above shift hash n xs ys lt all.1 more)
@@ -53,7 +48,7 @@ skipped shift n hash (x ∷ xs) ys all other = go (x.hash == hash) refl (skipped
     go true t more = absurd (other (ap (segment_of shift) (sym (eqb-true x.hash hash t)) ∙ all.0))
     go false t more = more
 
-nowhere_above : (hash : ℕ) (xs : List Indexed) → AllAbove hash xs → place_at hash xs ≡ None
+pub nowhere_above : (hash : ℕ) (xs : List Indexed) → AllAbove hash xs → place_at hash xs ≡ None
 nowhere_above hash [] above = refl
 nowhere_above hash (x ∷ xs) above = let other : (x.hash == hash) ≡ false = (let lt = above.0 in grind (arith, lt)) in rw other (nowhere_above hash xs above.1)
 
@@ -195,3 +190,23 @@ none_apart shift n (suc m) = (tt, none_apart shift (n + 1) m)
 pub one_more : (xs : List (List Indexed)) (n i : ℕ) → i < n → (xs ++ [] ∷ []) ++ replicate (n - (i + 1)) [] ≡ xs ++ replicate (n - i) []
 one_more [] n i lt = let e : n - i ≡ suc (n - (i + 1)) = omega (arith, lt) in rw e refl
 one_more (x ∷ xs) n i lt = ap (λ (ys : List (List Indexed)). x ∷ ys) (one_more xs n i lt)
+
+-- ---- the hashes rise
+
+all_rise : (shift n : ℕ) (xs ys : List Indexed) → ((hash : ℕ) → segment_of shift hash < n + 1 → AllAbove hash ys) → AllOf shift n xs → Rises xs → Rises ys → Rises (xs ++ ys)
+all_rise shift n [] ys above all r s = s
+all_rise shift n (x ∷ xs) ys above all r s = (both xs r.0, all_rise shift n xs ys above all.1 r.1 s)
+  where
+    both : (zs : List Indexed) → AllAbove x.hash zs → AllAbove x.hash (zs ++ ys)
+    both [] a = above x.hash (let e = all.0 in omega (arith, e))
+    both (z ∷ zs) a = (a.0, both zs a.1)
+
+rise_from : (shift n : ℕ) (segments : List (List Indexed)) → AreApart shift n segments → ((i : ℕ) → i < length segments → Rises (get_or segments i [])) → Rises (joined segments)
+rise_from shift n [] apart each = tt
+rise_from shift n (xs ∷ segments) apart each =
+    all_rise shift n xs (joined segments) (λ hash lt. later_above shift hash (n + 1) segments lt apart.1) apart.0 (each 0 (omega arith))
+    (rise_from shift (n + 1) segments apart.1 (λ i lt. each (suc i) (omega (arith, lt))))
+
+-- where the hashes of each segment rise, so do all
+pub all_in_order : (shift : ℕ) (segments : List (List Indexed)) → AreApart shift 0 segments → ((i : ℕ) → i < length segments → Rises (get_or segments i [])) → Rises (joined segments)
+all_in_order shift segments apart each = rise_from shift 0 segments apart each

@@ -1,5 +1,5 @@
 -- How contracts see the index and its segments.
-use Rattle.std.specs.Prelude.{◌≡◌, ℕ, ◌+◌, ◌≤◌, ◌/◌, ◌^◌, nat_lt, List, [], ◌∷◌, ◌++◌, length, map, if◌then◌else◌}
+use Rattle.std.specs.Prelude.{◌≡◌, ℕ, ◌+◌, ◌<◌, ◌≤◌, ◌/◌, ◌^◌, nat_lt, List, [], ◌∷◌, ◌++◌, length, map, if◌then◌else◌}
 use Rattle.hc_engines.specs.large.Index.{Place, Indexed}
 
 abbrev pub indexed_of : ℕ × Place → Indexed
@@ -29,6 +29,16 @@ AllOf shift n (x ∷ xs) = (segment_of shift x.hash ≡ n) × AllOf shift n xs
 abbrev pub AreApart : ℕ → ℕ → List (List Indexed) → Type 0
 AreApart shift n [] = Unit {0}
 AreApart shift n (xs ∷ segments) = AllOf shift n xs × AreApart shift (n + 1) segments
+
+-- all these hashes are above this one
+abbrev pub AllAbove : ℕ → List Indexed → Type 0
+AllAbove hash [] = Unit {0}
+AllAbove hash (x ∷ xs) = (hash < x.hash) × AllAbove hash xs
+
+-- the hashes rise
+abbrev pub Rises : List Indexed → Type 0
+Rises [] = Unit {0}
+Rises (x ∷ xs) = AllAbove x.hash xs × Rises xs
 
 -- each pair is in its own segment
 abbrev pub IsCut : ℕ → List (List Indexed) → Type 0

@@ -1,11 +1,16 @@
 // The index: where each kept hash leads. It is cut into 256 segments by the highest bits of the hash.
-ghost use Rattle.std.specs.Prelude.{◌≡◌, ◌<◌, ◌≤◌, ◌++◌, ◌-◌, [], length, get_or, set, replicate, OnOk, OnErr, IfOk};
+ghost use Rattle.std.specs.Prelude.{◌≡◌, ℕ, ◌<◌, ◌≤◌, ◌^◌, [], length, get_or, set, replicate, OnOk, OnErr, IfOk};
+ghost use Rattle.std.specs.List.{list_all};
 ghost use Rattle.hc_engines.specs.large.Index.{place_at, leading, without, is_place};
-ghost use Rattle.hc_block.specs.Indexes.{segment_of, joined};
+ghost use Rattle.hc_engines.specs.large.Region.{region_at, filled_to};
+ghost use Rattle.hc_engines.specs.large.Sound.{IsRising};
+ghost use Rattle.hc_block.specs.Indexes.{segment_of, joined, Rises};
+ghost use Rattle.hc_block.specs.Resting.{leads_well};
 
-use crate::resting::Lead;
+use crate::leads::Leads;
 use crate::segment::Segment;
-use hc_region::Place;
+use hc_region::{Place, Region};
+use hc_types::FlashConfig;
 use std::alloc::{AllocError, Allocator, Global};
 use std::marker::Model;
 
@@ -14,7 +19,7 @@ const SEGMENTS: u64 = 256;
 
 /// Where kept hashes lead, in order of the hash: 256 ordered maps, one after the other. Contracts see the list of its pairs.
 #[derive(Drop)]
-pub(crate) struct Index<A: Allocator = Global> {
+pub struct Index<A: Allocator = Global> {
     /// A hash without so many of its lowest bits is the number of its segment.
     shift: u64,
     segments: Vec<Segment<A>, A>,
@@ -89,17 +94,32 @@ fn empty_segments<A: Allocator + Clone + Copy>(
     Ok(segments)
 }
 
-/// The pairs of these segments go behind those of the list. Refused only when out of memory.
-fn gather<A: Allocator + Clone>(
-    leads: &mut Vec<Lead, A>,
-    segments: &[Segment<A>],
-) -> Result<(), AllocError>
-    ensures { OnOk result (leads.new.items ≡ leads.old.items ++ joined segments.now) }
+/// The hashes of each of these segments rise: a law to call where a proof asks for it. It does nothing.
+fn in_order<A: Allocator>(segments: &[Segment<A>])
+    ensures { (i : ℕ) → i < length segments.now → Rises (get_or segments.now i []) }
 {
     for segment in segments {
-        segment.append_to(leads)?;
+        segment.in_order();
     }
-    Ok(())
+}
+
+/// Whether each hash of these segments leads to a large entry of these regions.
+fn all_lead<A: Allocator + Clone + Copy>(
+    segments: &[Segment<A>],
+    regions: &[Region<A>],
+    flash: &FlashConfig,
+) -> bool
+    requires small { flash.now.small_max ≤ 4096 }
+    requires filled { (r : ℕ) → filled_to flash.now (region_at r regions.now) < 2 ^ 32 }
+    requires rising { (r : ℕ) → IsRising 0 (region_at r regions.now).appended (filled_to flash.now (region_at r regions.now)) }
+    ensures { result ≡ list_all (leads_well flash.now regions.now) (joined segments.now) }
+{
+    for segment in segments {
+        if !segment.all_lead(regions, flash) {
+            return false;
+        }
+    }
+    true
 }
 
 impl<A: Allocator> Index<A> {
@@ -126,11 +146,27 @@ impl<A: Allocator> Index<A> {
     {
         remove_at(&mut self.segments, segment_of(self.shift, hash), hash);
     }
+
+    /// Its hashes rise: a law to call where a proof asks for it. It looks at 256 segments, and changes nothing.
+    pub(crate) fn in_order(&self)
+        ensures { Rises self.now }
+    {
+        in_order(&self.segments);
+    }
+
+    /// What it leads to, to be handed out one after another. It takes no memory.
+    #[must_use]
+    pub fn into_leads(self) -> Leads<A>
+        ensures { result ≡ self }
+    {
+        let Index { shift: _, segments } = self;
+        Leads::of(segments)
+    }
 }
 
 impl<A: Allocator + Clone> Index<A> {
     /// The hash leads to this place from here on, and to no other. Refused only when out of memory.
-    pub(crate) fn insert(&mut self, hash: u64, place: Place) -> Result<(), AllocError>
+    pub fn insert(&mut self, hash: u64, place: Place) -> Result<(), AllocError>
         ensures ok { OnOk result (self.new ≡ leading hash place self.old) }
         ensures err { OnErr result (self.new ≡ self.old) }
     {
@@ -145,17 +181,18 @@ impl<A: Allocator + Clone> Index<A> {
 }
 
 impl<A: Allocator + Clone + Copy> Index<A> {
-    /// Where the hashes lead, in order of the hash. Refused only when out of memory.
-    pub(crate) fn leads(&self, alloc: A) -> Result<Vec<Lead, A>, AllocError>
-        ensures { IfOk result (λ leads. leads.items ≡ self.now) }
+    /// Whether each hash leads to a large entry of these regions.
+    pub(crate) fn all_lead(&self, regions: &[Region<A>], flash: &FlashConfig) -> bool
+        requires small { flash.now.small_max ≤ 4096 }
+        requires filled { (r : ℕ) → filled_to flash.now (region_at r regions.now) < 2 ^ 32 }
+        requires rising { (r : ℕ) → IsRising 0 (region_at r regions.now).appended (filled_to flash.now (region_at r regions.now)) }
+        ensures { result ≡ list_all (leads_well flash.now regions.now) self.now }
     {
-        let mut leads = Vec::new(alloc);
-        gather(&mut leads, self.segments.as_slice())?;
-        Ok(leads)
+        all_lead(&self.segments, regions, flash)
     }
 
-    /// It leads nowhere, by hashes of so many bits. Refused only when out of memory.
-    pub(crate) fn new(alloc: A, bits: u64) -> Result<Index<A>, AllocError>
+    /// It leads nowhere, by hashes of so many bits, as the configuration has them. Refused only when out of memory.
+    pub fn new(alloc: A, bits: u64) -> Result<Index<A>, AllocError>
         requires { bits ≤ 64 }
         ensures { IfOk result (λ index. index ≡ []) }
     {

@@ -1,9 +1,16 @@
 // A segment of the index.
-ghost use Rattle.std.specs.Prelude.{◌≡◌, ◌++◌, [], OnOk, OnErr};
+ghost use Rattle.std.specs.Prelude.{◌≡◌, ◌==◌, ℕ, ◌≤◌, ◌<◌, ◌^◌, [], ◌∷◌, length, OnOk, OnErr, MatchOption};
+ghost use Rattle.std.specs.List.{list_all};
 ghost use Rattle.hc_engines.specs.large.Index.{place_at, leading, without};
+ghost use Rattle.hc_engines.specs.large.Region.{region_at, filled_to};
+ghost use Rattle.hc_engines.specs.large.Sound.{IsRising};
+ghost use Rattle.hc_block.specs.Indexes.{Rises};
+ghost use Rattle.hc_block.specs.Resting.{leads_well};
 
-use crate::resting::Lead;
-use hc_region::Place;
+use crate::leads::Lead;
+use crate::resting::leads_well;
+use hc_region::{Place, Region};
+use hc_types::FlashConfig;
 use std::alloc::{AllocError, Allocator, Global};
 use std::collections::BTreeMap;
 use std::marker::Model;
@@ -48,19 +55,50 @@ impl<A: Allocator> Segment<A> {
         let _len = self.map.len();
         let _ = self.map.remove(&hash);
     }
+
+    /// Whether it leads nowhere.
+    pub(crate) fn is_empty(&self) -> bool
+        ensures { result ≡ (length self.now == 0) }
+    {
+        self.map.len() == 0
+    }
+
+    /// Its hashes rise: a law to call where a proof asks for it. It does nothing.
+    pub(crate) fn in_order(&self)
+        ensures { Rises self.now }
+    {
+        let _len = self.map.len();
+    }
+
+    /// The first of its hashes leads nowhere from here on. Where it led.
+    pub(crate) fn take_first(&mut self) -> Option<Lead>
+        ensures { MatchOption result (self.old ≡ []) (λ lead. self.old ≡ lead ∷ self.new) }
+    {
+        match self.map.pop_first() {
+            Some((hash, place)) => Some(Lead::new(hash, place)),
+            None => None,
+        }
+    }
+}
+
+impl<A: Allocator + Clone + Copy> Segment<A> {
+    /// Whether each of its hashes leads to a large entry of these regions.
+    pub(crate) fn all_lead(&self, regions: &[Region<A>], flash: &FlashConfig) -> bool
+        requires small { flash.now.small_max ≤ 4096 }
+        requires filled { (r : ℕ) → filled_to flash.now (region_at r regions.now) < 2 ^ 32 }
+        requires rising { (r : ℕ) → IsRising 0 (region_at r regions.now).appended (filled_to flash.now (region_at r regions.now)) }
+        ensures { result ≡ list_all (leads_well flash.now regions.now) self.now }
+    {
+        for (hash, place) in &self.map {
+            if !leads_well(regions, flash, *hash, *place) {
+                return false;
+            }
+        }
+        true
+    }
 }
 
 impl<A: Allocator + Clone> Segment<A> {
-    /// Its pairs go behind those of the list. Refused only when out of memory.
-    pub(crate) fn append_to(&self, leads: &mut Vec<Lead, A>) -> Result<(), AllocError>
-        ensures { OnOk result (leads.new.items ≡ leads.old.items ++ self.now) }
-    {
-        for (hash, place) in &self.map {
-            leads.push(Lead::new(*hash, *place))?;
-        }
-        Ok(())
-    }
-
     /// The hash leads to this place from here on, and to no other. Refused only when out of memory.
     pub(crate) fn insert(&mut self, hash: u64, place: Place) -> Result<(), AllocError>
         ensures ok { OnOk result (self.new ≡ leading hash place self.old) }

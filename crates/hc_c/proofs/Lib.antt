@@ -1,2 +1,4 @@
 pub mod CacheAsBox
+pub mod ImageAsBox
+pub mod Untaken
 pub mod ValueAsBox

@@ -1,4 +1,5 @@
 pub mod Calls
+pub mod Images
 pub mod Jobs
 pub mod Leases
 pub mod Making

@@ -8,6 +8,7 @@ use Rattle.std.specs.Box.Ownership.{box_owns}
 use Rattle.std.specs.declared.alloc.Global.{Global}
 use Rattle.std.specs.contracts.impls.GlobalAllocator.TheImpl.{ghosts}
 use Rattle.hc_c.specs.contracts.cache.Cache as cache
+use Rattle.hc_c.specs.contracts.image.Image as image
 use Rattle.hc_c.specs.contracts.reading.Reading as reading
 
 abbrev pub cache_seated : Global → Ptr → Option cache.the_row.Denot → Fml
@@ -23,3 +24,10 @@ value_seated alloc at (Some held) = box_owns (ghosts.dealloc_token alloc) readin
 
 abbrev pub value_coded : Coded (Option reading.the_row.Denot)
 value_coded = coded_option reading.the_row.coded
+
+abbrev pub image_seated : Global → Ptr → Option image.the_row.Denot → Fml
+image_seated alloc at None = ftrue
+image_seated alloc at (Some held) = box_owns (ghosts.dealloc_token alloc) image.the_row at held
+
+abbrev pub image_coded : Coded (Option image.the_row.Denot)
+image_coded = coded_option image.the_row.coded

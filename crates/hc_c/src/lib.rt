@@ -9,9 +9,14 @@ mod cache;
 mod cache_handle;
 mod cache_seat;
 mod calls;
+mod closing;
+mod image;
+mod image_handle;
+mod image_seat;
 mod items;
 mod jobs;
 mod leases;
+mod loading;
 mod making;
 mod pages;
 mod parts;
@@ -25,10 +30,19 @@ mod workers;
 
 pub use cache::Cache;
 pub use cache_handle::CacheHandle;
+pub use closing::{
+    Mark, kilambosetry_close, kilambosetry_image_copy, kilambosetry_image_free,
+    kilambosetry_image_next,
+};
+pub use image::{Image, Stream};
+pub use image_handle::ImageHandle;
 pub use items::{kilambosetry_add, kilambosetry_delete, kilambosetry_get, kilambosetry_set};
 pub use jobs::Operation;
 pub use leases::{
     kilambosetry_ask_turn, kilambosetry_end_turn, kilambosetry_set_leased, kilambosetry_ticket,
+};
+pub use loading::{
+    kilambosetry_image_take, kilambosetry_load, kilambosetry_load_end, kilambosetry_load_with_flash,
 };
 pub use making::{
     Flash, Pool, kilambosetry_free, kilambosetry_new, kilambosetry_new_shard,

@@ -42,7 +42,7 @@ pub struct Flash {
 }
 
 impl Flash {
-    fn config(self) -> FlashConfig
+    pub(crate) fn config(self) -> FlashConfig
         ensures { result ≡ numbers_of self }
     {
         FlashConfig {
@@ -60,7 +60,7 @@ impl Flash {
     }
 }
 
-fn sizes_of(alloc: Global, pools: &[Pool]) -> Result<Vec<PoolSize>, AllocError>
+pub(crate) fn sizes_of(alloc: Global, pools: &[Pool]) -> Result<Vec<PoolSize>, AllocError>
     ensures { IfOk result (λ sizes. sizes.items ≡ map size_of pools.now) }
 {
     let mut sizes = Vec::new(alloc);
@@ -74,7 +74,7 @@ fn sizes_of(alloc: Global, pools: &[Pool]) -> Result<Vec<PoolSize>, AllocError>
 }
 
 // So many slots for leases as C asks for, within the limits.
-fn slots_of(slots: u32) -> usize
+pub(crate) fn slots_of(slots: u32) -> usize
     ensures within { result ≡ slots_within slots }
     ensures enough { 16 ≤ result }
 {

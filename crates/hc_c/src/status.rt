@@ -25,6 +25,20 @@ pub enum Status {
     Finished,
     /// What was loaded isn't stored: a key of its slot was changed since the ticket was handed out.
     Stale,
+    /// The bytes are no image, or one that was cut or changed; or the image didn't end.
+    NotWhole,
+    /// The image is of another version.
+    OtherVersion,
+    /// The image is of a cache with another configuration, or of another shard.
+    OtherConfig,
+    /// The image has another seal: it isn't the last one of this flash.
+    OtherSeal,
+    /// The cache was closed longer ago than is allowed.
+    TooOld,
+    /// The cache was closed at a later second than it is.
+    ClockWentBack,
+    /// What the image has can't be a cache's.
+    Unfit,
 }
 
 impl Status {
@@ -43,6 +57,13 @@ impl Status {
             Status::Idle => 104,
             Status::Finished => 105,
             Status::Stale => 106,
+            Status::NotWhole => 107,
+            Status::OtherVersion => 108,
+            Status::OtherConfig => 109,
+            Status::OtherSeal => 110,
+            Status::TooOld => 111,
+            Status::ClockWentBack => 112,
+            Status::Unfit => 113,
         }
     }
 }

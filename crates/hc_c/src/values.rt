@@ -85,7 +85,7 @@ fn reply(
 }
 
 // Copies the value's bytes from place `from` on to the head of a buffer, as many as there are and fit, and answers how many.
-fn piece(value: &[u8], from: usize, out: &mut [u8]) -> usize
+pub(crate) fn piece(value: &[u8], from: usize, out: &mut [u8]) -> usize
     ensures { Pieces value.now from result out.old out.new }
 {
     if from >= value.len() {

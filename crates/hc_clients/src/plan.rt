@@ -109,7 +109,7 @@ impl<'a> Plan<'a> {
             Order::NoFlash => Ok(self.end_configuration(None)),
             Order::Flash(flash) => Ok(self.end_configuration(Some(flash))),
             Order::Do(step) => self.add_request(step),
-            Order::Serve(_) => Ok(false),
+            Order::Serve(_) | Order::Restart => Ok(false),
         }
     }
 

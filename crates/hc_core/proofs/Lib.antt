@@ -5,4 +5,5 @@ pub mod Keeping
 pub mod Opening
 pub mod Calling
 pub mod Joining
+pub mod Resumed
 mod Unread

@@ -6,6 +6,7 @@ mod giving_up;
 mod laws;
 mod plain;
 mod reading;
+mod resting;
 mod storing;
 mod workers;
 
@@ -20,5 +21,7 @@ pub use hc_history::{
 };
 pub use hc_memory::{Blank, Fill, PoolUsage, Pools, ReadHandle, Sealed, Uncharged, Usage};
 pub use hc_nvm::{Take, Unfinished};
-pub use hc_state::{Copied, Found, Inserted, Removed, Unlinked};
+pub use hc_state::{
+    Copied, Found, Inserted, NotBegun, NotTaken, Parts, PartsBuilder, Removed, Unfit, Unlinked,
+};
 pub use hc_types::{Cause, Config, FlashConfig, Key, PoolSize, Refusal, Scope, Why};

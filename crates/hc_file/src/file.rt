@@ -13,7 +13,7 @@ use std::{fmt, io};
 
 /// A device whose pages lie one behind the other in a file or on a block device, which is read and written at their places.
 /// Nothing is promised of the bytes that it answers: others may write to the file, and a disk may lose what was written to
-/// it. Nothing is synced: what was written is the system's to bring to the disk, and nothing is to survive the cache.
+/// it. No page is synced: what was written is the system's to bring to the disk, and nothing is to survive the cache.
 ///
 /// A page outside the device, bytes of another length than a page's, and a page that the file didn't give or take whole
 /// are failures that are counted. A read allocates the page and its count of owners, and copies nothing after the system

@@ -22,14 +22,42 @@ const DIGESTED: usize = 64;
 /// their marks there.
 const LOOKED_AT: u64 = 256 * HEAD;
 
-/// Whether it begins with our name, where it has so many bytes.
-pub(crate) fn is_ours(file: &File, length: u64) -> io::Result<bool> {
+/// Where the seal stands, by which a cache of the Cargo crate knows that nothing was changed since it was closed.
+const SEAL: usize = 48;
+
+/// What stands there where a seal is being taken away: the head's digest is another's, so it is no cache's.
+const TAKEN: [u8; 16] = [0xff; 16];
+
+/// Whose it is, by its head.
+#[derive(Clone, Copy, PartialEq, Eq)]
+pub(crate) enum Owner {
+    /// It doesn't begin with our name.
+    Other,
+    /// It does, and has no seal.
+    Ours,
+    /// It does, and has a seal, or one that is being taken away.
+    Sealed,
+}
+
+/// Whose it is, where it has so many bytes.
+pub(crate) fn owner_of(file: &File, length: u64) -> io::Result<Owner> {
     if length < HEAD {
-        return Ok(false);
+        return Ok(Owner::Other);
     }
-    let mut name = [0u8; 16];
-    file.read_exact_at(&mut name, 0)?;
-    Ok(name == NAME)
+    let mut head = [0u8; DIGESTED];
+    file.read_exact_at(&mut head, 0)?;
+    if !head.starts_with(&NAME) {
+        return Ok(Owner::Other);
+    }
+    let has_seal = head[SEAL..].iter().any(|byte| *byte != 0);
+    Ok(if has_seal { Owner::Sealed } else { Owner::Ours })
+}
+
+/// Takes the seal away, and answers once the disk has none. What is written for that isn't zeros: so where the process ends before
+/// it is synced, or the system refuses that, the next open doesn't take the seal for gone.
+pub(crate) fn take_seal(file: &File) -> io::Result<()> {
+    file.write_all_at(&TAKEN, SEAL as u64)?;
+    file.sync_data()
 }
 
 /// Writes the head of so many pages. It has no number of its own, and no seal.

@@ -2,7 +2,7 @@
 ghost use Rattle.std.specs.Prelude.{◌≡◌, ◌*◌, ◌⊎◌, IfOk, IsErrOf};
 
 use crate::file::FileDevice;
-use crate::head::{self, HEAD};
+use crate::head::{self, HEAD, Owner};
 use crate::in_use::is_in_use;
 use std::alloc::Allocator;
 use std::fs::{File, Files, Metadata, OpenOptions, TryLockError};
@@ -70,8 +70,8 @@ fn has_anything(file: &File, found: &Metadata, length: u64) -> io::Result<bool> 
     head::has_anything(file, length)
 }
 
-/// Sees that it is ours to write, or taken whatever it has, and has so many bytes. A file gets that length, unless it is one
-/// of ours and has it: it takes room on the disk only as it is written.
+/// Sees that it is ours to write, or taken whatever it has, and has so many bytes and no seal. A file gets that length, unless it
+/// is one of ours and has it: it takes room on the disk only as it is written.
 fn take<R: Files<File = File>, A: Allocator + Clone>(
     rt: &R,
     alloc: A,
@@ -91,9 +91,13 @@ fn take<R: Files<File = File>, A: Allocator + Clone>(
     if is_device && length < wanted {
         return Err(OpenError::TooSmall);
     }
-    let is_ours = head::is_ours(file, length)?;
+    let owner = head::owner_of(file, length)?;
+    let is_ours = owner != Owner::Other;
     if !is_ours && !overwrites && has_anything(file, &found, length)? {
         return Err(OpenError::NotOurs);
+    }
+    if owner == Owner::Sealed {
+        head::take_seal(file)?;
     }
     if !is_device && (!is_ours || length != wanted) {
         file.set_len(0)?;
@@ -135,8 +139,10 @@ fn open_as<R: Files<File = File>, A: Allocator + Clone>(
 /// made anew. Any other is refused with `NotOurs` and left as it was. Of a block device the first and the last MiB are looked
 /// at; one that is mounted, swapped to, or a part of another one is refused with `InUse`.
 ///
-/// Nothing is synced, and nothing of an earlier run is served: a cache reads no page that it didn't write, and a `Checked`
-/// answers none.
+/// Nothing of an earlier run is served: a cache reads no page that it didn't write, and a `Checked` answers none. A seal in the
+/// head, which says that a cache of the Cargo crate kept what it had, is taken away first, and that is synced: so nothing that it
+/// kept is found behind changed pages, also where the machine fails. Where the system refuses to write or to sync that, the device
+/// isn't opened (`System`), and the next open does it again. Nothing else is synced.
 pub fn open<R: Files<File = File>, A: Allocator + Clone>(
     rt: &R,
     alloc: A,

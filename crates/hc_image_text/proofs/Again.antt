@@ -8,7 +8,7 @@ use Rattle.hc_engines.specs.large.Region.{Appended, Region}
 use Rattle.hc_engines.proofs.large.Bytes.{entry_again}
 use Rattle.hc_region.specs.declared.resting.AtRest.{AtRest}
 use Rattle.hc_region.specs.declared.resting.AtRest.TheVariants as rests
-use Rattle.hc_image_text.specs.Counting.{CountersReadBack, PoolReadsBack}
+use Rattle.hc_image_text.specs.Counting.{CountersReadBack}
 use Rattle.hc_image_text.specs.Items.{clean_byte, clean_in, item_bytes, ItemReadsBack, KeyReadsBack}
 use Rattle.hc_image_text.specs.Leads.{LeadReadsBack}
 use Rattle.hc_image_text.specs.Numbers.{NumberReadsBack}
@@ -40,9 +40,6 @@ key_again key some short = rw (lt-ltb 0 (length key) some, le-leb (length key) 2
 
 pub counters_again : CountersReadBack
 counters_again c fits = rw (from_be_bytes-to_be_bytes_8 c.charges fits.charges, from_be_bytes-to_be_bytes_8 c.jobs fits.jobs, from_be_bytes-to_be_bytes_8 c.calls fits.calls, from_be_bytes-to_be_bytes_8 c.clock fits.clock) refl
-
-pub pool_again : PoolReadsBack
-pool_again p fits = rw (from_be_bytes-to_be_bytes_8 p.items fits.items) refl
 
 pub open_again : OpenReadsBack
 open_again None fits = refl

@@ -14,7 +14,6 @@ use Rattle.hc_image_text.specs.Frames.{kind_byte, kind_in, Frame, frame_bytes, C
 pub kind_again : (kind : Kind) → kind_in (kind_byte kind) ≡ Some kind
 kind_again kinds.Head = refl
 kind_again kinds.Counters = refl
-kind_again kinds.Pool = refl
 kind_again kinds.Item = refl
 kind_again kinds.Put = refl
 kind_again kinds.Tombstone = refl
@@ -69,7 +68,6 @@ pub kind_spelled : (b : ℕ) (kind : Kind) → kind_in b ≡ Some kind → b ≡
 kind_spelled b kind =
     letter b kinds.Head _ kind (b == 72) refl
     (letter b kinds.Counters _ kind (b == 78) refl
-    (letter b kinds.Pool _ kind (b == 80) refl
     (letter b kinds.Item _ kind (b == 73) refl
     (letter b kinds.Put _ kind (b == 81) refl
     (letter b kinds.Tombstone _ kind (b == 84) refl
@@ -83,7 +81,7 @@ kind_spelled b kind =
     (letter b kinds.Digests _ kind (b == 68) refl
     (letter b kinds.Owner _ kind (b == 66) refl
     (letter b kinds.End None kind (b == 69) refl
-    (λ none. absurd (none-some kind none)))))))))))))))))
+    (λ none. absurd (none-some kind none))))))))))))))))
 
 small_front : (n : ℕ) (xs : List ℕ) → ((i : ℕ) → get_or xs i 0 < 256) → (i : ℕ) → get_or (take n xs) i 0 < 256
 small_front zero xs small i = omega arith

@@ -1,5 +1,5 @@
 -- The head of an image is read again.
-use Rattle.std.proofs.Common.{◌≡◌, inr, ℕ, ◌≤◌, ◌==◌, nat_le, nat_eq, Bool, true, false, List, ◌++◌, length, take, drop, refl, sym, ap, arith, append_assoc, length-append, take_at, drop_at, drop-drop, ◌∙◌}
+use Rattle.std.proofs.Common.{◌≡◌, inr, ℕ, ◌≤◌, ◌==◌, nat_le, nat_eq, Bool, true, false, List, ◌++◌, length, take, drop, refl, sym, ap, arith, append_assoc, length-append, take_at, drop_at, ◌∙◌}
 use Rattle.std.specs.Prelude.{not, Result, Ok, Err, if◌then◌else◌}
 use Rattle.std.specs.Int.{w32, w64, to_be_bytes, from_be_bytes}
 use Rattle.std.specs.Cmp.Lexicographic.{pointwise, same_text}
@@ -8,11 +8,10 @@ use Rattle.std.proofs.lemmas.Cmp.{nat_list_eq_equiv}
 use Rattle.std.proofs.lemmas.Nat.{from_be_bytes-to_be_bytes_4, from_be_bytes-to_be_bytes_8}
 use Rattle.hc_types.specs.Config.{Config}
 use Rattle.hc_image_text.specs.declared.head.Head.{Head}
-use Rattle.hc_image_text.specs.declared.head.Lengths.{Lengths}
 use Rattle.hc_image_text.specs.declared.head.Refused.{Refused}
 use Rattle.hc_image_text.specs.declared.head.Refused.TheVariants as refused
 use Rattle.hc_image_text.specs.declared.head.Shard.{Shard}
-use Rattle.hc_image_text.specs.Heads.{AreLengths, lengths_bytes, lengths_at, IsHead, told_bytes, told_at, told_in, whose_bytes, name, version, begun, head_bytes, head_in, Reads, HeadReadsBack, OtherConfigIsRefused, OtherVersionIsRefused}
+use Rattle.hc_image_text.specs.Heads.{IsHead, told_bytes, told_at, told_in, whose_bytes, name, version, begun, head_bytes, head_in, Reads, HeadReadsBack, OtherConfigIsRefused, OtherVersionIsRefused}
 use Rattle.hc_image_text.proofs.Whose.{whose_tells}
 
 alike : (xs : List ℕ) → pointwise nat_eq xs xs ≡ true
@@ -24,29 +23,24 @@ begins shard config more =
     let long : nat_le 20 (length (begun version ++ more)) ≡ true = le-leb 20 (length (begun version ++ more)) (omega arith) in
     rw (long, from_be_bytes-to_be_bytes_4 1 (omega arith)) refl
 
-told_long : (h : Head) → IsHead h → length (told_bytes h) ≡ 64
+told_long : (h : Head) → IsHead h → length (told_bytes h) ≡ 24
 told_long h fits = rw (length-append h.seal, fits.seal) refl
-
-lengths_again : (l : Lengths) (more : List ℕ) → AreLengths l → lengths_at (lengths_bytes l ++ more) ≡ l
-lengths_again l more fits = rw (from_be_bytes-to_be_bytes_8 l.items fits.items, from_be_bytes-to_be_bytes_8 l.puts fits.puts, from_be_bytes-to_be_bytes_8 l.tombstones fits.tombstones, from_be_bytes-to_be_bytes_8 l.leads fits.leads, from_be_bytes-to_be_bytes_8 l.digests fits.digests) refl
 
 told_again : (h : Head) (more : List ℕ) → IsHead h → told_at (told_bytes h ++ more) ≡ h
 told_again h more fits =
     let bytes = told_bytes h ++ more in
-    let behind = to_be_bytes w64 h.closed ++ (lengths_bytes h.lengths ++ more) in
-    let apart : bytes ≡ h.seal ++ behind = append_assoc h.seal (to_be_bytes w64 h.closed ++ lengths_bytes h.lengths) more in
+    let behind = to_be_bytes w64 h.closed ++ more in
+    let apart : bytes ≡ h.seal ++ behind = append_assoc h.seal (to_be_bytes w64 h.closed) more in
     let seal : take 16 bytes ≡ h.seal = ap (take 16) apart ∙ take_at h.seal behind 16 fits.seal in
     let rest : drop 16 bytes ≡ behind = ap (drop 16) apart ∙ drop_at h.seal behind 16 fits.seal in
-    let last : drop 24 bytes ≡ lengths_bytes h.lengths ++ more = sym (drop-drop 8 16 bytes) ∙ ap (drop 8) rest in
     let closed : from_be_bytes w64 (take 8 (drop 16 bytes)) ≡ h.closed = ap (λ bs. from_be_bytes w64 (take 8 bs)) rest ∙ from_be_bytes-to_be_bytes_8 h.closed fits.closed in
-    let lengths : lengths_at (drop 24 bytes) ≡ h.lengths = ap lengths_at last ∙ lengths_again h.lengths more fits.lengths in
-    λ i. record { seal = seal i; closed = closed i; lengths = lengths i }
+    λ i. record { seal = seal i; closed = closed i }
 
 told_of : (whose : List ℕ) (other : List ℕ) (h : Head) (t : Bool) → IsHead h → pointwise nat_eq other whose ≡ t
     → told_in whose (told_bytes h ++ other) ≡ (if not t then Err refused.OtherConfig else Ok h)
 told_of whose other h t fits same =
-    let long : nat_le 64 (length (told_bytes h ++ other)) ≡ true = le-leb 64 (length (told_bytes h ++ other)) (omega (arith, length-append (told_bytes h) other, told_long h fits)) in
-    rw (long, drop_at (told_bytes h) other 64 (told_long h fits), same, told_again h other fits) refl
+    let long : nat_le 24 (length (told_bytes h ++ other)) ≡ true = le-leb 24 (length (told_bytes h ++ other)) (omega (arith, length-append (told_bytes h) other, told_long h fits)) in
+    rw (long, drop_at (told_bytes h) other 24 (told_long h fits), same, told_again h other fits) refl
 
 pub head_again : HeadReadsBack
 head_again shard config h fits =

@@ -177,7 +177,6 @@ end_is : (kind : Kind) → is_end kind ≡ true → kind ≡ kinds.End
 end_is kinds.End h = refl
 end_is kinds.Head h = absurd cc
 end_is kinds.Counters h = absurd cc
-end_is kinds.Pool h = absurd cc
 end_is kinds.Item h = absurd cc
 end_is kinds.Put h = absurd cc
 end_is kinds.Tombstone h = absurd cc

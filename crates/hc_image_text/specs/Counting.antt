@@ -1,8 +1,7 @@
--- The counters of a cache, and the heads of its pools.
-use Rattle.std.specs.Prelude.{◌≡◌, ℕ, ◌<◌, ◌^◌, ◌==◌, List, [], ◌∷◌, ◌++◌, length, take, drop, Option, Some, None, if◌then◌else◌}
+-- The counters of a cache.
+use Rattle.std.specs.Prelude.{◌≡◌, ℕ, ◌<◌, ◌^◌, ◌==◌, List, ◌++◌, length, take, drop, Option, Some, None, if◌then◌else◌}
 use Rattle.std.specs.Int.{w64, to_be_bytes, from_be_bytes}
 use Rattle.hc_image_text.specs.declared.counters.Counters.{Counters}
-use Rattle.hc_image_text.specs.declared.counters.PoolHead.{PoolHead}
 
 -- ---- the counters: how many charges, jobs and calls there were, and the second that it is
 
@@ -28,19 +27,3 @@ counters_in bytes = if length bytes == 32 then Some (counters_at bytes) else Non
 
 abbrev pub CountersReadBack : Type 0
 CountersReadBack = (c : Counters) → AreCounters c → counters_in (counters_bytes c) ≡ Some c
-
--- ---- the head of a pool: its number, and how many items of it come
-
-pub record IsPoolHead (p : PoolHead) : Type 0 where
-  pub pool : p.pool < 2 ^ 8
-  pub items : p.items < 2 ^ 64
-
-abbrev pub pool_bytes : PoolHead → List ℕ
-pool_bytes p = p.pool ∷ to_be_bytes w64 p.items
-
-abbrev pub pool_in : List ℕ → Option PoolHead
-pool_in [] = None
-pool_in (pool ∷ bytes) = if length bytes == 8 then Some (record { pool = pool; items = from_be_bytes w64 bytes }) else None
-
-abbrev pub PoolReadsBack : Type 0
-PoolReadsBack = (p : PoolHead) → IsPoolHead p → pool_in (pool_bytes p) ≡ Some p

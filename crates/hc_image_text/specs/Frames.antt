@@ -8,7 +8,6 @@ use Rattle.hc_image_text.specs.declared.frame.Kind.TheVariants as kinds
 abbrev pub kind_byte : Kind → ℕ
 kind_byte kinds.Head = 72
 kind_byte kinds.Counters = 78
-kind_byte kinds.Pool = 80
 kind_byte kinds.Item = 73
 kind_byte kinds.Put = 81
 kind_byte kinds.Tombstone = 84
@@ -27,7 +26,6 @@ abbrev pub kind_in : ℕ → Option Kind
 kind_in b =
     if b == 72 then Some kinds.Head
     else (if b == 78 then Some kinds.Counters
-    else (if b == 80 then Some kinds.Pool
     else (if b == 73 then Some kinds.Item
     else (if b == 81 then Some kinds.Put
     else (if b == 84 then Some kinds.Tombstone
@@ -40,7 +38,7 @@ kind_in b =
     else (if b == 65 then Some kinds.Stamps
     else (if b == 68 then Some kinds.Digests
     else (if b == 66 then Some kinds.Owner
-    else (if b == 69 then Some kinds.End else None)))))))))))))))
+    else (if b == 69 then Some kinds.End else None))))))))))))))
 
 pub record Frame : Type 0 where
   pub kind : Kind

@@ -1,4 +1,4 @@
--- The head of an image: its version, the seal that the flash has too, when it was closed, how much comes, and whose it is.
+-- The head of an image: its version, the seal that the flash has too, when it was closed, and whose it is.
 use Rattle.std.specs.Prelude.{◌≡◌, refl, ◌⊎◌, ℕ, ◌<◌, ◌-◌, ◌^◌, ◌==◌, nat_le, nat_lt, nat_eq, false, not, List, [], ◌∷◌, ◌++◌, length, take, drop, flat_map, All, Option, Some, None, Result, Ok, Err, if◌then◌else◌}
 use Rattle.std.specs.Int.{w32, w64, to_be_bytes, from_be_bytes}
 use Rattle.std.specs.Cmp.Lexicographic.{pointwise}
@@ -6,7 +6,6 @@ use Rattle.hc_types.specs.declared.config.FlashConfig.{FlashConfig}
 use Rattle.hc_types.specs.declared.config.PoolSize.{PoolSize}
 use Rattle.hc_types.specs.Config.{Config}
 use Rattle.hc_image_text.specs.declared.head.Head.{Head}
-use Rattle.hc_image_text.specs.declared.head.Lengths.{Lengths}
 use Rattle.hc_image_text.specs.declared.head.Shard.{Shard}
 use Rattle.hc_image_text.specs.declared.head.Refused.{Refused}
 use Rattle.hc_image_text.specs.declared.head.Refused.TheVariants as refused
@@ -66,44 +65,18 @@ pub record IsConfig (c : Config) : Type 0 where
   pub pools : All IsPoolSize c.pools
   pub flash : (f : FlashConfig) → c.flash ≡ Some f → IsFlash f
 
--- ---- how much comes
-
-pub record AreLengths (l : Lengths) : Type 0 where
-  pub items : l.items < 2 ^ 64
-  pub puts : l.puts < 2 ^ 64
-  pub tombstones : l.tombstones < 2 ^ 64
-  pub leads : l.leads < 2 ^ 64
-  pub digests : l.digests < 2 ^ 64
-
-abbrev pub lengths_bytes : Lengths → List ℕ
-lengths_bytes l = to_be_bytes w64 l.items ++ (to_be_bytes w64 l.puts ++ (to_be_bytes w64 l.tombstones ++ (to_be_bytes w64 l.leads ++ to_be_bytes w64 l.digests)))
-
-abbrev pub lengths_at : List ℕ → Lengths
-lengths_at bytes = record {
-  items = from_be_bytes w64 (take 8 bytes);
-  puts = from_be_bytes w64 (take 8 (drop 8 bytes));
-  tombstones = from_be_bytes w64 (take 8 (drop 16 bytes));
-  leads = from_be_bytes w64 (take 8 (drop 24 bytes));
-  digests = from_be_bytes w64 (take 8 (drop 32 bytes));
-}
-
 -- ---- the head
 
 pub record IsHead (h : Head) : Type 0 where
   pub seal : length h.seal ≡ 16
   pub closed : h.closed < 2 ^ 64
-  pub lengths : AreLengths h.lengths
 
--- the seal, when it was closed, and how much comes
+-- the seal, and when it was closed
 abbrev pub told_bytes : Head → List ℕ
-told_bytes h = h.seal ++ (to_be_bytes w64 h.closed ++ lengths_bytes h.lengths)
+told_bytes h = h.seal ++ to_be_bytes w64 h.closed
 
 abbrev pub told_at : List ℕ → Head
-told_at bytes = record {
-  seal = take 16 bytes;
-  closed = from_be_bytes w64 (take 8 (drop 16 bytes));
-  lengths = lengths_at (drop 24 bytes);
-}
+told_at bytes = record { seal = take 16 bytes; closed = from_be_bytes w64 (take 8 (drop 16 bytes)) }
 
 -- `Kilambosetrykept`
 abbrev pub name : List ℕ
@@ -121,8 +94,8 @@ head_bytes shard config h = begun version ++ (told_bytes h ++ whose_bytes shard 
 -- what stands behind the version
 abbrev pub told_in : List ℕ → List ℕ → Result Head Refused
 told_in whose bytes =
-    if not (nat_le 64 (length bytes)) then Err refused.NotWhole
-    else (if not (pointwise nat_eq (drop 64 bytes) whose) then Err refused.OtherConfig
+    if not (nat_le 24 (length bytes)) then Err refused.NotWhole
+    else (if not (pointwise nat_eq (drop 24 bytes) whose) then Err refused.OtherConfig
     else Ok (told_at bytes))
 
 -- the head that the bytes are, where it is that of an image of this shard with this configuration. The name and the version are looked

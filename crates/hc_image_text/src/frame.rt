@@ -13,8 +13,6 @@ pub enum Kind {
     Head,
     /// The counters.
     Counters,
-    /// A pool, whose items come behind it.
-    Pool,
     /// An item of memory.
     Item,
     /// An entry that waits for flash.
@@ -52,7 +50,6 @@ fn kind_byte(kind: Kind) -> u8
     match kind {
         Kind::Head => b'H',
         Kind::Counters => b'N',
-        Kind::Pool => b'P',
         Kind::Item => b'I',
         Kind::Put => b'Q',
         Kind::Tombstone => b'T',
@@ -75,7 +72,6 @@ fn kind_in(byte: u8) -> Option<Kind>
     match byte {
         b'H' => Some(Kind::Head),
         b'N' => Some(Kind::Counters),
-        b'P' => Some(Kind::Pool),
         b'I' => Some(Kind::Item),
         b'Q' => Some(Kind::Put),
         b'T' => Some(Kind::Tombstone),

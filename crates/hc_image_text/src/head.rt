@@ -2,7 +2,7 @@
 ghost use Rattle.std.specs.Prelude.{◌≡◌, ◌<◌, ◌≤◌, ◌^◌, ◌++◌, ◌==◌, length, get_or, take, drop, flat_map, nat_eq, IfOk, OnOk};
 ghost use Rattle.std.specs.Int.{w32, w64, from_be_bytes};
 ghost use Rattle.std.specs.Cmp.Lexicographic.{pointwise};
-ghost use Rattle.hc_image_text.specs.Heads.{pool_size_bytes, numbers64, flash_numbers, flash_bytes, config_bytes, shard_bytes, whose_bytes, lengths_bytes, lengths_at as lengths_at_seen, told_bytes, told_at as told_at_seen, told_in as told_in_seen, head_bytes, head_in as head_in_seen, age_checked, name, version, Reads};
+ghost use Rattle.hc_image_text.specs.Heads.{pool_size_bytes, numbers64, flash_numbers, flash_bytes, config_bytes, shard_bytes, whose_bytes, told_bytes, told_at as told_at_seen, told_in as told_in_seen, head_bytes, head_in as head_in_seen, age_checked, name, version, Reads};
 
 use crate::numbers::{put_number, put_u32};
 use byteorder::{BigEndian, ByteOrder};
@@ -32,17 +32,6 @@ pub struct Shard {
     pub of: u32,
 }
 
-/// How many records of a kind an image has, or of those that stand many in one, how many of them.
-#[derive(Clone, Copy, Debug, PartialEq, Eq)]
-pub struct Lengths {
-    pub items: u64,
-    pub puts: u64,
-    pub tombstones: u64,
-    pub leads: u64,
-    /// Digests of pages: one for each page of the device, or none.
-    pub digests: u64,
-}
-
 /// What the head of an image tells.
 #[derive(Clone, Copy, Debug, PartialEq, Eq)]
 pub struct Head {
@@ -50,7 +39,6 @@ pub struct Head {
     pub seal: [u8; 16],
     /// The second at which the cache was closed, by its clock.
     pub closed: u64,
-    pub lengths: Lengths,
 }
 
 /// With what an image's head begins.
@@ -161,25 +149,11 @@ fn put_whose<A: Allocator + Clone>(
     put_config(out, config)
 }
 
-fn put_lengths<A: Allocator + Clone>(
-    out: &mut Vec<u8, A>,
-    lengths: Lengths,
-) -> Result<(), AllocError>
-    ensures { OnOk result (out.new.items ≡ out.old.items ++ lengths_bytes lengths) }
-{
-    put_number(out, lengths.items)?;
-    put_number(out, lengths.puts)?;
-    put_number(out, lengths.tombstones)?;
-    put_number(out, lengths.leads)?;
-    put_number(out, lengths.digests)
-}
-
 fn put_told<A: Allocator + Clone>(out: &mut Vec<u8, A>, head: &Head) -> Result<(), AllocError>
     ensures { OnOk result (out.new.items ≡ out.old.items ++ told_bytes head.now) }
 {
     out.extend_from_slice(&head.seal)?;
-    put_number(out, head.closed)?;
-    put_lengths(out, head.lengths)
+    put_number(out, head.closed)
 }
 
 /// The head of an image of this shard, of this configuration, goes behind the bytes. Refused only when out of memory.
@@ -196,19 +170,6 @@ pub fn put_head<A: Allocator + Clone>(
     put_u32(out, VERSION)?;
     put_told(out, head)?;
     put_whose(out, shard, config)
-}
-
-fn lengths_at(bytes: &[u8]) -> Lengths
-    requires { 40 ≤ length bytes.now }
-    ensures { result ≡ lengths_at_seen bytes.now }
-{
-    Lengths {
-        items: BigEndian::read_u64(&bytes[..8]),
-        puts: BigEndian::read_u64(&bytes[8..16]),
-        tombstones: BigEndian::read_u64(&bytes[16..24]),
-        leads: BigEndian::read_u64(&bytes[24..32]),
-        digests: BigEndian::read_u64(&bytes[32..40]),
-    }
 }
 
 fn seal_at(bytes: &[u8]) -> [u8; 16]
@@ -228,29 +189,28 @@ fn closed_at(bytes: &[u8]) -> u64
 }
 
 fn told_at(bytes: &[u8]) -> Head
-    requires { 64 ≤ length bytes.now }
+    requires { 24 ≤ length bytes.now }
     ensures { result ≡ told_at_seen bytes.now }
 {
     Head {
         seal: seal_at(bytes),
         closed: closed_at(bytes),
-        lengths: lengths_at(&bytes[24..]),
     }
 }
 
 /// Whether this shard and configuration stand behind what a head tells.
 fn is_of(whose: &[u8], bytes: &[u8]) -> bool
-    requires { 64 ≤ length bytes.now }
-    ensures { result ≡ pointwise nat_eq (drop 64 bytes.now) whose.now }
+    requires { 24 ≤ length bytes.now }
+    ensures { result ≡ pointwise nat_eq (drop 24 bytes.now) whose.now }
 {
-    let (_, its) = bytes.split_at(64);
+    let (_, its) = bytes.split_at(24);
     its == whose
 }
 
 fn told_in(whose: &[u8], bytes: &[u8]) -> Result<Head, Refused>
     ensures { result ≡ told_in_seen whose.now bytes.now }
 {
-    if bytes.len() < 64 {
+    if bytes.len() < 24 {
         return Err(Refused::NotWhole);
     }
     if !is_of(whose, bytes) {

@@ -1,7 +1,7 @@
 //! The bytes of what is kept of a cache at rest: each record is written with one spelling, and read as what was written.
 #![tactic(auto)]
 
-ghost use Rattle.hc_image_text.specs.Counting.{CountersReadBack, PoolReadsBack};
+ghost use Rattle.hc_image_text.specs.Counting.{CountersReadBack};
 ghost use Rattle.hc_image_text.specs.Frames.{FrameReadsBack, CutIsSpelled};
 ghost use Rattle.hc_image_text.specs.Heads.{HeadReadsBack, OtherConfigIsRefused, OtherVersionIsRefused};
 ghost use Rattle.hc_image_text.specs.Images.{ImageReadsBack, ImageIsSpelled, CutImageIsRefused, LongerImageIsRefused, OtherDigestIsRefused, StepsReadBack, DigestOfParts};
@@ -21,9 +21,9 @@ mod numbers;
 mod region;
 mod word;
 
-pub use counters::{Counters, PoolHead, counters_in, pool_in, put_counters, put_pool};
+pub use counters::{Counters, counters_in, put_counters};
 pub use frame::{FRONT, Kind, cut, fill_front, front_in, put_frame};
-pub use head::{Head, Lengths, Refused, Shard, check_age, head_in, put_head};
+pub use head::{Head, Refused, Shard, check_age, head_in, put_head};
 pub use image::{END, ImageReader, ImageWriter, is_whole};
 pub use item::{KeptItem, item_in, key_in, put_entry, put_item, put_key};
 pub use lead::{LEAD, lead_in, put_lead};
@@ -40,7 +40,6 @@ pub fn records_read_back()
     ensures items { ItemReadsBack }
     ensures keys { KeyReadsBack }
     ensures counters { CountersReadBack }
-    ensures pools { PoolReadsBack }
     ensures lists { NumbersReadBack }
     ensures open_regions { OpenReadsBack }
     ensures regions { RegionReadsBack }

@@ -1,5 +1,5 @@
 -- When the keys of a cache were changed last. A ticket is a moment: the number of changes so far.
-use Rattle.std.specs.Prelude.{ℕ, ◌+◌, ◌%◌, ◌==◌, nat_lt, nat_le, Bool, not, ◌&&◌, List, [], ◌∷◌, ◌++◌, length, Option, Some, None, filter, find, slice_index, slice_set, if◌then◌else◌}
+use Rattle.std.specs.Prelude.{ℕ, ◌+◌, ◌%◌, ◌==◌, nat_lt, nat_le, Bool, not, ◌&&◌, List, [], ◌∷◌, ◌++◌, length, Option, Some, None, filter, find, replicate, slice_index, slice_set, if◌then◌else◌}
 use Rattle.std.specs.List.{list_any}
 use Rattle.hc_types.specs.Digest.{digest_of}
 use Rattle.hc_lease.specs.declared.stamps.Adding.{Adding}
@@ -28,6 +28,11 @@ stamped slot stamps = record stamps { count = next_count stamps.count; slots = s
 
 abbrev pub changed : List ℕ → Stamps → Stamps
 changed key stamps = stamped (slot_of key (length stamps.slots)) stamps
+
+-- behind a restart of a cache of whose keys there were so many changes: each key counts as changed, by one change more, and no
+-- add waits; there may be another number of slots
+abbrev pub after_restart : ℕ → ℕ → Stamps
+after_restart slots changes = record { count = next_count changes; slots = replicate slots (next_count changes); adds = []; room = 0 }
 
 -- the ticket that is handed out now; none once the numbers are used up
 abbrev pub ticket_at : Stamps → Option ℕ

@@ -1,7 +1,7 @@
 // When the keys of a cache were changed last.
 ghost use Rattle.std.specs.Prelude.{◌≡◌, ◌+◌, ◌<◌, ◌≤◌, ◌%◌, ◌++◌, [], ◌∷◌, length, not, filter, find, replicate, slice_set, IfOk, OnOk, OnErr, vec_len, vec_capacity};
 ghost use Rattle.std.specs.List.{list_any};
-ghost use Rattle.hc_lease.specs.Stamps.{slot_of, changed, stamped, ticket_at, is_fresh, is_fresh_in, with_add, with_add_in, replied, is_add_in, is_of_call, is_add};
+ghost use Rattle.hc_lease.specs.Stamps.{slot_of, changed, stamped, after_restart, ticket_at, is_fresh, is_fresh_in, with_add, with_add_in, replied, is_add_in, is_of_call, is_add};
 
 use crate::ticket::Ticket;
 use hc_types::{Key, digest_of};
@@ -51,6 +51,21 @@ impl<A: Allocator + Copy> Stamps<A> {
         Ok(Stamps {
             count: 0,
             slots: Vec::from_elem(alloc, 0, slots)?,
+            adds: Vec::new(alloc),
+        })
+    }
+
+    /// Of a cache that goes on where another was closed, of whose keys there had been `changes` changes: each key counts as
+    /// changed, by one change more, so that no ticket of before is fresh, and no add waits. There may be another number of
+    /// slots, 8 bytes each, which are allocated here, as by `new`. Refused only when out of memory.
+    pub fn after_restart(alloc: A, changes: u64, slots: usize) -> Result<Stamps<A>, AllocError>
+        requires { 0 < slots }
+        ensures { IfOk result (λ stamps. stamps ≡ after_restart slots changes) }
+    {
+        let count = changes.saturating_add(1);
+        Ok(Stamps {
+            count,
+            slots: Vec::from_elem(alloc, count, slots)?,
             adds: Vec::new(alloc),
         })
     }

@@ -1,6 +1,7 @@
 -- A cache with leases.
 pub mod Answers
 pub mod Leased
+pub mod Resting
 pub mod Runs
 pub mod Serving
 pub mod Tracked

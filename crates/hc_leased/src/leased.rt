@@ -115,6 +115,21 @@ impl<C: Cache, A: Allocator> Leased<C, A> {
         cache
     }
 
+    /// The cache, and how many changes of keys there were, by which the tickets of a cache that goes on where this one stood are
+    /// told from those of this one (`Leased::resume`).
+    #[must_use]
+    pub fn into_parts(self) -> (C, u64)
+        ensures cache { C.seen result.0 ≡ self.logged }
+        ensures changes { result.1 ≡ self.stamps.count }
+    {
+        let Leased {
+            cache,
+            stamps,
+            turns: _,
+        } = self;
+        (cache, stamps.changes())
+    }
+
     /// How many calls were begun: inserts, finds and removes that weren't refused.
     #[must_use]
     pub fn calls(&self) -> u64

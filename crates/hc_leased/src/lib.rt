@@ -17,6 +17,9 @@ mod of_core;
 mod of_tracked;
 mod over_core;
 mod over_tracked;
+mod resting;
+mod resting_core;
+mod resting_tracked;
 mod serving;
 mod storing;
 
@@ -26,6 +29,7 @@ pub use laws::{
     calls_are_runs, leased_never_stale, leased_replies_never_stale, leased_tickets_hold,
 };
 pub use leased::{DEFAULT_PLACES, DEFAULT_SLOTS, Leased, slots_for};
+pub use resting_tracked::NotResumed;
 
 // The types of tickets, so that a caller needs no other crate.
 pub use hc_lease::Ticket;

@@ -25,3 +25,6 @@ pub mod Commuting
 pub mod Early
 pub mod Bringing
 pub mod Evicting
+pub mod Restoring
+pub mod HandingOut
+pub mod Built

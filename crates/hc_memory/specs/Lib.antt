@@ -10,3 +10,4 @@ pub mod Memory
 pub mod Planned
 pub mod Sound
 pub mod Unmarks
+pub mod Resting

@@ -1,10 +1,10 @@
 // The keys of the large clean items, by where their copies stand on flash.
-ghost use Rattle.std.specs.Prelude.{◌≡◌, ◌<◌, ◌≤◌, ◌^◌, ℕ, List, true, false, [], IfSome, OnOk};
+ghost use Rattle.std.specs.Prelude.{◌≡◌, ◌<◌, ◌≤◌, ◌^◌, ℕ, List, true, false, [], max, IfSome, OnOk};
 ghost use Rattle.std.specs.Str.{bytes_eq};
 ghost use Rattle.hc_types.specs.Loss.{scope_of, covers};
 ghost use Rattle.hc_types.specs.Tally.{count};
 ghost use Rattle.hc_memory.specs.Pool.{is_at};
-ghost use Rattle.hc_memory.specs.Clean.{has_key, is_listed, is_hash, large_places, large_at};
+ghost use Rattle.hc_memory.specs.Clean.{has_key, is_listed, is_told, is_hash, large_places, large_at};
 
 use crate::groups::KeyGroups;
 use crate::item::Item;
@@ -125,6 +125,31 @@ impl<A: Allocator + Clone> CleanIndex<A> {
             return Ok(());
         }
         self.large.add(alloc, large_place(key, flash), key)
+    }
+}
+
+impl<A: Allocator + Clone> CleanIndex<A> {
+    /// The item comes in as it was kept: it is listed where it is clean, and may be newer than any other. Refused only when out
+    /// of memory.
+    pub(crate) fn list_item(
+        &mut self,
+        alloc: &A,
+        flash: &Option<FlashConfig>,
+        item: &Item<A>,
+    ) -> Result<(), AllocError>
+        requires { IfSome flash.now (λ f. f.bits ≤ 64) }
+        ensures told { OnOk result (item.now.clean ≡ true → is_told flash.now self.new item.now ≡ true) }
+        ensures least { self.old.newest ≤ self.new.newest }
+        ensures most { self.new.newest ≤ max self.old.newest item.now.number }
+        ensures stay { (other : List ℕ) (n : ℕ) → is_listed flash.now self.old other n ≡ true → is_listed flash.now self.new other n ≡ true }
+    {
+        if !item.clean {
+            return Ok(());
+        }
+        self.list(alloc, flash, &item.key, item.value.len() as u64)?;
+        let newest = self.newest().max(item.number);
+        self.set_newest(newest);
+        Ok(())
     }
 }
 

@@ -1,6 +1,7 @@
 // The items of a pool.
 ghost use Rattle.std.specs.Prelude.{◌≡◌, ◌≤◌, ◌==◌, ◌&&◌, not, nat_lt, length};
 ghost use Rattle.hc_memory.specs.Pool.{is_expired};
+ghost use Rattle.hc_memory.specs.Seen.{item_of};
 
 use crate::value::ItemValue;
 use bytes::Bytes;
@@ -40,6 +41,28 @@ impl<A: Allocator> Item<A> {
         is_expired(now, self.expiry)
     }
 
+    /// The item apart from its key.
+    pub(crate) fn into_held(self) -> (Key<A>, Held<A>)
+        ensures { item_of result ≡ self }
+    {
+        let Item {
+            number,
+            pool,
+            key,
+            value,
+            expiry,
+            clean,
+        } = self;
+        let held = Held {
+            number,
+            pool,
+            value: ItemValue::new(value),
+            expiry,
+            clean,
+        };
+        (key, held)
+    }
+
     /// An item's value has at most `VALUE_MAX` bytes: a law to call where a proof asks for it. It does nothing.
     pub fn is_short(&self)
         ensures { length self.now.value ≤ 1048576 }
@@ -56,6 +79,29 @@ pub struct Held<A: Allocator = Global> {
     pub value: ItemValue<A>,
     pub expiry: u64,
     pub clean: bool,
+}
+
+impl<A: Allocator> Held<A> {
+    /// The item under this key.
+    pub(crate) fn into_item(self, key: Key<A>) -> Item<A>
+        ensures { result ≡ item_of (key, self) }
+    {
+        let Held {
+            number,
+            pool,
+            value,
+            expiry,
+            clean,
+        } = self;
+        Item {
+            number,
+            pool,
+            key,
+            value: value.into_bytes(),
+            expiry,
+            clean,
+        }
+    }
 }
 
 /// Whether what expires at the second `expiry` (0: never) is expired at `now` (seconds).

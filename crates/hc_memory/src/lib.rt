@@ -4,6 +4,7 @@
 
 mod answers;
 mod bring;
+mod builder;
 mod clean;
 mod fill;
 mod groups;
@@ -15,6 +16,7 @@ mod open;
 mod parked;
 mod pool;
 mod pools;
+mod resting;
 mod shown;
 mod storing;
 mod unmark;
@@ -22,6 +24,7 @@ mod usage;
 mod value;
 
 pub use answers::{Brought, Charged, Uncharged};
+pub use builder::{Misfit, NotRestored, PoolsBuilder};
 pub use fill::Fill;
 pub use handles::{Blank, ReadHandle, Sealed, each_byte};
 pub use item::{Item, is_expired};

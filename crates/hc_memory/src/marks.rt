@@ -1,5 +1,5 @@
 // The clean marks of small items, by when their buckets were lost.
-ghost use Rattle.std.specs.Prelude.{◌≡◌, ◌≤◌, ◌<◌, ◌^◌, IfOk, IfSome, OnOk, length, replicate, slice_set, get_or};
+ghost use Rattle.std.specs.Prelude.{◌≡◌, ◌≤◌, ◌<◌, ◌^◌, ◌&&◌, IfOk, IfSome, OnOk, length, replicate, slice_set, get_or};
 ghost use Rattle.hc_memory.specs.Marks.{is_lost, is_stale, settled};
 ghost use Rattle.hc_memory.specs.Pool.{unmarked_where};
 
@@ -77,6 +77,18 @@ impl<A: Allocator> Marks<A> {
             Some(number) => *number,
             None => 0,
         }
+    }
+
+    /// Whether the item has a mark that it loses, since its bucket was lost. No key is hashed of an item that is newer than each
+    /// loss.
+    pub(crate) fn takes(&self, flash: &Option<FlashConfig>, item: &Item<A>) -> bool
+        requires bits { IfSome flash.now (λ f. f.bits ≤ 64) }
+        requires buckets { IfSome flash.now (λ f. 1 ≤ f.buckets) }
+        ensures { result ≡ (item.now.clean && is_stale flash.now self.now item.now) }
+    {
+        item.clean
+            && item.number <= self.last
+            && self.is_lost(flash, &item.key, item.value.len() as u64, item.number)
     }
 
     /// Takes the item's mark where its bucket was lost since. No key is hashed of an item that is newer than each loss.

@@ -96,6 +96,14 @@ impl<A: Allocator> Pool<A> {
         }
     }
 
+    /// Whether it has no item.
+    #[must_use]
+    pub fn is_empty(&self) -> bool
+        ensures { result ≡ (length self.now.items == 0) }
+    {
+        self.cache.len() == 0
+    }
+
     /// Whether an item can be found under the key, expired or not. It isn't used.
     #[must_use]
     pub fn has(&self, key: &Key<A>) -> bool
@@ -246,6 +254,16 @@ impl<A: Allocator> Pool<A> {
         if self.covers(flash, scope, key) {
             self.unmark(key);
         }
+    }
+
+    /// Whether there is no room for `want` bytes, or for one more charge, beside its items and the open charges.
+    #[must_use]
+    pub fn is_full(&self, usage: Usage, want: u64) -> bool
+        requires bytes { usage.bytes + bytes_of self.now.items + want < 2 ^ 64 }
+        requires number { usage.number + length self.now.items ≤ self.now.size.items }
+        ensures { result ≡ is_full self.now.size usage want self.now.items }
+    {
+        full(self.size, usage, want, self.bytes, self.cache.len())
     }
 
     /// How many items go, from the one that was used longest ago on, to make room for `want` bytes and one more

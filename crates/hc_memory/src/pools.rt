@@ -199,7 +199,10 @@ impl<A: Allocator + Copy> Pools<A> {
 
 /// What is held under this key, expired or not, and the number of its pool. It looks into one pool after the other, of
 /// which there are few, until one has it.
-fn held_in<'a, A: Allocator>(pools: &'a [Pool<A>], key: &Key<A>) -> Option<(usize, &'a Held<A>)>
+pub(crate) fn held_in<'a, A: Allocator>(
+    pools: &'a [Pool<A>],
+    key: &Key<A>,
+) -> Option<(usize, &'a Held<A>)>
     ensures place { option_map (λ there. there.0) result ≡ home_of key.now pools.now }
     ensures item { option_map (λ there. item_of (key.now, there.1.now)) result ≡ linked_at key.now pools.now }
 {
@@ -263,7 +266,7 @@ fn unlink_from<A: Allocator>(pools: &mut Vec<Pool<A>, A>, key: &Key<A>) -> Optio
 }
 
 /// Pools of these sizes, without items.
-fn empty_pools<A: Allocator + Copy>(
+pub(crate) fn empty_pools<A: Allocator + Copy>(
     alloc: A,
     sizes: &[PoolSize],
 ) -> Result<Vec<Pool<A>, A>, AllocError>

@@ -17,3 +17,4 @@ pub mod Finished
 pub mod Free
 pub mod FillEnds
 pub mod Works
+pub mod Rested

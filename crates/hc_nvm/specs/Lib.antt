@@ -11,3 +11,4 @@ pub mod Starting
 pub mod Filled
 pub mod Finishing
 pub mod Endings
+pub mod Resting

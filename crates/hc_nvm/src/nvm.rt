@@ -69,4 +69,20 @@ impl<A: Allocator + Clone + Copy> Nvm<A> {
             made: 0,
         })
     }
+
+    /// Both engines, by value. What was not handed out is let go. Nothing is copied, and no memory is taken.
+    #[must_use]
+    pub fn into_pair(self) -> Pair<A>
+        ensures { result ≡ self.nvm.pair }
+    {
+        let Nvm {
+            pair,
+            queue: _,
+            tombstones: _,
+            fills: _,
+            jobs: _,
+            made: _,
+        } = self;
+        pair
+    }
 }

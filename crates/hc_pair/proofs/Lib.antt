@@ -2,3 +2,4 @@
 pub mod Steps
 pub mod Peeks
 pub mod Closing
+pub mod Rested

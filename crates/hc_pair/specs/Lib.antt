@@ -2,3 +2,4 @@
 pub mod Joined
 pub mod Found
 pub mod Endings
+pub mod Resting

@@ -7,6 +7,7 @@ mod joining;
 mod losing;
 mod pair;
 mod questions;
+mod resting;
 mod resuming;
 mod shown;
 mod starting;

@@ -18,7 +18,8 @@ use Rattle.hc_machine.specs.Workers as workers
 use Rattle.hc_machine.specs.World as world
 use Rattle.hc_machine.specs.World.{World, Line, Result, by_call, inserted, step, made, io_of, done_of, result_of, order_in, result_at, without_result}
 use Rattle.hc_trace_meaning.specs.Actions as replayed
-use Rattle.hc_trace_meaning.specs.Actions.{Action, Deed, Serve, unless, deed_of, done, by_step, act, answer_of, io_answer}
+use Rattle.hc_trace_meaning.specs.Actions.{Action, Deed, Serve, Restart, unless, deed_of, done, by_step, act, answer_of, io_answer, restart_answer}
+use Rattle.hc_state.specs.Resting.{is_at_rest}
 use Rattle.hc_core.specs.Logged.{Logged, IsCall}
 use Rattle.hc_core.specs.Answers.{refusal_in}
 use Rattle.hc_player.specs.Alike.{Alike}
@@ -43,6 +44,12 @@ alike_self w = record { cache = refl; pages = λ page. refl; results = λ job. r
 -- it is refused, and nothing happens
 pub acts-refused : {action : Action} {answer : Answer} (old : Playing) (refusal : Refusal) → act action (world_of old) ≡ record { world = world_of old; answer = Some (steps.Refused refusal); notes = [] } → Some (steps.Refused refusal) ≡ Some answer → Acts action answer old old
 acts-refused old refusal is seen = acts_by _ is (alike_self (world_of old)) seen (sym (told-nothing old.log))
+
+-- it asks for a restart, which changes nothing
+pub acts-restart : {answer : Answer} {old new : Playing} → new ≡ old → restart_answer (is_at_rest old.cache) ≡ answer → Acts Restart answer old new
+acts-restart {answer} {old} {new} same seen =
+    acts_by (record { world = world_of old; answer = Some (restart_answer (is_at_rest old.cache)); notes = [] }) refl (subst (λ (p : Playing). Alike (world_of p) (world_of old)) (sym same) (alike_self (world_of old))) (ap Some seen)
+    (ap (λ (p : Playing). p.log) same ∙ sym (told-nothing old.log))
 
 -- it is a call
 pub acts-call : {action : Action} {answer : Answer} {old new : Playing} (moved : Moved) → act action (world_of old) ≡ by_step (by_call (world_of old) moved) → Calls moved answer old new → Acts action answer old new

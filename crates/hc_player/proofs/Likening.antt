@@ -6,7 +6,7 @@ use Rattle.hc_machine.specs.World as world
 use Rattle.hc_machine.specs.World.{World, Line, Result, Stepped, step, io_of, done_of, order_in, result_at, result_of, breaks_next}
 use Rattle.hc_player.specs.Alike.{Alike}
 use Rattle.hc_player.proofs.Resulting.{result-gone}
-use Rattle.hc_trace_meaning.specs.Actions.{Action, Deed, Acts, Barred, Moved, said_answer, deed_of, done, act}
+use Rattle.hc_trace_meaning.specs.Actions.{Action, Deed, Acts, Barred, Rests, Moved, said_answer, deed_of, done, act}
 
 -- ---- a step
 
@@ -80,6 +80,7 @@ done_alike w rs same (Acts line) =
     let l = step_like w rs same line in
     record { world = l.world; answer = ap said_answer l.said; notes = l.part }
 done_alike w rs same (Barred refusal) = record { world = stays_like w rs same; answer = refl; notes = refl }
+done_alike w rs same Rests = record { world = stays_like w rs same; answer = refl; notes = refl }
 
 -- worlds that are alike differ in their results alone
 but_results : (a b : World) → Alike a b → a ≡ record b { results = a.results }

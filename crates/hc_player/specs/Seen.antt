@@ -1,7 +1,7 @@
 -- How the code's answers are seen.
 use Rattle.hc_trace_text.specs.Steps as steps
 use Rattle.hc_player.specs.declared.answers.Answer.{Answer}
-use Rattle.hc_player.specs.declared.answers.Answer.TheVariants.{Stored, Refused, Hit, Miss, Found, Absent, Moment, Exists, Waiting, Idle, Finished, Reads, Writes, Made, Failed, Reclaimed}
+use Rattle.hc_player.specs.declared.answers.Answer.TheVariants.{Stored, Refused, Hit, Miss, Found, Absent, Moment, Exists, Waiting, Idle, Finished, Reads, Writes, Made, Failed, Reclaimed, Restarted, Busy}
 
 abbrev pub answer_seen : Answer → steps.Answer
 answer_seen Stored = steps.Stored
@@ -20,3 +20,5 @@ answer_seen (Writes job page) = steps.Writes job page
 answer_seen Made = steps.Made
 answer_seen Failed = steps.Failed
 answer_seen (Reclaimed region) = steps.Reclaimed region
+answer_seen Restarted = steps.Restarted
+answer_seen Busy = steps.Busy

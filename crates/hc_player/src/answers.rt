@@ -34,4 +34,8 @@ pub enum Answer {
     Failed,
     /// This region was given up.
     Reclaimed(u32),
+    /// The cache was closed, and goes on with what was kept of it.
+    Restarted,
+    /// The cache isn't at rest, and is as it was.
+    Busy,
 }

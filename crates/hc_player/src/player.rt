@@ -3,10 +3,13 @@ ghost use Rattle.std.specs.Prelude.{◌≡◌, ◌⊎◌, ℕ, [], None, Some, I
 ghost use Rattle.hc_flash.specs.Devices.{held_by};
 ghost use Rattle.hc_types.specs.Limits.{first_wrong};
 ghost use Rattle.hc_history.specs.Told.{IfLog, losses_taken};
+ghost use Rattle.hc_trace_meaning.specs.Actions.{Restart};
 ghost use Rattle.hc_trace_meaning.specs.Trace.{fresh};
-ghost use Rattle.hc_player.specs.Playing.{world_of};
+ghost use Rattle.hc_player.specs.Playing.{world_of, Acts};
+ghost use Rattle.hc_player.specs.Seen.{answer_seen};
 ghost use Rattle.hc_player.specs.Alike.{Alike};
 
+use crate::answers::Answer;
 use hc_core::Core;
 use hc_flash::MemFlash;
 use hc_history::{Counting, Note, Notes};
@@ -80,6 +83,29 @@ impl<N: Notes<Note>> Player<N> {
             device,
             results,
         })
+    }
+
+    /// Closes the cache where it is at rest, and another goes on with its parts, over the same device.
+    #[must_use]
+    pub fn restart(self, alloc: Global) -> (Player<N>, Answer)
+        ensures { Acts Restart (answer_seen result.1) self result.0 }
+    {
+        if !self.core.is_at_rest() {
+            return (self, Answer::Busy);
+        }
+        let Player {
+            core,
+            device,
+            results,
+        } = self;
+        let (parts, notes) = core.close();
+        let core = Core::from_parts(alloc, parts, notes);
+        let player = Player {
+            core,
+            device,
+            results,
+        };
+        (player, Answer::Restarted)
     }
 
     /// Who was told the notes.

@@ -11,3 +11,4 @@ pub mod Settling
 pub mod ByKey
 pub mod Valued
 pub mod FirstOf
+pub mod Oldest

@@ -56,6 +56,15 @@ abbrev pub first_of : List ℕ → Option ℕ
 first_of [] = None
 first_of (n ∷ ns) = Some n
 
+-- the number of the first piece, taken or not
+abbrev pub oldest : {V : Type 0} → List (ℕ × Piece V) → Option ℕ
+oldest [] = None
+oldest (e ∷ es) = Some e.0
+
+-- a piece is taken
+abbrev pub any_taken : {V : Type 0} → List (ℕ × Piece V) → Bool
+any_taken es = list_any (λ (e : ℕ × Piece _). e.1.taken) es
+
 -- the first above n
 abbrev pub above : ℕ → List ℕ → Option ℕ
 above n ns = find (nat_lt n) ns
@@ -218,6 +227,11 @@ piece_in place xs = flat (slice_get xs place)
 abbrev pub is_of : {V : Type 0} → ℕ → Option (Piece V) → Bool
 is_of lane None = false
 is_of lane (Some p) = is_in lane p.lane
+
+-- there is a piece, and it is taken
+abbrev pub is_taken_slot : {V : Type 0} → Option (Piece V) → Bool
+is_taken_slot None = false
+is_taken_slot (Some p) = p.taken
 
 abbrev pub marked : {V : Type 0} → Option (Piece V) → Option (Piece V)
 marked None = None

@@ -1,8 +1,9 @@
 // The pieces that were pushed, and stand in no order yet: each by its place. One that went leaves its place empty.
 ghost use Rattle.std.specs.Prelude.{◌≡◌, ◌+◌, ◌<◌, ◌≤◌, ◌^◌, ◌++◌, [], length, ℕ, OnOk, Some, None, slice_set, option_map};
+ghost use Rattle.std.specs.List.{list_any};
 ghost use Rattle.std.specs.Option.{option_copied};
 ghost use Rattle.std.specs.VecDeque.{deque_len, deque_capacity};
-ghost use Rattle.hc_queue.specs.Queue.{Rises, piece_in, marked, marked_place, Settles, numbered, first_in_lane, is_of};
+ghost use Rattle.hc_queue.specs.Queue.{Rises, piece_in, marked, marked_place, Settles, numbered, first_in_lane, is_of, oldest, is_taken_slot};
 ghost use Rattle.hc_queue.specs.Keys.{value_of, named_slot, named_place};
 
 use crate::keyed::Named;
@@ -105,6 +106,43 @@ pub(crate) fn first_in<V, A: Allocator>(inbox: &Inbox<V, A>, from: u64, lane: u3
         number += 1;
     }
     None
+}
+
+/// The number of the first piece, taken or not, where the first place has this one.
+pub(crate) fn oldest_in<V, A: Allocator>(inbox: &Inbox<V, A>, from: u64) -> Option<u64>
+    requires { from + deque_len inbox.now < 2 ^ 64 }
+    ensures { result ≡ oldest (numbered from inbox.now.items) }
+{
+    let mut number = from;
+    for slot in inbox.iter() {
+        if slot.is_some() {
+            return Some(number);
+        }
+        number += 1;
+    }
+    None
+}
+
+/// Whether a piece is taken.
+pub(crate) fn any_taken_in<V, A: Allocator>(inbox: &Inbox<V, A>) -> bool
+    ensures { result ≡ list_any is_taken_slot inbox.now.items }
+{
+    for slot in inbox.iter() {
+        if has_taken(slot) {
+            return true;
+        }
+    }
+    false
+}
+
+/// Whether there is a piece, and it is taken.
+fn has_taken<V>(slot: &Option<Piece<V>>) -> bool
+    ensures { result ≡ is_taken_slot slot.now }
+{
+    match slot {
+        Some(piece) => piece.taken,
+        None => false,
+    }
 }
 
 /// Whether there is a piece, and it is of the lane.

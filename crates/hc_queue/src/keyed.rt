@@ -2,7 +2,7 @@
 ghost use Rattle.std.specs.Prelude.{◌≡◌, ◌+◌, ◌<◌, ◌≤◌, ◌==◌, ◌++◌, length, List, if◌then◌else◌, [], ◌∷◌, ℕ, Bool, false, find, option_map, is_some, IfOk, OnOk, OnErr, max, Some, None};
 ghost use Rattle.std.specs.Option.{option_copied};
 ghost use Rattle.indexmap.specs.IndexMap.{get, spare};
-ghost use Rattle.hc_queue.specs.Queue.{Answers, can_go, piece_at, without_number, taken_at, piece_by, pieces_of, in_lane, first_in_lane, above, IsRising};
+ghost use Rattle.hc_queue.specs.Queue.{Answers, can_go, piece_at, without_number, taken_at, piece_by, pieces_of, in_lane, first_in_lane, above, IsRising, oldest, any_taken};
 ghost use Rattle.hc_queue.specs.Keys.{number_of, without_key, same_key, value_of, named_at, AreApart};
 
 use crate::queue::{Piece, Queue};
@@ -114,6 +114,22 @@ impl<V, A: Allocator> KeyedQueue<V, A> {
         ensures { result ≡ first_in_lane lane self.now.entries }
     {
         self.queue.first_of(lane)
+    }
+
+    /// The number of the first piece, taken or not. Nothing is refused; see [`Queue::oldest`] for what it looks at.
+    #[must_use]
+    pub fn oldest(&self) -> Option<u64>
+        ensures { result ≡ oldest self.now.entries }
+    {
+        self.queue.oldest()
+    }
+
+    /// Whether a piece is taken. All pieces are looked at.
+    #[must_use]
+    pub fn any_taken(&self) -> bool
+        ensures { result ≡ any_taken self.now.entries }
+    {
+        self.queue.any_taken()
     }
 
     /// The value waits behind all others under a key that no piece has; its number is answered. It needs room, and the key

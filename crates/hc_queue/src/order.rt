@@ -2,7 +2,7 @@
 ghost use Rattle.std.specs.Prelude.{◌≡◌, ◌+◌, ◌-◌, ◌<◌, ◌≤◌, ◌++◌, ◌&&◌, not, [], ◌∷◌, ℕ, Bool, length, find, option_map, OnOk, OnErr, IfErr, Some, None, vec_len, vec_capacity};
 ghost use Rattle.std.specs.Option.{option_copied};
 ghost use Rattle.std.specs.List.Sorted.{IsStrictlySortedBy};
-ghost use Rattle.hc_queue.specs.Queue.{can_go, piece_at, without_number, taken_at, in_lane, first_in_lane, above, pieces_of, piece_by, IsRising, turn_of, lane_at, Rises, IsNew, AllBelow, joined, with, only_if, pair_cmp, open_lane, is_free, is_among, firsts, Answers, is_open, comes_first};
+ghost use Rattle.hc_queue.specs.Queue.{can_go, piece_at, without_number, taken_at, in_lane, first_in_lane, above, pieces_of, piece_by, IsRising, turn_of, lane_at, Rises, IsNew, AllBelow, joined, with, only_if, pair_cmp, open_lane, is_free, is_among, firsts, Answers, is_open, comes_first, oldest, any_taken};
 ghost use Rattle.hc_queue.specs.Keys.{value_of, named_at};
 
 use crate::keyed::Named;
@@ -121,6 +121,23 @@ impl<V, A: Allocator> Order<V, A> {
         self.pieces.get(&number)
     }
 
+    /// The number of the first piece.
+    pub(crate) fn oldest(&self) -> Option<u64>
+        ensures { result ≡ oldest self.now.entries }
+    {
+        match self.pieces.first_key_value() {
+            Some((number, _)) => Some(*number),
+            None => None,
+        }
+    }
+
+    /// Whether a piece is taken.
+    pub(crate) fn any_taken(&self) -> bool
+        ensures { result ≡ any_taken self.now.entries }
+    {
+        one_is_taken(&self.pieces)
+    }
+
     /// The number of the lane's first piece.
     pub(crate) fn first_of(&self, lane: u32) -> Option<u64>
         ensures { result ≡ first_in_lane lane self.now.entries }
@@ -214,6 +231,25 @@ impl<V: Drop, A: Allocator + Copy> Order<V, A> {
             Err(refused) => Err(refused),
         }
     }
+}
+
+/// Whether one of the pieces is taken.
+fn one_is_taken<V, A: Allocator>(pieces: &Pieces<V, A>) -> bool
+    ensures { result ≡ any_taken pieces.now.entries }
+{
+    for (_, piece) in pieces {
+        if is_taken(piece) {
+            return true;
+        }
+    }
+    false
+}
+
+/// Whether the piece is taken.
+fn is_taken<V>(piece: &Piece<V>) -> bool
+    ensures { result ≡ piece.now.taken }
+{
+    piece.taken
 }
 
 /// The lane of the piece with this number, where it waits.

@@ -2,10 +2,12 @@
 ghost use Rattle.std.specs.Prelude.{◌≡◌, ◌+◌, ◌<◌, ◌≤◌, ◌^◌, ◌==◌, ◌++◌, [], ◌∷◌, ℕ, Bool, false, length, find, option_map, IfOk, OnOk, OnErr, max, Some, None};
 ghost use Rattle.std.specs.Option.{option_copied};
 ghost use Rattle.std.specs.VecDeque.{deque_len, deque_capacity};
-ghost use Rattle.hc_queue.specs.Queue.{Answers, can_go, piece_at, without_number, taken_at, in_lane, first_in_lane, above, pieces_of, piece_by, IsRising, Rises, numbered};
+ghost use Rattle.hc_queue.specs.Queue.{Answers, can_go, piece_at, without_number, taken_at, in_lane, first_in_lane, above, pieces_of, piece_by, IsRising, Rises, numbered, oldest, any_taken};
 ghost use Rattle.hc_queue.specs.Keys.{value_of, named_at};
 
-use crate::inbox::{Inbox, first_in, get_in, mark_in, replace_in, settle, take_in};
+use crate::inbox::{
+    Inbox, any_taken_in, first_in, get_in, mark_in, oldest_in, replace_in, settle, take_in,
+};
 use crate::keyed::Named;
 use crate::order::Order;
 use std::alloc::{AllocError, Allocator, Global};
@@ -127,6 +129,29 @@ impl<V, A: Allocator> Queue<V, A> {
             Some(number) => Some(number),
             None => first_in(&self.inbox, self.from, lane),
         }
+    }
+
+    /// The number of the first piece, taken or not. Nothing is refused; where no piece stands in order, the places of those that
+    /// were pushed since are looked at one by one, up to the first that has one.
+    #[must_use]
+    pub fn oldest(&self) -> Option<u64>
+        ensures { result ≡ oldest self.now.entries }
+    {
+        match self.order.oldest() {
+            Some(number) => Some(number),
+            None => oldest_in(&self.inbox, self.from),
+        }
+    }
+
+    /// Whether a piece is taken. All pieces are looked at.
+    #[must_use]
+    pub fn any_taken(&self) -> bool
+        ensures { result ≡ any_taken self.now.entries }
+    {
+        if self.order.any_taken() {
+            return true;
+        }
+        any_taken_in(&self.inbox)
     }
 
     /// The value waits in the lane, or in none, behind all others; its number is answered. It needs room.

@@ -1,5 +1,5 @@
 -- A region at rest: no page of it is out, and no read holds it.
-use Rattle.std.specs.Prelude.{ℕ, ◌+◌, ◌==◌, nat_lt, nat_le, Bool, true, false, not, ◌&&◌, List, [], ◌∷◌, length}
+use Rattle.std.specs.Prelude.{ℕ, ◌+◌, ◌==◌, nat_lt, nat_le, Bool, true, false, not, ◌&&◌, List, [], ◌∷◌, length, Option, Some, None}
 use Rattle.hc_types.specs.declared.config.FlashConfig.{FlashConfig}
 use Rattle.hc_engines.specs.large.Region.{Status, Clean, Open, Sealed, Flushing, OnFlash, Draining, Appended, Region, region_len, filled_to}
 use Rattle.hc_region.specs.declared.resting.AtRest.{AtRest}
@@ -10,6 +10,15 @@ status_at rests.Clean = Clean
 status_at rests.Open = Open
 status_at rests.Sealed = Sealed
 status_at rests.OnFlash = OnFlash
+
+-- where a region at rest stands; none where a page of it is out, or only reads hold it
+abbrev pub rest_of : Status → Option AtRest
+rest_of Clean = Some rests.Clean
+rest_of Open = Some rests.Open
+rest_of Sealed = Some rests.Sealed
+rest_of Flushing = None
+rest_of OnFlash = Some rests.OnFlash
+rest_of Draining = None
 
 -- a region of these parts
 abbrev pub resting : AtRest → ℕ → List ℕ → List Appended → Region

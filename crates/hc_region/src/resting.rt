@@ -1,9 +1,7 @@
 // Regions at rest: what of one is kept where the cache is closed, and one of such parts.
-ghost use Rattle.std.specs.Prelude.{◌≡◌, ◌<◌, ◌≤◌, ◌*◌, ◌^◌, ◌&&◌, [], true, length, take, IfOk, OnOk, IfSome, OnSome};
+ghost use Rattle.std.specs.Prelude.{◌≡◌, ◌≤◌};
 ghost use Rattle.std.specs.List.{list_all};
-ghost use Rattle.hc_engines.specs.large.Region.{region_len, filled_to};
-ghost use Rattle.hc_region.specs.CleanNumbers.{clean_from};
-ghost use Rattle.hc_region.specs.Resting.{status_at, resting, is_rising, is_blank, can_stand, can_rest};
+ghost use Rattle.hc_region.specs.Resting.{rest_of, resting, is_rising, is_blank, can_stand, can_rest};
 
 use crate::region::{Appended, Region};
 use crate::status::Status;
@@ -14,9 +12,13 @@ use std::alloc::Allocator;
 /// Where a region stands of which no page is out and that no read holds.
 #[derive(Clone, Copy, Debug, PartialEq, Eq)]
 pub enum AtRest {
+    /// It has nothing, and can be opened.
     Clean,
+    /// Entries are appended to it.
     Open,
+    /// It is full, and its flush is not yet taken.
     Sealed,
+    /// All its pages are written.
     OnFlash,
 }
 
@@ -24,7 +26,7 @@ impl<A: Allocator + Clone + Copy> Region<A> {
     /// Where it stands at rest. None where a page of it is out, or only reads hold it.
     #[must_use]
     pub fn rest(&self) -> Option<AtRest>
-        ensures { IfSome result (λ rest. self.now.status ≡ status_at rest) }
+        ensures { result ≡ rest_of self.now.status }
     {
         match self.status {
             Status::Clean => Some(AtRest::Clean),

@@ -1,10 +1,10 @@
 -- Tickets over a restart: those of before are stale, and the numbers of changes go on.
-use Rattle.std.specs.Prelude.{◌≡◌, ℕ, ◌<◌, ◌≤◌, true, false, List, [], replicate, Some}
-use Rattle.hc_lease.specs.Stamps.{Stamps, next_count, ticket_at, is_fresh}
+use Rattle.std.specs.Prelude.{◌≡◌, ℕ, ◌<◌, ◌≤◌, true, false, List, Some}
+use Rattle.hc_lease.specs.Stamps.{Stamps, after_restart, ticket_at, is_fresh}
 
--- each key counts as changed, by one change more; there may be another number of slots
+-- each key counts as changed, by one change more, and no add waits; there may be another number of slots
 abbrev pub restarted : ℕ → Stamps → Stamps
-restarted slots stamps = record { count = next_count stamps.count; slots = replicate slots (next_count stamps.count); adds = []; room = 0 }
+restarted slots stamps = after_restart slots stamps.count
 
 -- a ticket was handed out where its number isn't above the count, nor the last number of all
 abbrev pub OldTicketsAreStale : Type 0

@@ -1,5 +1,7 @@
 -- A cache with flash as contracts see it, and the parts of its steps.
 pub mod Answers
+pub mod Numbers
+pub mod Resting
 pub mod Tells
 pub mod Whole
 pub mod Workers

@@ -4,11 +4,13 @@
 mod allocate;
 mod answers;
 mod begin;
+mod builder;
 mod clock;
 mod fill;
 mod find;
 mod reading;
 mod remove;
+mod resting;
 mod set;
 mod state;
 mod store;
@@ -17,6 +19,8 @@ mod wait;
 mod workers;
 
 pub use answers::{Copied, Found, Inserted, Removed, Unlinked};
+pub use builder::{NotBegun, NotTaken, PartsBuilder, Unfit};
+pub use resting::Parts;
 pub use state::State;
 pub use wait::commit::Course;
 pub use wait::plan::There;

@@ -9,7 +9,7 @@ use Rattle.hc_trace_text.specs.Texts.{losses_text}
 use Rattle.hc_machine.specs.World.{World}
 use Rattle.hc_player.specs.Alike.{Alike}
 use Rattle.hc_player.proofs.Likening.{act-alike}
-use Rattle.hc_trace_meaning.specs.Actions.{Action, Do, Serve, act}
+use Rattle.hc_trace_meaning.specs.Actions.{Action, Do, Serve, Restart, act}
 use Rattle.hc_trace_meaning.specs.Trace.{action_text, answered_text, ending, onto}
 use Rattle.hc_trace_meaning.specs.Turns as turns
 use Rattle.hc_trace_meaning.specs.Turns.{turned, after_turn, output_from}
@@ -40,6 +40,7 @@ line_same n lines rest a b c d l e (Says NoFlash) = refl
 line_same n lines rest a b c d l e (Says (Flash flash)) = refl
 line_same n lines rest a b c d l e (Says (grammar.Do s)) = acted_same n lines rest a b c d l e (Do s)
 line_same n lines rest a b c d l e (Says (grammar.Serve work)) = acted_same n lines rest a b c d l e (Serve work)
+line_same n lines rest a b c d l e (Says grammar.Restart) = acted_same n lines rest a b c d l e Restart
 line_same n lines rest a b c d l e Fault = refl
 
 same_output : (n : ℕ) (lines : List (List ℕ)) → Later n lines

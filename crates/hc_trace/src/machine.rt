@@ -13,7 +13,7 @@ ghost use Rattle.hc_trace_meaning.specs.Turns.{obeyed, turn_of, ended};
 ghost use Rattle.hc_trace.specs.Places.{place_of, closed, IsAt, IsBetween};
 
 use crate::state::State;
-use crate::telling::{do_work, take_step};
+use crate::telling::{do_work, restart, take_step};
 use hc_history::Counting;
 use hc_player::Player;
 use hc_trace_text::{
@@ -21,6 +21,7 @@ use hc_trace_text::{
 };
 use hc_types::{Config, FlashConfig, PoolSize, Refusal};
 use std::alloc::{AllocError, Global};
+use std::mem;
 
 // The fault at the line after so many. The trace stops.
 fn fault(out: &mut Vec<u8>, taken: u64) -> Result<bool, AllocError>
@@ -144,6 +145,34 @@ fn serve(state: &mut State, out: &mut Vec<u8>, work: &Work, taken: u64) -> Resul
     }
 }
 
+// A cache alone can be closed and go on.
+fn go_on(
+    alloc: Global,
+    state: &mut State,
+    out: &mut Vec<u8>,
+    taken: u64,
+) -> Result<bool, AllocError>
+    requires short { taken < 2 ^ 63 }
+    requires between { IsBetween state.old }
+    ensures state { OnOk result (IsAt state.new (obeyed taken (place_of state.old) spec.Restart).state) }
+    ensures text { OnOk result (out.new.items ≡ out.old.items ++ (obeyed taken (place_of state.old) spec.Restart).text) }
+    ensures goes { IfOk result (λ goes. goes ≡ (obeyed taken (place_of state.old) spec.Restart).goes) }
+{
+    // (where memory lacks for the answer, the cache is gone, and the trace ends)
+    let closed = State::Configuring(Config::new(Vec::new(alloc), None));
+    match mem::replace(state, closed) {
+        State::Configuring(config) => {
+            *state = State::Configuring(config);
+            fault(out, taken)
+        }
+        State::Running(player) => {
+            let player = restart(alloc, player, out)?;
+            begin(state, player);
+            Ok(true)
+        }
+    }
+}
+
 // An order, after so many lines.
 fn obey(
     alloc: Global,
@@ -170,6 +199,7 @@ fn obey(
         Order::Flash(flash) => end_configuration(alloc, state, out, Some(*flash), taken),
         Order::Do(step) => do_step(state, out, step, taken),
         Order::Serve(work) => serve(state, out, work, taken),
+        Order::Restart => go_on(alloc, state, out, taken),
     }
 }
 

@@ -1,11 +1,11 @@
 // A line behind the configuration, and what is printed for it.
-ghost use Rattle.std.specs.Prelude.{◌≡◌, ◌++◌, OnOk};
+ghost use Rattle.std.specs.Prelude.{◌≡◌, ◌++◌, IfOk, OnOk};
 ghost use Rattle.hc_trace_text.specs.Seen.{step_seen, work_seen};
 ghost use Rattle.hc_trace_text.specs.Texts.{line_text, answer_text, losses_text};
 ghost use Rattle.hc_history.specs.Told.{losses_taken};
 ghost use Rattle.hc_player.specs.Seen.{answer_seen};
 ghost use Rattle.hc_player.specs.Playing.{world_of};
-ghost use Rattle.hc_trace_meaning.specs.Actions.{Do, Serve, act};
+ghost use Rattle.hc_trace_meaning.specs.Actions.{Do, Serve, Restart, act};
 ghost use Rattle.hc_trace.specs.Places.{IsCounted, losses_in};
 ghost use Rattle.hc_trace.specs.Telling.{IsTold};
 
@@ -15,7 +15,7 @@ use hc_trace_text::{
     Step, Work, add_hit, add_losses, add_moment, add_reads, add_reclaimed, add_refusal,
     add_waiting, add_word, add_writes,
 };
-use std::alloc::AllocError;
+use std::alloc::{AllocError, Global};
 
 // The answer of a line.
 fn add_answer(out: &mut Vec<u8>, answer: &Answer) -> Result<(), AllocError>
@@ -38,6 +38,8 @@ fn add_answer(out: &mut Vec<u8>, answer: &Answer) -> Result<(), AllocError>
         Answer::Made => add_word(out, b"ok"),
         Answer::Failed => add_word(out, b"failed"),
         Answer::Reclaimed(region) => add_reclaimed(out, u64::from(*region)),
+        Answer::Restarted => add_word(out, b"restarted"),
+        Answer::Busy => add_word(out, b"busy"),
     }
 }
 
@@ -76,4 +78,18 @@ pub fn do_work(
 {
     let answer = player.do_work(work)?;
     tell(player, out, &answer)
+}
+
+/// The cache is closed where it is at rest, and goes on, which is answered. An error is out of memory.
+pub fn restart(
+    alloc: Global,
+    player: Player<Counting>,
+    out: &mut Vec<u8>,
+) -> Result<Player<Counting>, AllocError>
+    requires { IsCounted player.log }
+    ensures { IfOk result (λ on. IsTold (act Restart (world_of player)) player on out.old.items out.new.items) }
+{
+    let (mut player, answer) = player.restart(alloc);
+    tell(&mut player, out, &answer)?;
+    Ok(player)
 }

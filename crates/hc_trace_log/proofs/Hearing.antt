@@ -11,7 +11,7 @@ use Rattle.hc_machine.specs.World.{World}
 use Rattle.hc_player.specs.Alike.{Alike}
 use Rattle.hc_player.specs.Playing.{Playing, world_of, Acts}
 use Rattle.hc_player.proofs.Likening.{act-alike}
-use Rattle.hc_trace_meaning.specs.Actions.{Action, Do, Serve, act}
+use Rattle.hc_trace_meaning.specs.Actions.{Action, Do, Serve, Restart, act}
 use Rattle.hc_trace_meaning.specs.Trace.{Actions, before, action_line, checked, ended, fresh, notes_of}
 use Rattle.hc_trace_log.specs.Outcome.{Whole, outcome_of}
 use Rattle.hc_trace_log.specs.Taken.{Behind, behind, GoesOn, IsHeard}
@@ -40,6 +40,10 @@ goes-by-step {answer} {old} {new} line step is did = λ n later. acted-on (Do st
 -- so is one that has work done
 pub goes-by-work : {answer : Answer} {old new : Playing} (line : Line) (work : Work) → line ≡ Says (grammar.Serve work) → Acts (Serve work) answer old new → GoesOn line old new
 goes-by-work {answer} {old} {new} line work is did = λ n later. acted-on (Serve work) answer old new did later ∙ ap (λ (l : Line). behind old (action_line n l later)) (sym is)
+
+-- so is one that asks for a restart
+pub goes-by-restart : {answer : Answer} {old new : Playing} (line : Line) → line ≡ Says grammar.Restart → Acts Restart answer old new → GoesOn line old new
+goes-by-restart {answer} {old} {new} line is did = λ n later. acted-on Restart answer old new did later ∙ ap (λ (l : Line). behind old (action_line n l later)) (sym is)
 
 -- what is heard behind all lines is what the trace comes to
 pub heard-whole : (config : Config) (old new : Playing) (rest : Actions) → first_wrong config ≡ None → Alike (world_of old) (fresh config) → old.log ≡ Log [] → IsHeard rest None old new → Whole config new.log ≡ outcome_of (ended config rest)

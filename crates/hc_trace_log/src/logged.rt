@@ -29,8 +29,9 @@ pub enum Logged {
 
 // A new cache of the configuration takes these lines, behind so many others.
 fn run(
+    alloc: Global,
     config: Config,
-    mut player: Player<Kept>,
+    player: Player<Kept>,
     bytes: &[u8],
     before: u64,
 ) -> Result<Logged, AllocError>
@@ -40,9 +41,9 @@ fn run(
     requires short { before + length bytes.now < 2 ^ 64 }
     ensures { IfOk result (λ logged. outcome_seen logged ≡ outcome_of (ended config (actions_from before (lines_of bytes.now)))) }
 {
-    match take_lines(&mut player, bytes, before)? {
-        None => Ok(Logged::Whole(config, player)),
-        Some(line) => Ok(Logged::Fault(line)),
+    match take_lines(alloc, player, bytes, before)? {
+        (player, None) => Ok(Logged::Whole(config, player)),
+        (_, Some(line)) => Ok(Logged::Fault(line)),
     }
 }
 
@@ -57,7 +58,7 @@ fn log_behind(
     ensures { IfOk result (λ logged. outcome_seen logged ≡ outcome_of (ended config (actions_from before (lines_of bytes.now)))) }
 {
     match Player::new(alloc, &config, Kept::new(alloc)) {
-        Ok(player) => run(config, player, bytes, before),
+        Ok(player) => run(alloc, config, player, bytes, before),
         Err(Refusal::NoMemory) => Err(AllocError),
         Err(refusal) => Ok(Logged::Refused(refusal)),
     }

@@ -16,7 +16,7 @@ use Rattle.hc_machine.specs.Waiting.{live}
 use Rattle.hc_machine.specs.Workers as workers
 use Rattle.hc_machine.specs.World as world
 use Rattle.hc_machine.specs.World.{World, Line, Said, step, given_up, then_inserted, inserted, put_new, order_in, result_at, io_of, done_of}
-use Rattle.hc_trace_meaning.specs.Actions.{Deed, Acts, Barred, deed_of, done, answer_of, said_answer}
+use Rattle.hc_trace_meaning.specs.Actions.{Deed, Acts, Barred, Rests, deed_of, done, answer_of, said_answer}
 use Rattle.hc_trace_meaning.specs.Promise.{EachLineIsAnswered}
 
 abbrev IsAnswered : Moved → Type 0
@@ -114,6 +114,7 @@ line-answered (world.Reply call) w = owed (owed_at call w.cache.owed) w.cache
 deed-answered : (deed : Deed) (w : World) → IsSome (done deed w).answer
 deed-answered (Acts line) w = line-answered line w
 deed-answered (Barred refusal) w = refl
+deed-answered Rests w = refl
 
 pub each_line_is_answered : EachLineIsAnswered
 each_line_is_answered w action = deed-answered (deed_of action) w

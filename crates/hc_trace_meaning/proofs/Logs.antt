@@ -14,7 +14,7 @@ use Rattle.hc_theorem.specs.runs.Runs.{AllLineSized}
 use Rattle.hc_theorem.specs.runs.Lines.{steps_of}
 use Rattle.hc_theorem.proofs.runs.Traces.{log-is, lines_sized}
 use Rattle.hc_theorem.proofs.headlines.WholeRuns.{headline, headline_of_schedules}
-use Rattle.hc_trace_meaning.specs.Actions.{Action, Do, Serve, Deed, Acts, Barred, unless, step_deed, work_line, deed_of, done}
+use Rattle.hc_trace_meaning.specs.Actions.{Action, Do, Serve, Restart, Deed, Acts, Barred, Rests, unless, step_deed, work_line, deed_of, done}
 use Rattle.hc_trace_meaning.specs.Trace.{fresh, notes_of}
 use Rattle.hc_trace_meaning.specs.Promise.{LogsAreRight}
 use Rattle.hc_trace_meaning.specs.Runs.{acted, acted_lines, TracesAreRuns}
@@ -24,6 +24,7 @@ use Rattle.hc_trace_meaning.specs.Runs.{acted, acted_lines, TracesAreRuns}
 by-deed : (deed : Deed) (w : World) (lines : List Line) (rest : World → List Note) → ((w : World) → rest w ≡ (run_from lines w).log) → (done deed w).notes ++ rest (done deed w).world ≡ (run_from (acted deed lines) w).log
 by-deed (Acts line) w lines rest same = ap (λ ns. (step line w).part ++ ns) (same (step line w).world)
 by-deed (Barred refusal) w lines rest same = same w
+by-deed Rests w lines rest same = same w
 
 same-log : (actions : List Action) (w : World) → notes_of w actions ≡ (run_from (acted_lines actions) w).log
 same-log [] w = refl
@@ -34,6 +35,7 @@ same-log (action ∷ actions) w = by-deed (deed_of action) w (acted_lines action
 abbrev DeedSized : Deed → Type 0
 DeedSized (Acts line) = LineSized line
 DeedSized (Barred refusal) = Unit {0}
+DeedSized Rests = Unit {0}
 
 sized : (key : List ℕ) → key_refusal key ≡ None → IsSized key [] 0
 sized key e = by-tests (length key == 0) (nat_lt 255 (length key)) refl refl e
@@ -65,10 +67,12 @@ work-sized (Reply call) = tt
 deed-sized : (action : Action) → DeedSized (deed_of action)
 deed-sized (Do step) = step-sized step
 deed-sized (Serve work) = work-sized work
+deed-sized Restart = tt
 
 more-sized : (deed : Deed) (lines : List Line) → DeedSized deed → AllLineSized lines → AllLineSized (acted deed lines)
 more-sized (Acts line) lines h rest = (h, rest)
 more-sized (Barred refusal) lines h rest = rest
+more-sized Rests lines h rest = rest
 
 all-sized : (actions : List Action) → AllLineSized (acted_lines actions)
 all-sized [] = tt

@@ -14,7 +14,7 @@ use Rattle.hc_trace_text.specs.Lines.{lines_of}
 use Rattle.hc_trace_text.specs.Grammar as grammar
 use Rattle.hc_trace_text.specs.Grammar.{Line, Skipped, Says, Fault, Pool, NoFlash, Flash, line_of}
 use Rattle.hc_machine.specs.World.{World}
-use Rattle.hc_trace_meaning.specs.Actions.{Action, Do, Serve, act}
+use Rattle.hc_trace_meaning.specs.Actions.{Action, Do, Serve, Restart, act}
 use Rattle.hc_trace_meaning.specs.Trace.{Actions, before, action_line, actions_from, config_of, checked, trace_line, trace_from, fresh, action_text, actions_text, notes_of, ending, onto, trace_output}
 use Rattle.hc_trace_meaning.specs.Turns.{Configuring, Running, configured, acted, turned, after_turn, output_from, OutputIsByLines}
 
@@ -47,6 +47,7 @@ run-line n w counts (Says NoFlash) lines later = refl
 run-line n w counts (Says (Flash flash)) lines later = refl
 run-line n w counts (Says (grammar.Do step)) lines later = run-action n w counts (Do step) lines later
 run-line n w counts (Says (grammar.Serve work)) lines later = run-action n w counts (Serve work) lines later
+run-line n w counts (Says grammar.Restart) lines later = run-action n w counts Restart lines later
 run-line n w counts Fault lines later = refl
 
 run-same : (n : ℕ) (lines : List (List ℕ)) → Later n lines
@@ -82,6 +83,7 @@ trace-line-same n sizes (Says NoFlash) lines later = end-line n sizes (config_of
 trace-line-same n sizes (Says (Flash flash)) lines later = end-line n sizes (config_of sizes (Some flash)) (first_wrong (config_of sizes (Some flash))) lines
 trace-line-same n sizes (Says (grammar.Do step)) lines later = refl
 trace-line-same n sizes (Says (grammar.Serve work)) lines later = refl
+trace-line-same n sizes (Says grammar.Restart) lines later = refl
 trace-line-same n sizes Fault lines later = refl
 
 trace-same : (n : ℕ) (sizes : List PoolSize) (lines : List (List ℕ)) → output_from n (Configuring sizes) lines ≡ trace_output (trace_from n sizes lines)

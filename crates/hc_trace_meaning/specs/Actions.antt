@@ -1,5 +1,5 @@
 -- What a line of a trace does to the cache over its device, and what it is answered.
-use Rattle.std.specs.Prelude.{ℕ, List, [], Option, Some, None}
+use Rattle.std.specs.Prelude.{ℕ, Bool, true, false, List, [], Option, Some, None}
 use Rattle.hc_types.specs.Limits.{key_refusal}
 use Rattle.hc_types.specs.declared.refusal.Refusal.{Refusal}
 use Rattle.hc_engines.specs.Engine as engine
@@ -13,18 +13,22 @@ use Rattle.hc_machine.specs.Takes.{Take}
 use Rattle.hc_machine.specs.Cache as machine
 use Rattle.hc_machine.specs.World as world
 use Rattle.hc_machine.specs.World.{World, Line, Said, Stepped, step}
+use Rattle.hc_state.specs.Resting.{is_at_rest}
 
 -- a line behind the configuration
 pub data Action : Type 0 where
   Do : (step : Step) → Action
   Serve : (work : Work) → Action
+  -- the cache is closed, and goes on with what was kept of it
+  Restart : Action
 
 -- ---- what it is to the machine
 
--- its step, unless it is refused for its key
+-- its step, unless it is refused for its key; a restart, which leaves the cache as it was, is none
 pub data Deed : Type 0 where
   Acts : (line : Line) → Deed
   Barred : (refusal : Refusal) → Deed
+  Rests : Deed
 
 abbrev pub unless : Option Refusal → Line → Deed
 unless None line = Acts line
@@ -48,6 +52,7 @@ work_line (lines.Reply call) = world.Reply call
 abbrev pub deed_of : Action → Deed
 deed_of (Do step) = step_deed step
 deed_of (Serve work) = Acts (work_line work)
+deed_of Restart = Rests
 
 -- ---- what it is answered
 
@@ -89,6 +94,11 @@ abbrev pub said_answer : Said → Option Answer
 said_answer (world.Says answer) = answer_of answer
 said_answer (world.Made result failures) = Some (io_answer result)
 
+-- to a cache that is at rest, or isn't
+abbrev pub restart_answer : Bool → Answer
+restart_answer true = lines.Restarted
+restart_answer false = lines.Busy
+
 -- ---- a line
 
 -- the cache over its device behind a line, what the line is answered, and what it tells
@@ -103,6 +113,7 @@ by_step stepped = record { world = stepped.world; answer = said_answer stepped.s
 abbrev pub done : Deed → World → Moved
 done (Acts line) w = by_step (step line w)
 done (Barred refusal) w = record { world = w; answer = Some (lines.Refused refusal); notes = [] }
+done Rests w = record { world = w; answer = Some (restart_answer (is_at_rest w.cache)); notes = [] }
 
 abbrev pub act : Action → World → Moved
 act action w = done (deed_of action) w

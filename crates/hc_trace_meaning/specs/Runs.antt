@@ -6,13 +6,14 @@ use Rattle.hc_machine.specs.World.{Line}
 use Rattle.hc_machine.specs.Schedule.{run, log_of}
 use Rattle.hc_theorem.specs.runs.Lines.{steps_of}
 use Rattle.hc_theorem.specs.headlines.Headline.{Promised}
-use Rattle.hc_trace_meaning.specs.Actions.{Action, Deed, Acts, Barred, deed_of}
+use Rattle.hc_trace_meaning.specs.Actions.{Action, Deed, Acts, Barred, Rests, deed_of}
 use Rattle.hc_trace_meaning.specs.Trace.{fresh, notes_of}
 
--- the machine's lines, without those that are refused for their key
+-- the machine's lines, without those that are refused for their key, and without restarts
 abbrev pub acted : Deed → List Line → List Line
 acted (Acts line) lines = line ∷ lines
 acted (Barred refusal) lines = lines
+acted Rests lines = lines
 
 abbrev pub acted_lines : List Action → List Line
 acted_lines [] = []

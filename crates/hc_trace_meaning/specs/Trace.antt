@@ -15,7 +15,7 @@ use Rattle.hc_trace_text.specs.Grammar as grammar
 use Rattle.hc_trace_text.specs.Grammar.{Line, Skipped, Says, Pool, NoFlash, Flash, line_of}
 use Rattle.hc_trace_text.specs.Texts.{line_text, answer_text, losses_text, stats_text, verdict_text, fault_text}
 use Rattle.hc_machine.specs.World.{World, new_world}
-use Rattle.hc_trace_meaning.specs.Actions.{Action, Do, Serve, Moved, act}
+use Rattle.hc_trace_meaning.specs.Actions.{Action, Do, Serve, Restart, Moved, act}
 
 -- the lines behind the configuration up to the first fault, and its line, where there is a fault
 pub record Actions : Type 0 where
@@ -30,6 +30,7 @@ abbrev pub action_line : ℕ → Line → Actions → Actions
 action_line n Skipped later = later
 action_line n (Says (grammar.Do step)) later = before (Do step) later
 action_line n (Says (grammar.Serve work)) later = before (Serve work) later
+action_line n (Says grammar.Restart) later = before Restart later
 action_line n line later = record { actions = []; fault = Some (n + 1) }
 
 abbrev pub actions_from : ℕ → List (List ℕ) → Actions

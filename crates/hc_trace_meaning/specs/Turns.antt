@@ -13,7 +13,7 @@ use Rattle.hc_trace_text.specs.Grammar as grammar
 use Rattle.hc_trace_text.specs.Grammar.{Order, Line, Skipped, Says, Fault, Pool, NoFlash, Flash, line_of}
 use Rattle.hc_trace_text.specs.Texts.{line_text, fault_text}
 use Rattle.hc_machine.specs.World.{World}
-use Rattle.hc_trace_meaning.specs.Actions.{Do, Serve, Moved, act}
+use Rattle.hc_trace_meaning.specs.Actions.{Do, Serve, Restart, Moved, act}
 use Rattle.hc_trace_meaning.specs.Trace.{config_of, fresh, action_text, ending, onto, output_of}
 
 -- where a trace stands
@@ -57,6 +57,7 @@ obeyed n (Configuring sizes) NoFlash = with_flash sizes None
 obeyed n (Configuring sizes) (Flash flash) = with_flash sizes (Some flash)
 obeyed n (Running w counts) (grammar.Do step) = acted counts (act (Do step) w)
 obeyed n (Running w counts) (grammar.Serve work) = acted counts (act (Serve work) w)
+obeyed n (Running w counts) grammar.Restart = acted counts (act Restart w)
 obeyed n state order = stops state (fault_text (n + 1))
 
 abbrev pub turned : ℕ → State → Line → Turn

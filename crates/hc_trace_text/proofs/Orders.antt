@@ -179,7 +179,7 @@ no-space line word h p false e = refl
 
 pub alone-parted : (line : List ℕ) → Parted line → alone_of line ≡ None
 alone-parted line p =
-    rw (no-space line (codes "writer") (search rules) p _ refl, no-space line (codes "filler") (search rules) p _ refl, no-space line (codes "reclaim") (search rules) p _ refl) refl
+    rw (no-space line (codes "writer") (search rules) p _ refl, no-space line (codes "filler") (search rules) p _ refl, no-space line (codes "reclaim") (search rules) p _ refl, no-space line (codes "restart") (search rules) p _ refl) refl
 
 -- nor is a word whose fields are missing
 past : (line word : List ℕ) (order : Option Order) → alone_of word ≡ None → order ≡ alone_of line → (if bytes_eq line word then None else order) ≡ alone_of line

@@ -7,13 +7,14 @@ use Rattle.hc_trace_text.specs.Numbers.{number_of, number_below, is_key, value_o
 use Rattle.hc_trace_text.specs.Steps.{NewItem, Step, Set, Add, Get, Del, Now, Work, Writer, Filler, Reclaim, Io, Finish, Reply}
 
 -- what a line asks for: one more pool, of so many bytes and items, the end of the configuration, without flash or with it,
--- a step, or what only a cache with flash has to do
+-- a step, what only a cache with flash has to do, or that the cache is closed and goes on
 pub data Order : Type 0 where
   Pool : (bytes items : ℕ) → Order
   NoFlash : Order
   Flash : (flash : FlashConfig) → Order
   Do : (step : Step) → Order
   Serve : (work : Work) → Order
+  Restart : Order
 
 abbrev pub pool_with : Option ℕ → Option ℕ → Option Order
 pool_with (Some bytes) (Some items) = Some (Pool bytes items)
@@ -114,12 +115,13 @@ abbrev pub reply_order : List (List ℕ) → Option Order
 reply_order (call ∷ []) = option_map (λ call. Serve (Reply call)) (number_of call)
 reply_order fields = None
 
--- `writer`, `filler`, `reclaim`
+-- `writer`, `filler`, `reclaim`, `restart`
 abbrev pub alone_of : List ℕ → Option Order
 alone_of word =
     if bytes_eq word (codes "writer") then Some (Serve Writer)
     else (if bytes_eq word (codes "filler") then Some (Serve Filler)
-    else (if bytes_eq word (codes "reclaim") then Some (Serve Reclaim) else None))
+    else (if bytes_eq word (codes "reclaim") then Some (Serve Reclaim)
+    else (if bytes_eq word (codes "restart") then Some Restart else None)))
 
 -- a word that has no fields
 abbrev pub alone : List ℕ → List (List ℕ) → Option Order

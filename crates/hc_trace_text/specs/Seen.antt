@@ -10,7 +10,7 @@ use Rattle.hc_trace_text.specs.declared.grammar.Step.TheVariants.{Set, Add, Get,
 use Rattle.hc_trace_text.specs.declared.grammar.Work.{Work}
 use Rattle.hc_trace_text.specs.declared.grammar.Work.TheVariants.{Writer, Filler, Reclaim, Io, Finish, Reply}
 use Rattle.hc_trace_text.specs.declared.grammar.Order.{Order}
-use Rattle.hc_trace_text.specs.declared.grammar.Order.TheVariants.{Pool, NoFlash, Flash, Do, Serve}
+use Rattle.hc_trace_text.specs.declared.grammar.Order.TheVariants.{Pool, NoFlash, Flash, Do, Serve, Restart}
 use Rattle.hc_trace_text.specs.declared.grammar.Line.{Line}
 use Rattle.hc_trace_text.specs.declared.grammar.Line.TheVariants.{Skipped, Says, Fault}
 
@@ -43,6 +43,7 @@ order_seen NoFlash = spec.NoFlash
 order_seen (Flash flash) = spec.Flash flash
 order_seen (Do step) = spec.Do (step_seen step)
 order_seen (Serve work) = spec.Serve (work_seen work)
+order_seen Restart = spec.Restart
 
 abbrev pub line_seen : Line → spec.Line
 line_seen Skipped = spec.Skipped

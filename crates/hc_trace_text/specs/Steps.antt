@@ -60,3 +60,6 @@ pub data Answer : Type 0 where
   Made : Answer
   Failed : Answer
   Reclaimed : (region : ℕ) → Answer
+  -- the cache was closed and has gone on; or it wasn't at rest, and is as it was
+  Restarted : Answer
+  Busy : Answer

@@ -10,7 +10,7 @@ use Rattle.hc_history.specs.Note.{Note, Lose}
 use Rattle.hc_history.specs.Counts.{counts_text}
 use Rattle.hc_history.specs.declared.stats.Stats.{Stats}
 use Rattle.hc_trace_text.specs.Numbers.{is_visible, value_of}
-use Rattle.hc_trace_text.specs.Steps.{Answer, Stored, Refused, Hit, Miss, Found, Absent, Moment, Exists, Waiting, Idle, Finished, Reads, Writes, Made, Failed, Reclaimed}
+use Rattle.hc_trace_text.specs.Steps.{Answer, Stored, Refused, Hit, Miss, Found, Absent, Moment, Exists, Waiting, Idle, Finished, Reads, Writes, Made, Failed, Reclaimed, Restarted, Busy}
 
 -- four bytes or more, all equal, and no digits
 abbrev pub is_repeated : List ℕ → Bool
@@ -46,6 +46,8 @@ answer_text (Writes job page) = (codes "job " ++ decimal job) ++ (codes " write 
 answer_text Made = codes "ok"
 answer_text Failed = codes "failed"
 answer_text (Reclaimed region) = codes "reclaimed " ++ decimal region
+answer_text Restarted = codes "restarted"
+answer_text Busy = codes "busy"
 
 -- a line of its own
 abbrev pub line_text : List ℕ → List ℕ

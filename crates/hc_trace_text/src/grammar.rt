@@ -69,6 +69,8 @@ pub enum Order<'a> {
     Do(Step<'a>),
     /// What only a cache with flash has to do.
     Serve(Work),
+    /// The cache is closed, where it is at rest, and another goes on with what was kept of it.
+    Restart,
 }
 
 /// What a line says.

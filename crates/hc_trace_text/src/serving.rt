@@ -130,6 +130,9 @@ fn alone_in(line: &[u8]) -> Option<Order<'_>>
     if line == b"reclaim".as_slice() {
         return Some(Order::Serve(Work::Reclaim));
     }
+    if line == b"restart".as_slice() {
+        return Some(Order::Restart);
+    }
     None
 }
 

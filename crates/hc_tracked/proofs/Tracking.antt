@@ -1,5 +1,5 @@
--- The digests follow the log, call by call.
-use Rattle.std.proofs.Common.{◌≡◌, ℕ, ◌<◌, Bool, true, List, [], ◌∷◌, ◌++◌, Option, Some, None, refl, ap, sym, subst, ◌∙◌}
+-- The digests follow the log, call by call, and are as many as the flash has pages.
+use Rattle.std.proofs.Common.{◌≡◌, ℕ, ◌<◌, Bool, true, List, [], ◌∷◌, ◌++◌, length, Option, Some, None, refl, ap, sym, subst, ◌∙◌}
 use Rattle.std.specs.Prelude.{Result, Ok, Err, IfOk, OnOk, OnErr, option_map}
 use Rattle.std.proofs.lemmas.List.{append_assoc}
 use Rattle.hc_flash.specs.Operations.{Order, Read, Write, IoResult, Page, Written, Failed}
@@ -13,12 +13,13 @@ use Rattle.hc_types.specs.Config.{Config}
 use Rattle.hc_machine.specs.Nvm.{Nvm, Job, job_at}
 use Rattle.hc_machine.specs.Takes as takes
 use Rattle.hc_machine.specs.Takes.{result_note, resumed}
-use Rattle.hc_machine.specs.Cache.{Cache, Moved, Answer, Took}
+use Rattle.hc_machine.specs.Cache.{Cache, Answer, Took}
+use Rattle.hc_machine.specs.Call.{CacheCall, Finishes, act}
 use Rattle.hc_machine.specs.World.{order_in}
 use Rattle.hc_machine.specs.Workers as workers
-use Rattle.hc_theorem.specs.runs.NoIo.{NoIo, FinishStep}
+use Rattle.hc_theorem.specs.runs.NoIo.{NoIo, HandsInNothing, FinishStep}
 use Rattle.hc_theorem.proofs.runs.Devices.{silent_pages}
-use Rattle.hc_theorem.proofs.runs.SilentSteps.{finish_step}
+use Rattle.hc_theorem.proofs.runs.SilentSteps.{act_no_io, finish_step}
 use Rattle.hc_theorem.proofs.runs.OrdersStay.{order-is}
 use Rattle.hc_core.specs.Logged.{Logged, IsCall}
 use Rattle.hc_marked.specs.Marked.{Marks, Marked, MarkedAfter, NoneCollides, Keeps}
@@ -26,7 +27,10 @@ use Rattle.hc_marked.proofs.Marking.{marked-honest}
 use Rattle.hc_theorem.specs.runs.Lock.{Guarded}
 use Rattle.hc_marked.specs.Tracked.{Tracks}
 use Rattle.hc_marked.proofs.Tracking.{tracks-part, tracks-note}
-use Rattle.hc_tracked.specs.Reading.{IsToldRead, IsToldWrite, WritesAs}
+use Rattle.hc_paged.specs.Devices.{mark_at}
+use Rattle.hc_tracked.specs.Resting.{pages_in}
+use Rattle.hc_tracked.specs.Reading.{IsToldRead, IsToldWrite, WritesAs, IsTracked}
+use Rattle.hc_tracked.proofs.Configured.{act_keeps}
 
 -- ---- parts without reads and writes
 
@@ -46,21 +50,37 @@ module _ (digest : List ℕ → ℕ) (marks : Marks) where
   heard-silent (Counts counts losses) part t h = tt
   heard-silent (Sums counts losses) part t h = tt
 
-  -- a call that hands in no result
-  quiet : (moved : Moved) (answer : Answer) (old new : Logged) → IsCall moved answer old new → NoIo moved.part → IfLog old.log (Tracks digest marks) → IfLog new.log (Tracks digest marks)
-  quiet moved answer old new call h t = subst (λ (heard : Heard). IfLog heard (Tracks digest marks)) (sym call.log) (heard-silent old.log moved.part t h)
+-- ---- as many digests as pages
 
-  pub same : (old new : Logged) → new ≡ old → IfLog old.log (Tracks digest marks) → IfLog new.log (Tracks digest marks)
-  same old new e t = subst (λ (l : Logged). IfLog l.log (Tracks digest marks)) (sym e) t
+-- a call leaves the configuration
+called : (call : CacheCall) (answer : Answer) (old new : Logged) → IsCall (act call old.cache) answer old new → new.cache.config ≡ old.cache.config
+called call answer old new is = ap (λ (cache : Cache). cache.config) is.cache ∙ act_keeps call old.cache
+
+-- so there are as many, where none comes or goes
+still-fit : (few more : List ℕ) (old new : Logged) → new.cache.config ≡ old.cache.config → length more ≡ length few → length few ≡ pages_in old.cache.config.flash → length more ≡ pages_in new.cache.config.flash
+still-fit few more old new own same fit = same ∙ fit ∙ ap (λ (config : Config). pages_in config.flash) (sym own)
+
+-- ---- calls that hand in no result
+
+module _ (digest : List ℕ → ℕ) (digests : List ℕ) where
+  -- one that is made
+  quiet : (call : CacheCall) (answer : Answer) (old new : Logged) → HandsInNothing call → IsCall (act call old.cache) answer old new → IsTracked digest old digests → IsTracked digest new digests
+  quiet call answer old new none is t = record {
+    tracks = subst (λ (heard : Heard). IfLog heard (Tracks digest (mark_at digests))) (sym is.log) (heard-silent digest (mark_at digests) old.log (act call old.cache).part t.tracks (act_no_io call none old.cache).silent);
+    fits = still-fit digests digests old new (called call answer old new is) refl t.fits;
+  }
+
+  pub same : (old new : Logged) → new ≡ old → IsTracked digest old digests → IsTracked digest new digests
+  same old new e t = subst (λ (l : Logged). IsTracked digest l digests) (sym e) t
 
   -- one that may be refused
-  pub calmly : {T E : Type 0} (moved : Moved) (answer : T → Answer) (old new : Logged) (result : Result T E) → NoIo moved.part → IfOk result (λ x. IsCall moved (answer x) old new) → OnErr result (new ≡ old) → IfLog old.log (Tracks digest marks) → IfLog new.log (Tracks digest marks)
-  calmly moved answer old new (Ok x) h ok err t = quiet moved (answer x) old new ok h t
-  calmly moved answer old new (Err e) h ok err t = same old new err t
+  pub calmly : {T E : Type 0} (call : CacheCall) (answer : T → Answer) (old new : Logged) (result : Result T E) → HandsInNothing call → IfOk result (λ x. IsCall (act call old.cache) (answer x) old new) → OnErr result (new ≡ old) → IsTracked digest old digests → IsTracked digest new digests
+  calmly call answer old new (Ok x) none ok err t = quiet call (answer x) old new none ok t
+  calmly call answer old new (Err e) none ok err t = same old new err t
 
-  pub calmly-so : {T E : Type 0} (moved : Moved) (answer : Answer) (old new : Logged) (result : Result T E) → NoIo moved.part → OnOk result (IsCall moved answer old new) → OnErr result (new ≡ old) → IfLog old.log (Tracks digest marks) → IfLog new.log (Tracks digest marks)
-  calmly-so moved answer old new (Ok x) h ok err t = quiet moved answer old new ok h t
-  calmly-so moved answer old new (Err e) h ok err t = same old new err t
+  pub calmly-so : {T E : Type 0} (call : CacheCall) (answer : Answer) (old new : Logged) (result : Result T E) → HandsInNothing call → OnOk result (IsCall (act call old.cache) answer old new) → OnErr result (new ≡ old) → IsTracked digest old digests → IsTracked digest new digests
+  calmly-so call answer old new (Ok x) none ok err t = quiet call answer old new none ok t
+  calmly-so call answer old new (Err e) none ok err t = same old new err t
 
 -- ---- a result is handed in
 
@@ -104,11 +124,14 @@ module _ (digest : List ℕ → ℕ) where
   read-keeps marks page known Written told there = absurd told
   read-keeps marks page known Failed told there = λ every. refl
 
-  pub read-tracks : {T E : Type 0} (marks : Marks) (number page known : ℕ) (told : IoResult) (take : T → takes.Take) (old new : Logged) (result : Result T E) → order_in old.cache.nvm number ≡ Some (Read page)
-      → IfOk result (λ t. IsCall (workers.finish number told old.cache) (Took (take t)) old new) → OnErr result (new ≡ old) → IsToldRead digest known told → (0 < known → marks page ≡ Some known)
-      → IfLog old.log (Tracks digest marks) → IfLog new.log (Tracks digest marks)
-  read-tracks marks number page known told take old new (Ok t) is ok err k there tracks = finishes digest marks marks number (Read page) told (take t) old new is ok (read-keeps marks page known told k there) tracks
-  read-tracks marks number page known told take old new (Err e) is ok err k there tracks = same digest marks old new err tracks
+  pub read-tracks : {T E : Type 0} (digests : List ℕ) (number page known : ℕ) (told : IoResult) (take : T → takes.Take) (old new : Logged) (result : Result T E) → order_in old.cache.nvm number ≡ Some (Read page)
+      → IfOk result (λ t. IsCall (workers.finish number told old.cache) (Took (take t)) old new) → OnErr result (new ≡ old) → IsToldRead digest known told → (0 < known → mark_at digests page ≡ Some known)
+      → IsTracked digest old digests → IsTracked digest new digests
+  read-tracks digests number page known told take old new (Ok t) is ok err k there tracked = record {
+    tracks = finishes digest (mark_at digests) (mark_at digests) number (Read page) told (take t) old new is ok (read-keeps (mark_at digests) page known told k there) tracked.tracks;
+    fits = still-fit digests digests old new (called (Finishes number told) (Took (take t)) old new ok) refl tracked.fits;
+  }
+  read-tracks digests number page known told take old new (Err e) is ok err k there tracked = same digest digests old new err tracked
 
   record Remembers (old new : Marks) (page known : ℕ) (is_within : Bool) : Type 0 where
     none : known ≡ 0 → new page ≡ None
@@ -121,26 +144,37 @@ module _ (digest : List ℕ → ℕ) where
   write-keeps old new page mark known is_within bytes Written its some told r = (r.some (subst (λ (n : ℕ). 0 < n) (sym told.1) some) told.0 ∙ ap (λ (n : ℕ). Some n) (told.1 ∙ its), r.others)
   write-keeps old new page mark known is_within bytes Failed its some told r = (r.none told, r.others)
 
-  pub write-tracks : (old-marks new-marks : Marks) (number page mark known : ℕ) (is_within : Bool) (told : IoResult) (take : takes.Take) (old new : Logged) → WritesAs digest mark (order_in old.cache.nvm number) page
-      → IsCall (workers.finish number told old.cache) (Took take) old new → IsToldWrite is_within mark known told
-      → (known ≡ 0 → new-marks page ≡ None) → (0 < known → is_within ≡ true → new-marks page ≡ Some known) → ((other : ℕ) → ¬ (other ≡ page) → new-marks other ≡ old-marks other)
+  written-tracks : (old-marks new-marks : Marks) (number page mark known : ℕ) (is_within : Bool) (told : IoResult) (take : takes.Take) (old new : Logged) → WritesAs digest mark (order_in old.cache.nvm number) page
+      → IsCall (workers.finish number told old.cache) (Took take) old new → IsToldWrite is_within mark known told → Remembers old-marks new-marks page known is_within
       → IfLog old.log (Tracks digest old-marks) → IfLog new.log (Tracks digest new-marks)
-  write-tracks old-marks new-marks number page mark known is_within told take old new writes call k none some others tracks = go (order_in old.cache.nvm number) refl writes
+  written-tracks old-marks new-marks number page mark known is_within told take old new writes call k remembers tracks = go (order_in old.cache.nvm number) refl writes
     where
       go : (o : Option Order) → order_in old.cache.nvm number ≡ o → WritesAs digest mark o page → IfLog new.log (Tracks digest new-marks)
       go None e w = absurd w
       go (Some (Read at)) e w = absurd w
       go (Some (Write at bytes)) e w =
-          let its : Keeps digest old-marks (result_note (Write page bytes) told) new-marks = write-keeps old-marks new-marks page mark known is_within bytes told w.1 w.2 k (record { none = none; some = some; others = others }) in
+          let its : Keeps digest old-marks (result_note (Write page bytes) told) new-marks = write-keeps old-marks new-marks page mark known is_within bytes told w.1 w.2 k remembers in
           finishes digest old-marks new-marks number (Write at bytes) told take old new e call (subst (λ (p : ℕ). Keeps digest old-marks (result_note (Write p bytes) told) new-marks) (sym w.0) its) tracks
+
+  pub write-tracks : (few more : List ℕ) (number page mark known : ℕ) (is_within : Bool) (told : IoResult) (take : takes.Take) (old new : Logged) → WritesAs digest mark (order_in old.cache.nvm number) page
+      → IsCall (workers.finish number told old.cache) (Took take) old new → IsToldWrite is_within mark known told
+      → (known ≡ 0 → mark_at more page ≡ None) → (0 < known → is_within ≡ true → mark_at more page ≡ Some known) → ((other : ℕ) → ¬ (other ≡ page) → mark_at more other ≡ mark_at few other) → length more ≡ length few
+      → IsTracked digest old few → IsTracked digest new more
+  write-tracks few more number page mark known is_within told take old new writes call k none some others many tracked = record {
+    tracks = written-tracks (mark_at few) (mark_at more) number page mark known is_within told take old new writes call k (record { none = none; some = some; others = others }) tracked.tracks;
+    fits = still-fit few more old new (called (Finishes number told) (Took take) old new call) many tracked.fits;
+  }
 
 -- ---- before any call
 
-pub new-tracks : (digest : List ℕ → ℕ) (marks : Marks) (heard : Heard) → IfLog heard (λ log. log ≡ []) → IfLog heard (Tracks digest marks)
+new-tracks : (digest : List ℕ → ℕ) (marks : Marks) (heard : Heard) → IfLog heard (λ log. log ≡ []) → IfLog heard (Tracks digest marks)
 new-tracks digest marks Nothing none = tt
 new-tracks digest marks (Log log) none = subst (Tracks digest marks) (sym none) (record { marked = tt; known = λ page bytes is. absurd cc })
 new-tracks digest marks (Counts counts losses) none = tt
 new-tracks digest marks (Sums counts losses) none = tt
+
+pub new-tracked : (digest : List ℕ → ℕ) (core : Logged) (digests : List ℕ) → IfLog core.log (λ log. log ≡ []) → length digests ≡ pages_in core.cache.config.flash → IsTracked digest core digests
+new-tracked digest core digests none fits = record { tracks = new-tracks digest (mark_at digests) core.log none; fits = fits }
 
 -- ---- the end
 

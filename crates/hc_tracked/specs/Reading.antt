@@ -1,10 +1,14 @@
 -- Results that come with digests.
-use Rattle.std.specs.Prelude.{◌≡◌, ◌⊎◌, ◌<◌, ℕ, Bool, true, List, Option, Some}
+use Rattle.std.specs.Prelude.{◌≡◌, ◌⊎◌, ◌<◌, ℕ, Bool, true, List, length, Option, Some}
+use Rattle.hc_history.specs.Told.{IfLog}
+use Rattle.hc_marked.specs.Tracked.{Tracks}
+use Rattle.hc_paged.specs.Devices.{mark_at}
 use Rattle.hc_core.specs.Logged.{Logged, IsCall}
 use Rattle.hc_machine.specs.Cache.{Took}
 use Rattle.hc_machine.specs.Takes.{Take}
 use Rattle.hc_machine.specs.Workers.{finish}
 use Rattle.hc_flash.specs.Operations.{Order, Write, IoResult, Page, Written, Failed}
+use Rattle.hc_tracked.specs.Resting.{pages_in}
 
 -- the number is the digest of the page that was read, if one was
 abbrev pub IsDigestOf : (List ℕ → ℕ) → ℕ → IoResult → Type 0
@@ -32,6 +36,11 @@ WritesAs digest mark order page = ⊥
 pub record Tracked : Type 0 where
   pub core : Logged
   pub digests : List ℕ
+
+-- what always holds of them: the digests follow the log, where one is kept, and there is one for each page
+pub record IsTracked (digest : List ℕ → ℕ) (core : Logged) (digests : List ℕ) : Type 0 where
+  pub tracks : IfLog core.log (Tracks digest (mark_at digests))
+  pub fits : length digests ≡ pages_in core.cache.config.flash
 
 -- the result is handed in as it came, or as a failure
 abbrev pub IsOrFails : IoResult → IoResult → Type 0

@@ -18,7 +18,9 @@ ghost use Rattle.hc_nvm.specs.Seen.{take_of};
 ghost use Rattle.hc_core.specs.Answers.{IsReason, is_work, found_answer, inserted_answer, removed_answer};
 ghost use Rattle.hc_core.specs.Logged.{IsCall};
 ghost use Rattle.hc_marked.specs.Marked.{Marked, NoneCollides};
+ghost use Rattle.hc_marked.specs.Tracked.{Tracks};
 ghost use Rattle.hc_paged.specs.Devices.{mark_at};
+ghost use Rattle.hc_tracked.specs.Resting.{pages_in};
 ghost use Rattle.hc_tracked.specs.Reading.{IsDigestOf, IsToldRead, IsToldWrite, WritesAs, IsOrFails, Finishes};
 
 use hc_core::Core;
@@ -38,23 +40,20 @@ use std::marker::Model;
 /// last, in whatever order the calls come. The comparison is made at the moment when the result goes into the log, and not where the device is: so it wants
 /// no lock beside the core's, and any number of operations may be under way by any number of handles.
 pub struct TrackedCore<N: Listener, A: Allocator, G: Digest + Copy> {
-    core: Core<N, A>,
-    digest: G,
-    digests: Vec<u64, A>,
-    lies: u64,
+    pub(crate) core: Core<N, A>,
+    pub(crate) digest: G,
+    pub(crate) digests: Vec<u64, A>,
+    pub(crate) lies: u64,
 }
 
 impl<N: Listener, A: Allocator, G: Digest + Copy> Model for TrackedCore<N, A, G> {
-    ghost use Rattle.hc_history.specs.Told.{IfLog};
-    ghost use Rattle.hc_paged.specs.Devices.{mark_at};
-    ghost use Rattle.hc_marked.specs.Tracked.{Tracks};
-    ghost use Rattle.hc_tracked.specs.Reading.{Tracked};
+    ghost use Rattle.hc_tracked.specs.Reading.{Tracked, IsTracked};
 
     ghost Value = { Tracked };
 
     ghost view = { λ t. record { core = t.core; digests = t.digests.items } };
 
-    ghost invariant = { λ t. IfLog t.core.log (Tracks G.of (mark_at t.digests.items)) };
+    ghost invariant = { λ t. IsTracked G.of t.core t.digests.items };
 }
 
 // (written out, so that who drops it calls this one function, whatever stands in it)
@@ -70,7 +69,9 @@ impl<N: Listener, A: Allocator, G: Digest + Copy> Drop for TrackedCore<N, A, G> 
 }
 
 /// How many pages the flash has.
-fn pages_of(flash: &Option<FlashConfig>) -> usize {
+pub(crate) fn pages_of(flash: &Option<FlashConfig>) -> usize
+    ensures { result ≡ pages_in flash.now }
+{
     match flash {
         Some(flash) => {
             let large = flash.regions.saturating_mul(flash.region_pages);
@@ -116,6 +117,22 @@ impl<N: Listener, A: Allocator, G: Digest + Copy> TrackedCore<N, A, G> {
             lies,
         } = self;
         (core, lies)
+    }
+
+    /// The core, and the digests of its pages.
+    pub(crate) fn into_both(self) -> (Core<N, A>, Vec<u64, A>)
+        ensures core { result.0 ≡ self.core }
+        ensures digests { result.1.items ≡ self.digests }
+        ensures tracks { IfLog self.core.log (Tracks G.of (mark_at self.digests)) }
+        ensures fits { length self.digests ≡ pages_in self.core.cache.config.flash }
+    {
+        let TrackedCore {
+            core,
+            digest: _,
+            digests,
+            lies: _,
+        } = self;
+        (core, digests)
     }
 
     /// How many reads were lies of the device so far.
@@ -420,6 +437,7 @@ fn remember<A: Allocator>(digests: &mut Vec<u64, A>, page: u32, known: u64)
     ensures none { known ≡ 0 → mark_at digests.new.items page ≡ None }
     ensures some { 0 < known → page < length digests.old.items → mark_at digests.new.items page ≡ Some known }
     ensures others { (other : ℕ) → ¬ (other ≡ page) → mark_at digests.new.items other ≡ mark_at digests.old.items other }
+    ensures many { length digests.new.items ≡ length digests.old.items }
 {
     if let Some(place) = digests.get_mut(page as usize) {
         *place = known;

@@ -1,6 +1,6 @@
 -- Pieces by their numbers, and by their keys.
-use Rattle.std.proofs.Common.{◌≡◌, ℕ, ◌+◌, ◌==◌, ◌≤◌, Bool, true, false, List, [], ◌∷◌, Option, Some, None, refl, sym, ap, ◌∙◌, subst, arith, if◌then◌else◌}
-use Rattle.std.specs.List.{find}
+use Rattle.std.proofs.Common.{◌≡◌, ℕ, ◌+◌, ◌==◌, ◌≤◌, ◌||◌, drop, Bool, true, false, List, [], ◌∷◌, Option, Some, None, refl, sym, ap, ◌∙◌, subst, arith, if◌then◌else◌}
+use Rattle.std.specs.List.{find, list_any, slice_get}
 use Rattle.std.specs.Prelude.{map, is_some, option_map}
 use Rattle.std.specs.Cmp.Lexicographic.{nat_list_eq_equiv}
 use Rattle.std.proofs.lemmas.Slice.Eq.{bytes_eq-Decides}
@@ -10,8 +10,8 @@ use Rattle.hc_queue.specs.Queue.{pieces_of, piece_at, Rises}
 use Rattle.hc_queue.specs.Keys.{same_key, number_of}
 use Rattle.hc_queue.specs.Queue.{piece_by as piece_numbered}
 use Rattle.hc_queue.specs.Keys.{without_key as without_entry, AreApart as EntriesApart}
-use Rattle.hc_queue.specs.Queue.{is_in, first_in_lane, without_number}
-use Rattle.hc_waiting.specs.Line.{has_key, piece_of, piece_by, without_key, in_lane, without_first, AreApart}
+use Rattle.hc_queue.specs.Queue.{is_in, first_in_lane, without_number, oldest, any_taken}
+use Rattle.hc_waiting.specs.Line.{has_key, piece_of, piece_by, without_key, in_lane, without_first, is_taken, AreApart}
 
 flip : {V A : Type 0} (key : List ℕ) (piece : Piece (Named V A)) (b : Bool) → same_key key piece.value.key ≡ b → has_key key piece ≡ b
 flip key piece b t = nat_list_eq_equiv.symm piece.value.key key ∙ t
@@ -215,3 +215,20 @@ but-first {V} {A} lane n low high (e ∷ es) r h = by_lane (is_in lane e.1.lane)
         let p : e.0 + 1 ≤ n = low k in
         let x : (e.0 == n) ≡ false = grind (arith, p) in
         rw (x, t) (ap (λ ps. e.1 ∷ ps) (more k))
+
+-- ---- the oldest piece
+
+pub oldest-is : {V A : Type 0} (n low high : ℕ) (es : List (ℕ × Piece (Named V A))) → Rises low high es → oldest es ≡ Some n → (piece_at n es ≡ slice_get (pieces_of es) 0) × (pieces_of (without_number n es) ≡ drop 1 (pieces_of es))
+oldest-is n low high [] r h = absurd (cc)
+oldest-is n low high (e ∷ es) r h =
+    let p : e.0 ≡ n = some_is e.0 n h in
+    let x : (e.0 == n) ≡ true = grind (arith, p) in
+    (rw x refl, rw x (ap pieces_of (above-stays n (e.0 + 1) high es r.1 (omega (arith, p)))))
+
+pub no-oldest : {V A : Type 0} (es : List (ℕ × Piece (Named V A))) → oldest es ≡ None → (slice_get (pieces_of es) 0 ≡ None) × (drop 1 (pieces_of es) ≡ pieces_of es)
+no-oldest [] h = (refl, refl)
+no-oldest (e ∷ es) h = absurd (cc)
+
+pub taken-is : {V A : Type 0} (es : List (ℕ × Piece (Named V A))) → any_taken es ≡ list_any is_taken (pieces_of es)
+taken-is [] = refl
+taken-is (e ∷ es) = ap (λ (b : Bool). e.1.taken || b) (taken-is es)

@@ -1,5 +1,5 @@
 -- The puts as pieces of a queue.
-use Rattle.std.proofs.Common.{◌≡◌, ℕ, Bool, true, false, not, List, [], ◌∷◌, ◌++◌, Some, None, refl, sym, ap, ◌∙◌, ◌||◌, length, if◌then◌else◌}
+use Rattle.std.proofs.Common.{◌≡◌, ℕ, Bool, true, false, not, List, [], ◌∷◌, ◌++◌, Some, None, refl, sym, ap, ◌∙◌, ◌||◌, length, drop, if◌then◌else◌}
 use Rattle.std.specs.List.{filter, find}
 use Rattle.std.specs.Prelude.{is_some, option_map}
 use Rattle.hc_types.specs.Places.{bucket_at, is_small_by}
@@ -8,9 +8,9 @@ use Rattle.hc_machine.specs.Nvm.{is_put_of, put_at, without_put}
 use Rattle.hc_queue.specs.declared.queue.Piece.{Piece}
 use Rattle.hc_queue.specs.declared.keyed.Named.{Named}
 use Rattle.hc_waiting.specs.declared.puts.Waiting.{Waiting}
-use Rattle.hc_waiting.specs.Line.{piece_of, without_key}
+use Rattle.hc_waiting.specs.Line.{piece_of, without_key, AreApart}
 use Rattle.hc_queue.specs.Queue.{can_go, is_open}
-use Rattle.hc_waiting.specs.Puts.{put_in, puts_in, lane_of, AreLaned, can_be_put}
+use Rattle.hc_waiting.specs.Puts.{put_in, puts_in, lane_of, AreLaned, ArePutsApart, can_be_put}
 use Rattle.hc_waiting.proofs.Mapped.{find-map, filter-map, is_some-map, unmapped}
 
 pub put_there : {A : Type 0} (key : List ℕ) (pieces : List (Piece (Named (Waiting A) A))) → option_map put_in (piece_of key pieces) ≡ put_at key (puts_in pieces)
@@ -53,3 +53,11 @@ next_put_is {A} flash busy (piece ∷ pieces) all = by_test (can_go busy piece) 
         → option_map put_in (find (can_go busy) (piece ∷ pieces)) ≡ find (can_be_put flash busy) (puts_in (piece ∷ pieces))
     by_test true t same more = rw (same, t) refl
     by_test false t same more = rw (same, t) more
+
+pub laned_but_first : {A : Type 0} (flash : FlashConfig) (pieces : List (Piece (Named (Waiting A) A))) → AreLaned flash pieces → AreLaned flash (drop 1 pieces)
+laned_but_first flash [] all = all
+laned_but_first flash (piece ∷ pieces) all = all.2
+
+pub puts_apart : {A : Type 0} (pieces : List (Piece (Named (Waiting A) A))) → AreApart pieces → ArePutsApart (puts_in pieces)
+puts_apart [] apart = tt
+puts_apart (piece ∷ pieces) apart = (sym (put_there piece.value.key pieces) ∙ ap (option_map put_in) apart.0, puts_apart pieces apart.1)

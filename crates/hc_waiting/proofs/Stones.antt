@@ -1,5 +1,5 @@
 -- The tombstones as pieces of a queue.
-use Rattle.std.proofs.Common.{◌≡◌, ℕ, ◌==◌, Bool, true, false, not, List, [], ◌∷◌, ◌++◌, Option, Some, None, refl, sym, ap, subst, arith, ◌∙◌, ◌&&◌, if◌then◌else◌}
+use Rattle.std.proofs.Common.{◌≡◌, ℕ, ◌==◌, Bool, true, false, not, List, [], ◌∷◌, ◌++◌, Option, Some, None, refl, sym, ap, subst, arith, ◌∙◌, ◌&&◌, drop, if◌then◌else◌}
 use Rattle.std.specs.List.{filter, find, list_any}
 use Rattle.std.specs.Prelude.{map, is_some, option_map}
 use Rattle.std.proofs.lemmas.Slice.Eq.{bytes_eq-Decides}
@@ -10,7 +10,7 @@ use Rattle.hc_queue.specs.declared.queue.Piece.{Piece}
 use Rattle.hc_queue.specs.declared.keyed.Named.{Named}
 use Rattle.hc_waiting.specs.Line.{has_key, piece_of, without_key, taken_key, in_lane, without_first, AreApart}
 use Rattle.hc_queue.specs.Queue.{can_go}
-use Rattle.hc_waiting.specs.Tombstones.{stone_in, stones_in, AreBuried, can_be_deleted, is_of_bucket}
+use Rattle.hc_waiting.specs.Tombstones.{stone_in, stones_in, AreBuried, AreStonesApart, can_be_deleted, is_of_bucket}
 use Rattle.hc_waiting.proofs.Mapped.{filter-map, any-map, map-map, map-same}
 
 pub stone_there : {V A : Type 0} (key : List ℕ) (pieces : List (Piece (Named V A))) → is_some (piece_of key pieces) ≡ list_any (is_stone_of key) (stones_in pieces)
@@ -125,3 +125,13 @@ one_stone key there pieces apart is =
     ap (map (λ (stone : Tombstone). stone.key)) (filter-map stone_in (is_stone_of key) pieces)
     ∙ (map-map (λ (stone : Tombstone). stone.key) stone_in (filter (has_key key) pieces)
     ∙ (one_of_key key pieces apart ∙ ap (λ (b : Bool). if b then key ∷ [] else []) (sym is)))
+
+-- ---- the oldest
+
+pub buried_but_first : {V A : Type 0} (flash : FlashConfig) (pieces : List (Piece (Named V A))) → AreBuried flash pieces → AreBuried flash (drop 1 pieces)
+buried_but_first flash [] all = all
+buried_but_first flash (piece ∷ pieces) all = all.1
+
+pub stones_apart : {V A : Type 0} (pieces : List (Piece (Named V A))) → AreApart pieces → AreStonesApart (stones_in pieces)
+stones_apart [] apart = tt
+stones_apart (piece ∷ pieces) apart = (sym (stone_there piece.value.key pieces) ∙ ap is_some apart.0, stones_apart pieces apart.1)

@@ -34,6 +34,10 @@ taken_key key pieces = map (λ (piece : Piece (Named _ _)). if has_key key piece
 abbrev pub in_lane : {V : Type 0} → ℕ → Piece V → Bool
 in_lane lane piece = is_in lane piece.lane
 
+-- its turn doesn't come again
+abbrev pub is_taken : {V : Type 0} → Piece V → Bool
+is_taken piece = piece.taken
+
 -- the list without the first that passes
 abbrev pub without_first : {X : Type 0} → (X → Bool) → List X → List X
 without_first test [] = []

@@ -3,6 +3,7 @@ use Rattle.std.specs.Prelude.{◌≡◌, ℕ, ◌||◌, not, Bool, false, List, 
 use Rattle.hc_types.specs.declared.config.FlashConfig.{FlashConfig}
 use Rattle.hc_types.specs.Places.{bucket_at, is_small_by}
 use Rattle.hc_types.specs.FlashEntry.{FlashEntry}
+use Rattle.hc_machine.specs.Nvm.{put_at}
 use Rattle.hc_queue.specs.declared.queue.Piece.{Piece}
 use Rattle.hc_queue.specs.declared.keyed.Named.{Named}
 use Rattle.hc_waiting.specs.declared.puts.Waiting.{Waiting}
@@ -21,6 +22,11 @@ lane_of flash put = if is_small_by flash put.key (length put.value) then Some (b
 abbrev pub AreLaned : {A : Type 0} → FlashConfig → List (Piece (Named (Waiting A) A)) → Type 0
 AreLaned flash [] = ⊤
 AreLaned flash (piece ∷ pieces) = (piece.lane ≡ lane_of flash (put_in piece)) × (piece.taken ≡ false) × AreLaned flash pieces
+
+-- no two are of one key
+abbrev pub ArePutsApart : List FlashEntry → Type 0
+ArePutsApart [] = ⊤
+ArePutsApart (put ∷ puts) = (put_at put.key puts ≡ None) × ArePutsApart puts
 
 -- a put that can be served: a large one, or one whose bucket isn't busy
 abbrev pub can_be_put : FlashConfig → (ℕ → Bool) → FlashEntry → Bool

@@ -1,8 +1,9 @@
 -- The tombstones, as a queue with lanes holds them.
-use Rattle.std.specs.Prelude.{◌≡◌, ℕ, not, ◌&&◌, ◌==◌, Bool, List, [], ◌∷◌, map, Some, ⊤}
+use Rattle.std.specs.Prelude.{◌≡◌, ℕ, not, ◌&&◌, ◌==◌, Bool, false, List, [], ◌∷◌, map, Some, ⊤}
+use Rattle.std.specs.List.{list_any}
 use Rattle.hc_types.specs.declared.config.FlashConfig.{FlashConfig}
 use Rattle.hc_types.specs.Places.{bucket_at}
-use Rattle.hc_machine.specs.Nvm.{Tombstone}
+use Rattle.hc_machine.specs.Nvm.{Tombstone, is_stone_of}
 use Rattle.hc_queue.specs.declared.queue.Piece.{Piece}
 use Rattle.hc_queue.specs.declared.keyed.Named.{Named}
 
@@ -20,6 +21,15 @@ stones_in pieces = map stone_in pieces
 abbrev pub AreBuried : {V A : Type 0} → FlashConfig → List (Piece (Named V A)) → Type 0
 AreBuried flash [] = ⊤
 AreBuried flash (piece ∷ pieces) = (piece.lane ≡ Some (bucket_at flash piece.value.key)) × AreBuried flash pieces
+
+-- no two are of one key
+abbrev pub AreStonesApart : List Tombstone → Type 0
+AreStonesApart [] = ⊤
+AreStonesApart (stone ∷ stones) = (list_any (is_stone_of stone.key) stones ≡ false) × AreStonesApart stones
+
+-- its delete is out
+abbrev pub is_out : Tombstone → Bool
+is_out stone = stone.taken
 
 -- a delete that can be served: it isn't out, and its bucket isn't busy
 abbrev pub can_be_deleted : FlashConfig → (ℕ → Bool) → Tombstone → Bool

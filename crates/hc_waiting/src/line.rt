@@ -1,10 +1,11 @@
 // What waits in order, each under a key of its own.
-ghost use Rattle.std.specs.Prelude.{◌≡◌, ◌≤◌, ◌+◌, ◌++◌, length, List, [], ◌∷◌, ℕ, Bool, find, IfOk, OnOk, Some, None, is_some, false, option_map};
+ghost use Rattle.std.specs.Prelude.{◌≡◌, ◌≤◌, ◌+◌, ◌++◌, length, List, [], ◌∷◌, ℕ, Bool, find, IfOk, OnOk, Some, None, is_some, false, option_map, slice_get, drop};
+ghost use Rattle.std.specs.List.{list_any};
 ghost use Rattle.std.specs.Option.{option_copied};
 ghost use Rattle.hc_queue.specs.declared.queue.Piece.{Piece as PieceSeen};
 ghost use Rattle.hc_queue.specs.declared.keyed.Named.{Named as NamedSeen};
 ghost use Rattle.hc_queue.specs.Queue.{Answers, can_go, piece_by as piece_numbered};
-ghost use Rattle.hc_waiting.specs.Line.{piece_of, piece_by, without_key, taken_key, with_value, in_lane, without_first, AreApart};
+ghost use Rattle.hc_waiting.specs.Line.{piece_of, piece_by, without_key, taken_key, with_value, in_lane, without_first, is_taken, AreApart};
 ghost use Rattle.hc_queue.specs.Keys.{value_of};
 
 use hc_queue::{KeyedQueue, Named, Piece};
@@ -56,6 +57,13 @@ impl<V: Drop, A: Allocator> Line<V, A> {
             Some(number) => self.queue.get(number),
             None => None,
         }
+    }
+
+    /// Whether a piece is taken.
+    pub(crate) fn any_taken(&self) -> bool
+        ensures { result ≡ list_any is_taken self.now.pieces }
+    {
+        self.queue.any_taken()
     }
 
     /// Whether a piece is under the key.
@@ -124,6 +132,19 @@ impl<V: Drop, A: Allocator + Copy> Line<V, A> {
     {
         self.queue.is_sound();
         match self.queue.first_of(lane) {
+            Some(number) => self.queue.remove_at(number),
+            None => None,
+        }
+    }
+
+    /// Takes the oldest piece out, taken or not. Nothing is refused.
+    pub(crate) fn remove_oldest(&mut self) -> Option<Piece<Named<V, A>>>
+        ensures piece { result ≡ slice_get self.old.pieces 0 }
+        ensures pieces { self.new.pieces ≡ drop 1 self.old.pieces }
+        ensures room { self.old.room ≤ self.new.room }
+    {
+        self.queue.is_sound();
+        match self.queue.oldest() {
             Some(number) => self.queue.remove_at(number),
             None => None,
         }

@@ -1,11 +1,11 @@
 // The puts that wait.
-ghost use Rattle.std.specs.Prelude.{◌≡◌, ◌==◌, ℕ, ◌<◌, ◌≤◌, ◌+◌, ◌++◌, ◌^◌, ◌∷◌, [], Bool, length, find, is_some, option_map, None, Some, IfOk, OnOk};
+ghost use Rattle.std.specs.Prelude.{◌≡◌, ◌==◌, ℕ, ◌<◌, ◌≤◌, ◌+◌, ◌++◌, ◌^◌, ◌∷◌, [], Bool, length, find, is_some, option_map, slice_get, drop, None, Some, IfOk, OnOk};
 ghost use Rattle.std.specs.Option.{option_copied};
 ghost use Rattle.hc_types.specs.FlashEntry.{entry_of};
 ghost use Rattle.hc_machine.specs.Nvm.{put_at, without_put};
 ghost use Rattle.hc_queue.specs.Queue.{Answers};
 ghost use Rattle.hc_waiting.specs.Line.{piece_by, piece_of};
-ghost use Rattle.hc_waiting.specs.Puts.{can_be_put, lane_of as lane_of_put, put_in as put_in_piece};
+ghost use Rattle.hc_waiting.specs.Puts.{can_be_put, lane_of as lane_of_put, put_in as put_in_piece, ArePutsApart};
 
 use crate::line::Line;
 use bytes::Bytes;
@@ -110,6 +110,13 @@ impl<A: Allocator> Puts<A> {
     {
         self.line.contains(key)
     }
+
+    /// What holds of the puts at every time: a law to call where a proof asks for it. It does nothing.
+    pub fn is_sound(&self)
+        ensures { ArePutsApart self.now.puts }
+    {
+        self.line.is_sound();
+    }
 }
 
 impl<A: Allocator + Copy> Puts<A> {
@@ -183,6 +190,16 @@ impl<A: Allocator + Copy> Puts<A> {
         ensures room { self.old.room ≤ self.new.room }
     {
         put_by(self.line.remove(key))
+    }
+
+    /// Takes the oldest out. Nothing is refused.
+    pub fn remove_oldest(&mut self) -> Option<Entry<A>>
+        ensures flash { self.new.flash ≡ self.old.flash }
+        ensures put { option_map entry_of result ≡ slice_get self.old.puts 0 }
+        ensures puts { self.new.puts ≡ drop 1 self.old.puts }
+        ensures room { self.old.room ≤ self.new.room }
+    {
+        put_by(self.line.remove_oldest())
     }
 
     /// The first whose bucket isn't busy, or that is large: a copy of it, which takes no more than a key's memory.

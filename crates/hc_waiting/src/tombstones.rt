@@ -1,10 +1,10 @@
 // The tombstones: keys whose copies on flash are stale, until a delete of them is over.
-ghost use Rattle.std.specs.Prelude.{◌≡◌, ◌==◌, ℕ, ◌≤◌, ◌+◌, ◌++◌, ◌∷◌, [], Bool, false, length, find, filter, map, is_some, option_map, None, Some, IfOk, OnOk, if◌then◌else◌};
+ghost use Rattle.std.specs.Prelude.{◌≡◌, ◌==◌, ℕ, ◌≤◌, ◌+◌, ◌++◌, ◌∷◌, [], Bool, false, length, find, filter, map, is_some, option_map, slice_get, drop, None, Some, IfOk, OnOk, if◌then◌else◌};
 ghost use Rattle.std.specs.List.{list_any};
 ghost use Rattle.hc_machine.specs.Nvm.{is_stone_of, taken_stone, without_stone};
 ghost use Rattle.hc_types.specs.Places.{bucket_at};
 ghost use Rattle.hc_queue.specs.Queue.{Answers};
-ghost use Rattle.hc_waiting.specs.Tombstones.{can_be_deleted, is_of_bucket};
+ghost use Rattle.hc_waiting.specs.Tombstones.{can_be_deleted, is_of_bucket, is_out, AreStonesApart};
 ghost use Rattle.hc_waiting.specs.Line.{without_first};
 ghost use Rattle.hc_queue.specs.declared.queue.Piece.{Piece as PieceSeen};
 ghost use Rattle.hc_queue.specs.declared.keyed.Named.{Named as NamedSeen};
@@ -80,6 +80,21 @@ impl<A: Allocator> Tombstones<A> {
     {
         self.line.contains(key)
     }
+
+    /// Whether a delete is out. All of them are looked at.
+    #[must_use]
+    pub fn any_out(&self) -> bool
+        ensures { result ≡ list_any is_out self.now.stones }
+    {
+        self.line.any_taken()
+    }
+
+    /// What holds of the tombstones at every time: a law to call where a proof asks for it. It does nothing.
+    pub fn is_sound(&self)
+        ensures { AreStonesApart self.now.stones }
+    {
+        self.line.is_sound();
+    }
 }
 
 impl<A: Allocator + Copy> Tombstones<A> {
@@ -148,6 +163,16 @@ impl<A: Allocator + Copy> Tombstones<A> {
         ensures room { self.old.room ≤ self.new.room }
     {
         key_of(self.line.remove_first(bucket))
+    }
+
+    /// The oldest ends, whether its delete is out or not. Answers its key. Nothing is refused.
+    pub fn remove_oldest(&mut self) -> Option<Key<A>>
+        ensures flash { self.new.flash ≡ self.old.flash }
+        ensures key { result ≡ option_map (λ stone. stone.key) (slice_get self.old.stones 0) }
+        ensures stones { self.new.stones ≡ drop 1 self.old.stones }
+        ensures room { self.old.room ≤ self.new.room }
+    {
+        key_of(self.line.remove_oldest())
     }
 
     /// The key of the first delete that isn't out and whose bucket isn't busy.

@@ -82,7 +82,7 @@ fn main() -> Result<(), Box<dyn std::error::Error>> {
         changes += changes_in(&row);
     }
     assert_eq!(changes, THREADS * STEPS / 5);
-    let stats = cache.close();
+    let stats = cache.close().stats;
     assert!(stats.hits_from_memory > 0 && stats.hits_from_flash > 0, "{stats}");
     println!("{stats}");
     println!("{USERS} rows are served as the database has them, after {changes} changes");

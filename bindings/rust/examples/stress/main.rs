@@ -61,7 +61,7 @@ fn stress(cache: &HybridCache, time: Duration, threads: usize, seed: u64) -> Cou
 // Says what was done, and judges what is left.
 fn end(kind: &str, cache: HybridCache, counts: &Counts) {
     let Counts { calls, hits, rows, failed, late } = counts;
-    let stats = cache.close();
+    let stats = cache.close().stats;
     println!("{kind}: {calls} calls, {hits} hits, {rows} rows, {failed} loads that failed, {late} late commits");
     println!(
         "  {} hits from flash, {} lies, {} stale stores, {} waits for loads, {} calls given up, {} clears",

@@ -1,23 +1,23 @@
-use Rattle.std.proofs.Common.{sym, ◌∙◌}
-use Rattle.hc_block.proofs.Making.{limits_from}
-use Rattle.hc_block.proofs.Rested.{short_regions, parts_of, if_some_more}
+use Rattle.std.proofs.Common.{◌≡◌, ◌≤◌, List, None, length, inl, sym, ap, subst, ◌∙◌}
+use Rattle.std.proofs.lemmas.Result.{IfOk-weaker, IfErr-weaker}
+use Rattle.hc_engines.specs.large.Region.{Region}
+use Rattle.hc_region.specs.CleanNumbers.{clean_from}
+use Rattle.hc_block.specs.Resting.{block_at, misfit}
+use Rattle.hc_block.proofs.Rested.{few_regions}
 use Rattle.hc_block.proofs.resting.check.Goals as goal
 
-pub all_rest-requires-clause-page : goal.all_rest-requires-clause-page
-all_rest-requires-clause-page g c = (limits_from c.args.flash.now c.requires).most_page
+pub clean_numbers-requires : goal.clean_numbers-requires
+clean_numbers-requires g c =
+    let fit : misfit c.args.flash.now (block_at c.args.parts.now.regions.items c.args.parts.now.current c.args.parts.now.sealed.items c.args.parts.now.flushed.items c.args.parts.now.index) ≡ None = sym c.in-Ok-None.ensures ∙ c.in-Ok-None.field-0-is in
+    subst (λ (regions : List Region). length regions ≤ 65536) (sym c.as_slice.ensures.value) (few_regions c.args.flash.now (block_at c.args.parts.now.regions.items c.args.parts.now.current c.args.parts.now.sealed.items c.args.parts.now.flushed.items c.args.parts.now.index) c.requires fit)
 
-pub all_rest-requires-clause-pages : goal.all_rest-requires-clause-pages
-all_rest-requires-clause-pages g c = (limits_from c.args.flash.now c.requires).most_pages
+pub returns-in-Ok-None-clause-clean : goal.returns-in-Ok-None-clause-clean
+returns-in-Ok-None-clause-clean g c = IfOk-weaker c.clean_numbers.result _ _ (λ clean e. e ∙ ap (λ (regions : List Region). clean_from 0 regions) c.as_slice.ensures.value) c.clean_numbers.ensures.clean
 
-pub index_of-requires-clause-bits : goal.index_of-requires-clause-bits
-index_of-requires-clause-bits g c = (limits_from c.args.flash.now c.requires).bits
+pub returns-in-Ok-None-clause-fit : goal.returns-in-Ok-None-clause-fit
+returns-in-Ok-None-clause-fit g c =
+    let fit : misfit c.args.flash.now (block_at c.args.parts.now.regions.items c.args.parts.now.current c.args.parts.now.sealed.items c.args.parts.now.flushed.items c.args.parts.now.index) ≡ None = sym c.in-Ok-None.ensures ∙ c.in-Ok-None.field-0-is in
+    IfOk-weaker c.clean_numbers.result _ _ (λ clean e. fit) c.clean_numbers.ensures.clean
 
-pub index_of-requires-clause-filled : goal.index_of-requires-clause-filled
-index_of-requires-clause-filled g c = short_regions c.args.flash.now c.as_slice-regions.result.now c.requires (sym c.all_rest.ensures ∙ c.if-not-all_rest.false)
-
-pub returns : goal.returns
-returns g c = if_some_more
-    (λ i h. parts_of c.args.flash.now c.as_slice-regions.result.now c.args.parts.now.regions.items c.args.parts.now.current c.args.parts.now.sealed.items c.args.parts.now.flushed.items c.as_slice.result.now c.args.parts.now.leads.items i
-    c.as_slice-regions.ensures.value c.as_slice.ensures.value c.requires c.if-regions-flash.false (sym c.all_rest.ensures ∙ c.if-not-all_rest.false)
-    (c.is_open.ensures c.if-not-is_open.false) (c.in_ok-all_once.ensures c.if-not-branch.false) (c.in_ok-all_once-2.ensures c.if-not-branch-2.false) h.0 h.1)
-    c.index_of.result c.index_of.ensures
+pub returns-in-Ok-None-clause-why : goal.returns-in-Ok-None-clause-why
+returns-in-Ok-None-clause-why g c = IfErr-weaker c.clean_numbers.result _ _ (λ why e. inl e) c.clean_numbers.ensures.err

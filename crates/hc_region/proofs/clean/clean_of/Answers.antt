@@ -1,4 +1,4 @@
-use Rattle.hc_region.proofs.Counted.{next_clean, all_clean}
+use Rattle.hc_region.proofs.Counted.{next_clean}
 use Rattle.hc_region.proofs.clean.clean_of.Goals as goal
 
 pub loop-r-preserved : goal.loop-r-preserved

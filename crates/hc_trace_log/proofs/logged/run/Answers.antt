@@ -1,5 +1,5 @@
 use Rattle.hc_trace_log.proofs.Hearing.{heard-whole}
 use Rattle.hc_trace_log.proofs.logged.run.Goals as goal
 
-pub returns-in-None : goal.returns-in-None
-returns-in-None c = heard-whole c.args.config c.args.player c.take_lines.new.player _ c.requires.fits c.requires.fresh c.requires.log (rw c.in-None.is at c.in_ok-take_lines.ensures)
+pub returns-in_default-None : goal.returns-in_default-None
+returns-in_default-None c = heard-whole c.args.config c.args.player c.in_ok-player.field-0.0 _ c.requires.fits c.requires.fresh c.requires.log (rw c.in_default-None.is-1 at c.in_ok-player.ensures)
