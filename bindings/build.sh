@@ -146,6 +146,8 @@ if has cc; then
     cc -std=c99 -Wall -Wextra -Wpedantic -Werror -O1 -g -o "$out/checks" "$here/c/checks.c" $flags
     "$out/checks"
     under_valgrind "no error, nothing lost" $all_leaks "$out/checks"
+    cc -std=c99 -Wall -Wextra -Wpedantic -Werror -O1 -o "$out/memory" "$here/examples/c/memory.c" $flags
+    "$out/memory" >"$out/memory.txt" || { cat "$out/memory.txt"; exit 1; }
 else
     echo "skipped: no cc"
 fi

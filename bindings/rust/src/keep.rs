@@ -12,7 +12,7 @@ use std::{error, fmt, io};
 /// [`HybridCache::close`](crate::HybridCache::close), and by nothing else. A cache that ends otherwise keeps nothing.
 ///
 /// What is kept is used once. It is right as long as no row was changed while no cache was open: **who changes rows repeats each
-/// delete until it is answered, also over a restart**, or nothing is to be kept. docs/EMBEDDING.md has all that is promised.
+/// delete until it is answered, also over a restart**, or nothing is to be kept. docs/OPERATING.md has all that is promised.
 ///
 /// ```
 /// use kilambosetry::{Began, HybridCache, Keep, Options};
