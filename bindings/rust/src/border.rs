@@ -96,7 +96,7 @@ impl HybridCache {
             self.shards().finish_load(shard, key, load, Outcome::Look);
         }
         let load = (load != 0).then_some(load);
-        Ok(Some(Lease { cache: self.clone(), shard, key: copy?, ticket, load }))
+        Ok(Some(Lease { cache: self.clone(), shard, key: copy?, ticket, load, head: None }))
     }
 
     /// Begins a change that is ended by its numbers. `None`: there is no bar, since the cache can't have the key, or is closed.

@@ -1,6 +1,7 @@
 use crate::held::copied;
 use crate::hybrid::held_of;
 use crate::loads::{after, Begins, Outcome};
+use crate::namespace::Head;
 use crate::shards::{Locked, Shards};
 use crate::told::Told;
 use crate::{Error, Found, Held, HybridCache, Kept, LeaseAsync, LoadError, Loaded, Refused, Ticket, Value};
@@ -44,6 +45,8 @@ pub struct Lease {
     pub(crate) ticket: Option<Ticket>,
     // the number of the load; none, where nobody waits for it
     pub(crate) load: Option<u64>,
+    // what stands before each row of a namespace
+    pub(crate) head: Option<Head>,
 }
 
 /// A key that may be to be loaded. Where it is dropped before a lease has taken it over, nobody has begun to load it.
@@ -257,7 +260,7 @@ impl HybridCache {
         state.is_barred(begun.key);
         let ticket = state.engine.now().ticket();
         begun.shards.leave(begun.shard, state);
-        Ok(Lease { cache: self.clone(), shard: begun.shard, key, ticket, load: begun.load.take() })
+        Ok(Lease { cache: self.clone(), shard: begun.shard, key, ticket, load: begun.load.take(), head: None })
     }
 
     /// What was found: a value, or that it is known that there is none.
@@ -273,8 +276,8 @@ enum Sought<'a> {
     Again,
 }
 
-// What was loaded, which is kept by the lease, if there is one; or why nothing was, which is told who waits.
-fn loaded<E: fmt::Display>(
+/// What was loaded, which is kept by the lease, if there is one; or why nothing was, which is told who waits.
+pub(crate) fn loaded<E: fmt::Display>(
     lease: Option<Lease>,
     load: impl FnOnce() -> Result<Loaded, E>,
 ) -> Result<Loaded, LoadError<E>> {
@@ -307,6 +310,17 @@ impl Lease {
     /// wakes who waits for it. Where the key was changed meanwhile, or is being changed, it is [`Kept::Stale`], and not stored.
     /// What isn't stored is handed to who waits.
     pub fn store(mut self, value: &[u8], ttl: u32) -> Result<Kept, Error> {
+        match self.head.take() {
+            None => self.store_as(value, ttl),
+            Some(head) => {
+                // (where there is no memory for it, the lease is dropped)
+                let (row, ttl) = head.put_before(value, ttl, self.cache.shards().clock.now())?;
+                self.store_as(&row, ttl)
+            }
+        }
+    }
+
+    fn store_as(mut self, value: &[u8], ttl: u32) -> Result<Kept, Error> {
         let kept = self.try_store(value, ttl);
         if kept != Ok(Kept::Stored) {
             self.hand_on(|| copied(value).map(Told::Row).ok());
@@ -318,6 +332,9 @@ impl Lease {
     /// would load it is told. An `add` finds that the key has a value.
     pub fn store_absent(mut self, ttl: u32) -> Result<Kept, Error> {
         let absent = self.cache.shards().absent;
+        if self.head.is_some() {
+            return self.store(&absent, ttl);
+        }
         let kept = self.try_store(&absent, ttl);
         self.finish(Outcome::Absent);
         kept
