@@ -263,6 +263,26 @@ impl HybridCache {
         Ok(Lease { cache: self.clone(), shard: begun.shard, key, ticket, load: begun.load.take(), head: None })
     }
 
+    /// A lease of a key that has a row, for who loads it anew. None, where another loads it, or its row is being changed.
+    pub(crate) fn lease_anew(&self, key: &[u8]) -> Result<Option<Lease>, Error> {
+        let mut begun = Begun::new(self.shards(), key);
+        let mut state = begun.shards.enter(begun.shard)?;
+        if state.is_barred(key) || !begun.begin(&mut state).is_ours() {
+            begun.shards.leave(begun.shard, state);
+            return Ok(None);
+        }
+        Ok(Some(self.lease(state, &mut begun)?))
+    }
+
+    /// Whether the key's row is being changed, or may still come to be.
+    pub(crate) fn is_barred(&self, key: &[u8]) -> Result<bool, Error> {
+        let (shards, shard) = (self.shards(), self.shards().of(key));
+        let mut state = shards.enter(shard)?;
+        let is_barred = state.is_barred(key);
+        shards.leave(shard, state); // (a bar that is due ends, and its key is deleted)
+        Ok(is_barred)
+    }
+
     /// What was found: a value, or that it is known that there is none.
     pub(crate) fn found(&self, held: Held) -> Result<Lookup, Error> {
         Ok(self.shards().value_of(held)?.map_or(Lookup::Absent, Lookup::Hit))

@@ -219,7 +219,7 @@ impl Namespace {
     pub(crate) fn look(&self, key: &[u8], grace: u32, tells_absent: bool) -> Result<Lookup, Error> {
         let room = self.key_of(key);
         loop {
-            // (before the lease: what is loaded by it is of this generation, or of behind it)
+            // (what is loaded by the lease is loaded behind this: so it is no older than the generation)
             let generation = self.generation()?;
             let found = self.cache.get_or_lease(room.key())?;
             match self.told(found, Head { generation, grace }) {
