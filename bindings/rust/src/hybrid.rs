@@ -8,8 +8,8 @@ use crate::save::Keeper;
 use crate::shards::{Locked, Shards, State, ABSENT};
 use crate::shared::{boxed, Shared};
 use crate::{
-    resume, Added, Began, Closed, Error, Found, Held, Keep, NotKept, OpenError, Options, PageFile, Refused, Reply,
-    Saved, Stats, Value,
+    resume, Added, Began, Cause, Closed, Error, Found, Held, Keep, NotKept, OpenError, Options, PageFile, Refused,
+    Reply, Saved, Stats, Value,
 };
 use std::cell::Cell;
 use std::path::Path;
@@ -242,7 +242,7 @@ impl HybridCache {
     /// Takes the key out of the cache, from memory and flash, and answers whether there was an item in memory. Where it is refused
     /// for want of memory, the key still has what it had: try it again.
     pub fn delete(&self, key: &[u8]) -> Result<bool, Error> {
-        self.step(key, |state, _| state.delete(key))
+        self.step(key, |state, _| state.delete(key, Cause::Deleted))
     }
 
     /// Waits until each shard had nothing that waits to be written to flash, at some moment since.

@@ -68,6 +68,7 @@ mod key_value;
 mod lease;
 mod leases;
 mod library;
+mod listener;
 mod load_async;
 mod loaded;
 mod loads;
@@ -109,6 +110,7 @@ pub use keep::{Began, Closed, Keep, KeepWhat, NotKept, Progress, Saved, WasKept,
 pub use key_value::{EngineWithDevice, KeyValue};
 pub use lease::{Lease, Lookup};
 pub use leases::{Kept, Ticket, Turn};
+pub use listener::{Cause, Gone, Listener};
 pub use loaded::Loaded;
 pub use namespace::Namespace;
 pub use numbers::Numbers;
