@@ -1,9 +1,11 @@
 use crate::generations::Generations;
 use crate::held::copied;
+use crate::times::{Clocked, Kind};
 use crate::wakes::Wakes;
 use crate::{Error, Refused, Reply};
 use std::collections::HashMap;
 use std::task::Waker;
+use std::time::Instant;
 
 /// What a call that waited is answered.
 pub(crate) type Answer = Result<Reply, Error>;
@@ -19,6 +21,8 @@ enum Waits {
 pub(crate) struct Call {
     waits: Option<Waits>,
     is_add: bool,
+    // where it is timed
+    begun: Option<Instant>,
     // where somebody listens
     key: Option<Box<[u8]>>,
     answer: Option<Answer>,
@@ -49,6 +53,8 @@ pub(crate) struct Calls {
     pub misses_by_clear: u64,
     /// Calls that were given up while they waited.
     pub given_up: u64,
+    /// Who is told how long gets waited.
+    pub clocked: Option<Clocked>,
 }
 
 impl Calls {
@@ -60,7 +66,8 @@ impl Calls {
     /// Lists a call that waits from now on, in the place that was kept; and so it has one among those who are woken.
     pub fn begin(&mut self, call: u64, wakes: &mut Wakes) {
         self.owed += 1;
-        self.waiting.insert(call, Call { key: self.noted.take(), ..Call::default() });
+        let begun = self.clocked.as_ref().map(|_| Instant::now());
+        self.waiting.insert(call, Call { key: self.noted.take(), begun, ..Call::default() });
         wakes.wait();
     }
 
@@ -220,7 +227,12 @@ impl Calls {
 
     fn answer(&mut self, number: u64, answer: Answer, wakes: &mut Wakes) {
         match self.waiting.get_mut(&number) {
-            Some(call) => call.answer(number, answer, wakes),
+            Some(call) => {
+                if let (Some(clocked), Some(begun), false) = (&self.clocked, call.begun.take(), call.is_add) {
+                    clocked.end(Kind::WaitingGet, begun);
+                }
+                call.answer(number, answer, wakes);
+            }
             None => drop(self.keys.remove(&number).and_then(|key| self.left.remove(&key))),
         }
     }

@@ -3,6 +3,7 @@ use crate::hybrid::held_of;
 use crate::loads::{after, Begins, Outcome};
 use crate::namespace::Head;
 use crate::shards::{Locked, Shards};
+use crate::times::TimedLoad;
 use crate::told::Told;
 use crate::{Error, Found, Held, HybridCache, Kept, LeaseAsync, LoadError, Loaded, Refused, Ticket, Value};
 use std::fmt;
@@ -47,6 +48,8 @@ pub struct Lease {
     pub(crate) load: Option<u64>,
     // what stands before each row of a namespace
     pub(crate) head: Option<Head>,
+    // where it is timed
+    pub(crate) timed: Option<TimedLoad>,
 }
 
 /// A key that may be to be loaded. Where it is dropped before a lease has taken it over, nobody has begun to load it.
@@ -215,15 +218,18 @@ impl HybridCache {
         until: Option<Instant>,
     ) -> Result<Sought<'a>, Error> {
         let (shards, shard) = (begun.shards, begun.shard);
+        let timed = shards.begin_get();
         let mut state = shards.enter(shard)?;
         let mut was_ours = true;
         let held = match state.get(begun.key)? {
             Found::Hit(held) => {
                 drop(state);
+                shards.end_get(timed);
                 Some(held)
             }
             Found::Miss => {
                 let begins = begun.begin(&mut state);
+                shards.end_get(timed);
                 return Ok(Sought::Missed(state, begins));
             }
             Found::Waits(call) => {
@@ -260,7 +266,8 @@ impl HybridCache {
         state.is_barred(begun.key);
         let ticket = state.engine.now().ticket();
         begun.shards.leave(begun.shard, state);
-        Ok(Lease { cache: self.clone(), shard: begun.shard, key, ticket, load: begun.load.take(), head: None })
+        let timed = begun.shards.clocked.as_ref().map(TimedLoad::begin);
+        Ok(Lease { cache: self.clone(), shard: begun.shard, key, ticket, load: begun.load.take(), head: None, timed })
     }
 
     /// A lease of a key that has a row, for who loads it anew. None, where another loads it, or its row is being changed.

@@ -13,6 +13,7 @@ use crate::numbers::{Numbers, Share, MOST_POOLS};
 use crate::shared::Shared;
 use crate::spread::Spread;
 use crate::timer::Timer;
+use crate::times::{self, Clocked, Kind};
 use crate::told::{Tellings, Told};
 use crate::waits;
 use crate::wakes::{Rings, Wakes, Woken};
@@ -328,6 +329,8 @@ pub(crate) struct Shards {
     fillers: Bell,
     /// How often all were cleared.
     pub clears: AtomicU64,
+    /// How long what took, where that is asked for.
+    pub clocked: Option<Clocked>,
 }
 
 // What panics in a call (a clock, a device, a task that is woken) does so with the shard as a call leaves it, or its lock free.
@@ -353,11 +356,14 @@ impl Shards {
     /// Empty shards with these numbers, over a device that is still to come, where there is flash.
     pub fn new(numbers: &Numbers, options: &Options) -> Result<Shards, Refused> {
         let (share, now) = (numbers.share(), options.clock.now());
+        let clocked = if options.times { Some(Clocked::new()?) } else { None };
         let mut shards = Vec::new();
         shards.try_reserve_exact(usize::from(numbers.shards)).map_err(|_| Refused::NO_MEMORY)?;
         for _ in 0..numbers.shards {
             let engine = new_engine(numbers, &share, now)?;
-            let state = Mutex::new(State::new(engine, now));
+            let mut state = State::new(engine, now);
+            state.calls.clocked = clocked.clone();
+            let state = Mutex::new(state);
             shards.push(Shard { state, rings: Rings::default(), quiet: Condvar::new(), lock_waits: AtomicU64::new(0) });
         }
         let (page, pages) = numbers.flash.map_or((0, 0), |flash| (flash.page as usize, flash.pages() as u32));
@@ -379,6 +385,7 @@ impl Shards {
             writers: Bell::default(),
             fillers: Bell::default(),
             clears: AtomicU64::new(0),
+            clocked,
         })
     }
 
@@ -446,11 +453,26 @@ impl Shards {
         Ok(state)
     }
 
+    /// When a get begins, if it is one that is timed.
+    #[inline]
+    pub fn begin_get(&self) -> Option<Instant> {
+        self.clocked.as_ref().and_then(|_| times::begin_some())
+    }
+
+    /// A get that began then is answered, and hasn't waited.
+    #[inline]
+    pub fn end_get(&self, begun: Option<Instant>) {
+        if let (Some(begun), Some(clocked)) = (begun, &self.clocked) {
+            clocked.end(Kind::Get, begun);
+        }
+    }
+
     /// Has the shard have what an earlier one had, and was told this second. (That may be later than the clock's: a close that told the
     /// next cache less would let the clock go back by a bit at each restart.)
     pub fn put_resumed(&mut self, shard: usize, engine: Engine, pad: Pad, second: u64) {
         let state = self.shards[shard].state.get_mut().unwrap_or_else(PoisonError::into_inner);
         *state = State::resumed(engine, pad, second);
+        state.calls.clocked = self.clocked.clone();
     }
 
     /// Has all shards be empty, as new ones.
@@ -458,7 +480,9 @@ impl Shards {
         let now = self.clock.now();
         for shard in &mut self.shards {
             let engine = new_engine(&self.numbers, &self.share, now)?;
-            *shard.state.get_mut().unwrap_or_else(PoisonError::into_inner) = State::new(engine, now);
+            let state = shard.state.get_mut().unwrap_or_else(PoisonError::into_inner);
+            *state = State::new(engine, now);
+            state.calls.clocked = self.clocked.clone();
         }
         Ok(())
     }
