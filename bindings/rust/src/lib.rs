@@ -77,6 +77,7 @@ mod many;
 mod marks;
 mod masked;
 mod namespace;
+mod namespace_async;
 mod numbers;
 mod options;
 mod refresh;

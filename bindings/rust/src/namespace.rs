@@ -146,8 +146,7 @@ impl Namespace {
     pub fn get(&self, key: &[u8]) -> Result<Option<Value>, Error> {
         let Some(generation) = self.generation_now()? else { return Ok(None) };
         let found = self.cache.get(self.key_of(key).key())?;
-        let row = found.and_then(|value| self.row(value, generation)).filter(|row| self.is_fresh(row));
-        Ok(row.map(|row| row.value).filter(|value| !self.is_absent(value)))
+        Ok(self.fresh_row(found, generation))
     }
 
     /// As [`HybridCache::set`].
@@ -230,8 +229,8 @@ impl Namespace {
         }
     }
 
-    // What was found, as it is told here; none, where it is of another generation, or its time to live is over.
-    fn told(&self, found: Lookup, head: Head) -> Option<Lookup> {
+    /// What was found, as it is told here; none, where it is of another generation, or its time to live is over.
+    pub(crate) fn told(&self, found: Lookup, head: Head) -> Option<Lookup> {
         match found {
             Lookup::Hit(value) => {
                 let row = self.row(value, head.generation).filter(|row| self.is_fresh(row))?;
@@ -259,8 +258,8 @@ impl Namespace {
         Room::of([&self.name, key, &[]])
     }
 
-    // (no name has no byte)
-    fn key_of_generation(&self) -> Room {
+    /// The key of the generation. (No name has no byte.)
+    pub(crate) fn key_of_generation(&self) -> Room {
         Room::of([&[0], &self.name, &[]])
     }
 
@@ -272,8 +271,14 @@ impl Namespace {
         self.cache.shards().is_absent(row)
     }
 
-    pub(crate) fn is_fresh(&self, row: &Row) -> bool {
+    fn is_fresh(&self, row: &Row) -> bool {
         self.now() < row.due
+    }
+
+    /// The row of what was found, unless it says that there is none.
+    pub(crate) fn fresh_row(&self, found: Option<Value>, generation: Generation) -> Option<Value> {
+        let row = found.and_then(|value| self.row(value, generation)).filter(|row| self.is_fresh(row))?;
+        (!self.is_absent(&row.value)).then_some(row.value)
     }
 
     /// The row of a value, if it is of this generation.
@@ -297,9 +302,13 @@ impl Namespace {
         if let Some(generation) = self.generation_now()? {
             return Ok(generation);
         }
+        let lookup = self.cache.get_or_lease(self.key_of_generation().key())?;
+        self.generation_of(lookup)
+    }
+
+    /// The generation that is there, or a new one.
+    pub(crate) fn generation_of(&self, lookup: Lookup) -> Result<Generation, Error> {
         let own = new_generation();
-        let room = self.key_of_generation();
-        let lookup = self.cache.get_or_lease(room.key())?;
         Ok(match lookup {
             Lookup::Hit(value) => value[..].try_into().unwrap_or_else(|_| {
                 self.clear(); // (somebody has set its key)

@@ -4,10 +4,13 @@ use kilambosetry::{
 };
 use std::convert::Infallible;
 use std::fs;
+use std::future::Future;
 use std::io;
 use std::path::PathBuf;
+use std::pin::pin;
 use std::sync::atomic::{AtomicBool, AtomicU64, Ordering::SeqCst};
 use std::sync::mpsc;
+use std::task::{Context, Poll, Waker};
 use std::thread;
 use std::time::Duration;
 
@@ -169,6 +172,28 @@ fn one_loads_and_the_others_wait() {
     });
     let failed = of.get_or_load(b"other", 0, || Err::<&str, _>("the database is down"));
     assert_eq!(failed, Err(LoadError::Load("the database is down")));
+}
+
+fn is_sent<T: Send>(of: T) -> T {
+    of
+}
+
+#[test]
+fn tasks_load_and_may_be_sent() {
+    let cache = cache();
+    let of = cache.namespace("of").unwrap();
+    let asked = AtomicU64::new(0);
+    let find = || {
+        let load = || std::future::ready(Ok::<_, Infallible>(Loaded::row(asked.fetch_add(1, SeqCst).to_string(), 0)));
+        let task = is_sent(of.find_or_load_async(b"key", load));
+        let Poll::Ready(found) = pin!(task).poll(&mut Context::from_waker(Waker::noop())) else { panic!("it waits") };
+        found.unwrap().unwrap().into_vec()
+    };
+    assert_eq!((find(), find()), (b"0".to_vec(), b"0".to_vec()));
+    of.clear();
+    assert_eq!(find(), b"1");
+    of.set(b"key", b"2", 0).unwrap();
+    assert_eq!(find(), b"2");
 }
 
 #[test]
