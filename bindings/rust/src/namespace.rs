@@ -57,11 +57,13 @@ impl Room {
         &self.bytes[..self.length]
     }
 
-    fn of(parts: [&[u8]; 3]) -> Room {
+    fn of(parts: [&[u8]; 2]) -> Room {
         let mut room = Room { bytes: [0; LONGEST + 1], length: 0 };
-        for byte in parts.into_iter().flatten().take(LONGEST + 1) {
-            room.bytes[room.length] = *byte;
-            room.length += 1;
+        for part in parts {
+            let left = &mut room.bytes[room.length..];
+            let fits = part.len().min(left.len());
+            left[..fits].copy_from_slice(&part[..fits]);
+            room.length += fits;
         }
         room
     }
@@ -255,12 +257,12 @@ impl Namespace {
 
     /// The key, with the name before it.
     pub(crate) fn key_of(&self, key: &[u8]) -> Room {
-        Room::of([&self.name, key, &[]])
+        Room::of([&self.name, key])
     }
 
     /// The key of the generation. (No name has no byte.)
     pub(crate) fn key_of_generation(&self) -> Room {
-        Room::of([&[0], &self.name, &[]])
+        Room::of([&[0], &self.name])
     }
 
     pub(crate) fn now(&self) -> u64 {
