@@ -51,7 +51,7 @@ pub enum Cause {
 #[derive(Clone, Debug, PartialEq, Eq)]
 #[non_exhaustive]
 pub struct Gone {
-    /// The key; none, where it isn't told.
+    /// The key, of a namespace with its name before it; none, where it isn't told.
     pub key: Option<Vec<u8>>,
     /// Why.
     pub cause: Cause,

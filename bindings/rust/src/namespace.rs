@@ -103,7 +103,8 @@ impl Room {
 /// neither stored behind it nor handed to who asks then; and a change that is under way, or a commit in doubt, bars its key whatever
 /// is cleared meanwhile. Rows are changed by the namespace's own [`change`](Namespace::change), which knows the key.
 ///
-/// There is no `add`: where a row of before stands, whether there is one can't be told in one step. A plain key that begins with a byte
+/// There is no `add`: where a row of before stands, whether there is one can't be told in one step. Nor is there a get of many keys, or
+/// one with a time limit. A plain key that begins with a byte
 /// that is the length of a name, and with that name, is the namespace's: leave it alone.
 #[derive(Clone)]
 pub struct Namespace {
@@ -223,11 +224,11 @@ impl Namespace {
             // (what is loaded by the lease is loaded behind this: so it is no older than the generation)
             let generation = self.generation()?;
             let found = self.cache.get_or_lease(room.key())?;
-            match self.told(found, Head { generation, grace }) {
-                Some(Lookup::Absent) if !tells_absent => self.remove_other(&room, generation)?,
-                Some(lookup) => return Ok(lookup),
-                None => self.remove_other(&room, generation)?,
+            let told = self.told(found, Head { generation, grace });
+            if let Some(lookup) = told.filter(|it| tells_absent || !matches!(it, Lookup::Absent)) {
+                return Ok(lookup);
             }
+            self.remove_other(&room, generation, self.generation_now()?)?;
         }
     }
 
@@ -247,9 +248,15 @@ impl Namespace {
         }
     }
 
-    // Something was found that isn't to be told: it is taken away, unless the generation is another one by now.
-    fn remove_other(&self, room: &Room, generation: Generation) -> Result<(), Error> {
-        if self.generation_now()? == Some(generation) {
+    /// Something was found that isn't to be told: it is taken away, unless the generation is another one by now. (Where there is none,
+    /// it is of one that was forgotten.)
+    pub(crate) fn remove_other(
+        &self,
+        room: &Room,
+        generation: Generation,
+        now: Option<Generation>,
+    ) -> Result<(), Error> {
+        if now.is_none_or(|now| now == generation) {
             self.cache.delete(room.key())?;
         }
         Ok(())

@@ -44,9 +44,8 @@ impl Namespace {
             if let Some(lookup) = self.told(found, Head { generation, grace: 0 }) {
                 return Ok(lookup);
             }
-            if self.generation_now_async().await? == Some(generation) {
-                self.cache.delete(room.key())?;
-            }
+            let now = self.generation_now_async().await?;
+            self.remove_other(&room, generation, now)?;
         }
     }
 

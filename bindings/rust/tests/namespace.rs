@@ -246,6 +246,24 @@ fn where_its_generation_is_pushed_out_all_of_it_is_forgotten() {
     assert_eq!(get(&of, b"key").unwrap(), b"found");
 }
 
+// Its key is barred, so that nothing which was drawn is stored.
+#[test]
+fn where_no_generation_can_be_stored_loads_go_on() {
+    let cache = cache();
+    let of = cache.namespace("of").unwrap();
+    of.set(b"key", b"old", 0).unwrap();
+    let change = cache.begin_change(b"\x00\x02of");
+    of.clear();
+    for _ in 0..3 {
+        assert_eq!(&of.get_or_load(b"key", 0, || row("new")).unwrap()[..], b"new");
+        assert!(get(&of, b"key").is_none());
+        of.set(b"key", b"lost", 0).unwrap();
+    }
+    change.end();
+    assert_eq!(&of.get_or_load(b"key", 0, || row("new")).unwrap()[..], b"new");
+    assert_eq!(get(&of, b"key").unwrap(), b"new");
+}
+
 struct Place(PathBuf);
 
 impl Place {
