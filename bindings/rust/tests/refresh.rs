@@ -2,10 +2,10 @@
 //! that was deleted, changed or cleared, or is being changed.
 use kilambosetry::{Aged, Clock, HybridCache, Kept, LoadError, Loaded, Namespace, Options, Refresh, Served};
 use std::convert::Infallible;
-use std::sync::atomic::{AtomicU64, Ordering::SeqCst};
+use std::sync::atomic::{AtomicBool, AtomicU64, Ordering::SeqCst};
 use std::sync::{Arc, Barrier};
 use std::thread;
-use std::time::Duration;
+use std::time::{Duration, Instant};
 
 struct Fixture {
     cache: HybridCache,
@@ -213,4 +213,47 @@ fn one_loads_and_nobody_waits() {
     });
     assert_eq!((loads.load(SeqCst), stale.load(SeqCst)), (1, 7));
     assert_eq!(it.cache.stats().waits_for_loads, waits);
+}
+
+// Rows are due and stale all the time, and are changed meanwhile.
+#[test]
+fn no_row_is_older_than_a_change_that_was_answered() {
+    let it = fixture();
+    let (rows, known): ([AtomicU64; 8], [AtomicU64; 8]) = Default::default();
+    let (old, is_over) = (AtomicU64::new(0), AtomicBool::new(false));
+    thread::scope(|all| {
+        for thread in 0..4_u64 {
+            let (it, rows, known, old, is_over) = (&it, &rows, &known, &old, &is_over);
+            all.spawn(move || {
+                let mut seed = thread + 1;
+                while !is_over.load(SeqCst) {
+                    seed = seed.wrapping_mul(6_364_136_223_846_793_005).wrapping_add(1_442_695_040_888_963_407);
+                    let of = (seed >> 61) as usize;
+                    let least = known[of].load(SeqCst);
+                    let load = || {
+                        let row = rows[of].load(SeqCst);
+                        thread::sleep(Duration::from_micros(100));
+                        Ok::<_, Infallible>(Loaded::row(row.to_be_bytes(), 10))
+                    };
+                    let served = it.of.find_or_refresh(&[of as u8], &REFRESH, load).unwrap();
+                    let found = u64::from_be_bytes(served.row.unwrap()[..].try_into().unwrap());
+                    old.fetch_add(u64::from(found < least), SeqCst);
+                }
+            });
+        }
+        let begun = Instant::now();
+        for turn in (1_u64..).take_while(|_| begun.elapsed() < Duration::from_secs(1)) {
+            let of = (turn % 8) as usize;
+            let commit = || {
+                rows[of].store(turn, SeqCst);
+                Ok::<_, Infallible>(())
+            };
+            it.of.change(&[of as u8], commit).unwrap();
+            known[of].store(turn, SeqCst);
+            it.at(3 * turn);
+            thread::sleep(Duration::from_micros(100));
+        }
+        is_over.store(true, SeqCst);
+    });
+    assert_eq!(old.load(SeqCst), 0);
 }
