@@ -241,7 +241,7 @@ if has cargo; then
     fi
     for package in rust service pictures examples/rust; do read_package "$package"; done
     if [ "$what" != --short ]; then
-        for package in server bench; do
+        for package in server bench tracing; do
             if missing=$("$here/$package/tests/has-crates"); then read_package "$package"; else echo "skipped: the code of $package, for want of crate $missing"; fi
         done
         for package in speed trial; do
@@ -325,6 +325,15 @@ if ! has cargo; then
     echo "skipped: no cargo"
 elif missing=$("$here/server/tests/has-crates"); then
     CARGO_TARGET_DIR="$out/target" "$here/server/tests/run" "$@"
+else
+    echo "skipped: no crate $missing"
+fi
+
+echo "== spans"
+if ! has cargo; then
+    echo "skipped: no cargo"
+elif missing=$("$here/tracing/tests/has-crates"); then
+    (cd "$here/tracing" && CARGO_TARGET_DIR="$out/target" cargo test --offline --quiet)
 else
     echo "skipped: no crate $missing"
 fi

@@ -1780,6 +1780,64 @@ static void check_memory(void) {
     kilambosetry_service_close(service);
 }
 
+/* ---- who listens ---- */
+
+static void *hear(void *context) {
+    kilambosetry_service *service = context;
+    kilambosetry_gone gone;
+    uint8_t key[255];
+    size_t key_len, heard = 0;
+    while (kilambosetry_service_next_gone(service, key, sizeof key, &key_len, &gone, FOREVER) == KILAMBOSETRY_DONE) heard++;
+    return (void *)heard;
+}
+
+static void check_listening(void) {
+    kilambosetry_service_options options = KILAMBOSETRY_SERVICE_OPTIONS;
+    kilambosetry_pool pool = {10000, 8};
+    options.pool = &pool;
+    options.shards = 1;
+    kilambosetry_service *service;
+    CHECK(kilambosetry_service_open_in_memory(&service, &options, NULL) == KILAMBOSETRY_DONE);
+    kilambosetry_gone gone;
+    uint8_t key[255];
+    size_t key_len;
+    CHECK(kilambosetry_service_next_gone(service, key, sizeof key, &key_len, &gone, FOREVER) == KILAMBOSETRY_EMPTY);
+    CHECK(kilambosetry_service_listen(service, 4) == KILAMBOSETRY_DONE);
+    CHECK(kilambosetry_service_next_gone(service, key, sizeof key, &key_len, &gone, 1) == KILAMBOSETRY_TIMED_OUT);
+    kilambosetry_service_delete(service, BYTES("key"));
+    CHECK(kilambosetry_service_next_gone(service, key, sizeof key, &key_len, &gone, FOREVER) == KILAMBOSETRY_DONE);
+    CHECK(gone.has_key && gone.cause == KILAMBOSETRY_GONE_DELETED && gone.count == 1 && gone.missed == 0);
+    CHECK(key_len == 3 && memcmp(key, "key", 3) == 0);
+    kilambosetry_change change;
+    kilambosetry_service_begin_change(service, &change, BYTES("row"));
+    kilambosetry_service_end_change(service, &change, BYTES("row"), true);
+    CHECK(kilambosetry_service_next_gone(service, key, 2, &key_len, &gone, FOREVER) == KILAMBOSETRY_DONE);
+    CHECK(gone.cause == KILAMBOSETRY_GONE_CHANGED && key_len == 2 && memcmp(key, "ro", 2) == 0);
+    uint64_t lost = 0;
+    for (uint8_t i = 0; i < 20; i++) {
+        CHECK(kilambosetry_service_set(service, &i, 1, BYTES("value"), 0) == KILAMBOSETRY_DONE);
+        while (kilambosetry_service_next_gone(service, key, sizeof key, &key_len, &gone, 0) == KILAMBOSETRY_DONE) {
+            CHECK(!gone.has_key && gone.cause == KILAMBOSETRY_GONE_NO_FLASH && key_len == 0);
+            lost += gone.count;
+        }
+    }
+    CHECK(lost == 12);
+    for (unsigned i = 0; i < 9; i++) kilambosetry_service_invalidate(service, BYTES("none"));
+    CHECK(kilambosetry_service_next_gone(service, key, sizeof key, &key_len, &gone, 0) == KILAMBOSETRY_DONE && gone.missed == 5);
+    CHECK(kilambosetry_service_listen(service, 0) == KILAMBOSETRY_DONE);
+    CHECK(kilambosetry_service_next_gone(service, key, sizeof key, &key_len, &gone, 0) == KILAMBOSETRY_EMPTY);
+    CHECK(kilambosetry_service_listen(service, 100) == KILAMBOSETRY_DONE);
+    pthread_t thread;
+    void *heard = NULL;
+    pthread_create(&thread, NULL, hear, service);
+    kilambosetry_service_clear(service);
+    sleep_ms(20);
+    kilambosetry_service_shut(service);
+    pthread_join(thread, &heard);
+    CHECK((size_t)heard == 1);
+    kilambosetry_service_close(service);
+}
+
 int main(int len, char **words) {
     snprintf(file, sizeof file, "%s/kilambosetry-%ld", len > 1 ? words[1] : "/tmp", (long)getpid());
     if (len > 2) part = (unsigned)atoi(words[2]);
@@ -1804,6 +1862,7 @@ int main(int len, char **words) {
     check_many_limits();
     check_leases();
     check_clearing();
+    check_listening();
     check_no_patience();
     check_changes();
     check_lost_loader();

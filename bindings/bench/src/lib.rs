@@ -35,4 +35,4 @@ pub mod trace;
 pub mod unpack;
 pub mod zipf;
 
-pub use kilambosetry_pictures::{axis, bytes, histogram, page, picture};
+pub use kilambosetry_pictures::{axis, bytes, page, picture};

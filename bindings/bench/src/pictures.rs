@@ -129,7 +129,7 @@ const NAMES: [&str; 5] = ["p50", "p90", "p99", "p99.9", "max"];
 
 fn times(outcome: &Outcome) -> Picture {
     let shown = outcome.measured.tally.times().into_iter().filter(|(_, times)| times.count() > 0);
-    let line = |(name, times): (&str, &crate::histogram::Histogram)| {
+    let line = |(name, times): (&str, &kilambosetry::Histogram)| {
         let shares = QUANTILES.iter().map(|(_, share)| times.quantile(*share)).chain([times.most()]);
         let points = shares.enumerate().map(|(place, time)| (place as f64, time as f64)).collect();
         Line { name: name.to_string(), points }

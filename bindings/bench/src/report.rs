@@ -2,11 +2,11 @@
 use crate::bytes::Bytes;
 use crate::caches::Case;
 use crate::feed::Pace;
-use crate::histogram::Histogram;
 use crate::json::Json;
 use crate::page::Table;
 use crate::run::Measured;
 use crate::tally::part;
+use kilambosetry::Histogram;
 use std::fmt;
 
 /// The quantiles that are told, with their names.

@@ -1,7 +1,7 @@
 //! What a thread counts of the answers to its requests.
-use crate::histogram::Histogram;
 use crate::request::{Op, Request};
 use crate::target::Answer;
+use kilambosetry::Histogram;
 
 /// Counts, and how long each kind of answer took.
 #[derive(Clone, Debug, Default)]

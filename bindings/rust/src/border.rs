@@ -71,6 +71,9 @@ pub fn numbers_of(mut lease: Lease) -> Option<LeaseNumbers> {
     }
     let ticket = lease.ticket?;
     let load = lease.load.take().unwrap_or(0);
+    if let Some(timed) = lease.timed.take() {
+        timed.leave(); // (when it is over isn't known here)
+    }
     let state = lease.cache.shards().lock(lease.shard);
     let (cache, ticket) = (state.engine.number(), state.engine.number_of(ticket));
     Some(LeaseNumbers { cache, ticket, load, key: digest_of(&lease.key) })
@@ -96,7 +99,7 @@ impl HybridCache {
             self.shards().finish_load(shard, key, load, Outcome::Look);
         }
         let load = (load != 0).then_some(load);
-        Ok(Some(Lease { cache: self.clone(), shard, key: copy?, ticket, load }))
+        Ok(Some(Lease { cache: self.clone(), shard, key: copy?, ticket, load, head: None, timed: None }))
     }
 
     /// Begins a change that is ended by its numbers. `None`: there is no bar, since the cache can't have the key, or is closed.

@@ -1,9 +1,11 @@
 use crate::generations::Generations;
 use crate::held::copied;
+use crate::times::{Clocked, Kind};
 use crate::wakes::Wakes;
 use crate::{Error, Refused, Reply};
 use std::collections::HashMap;
 use std::task::Waker;
+use std::time::Instant;
 
 /// What a call that waited is answered.
 pub(crate) type Answer = Result<Reply, Error>;
@@ -19,6 +21,10 @@ enum Waits {
 pub(crate) struct Call {
     waits: Option<Waits>,
     is_add: bool,
+    // where it is timed
+    begun: Option<Instant>,
+    // where somebody listens
+    key: Option<Box<[u8]>>,
     answer: Option<Answer>,
 }
 
@@ -34,6 +40,9 @@ pub(crate) struct Calls {
     // jobs of which an operation failed, and whether that whose replies come now is one
     failed: Vec<u64>,
     is_faulty: bool,
+    // the key of a get that is to wait, and the keys of those that waited, and for which an operation had failed
+    noted: Option<Box<[u8]>>,
+    unread: Vec<Box<[u8]>>,
     /// The cache is out of memory for a reply, which holds those behind it up: a filler tries again.
     pub is_held_up: bool,
     /// Gets that waited and found a value.
@@ -44,6 +53,8 @@ pub(crate) struct Calls {
     pub misses_by_clear: u64,
     /// Calls that were given up while they waited.
     pub given_up: u64,
+    /// Who is told how long gets waited.
+    pub clocked: Option<Clocked>,
 }
 
 impl Calls {
@@ -55,8 +66,28 @@ impl Calls {
     /// Lists a call that waits from now on, in the place that was kept; and so it has one among those who are woken.
     pub fn begin(&mut self, call: u64, wakes: &mut Wakes) {
         self.owed += 1;
-        self.waiting.insert(call, Call::default());
+        let begun = self.clocked.as_ref().map(|_| Instant::now());
+        self.waiting.insert(call, Call { key: self.noted.take(), begun, ..Call::default() });
         wakes.wait();
+    }
+
+    /// The key of the get that begins to wait next. (Out of memory, nobody is told of it.)
+    pub fn note_key(&mut self, key: &[u8]) {
+        self.noted = copied(key).ok().map(Vec::into_boxed_slice);
+    }
+
+    /// Tells the keys of gets that waited and found none, for which an operation had failed.
+    pub fn take_unread(&mut self, tell: impl Fn(&[u8])) {
+        self.unread.drain(..).for_each(|key| tell(&key));
+    }
+
+    // A get that waited found none, and an operation had failed.
+    fn note_unread(&mut self, call: u64) {
+        self.misses_by_fault += 1;
+        let key = self.waiting.get_mut(&call).and_then(|call| call.key.take());
+        if let Some(key) = key.filter(|_| self.unread.try_reserve(1).is_ok()) {
+            self.unread.push(key);
+        }
     }
 
     /// The call is an add.
@@ -187,14 +218,21 @@ impl Calls {
             }
             self.owed -= 1;
             self.from_flash += u64::from(matches!(reply, Ok(Reply::Hit(_))));
-            self.misses_by_fault += u64::from(is_faulty && matches!(reply, Ok(Reply::Miss)));
+            if is_faulty && matches!(reply, Ok(Reply::Miss)) {
+                self.note_unread(call);
+            }
             self.answer(call, reply.map_err(Error::Refused), wakes);
         }
     }
 
     fn answer(&mut self, number: u64, answer: Answer, wakes: &mut Wakes) {
         match self.waiting.get_mut(&number) {
-            Some(call) => call.answer(number, answer, wakes),
+            Some(call) => {
+                if let (Some(clocked), Some(begun), false) = (&self.clocked, call.begun.take(), call.is_add) {
+                    clocked.end(Kind::WaitingGet, begun);
+                }
+                call.answer(number, answer, wakes);
+            }
             None => drop(self.keys.remove(&number).and_then(|key| self.left.remove(&key))),
         }
     }

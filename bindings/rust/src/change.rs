@@ -1,7 +1,7 @@
 use crate::held::copied;
 use crate::loads::after;
 use crate::shards::PAUSE;
-use crate::{Error, HybridCache, Refused};
+use crate::{Cause, Error, HybridCache, Refused};
 use std::fmt;
 use std::thread;
 
@@ -91,7 +91,7 @@ impl HybridCache {
         if !state.bars.has(key, number) {
             return Ok(false);
         }
-        let lowered = state.delete(key).and_then(|_| state.bars.lower(key, number, until));
+        let lowered = state.delete(key, Cause::Changed).and_then(|_| state.bars.lower(key, number, until));
         shards.leave(shard, state);
         Ok(lowered.map(|()| true)?)
     }

@@ -1,5 +1,6 @@
 use crate::digest::digest_of;
 use crate::image::Seal;
+use crate::times::{Clocked, Kind};
 use crate::Refused;
 use std::alloc::{self, Layout};
 use std::fmt;
@@ -8,6 +9,7 @@ use std::ops::AddAssign;
 use std::panic::{self, AssertUnwindSafe};
 use std::ptr;
 use std::sync::atomic::{AtomicU64, Ordering::Relaxed};
+use std::time::Instant;
 
 /// A device of pages that threads share. An error says that nothing was read, or that nothing is known any more of the page
 /// that was to be written. A page that is written is in no other operation at that time; two threads may read one at once.
@@ -82,13 +84,14 @@ pub(crate) struct Checked {
     device: Box<dyn PageDevice>,
     digests: Box<[AtomicU64]>,
     counters: Counters,
+    clocked: Option<Clocked>,
 }
 
 impl Checked {
     /// The device, of so many pages, of which nothing is known yet.
-    pub fn new(device: Box<dyn PageDevice>, pages: u64) -> Result<Checked, Refused> {
+    pub fn new(device: Box<dyn PageDevice>, pages: u64, clocked: Option<Clocked>) -> Result<Checked, Refused> {
         let pages = usize::try_from(pages).map_err(|_| Refused::NO_MEMORY)?;
-        Ok(Checked { device, digests: zeroed(pages)?, counters: Counters::default() })
+        Ok(Checked { device, digests: zeroed(pages)?, counters: Counters::default(), clocked })
     }
 
     /// Reads the page, and answers whether it is as it was written.
@@ -108,7 +111,7 @@ impl Checked {
         read: impl FnOnce(&mut [u8]) -> Option<io::Result<()>>,
     ) -> Option<bool> {
         let known = self.digests.get(page as usize).map_or(0, |digest| digest.load(Relaxed));
-        let is_read = known != 0 && attempted(|| read(out))?;
+        let is_read = known != 0 && self.timed(Kind::Read, || read(out))?;
         let is_same = is_read && digest_of(out) == known;
         self.counters.reads.fetch_add(1, Relaxed);
         self.counters.read_failures.fetch_add(u64::from(!is_same), Relaxed);
@@ -131,12 +134,21 @@ impl Checked {
         if digest.swap(0, Relaxed) != 0 {
             self.counters.pages.fetch_sub(1, Relaxed);
         }
-        if attempted(|| Some(self.device.write(page, bytes))) != Some(true) {
+        if self.timed(Kind::Write, || Some(self.device.write(page, bytes))) != Some(true) {
             return false;
         }
         digest.store(digest_of(bytes), Relaxed);
         self.counters.pages.fetch_add(1, Relaxed);
         true
+    }
+
+    // Whether the device did it, which is timed.
+    fn timed(&self, kind: Kind, operate: impl FnOnce() -> Option<io::Result<()>>) -> Option<bool> {
+        let Some(clocked) = &self.clocked else { return attempted(operate) };
+        let begun = Instant::now();
+        let is_done = attempted(operate)?;
+        clocked.end(kind, begun);
+        Some(is_done)
     }
 
     /// The device's seal, and how it is put there.
@@ -236,7 +248,7 @@ mod tests {
     }
 
     fn checked() -> Checked {
-        Checked::new(Box::new(Pages(Mutex::new(vec![vec![9; 512]; 4]))), 4).unwrap()
+        Checked::new(Box::new(Pages(Mutex::new(vec![vec![9; 512]; 4]))), 4, None).unwrap()
     }
 
     #[test]
@@ -259,7 +271,7 @@ mod tests {
     #[test]
     fn a_page_that_comes_back_otherwise_is_a_lie() {
         let pages = Box::new(Pages(Mutex::new(vec![vec![9; 512]; 4])));
-        let checked = Checked::new(pages, 4).unwrap();
+        let checked = Checked::new(pages, 4, None).unwrap();
         assert!(checked.write(2, &[5; 512]));
         checked.digests[2].store(digest_of(&[6; 512]), Relaxed);
         assert!(!checked.read(2, &mut [0; 512]));

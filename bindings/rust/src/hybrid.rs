@@ -8,8 +8,8 @@ use crate::save::Keeper;
 use crate::shards::{Locked, Shards, State, ABSENT};
 use crate::shared::{boxed, Shared};
 use crate::{
-    resume, Added, Began, Closed, Error, Found, Held, Keep, NotKept, OpenError, Options, PageFile, Refused, Reply,
-    Saved, Stats, Value,
+    resume, Added, Began, Cause, Closed, Error, Found, Held, Keep, NotKept, OpenError, Options, PageFile, Refused,
+    Reply, Saved, Stats, Value,
 };
 use std::cell::Cell;
 use std::path::Path;
@@ -96,7 +96,8 @@ impl HybridCache {
         let mut shards = Shards::new(&numbers, options)?;
         resume::check(options, numbers.flash.is_some())?;
         let keeper = options.keep.as_ref().map(Keep::try_clone).transpose()?.map(Keeper::new);
-        shards.device = open()?.map(|device| Checked::new(device, numbers.pages())).transpose()?;
+        let clocked = shards.clocked.clone();
+        shards.device = open()?.map(|device| Checked::new(device, numbers.pages(), clocked)).transpose()?;
         let began = resume::begin(&mut shards, options)?;
         let has_flash = shards.device.is_some();
         let inner = Inner {
@@ -148,12 +149,16 @@ impl HybridCache {
 
     fn find(&self, key: &[u8], until: Option<Instant>) -> Result<Option<Held>, Error> {
         let (shards, shard) = self.locate(key);
+        let begun = shards.begin_get();
         let mut state = shards.enter(shard)?;
-        match state.get(key)? {
-            Found::Hit(held) => Ok(Some(held)),
-            Found::Miss => Ok(None),
-            Found::Waits(call) => Ok(held_of(shards.answer_of(shard, state, (key, call), until)?)),
-        }
+        let found = match state.get(key)? {
+            Found::Hit(held) => Some(held),
+            Found::Miss => None,
+            Found::Waits(call) => return Ok(held_of(shards.answer_of(shard, state, (key, call), until)?)),
+        };
+        drop(state);
+        shards.end_get(begun);
+        Ok(found)
     }
 
     /// Copies the value under the key to the head of `out`, and answers its length. Where that is more than `out` has, nothing
@@ -176,15 +181,19 @@ impl HybridCache {
 
     fn copy_out(&self, key: &[u8], out: &mut [u8]) -> Result<Option<usize>, Error> {
         let (shards, shard) = self.locate(key);
+        let begun = shards.begin_get();
         let mut state = shards.enter(shard)?;
-        match state.get_into(key, out)? {
-            Copied::Hit(length) => Ok(Some(length)),
-            Copied::Miss => Ok(None),
+        let found = match state.get_into(key, out)? {
+            Copied::Hit(length) => Some(length),
+            Copied::Miss => None,
             Copied::Waits(call) => {
                 let held = held_of(shards.fill_for(shard, state, call)?);
-                Ok(held.map(|held| copy(held, out)))
+                return Ok(held.map(|held| copy(held, out)));
             }
-        }
+        };
+        drop(state);
+        shards.end_get(begun);
+        Ok(found)
     }
 
     /// Stores a copy of the value under the key, in place of what the key has, for `ttl` seconds from now (0: for good). The
@@ -242,7 +251,7 @@ impl HybridCache {
     /// Takes the key out of the cache, from memory and flash, and answers whether there was an item in memory. Where it is refused
     /// for want of memory, the key still has what it had: try it again.
     pub fn delete(&self, key: &[u8]) -> Result<bool, Error> {
-        self.step(key, |state, _| state.delete(key))
+        self.step(key, |state, _| state.delete(key, Cause::Deleted))
     }
 
     /// Waits until each shard had nothing that waits to be written to flash, at some moment since.

@@ -1,7 +1,9 @@
 use crate::held::copied;
 use crate::hybrid::held_of;
 use crate::loads::{after, Begins, Outcome};
+use crate::namespace::Head;
 use crate::shards::{Locked, Shards};
+use crate::times::TimedLoad;
 use crate::told::Told;
 use crate::{Error, Found, Held, HybridCache, Kept, LeaseAsync, LoadError, Loaded, Refused, Ticket, Value};
 use std::fmt;
@@ -44,6 +46,10 @@ pub struct Lease {
     pub(crate) ticket: Option<Ticket>,
     // the number of the load; none, where nobody waits for it
     pub(crate) load: Option<u64>,
+    // what stands before each row of a namespace
+    pub(crate) head: Option<Head>,
+    // where it is timed
+    pub(crate) timed: Option<TimedLoad>,
 }
 
 /// A key that may be to be loaded. Where it is dropped before a lease has taken it over, nobody has begun to load it.
@@ -212,15 +218,18 @@ impl HybridCache {
         until: Option<Instant>,
     ) -> Result<Sought<'a>, Error> {
         let (shards, shard) = (begun.shards, begun.shard);
+        let timed = shards.begin_get();
         let mut state = shards.enter(shard)?;
         let mut was_ours = true;
         let held = match state.get(begun.key)? {
             Found::Hit(held) => {
                 drop(state);
+                shards.end_get(timed);
                 Some(held)
             }
             Found::Miss => {
                 let begins = begun.begin(&mut state);
+                shards.end_get(timed);
                 return Ok(Sought::Missed(state, begins));
             }
             Found::Waits(call) => {
@@ -257,7 +266,28 @@ impl HybridCache {
         state.is_barred(begun.key);
         let ticket = state.engine.now().ticket();
         begun.shards.leave(begun.shard, state);
-        Ok(Lease { cache: self.clone(), shard: begun.shard, key, ticket, load: begun.load.take() })
+        let timed = begun.shards.clocked.as_ref().map(TimedLoad::begin);
+        Ok(Lease { cache: self.clone(), shard: begun.shard, key, ticket, load: begun.load.take(), head: None, timed })
+    }
+
+    /// A lease of a key that has a row, for who loads it anew. None, where another loads it, or its row is being changed.
+    pub(crate) fn lease_anew(&self, key: &[u8]) -> Result<Option<Lease>, Error> {
+        let mut begun = Begun::new(self.shards(), key);
+        let mut state = begun.shards.enter(begun.shard)?;
+        if state.is_barred(key) || !begun.begin(&mut state).is_ours() {
+            begun.shards.leave(begun.shard, state);
+            return Ok(None);
+        }
+        Ok(Some(self.lease(state, &mut begun)?))
+    }
+
+    /// Whether the key's row is being changed, or may still come to be.
+    pub(crate) fn is_barred(&self, key: &[u8]) -> Result<bool, Error> {
+        let (shards, shard) = (self.shards(), self.shards().of(key));
+        let mut state = shards.enter(shard)?;
+        let is_barred = state.is_barred(key);
+        shards.leave(shard, state); // (a bar that is due ends, and its key is deleted)
+        Ok(is_barred)
     }
 
     /// What was found: a value, or that it is known that there is none.
@@ -273,8 +303,8 @@ enum Sought<'a> {
     Again,
 }
 
-// What was loaded, which is kept by the lease, if there is one; or why nothing was, which is told who waits.
-fn loaded<E: fmt::Display>(
+/// What was loaded, which is kept by the lease, if there is one; or why nothing was, which is told who waits.
+pub(crate) fn loaded<E: fmt::Display>(
     lease: Option<Lease>,
     load: impl FnOnce() -> Result<Loaded, E>,
 ) -> Result<Loaded, LoadError<E>> {
@@ -307,6 +337,17 @@ impl Lease {
     /// wakes who waits for it. Where the key was changed meanwhile, or is being changed, it is [`Kept::Stale`], and not stored.
     /// What isn't stored is handed to who waits.
     pub fn store(mut self, value: &[u8], ttl: u32) -> Result<Kept, Error> {
+        match self.head.take() {
+            None => self.store_as(value, ttl),
+            Some(head) => {
+                // (where there is no memory for it, the lease is dropped)
+                let (row, ttl) = head.put_before(value, ttl, self.cache.shards().clock.now())?;
+                self.store_as(&row, ttl)
+            }
+        }
+    }
+
+    fn store_as(mut self, value: &[u8], ttl: u32) -> Result<Kept, Error> {
         let kept = self.try_store(value, ttl);
         if kept != Ok(Kept::Stored) {
             self.hand_on(|| copied(value).map(Told::Row).ok());
@@ -318,6 +359,9 @@ impl Lease {
     /// would load it is told. An `add` finds that the key has a value.
     pub fn store_absent(mut self, ttl: u32) -> Result<Kept, Error> {
         let absent = self.cache.shards().absent;
+        if self.head.is_some() {
+            return self.store(&absent, ttl);
+        }
         let kept = self.try_store(&absent, ttl);
         self.finish(Outcome::Absent);
         kept

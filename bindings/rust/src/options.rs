@@ -63,6 +63,9 @@ pub struct Options {
     pub flash_numbers: Option<Flash>,
     /// The clock of times to live.
     pub clock: Clock,
+    /// Whether it is timed how long gets, loads and operations of the device take ([`HybridCache::times`](crate::HybridCache::times)). It
+    /// costs a get some nanoseconds, and 77 KB.
+    pub times: bool,
     /// What is to be kept for the next cache, and where. Without it nothing is, and the cache begins empty.
     pub keep: Option<Keep>,
 }
@@ -89,6 +92,7 @@ impl Default for Options {
             pool: None,
             flash_numbers: None,
             clock: Clock::system(),
+            times: false,
             keep: None,
         }
     }

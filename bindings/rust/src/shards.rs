@@ -5,18 +5,21 @@ use crate::calls::{Answer, Call, Calls};
 use crate::checked::Checked;
 use crate::generations::Generations;
 use crate::lease::Waited;
+use crate::listener::{Heard, Queue};
 use crate::loads::{Loads, Outcome};
 use crate::marks::Marks;
 use crate::masked::Pad;
 use crate::numbers::{Numbers, Share, MOST_POOLS};
+use crate::shared::Shared;
 use crate::spread::Spread;
 use crate::timer::Timer;
+use crate::times::{self, Clocked, Kind};
 use crate::told::{Tellings, Told};
 use crate::waits;
 use crate::wakes::{Rings, Wakes, Woken};
 use crate::{
-    Added, Came, Clock, Copied, Engine, Error, Found, Held, Kept, Lookup, Operation, Options, Refused, Take, Ticket,
-    Value,
+    Added, Came, Cause, Clock, Copied, Engine, Error, Found, Held, Kept, Lookup, Operation, Options, Refused, Take,
+    Ticket, Value,
 };
 use std::collections::hash_map::RandomState;
 use std::collections::VecDeque;
@@ -40,6 +43,7 @@ pub(crate) struct State {
     pub loads: Loads,
     pub bars: Bars,
     pub wakes: Wakes,
+    pub heard: Heard,
     /// Gets that missed, of whose key memory had an item that was expired.
     pub misses_expired: u64,
     // the last second that the engine was told
@@ -80,6 +84,7 @@ impl State {
             loads: Loads::default(),
             bars: Bars::default(),
             wakes: Wakes::default(),
+            heard: Heard::default(),
             misses_expired: 0,
             now,
             writing: 0,
@@ -128,10 +133,15 @@ impl State {
     pub fn get(&mut self, key: &[u8]) -> Result<Found, Refused> {
         self.reserve()?;
         if let Some(call) = self.calls.go_on(key, &mut self.engine) {
+            self.note_key(key);
             return Ok(Found::Waits(call));
         }
         let found = self.engine.get(key)?;
-        self.count_expired(key, matches!(found, Found::Miss));
+        match found {
+            Found::Hit(_) => {}
+            Found::Miss => self.count_expired(key),
+            Found::Waits(_) => self.note_key(key),
+        }
         Ok(found)
     }
 
@@ -139,10 +149,15 @@ impl State {
     pub fn get_into(&mut self, key: &[u8], out: &mut [u8]) -> Result<Copied, Refused> {
         self.reserve()?;
         if let Some(call) = self.calls.go_on(key, &mut self.engine) {
+            self.note_key(key);
             return Ok(Copied::Waits(call));
         }
         let copied = self.engine.get_into(key, out)?;
-        self.count_expired(key, copied == Copied::Miss);
+        match copied {
+            Copied::Hit(_) => {}
+            Copied::Miss => self.count_expired(key),
+            Copied::Waits(_) => self.note_key(key),
+        }
         Ok(copied)
     }
 
@@ -153,9 +168,10 @@ impl State {
     }
 
     /// Takes the key out, and ends its load.
-    pub fn delete(&mut self, key: &[u8]) -> Result<bool, Refused> {
+    pub fn delete(&mut self, key: &[u8], why: Cause) -> Result<bool, Refused> {
         let was_there = self.engine.now().delete(key)?;
         self.end_load(key);
+        self.heard.note(key, why);
         Ok(was_there)
     }
 
@@ -227,14 +243,39 @@ impl State {
     /// now is stale. Changes that are under way go on: they are of keys, and not of items.
     #[must_use]
     pub fn clear(&mut self, engine: Option<Engine>, pools: u8) -> Engine {
+        let cleared = self.engine.cleared();
         let before = self.engine.renew(engine, pools);
+        self.heard.note_many(Cause::Cleared, self.engine.cleared() - cleared);
         self.calls.clear(&mut self.wakes);
         self.loads.end_all(&mut self.wakes);
         before
     }
 
-    fn count_expired(&mut self, key: &[u8], is_miss: bool) {
-        self.misses_expired += u64::from(is_miss && self.engine.now().is_expired(key) == Ok(true));
+    fn count_expired(&mut self, key: &[u8]) {
+        if self.engine.now().is_expired(key) == Ok(true) {
+            self.misses_expired += 1;
+            self.heard.note(key, Cause::Expired);
+        }
+    }
+
+    // Who listens is told the key of a call that waits, where its page can't be read.
+    fn note_key(&mut self, key: &[u8]) {
+        if self.heard.is_on() {
+            self.calls.note_key(key);
+        }
+    }
+
+    /// This one listens from now on.
+    pub fn hear(&mut self, queue: Shared<Queue>) {
+        let losses = self.engine.losses();
+        self.heard.begin(queue, losses);
+    }
+
+    // Tells who listens what is gone since.
+    fn tell(&mut self) {
+        let State { engine, calls, heard, .. } = self;
+        calls.take_unread(|key| heard.note(key, Cause::Unread));
+        heard.note_losses(engine.losses());
     }
 
     // Hands in what came of an operation. What it answers is known by `leave`, before the lock is free.
@@ -288,6 +329,8 @@ pub(crate) struct Shards {
     fillers: Bell,
     /// How often all were cleared.
     pub clears: AtomicU64,
+    /// How long what took, where that is asked for.
+    pub clocked: Option<Clocked>,
 }
 
 // What panics in a call (a clock, a device, a task that is woken) does so with the shard as a call leaves it, or its lock free.
@@ -313,11 +356,14 @@ impl Shards {
     /// Empty shards with these numbers, over a device that is still to come, where there is flash.
     pub fn new(numbers: &Numbers, options: &Options) -> Result<Shards, Refused> {
         let (share, now) = (numbers.share(), options.clock.now());
+        let clocked = if options.times { Some(Clocked::new()?) } else { None };
         let mut shards = Vec::new();
         shards.try_reserve_exact(usize::from(numbers.shards)).map_err(|_| Refused::NO_MEMORY)?;
         for _ in 0..numbers.shards {
             let engine = new_engine(numbers, &share, now)?;
-            let state = Mutex::new(State::new(engine, now));
+            let mut state = State::new(engine, now);
+            state.calls.clocked = clocked.clone();
+            let state = Mutex::new(state);
             shards.push(Shard { state, rings: Rings::default(), quiet: Condvar::new(), lock_waits: AtomicU64::new(0) });
         }
         let (page, pages) = numbers.flash.map_or((0, 0), |flash| (flash.page as usize, flash.pages() as u32));
@@ -339,6 +385,7 @@ impl Shards {
             writers: Bell::default(),
             fillers: Bell::default(),
             clears: AtomicU64::new(0),
+            clocked,
         })
     }
 
@@ -406,11 +453,26 @@ impl Shards {
         Ok(state)
     }
 
+    /// When a get begins, if it is one that is timed.
+    #[inline]
+    pub fn begin_get(&self) -> Option<Instant> {
+        self.clocked.as_ref().and_then(|_| times::begin_some())
+    }
+
+    /// A get that began then is answered, and hasn't waited.
+    #[inline]
+    pub fn end_get(&self, begun: Option<Instant>) {
+        if let (Some(begun), Some(clocked)) = (begun, &self.clocked) {
+            clocked.end(Kind::Get, begun);
+        }
+    }
+
     /// Has the shard have what an earlier one had, and was told this second. (That may be later than the clock's: a close that told the
     /// next cache less would let the clock go back by a bit at each restart.)
     pub fn put_resumed(&mut self, shard: usize, engine: Engine, pad: Pad, second: u64) {
         let state = self.shards[shard].state.get_mut().unwrap_or_else(PoisonError::into_inner);
         *state = State::resumed(engine, pad, second);
+        state.calls.clocked = self.clocked.clone();
     }
 
     /// Has all shards be empty, as new ones.
@@ -418,7 +480,9 @@ impl Shards {
         let now = self.clock.now();
         for shard in &mut self.shards {
             let engine = new_engine(&self.numbers, &self.share, now)?;
-            *shard.state.get_mut().unwrap_or_else(PoisonError::into_inner) = State::new(engine, now);
+            let state = shard.state.get_mut().unwrap_or_else(PoisonError::into_inner);
+            *state = State::new(engine, now);
+            state.calls.clocked = self.clocked.clone();
         }
         Ok(())
     }
@@ -467,8 +531,12 @@ impl Shards {
 
     /// Lets the shard go after a step that may have answered calls or made work: who waits for that is told.
     pub fn leave(&self, shard: usize, mut state: Locked<'_>) {
-        let State { engine, calls, wakes, left, rest, .. } = &mut *state;
+        let State { engine, calls, wakes, .. } = &mut *state;
         calls.sweep(engine, wakes);
+        if state.heard.is_on() {
+            state.tell();
+        }
+        let State { engine, calls, wakes, left, rest, .. } = &mut *state;
         let has_reads = calls.is_owed() && (calls.is_held_up || engine.filler_has_work() != Ok(false));
         let has_fills = has_reads || !left.is_empty();
         let may_write = self.device.is_some() && *rest != Rest::Still;
@@ -1008,6 +1076,7 @@ impl Shards {
         for shard in 0..self.len() {
             let mut state = self.lock(shard);
             state.closed = true;
+            state.heard.end();
             let State { calls, loads, wakes, .. } = &mut *state;
             calls.close(wakes);
             loads.close(wakes);

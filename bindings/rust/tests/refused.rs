@@ -1,7 +1,7 @@
 //! A cache whose own allocations are refused, each in turn: a call answers that it is refused, or what it would have answered, and
 //! a refused call leaves nothing behind. (`memory.rs` refuses those of the library below.)
 use kilambosetry::{
-    Clock, Error, Flash, HybridCache, Loaded, Lookup, OpenError, Options, PageDevice, Pool, Refused, Value,
+    Clock, Error, Flash, HybridCache, Loaded, Lookup, OpenError, Options, PageDevice, Pool, Refresh, Refused, Value,
 };
 use std::alloc::{GlobalAlloc, Layout, System};
 use std::cell::Cell;
@@ -147,7 +147,7 @@ fn second(found: Result<Vec<Result<Option<Value>, Error>>, Refused>) -> Result<b
     Ok(found[1].is_some())
 }
 
-const CALLS: [(&str, Call); 19] = [
+const CALLS: [(&str, Call); 24] = [
     ("get", |cache, _, _| cache.get(KEY).map(|value| value.is_some())),
     ("get_timeout", |cache, _, _| cache.get_timeout(KEY, Duration::from_secs(60)).map(|value| value.is_some())),
     ("get_many", |cache, _, _| second(cache.get_many(&[b"other", KEY]))),
@@ -174,6 +174,28 @@ const CALLS: [(&str, Call); 19] = [
         Ok(cache.get(KEY).is_ok_and(|found| found.is_none()) && cache.stats().clears == 1)
     }),
     ("change", |cache, _, _| Ok(cache.change(KEY, || Ok::<_, Error>(())).is_ok())),
+    ("namespace", |cache, row, _| {
+        let of = cache.namespace("of")?;
+        of.set(b"key", &row, 0)?;
+        of.get(b"key").map(|found| found.is_some())
+    }),
+    ("namespace that loads", |cache, row, _| {
+        Ok(cache.namespace("of")?.get_or_load(b"key", 0, || Ok::<_, Error>(row)).is_ok())
+    }),
+    ("namespace that loads in a task", |cache, row, waker| {
+        let of = cache.namespace("of")?;
+        Ok(block_on(waker, of.find_or_load_async(b"key", async || Ok::<_, Error>(Loaded::row(row, 0)))).is_ok())
+    }),
+    ("refresh", |cache, row, _| {
+        let of = cache.namespace("of")?;
+        Ok(of.find_or_refresh(b"key", &Refresh::default(), || Ok::<_, Error>(Loaded::row(row, 0))).is_ok())
+    }),
+    ("listen", |cache, _, _| {
+        let mut listener = cache.listen(2)?;
+        cache.get(KEY)?;
+        cache.delete(KEY)?;
+        Ok(listener.next_within(Duration::ZERO).is_some() || listener.missed() > 0)
+    }),
     ("change in doubt", |cache, _, _| Ok(cache.change(KEY, || Err::<(), _>(Error::TimedOut)).is_err())),
 ];
 

@@ -1,8 +1,9 @@
 //! Which types a panic may pass, so that a caller need not assert it; and that a cache goes on behind one.
 use kilambosetry::{
-    Added, Cache, Came, Change, Clock, Copied, Counts, DeviceCounts, Engine, EngineWithDevice, Error, Flash, Found,
-    GetAsync, Held, HybridCache, Kept, Lease, LeaseAsync, LoadError, Loaded, Lookup, Losses, Numbers, Operation,
-    Options, PageFile, Pool, Refused, Reply, ShardedCache, Stats, Take, Ticket, Turn, Usage, Value,
+    Added, Aged, Cache, Came, Cause, Change, Clock, Copied, Counts, DeviceCounts, Engine, EngineWithDevice, Error,
+    Flash, Found, GetAsync, Gone, Held, Histogram, HybridCache, Kept, Lease, LeaseAsync, Listener, LoadError, Loaded,
+    Lookup, Losses, Namespace, Numbers, Operation, Options, PageFile, Pool, Refresh, Refused, Reply, Served,
+    ShardedCache, Stats, Take, Ticket, Times, Turn, Usage, Value,
 };
 use std::io;
 use std::panic::{self, RefUnwindSafe, UnwindSafe};
@@ -27,11 +28,14 @@ fn a_panic_may_pass_each_of_these() {
     passes::<(Stats, Counts, Losses, Usage, DeviceCounts)>();
     passes::<(Refused, Error, LoadError<Error>)>();
     passes::<PageFile>();
+    passes::<(Namespace, Refresh, Aged, Served)>();
+    passes::<(Listener, Gone, Cause, Times, Histogram)>();
 }
 
 #[test]
 fn threads_share_these_or_hand_them_on() {
     is_shared::<(HybridCache, ShardedCache, Options, Clock, PageFile)>();
+    is_shared::<(Namespace, Aged, Served, Listener, Gone, Times, Histogram)>();
     is_shared::<(Lease, Change, Value, Stats, Numbers, Error, LoadError<io::Error>)>();
     changes_threads::<(Cache, Engine, Held, Lookup, Take)>();
     changes_threads::<(GetAsync<'static>, LeaseAsync<'static>)>();

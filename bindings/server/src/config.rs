@@ -142,6 +142,7 @@ impl Config {
             direct: self.direct,
             overwrite: self.overwrite,
             unnamed: self.unnamed,
+            times: self.metrics_port > 0,
             keep: self.keep.as_ref().map(|path| Keep {
                 what: if self.keep_flash { KeepWhat::Flash } else { KeepWhat::All },
                 for_at_most: Duration::from_secs(self.keep_for),

@@ -2,6 +2,7 @@
 use crate::limits::has_memory;
 use crate::page;
 use crate::server::Server;
+use crate::times::{Histograms, KINDS};
 use crate::within::within;
 use std::collections::VecDeque;
 use std::fmt::Write;
@@ -14,7 +15,7 @@ use tokio::task::JoinHandle;
 
 const LONGEST_REQUEST: usize = 8 * 1024;
 // A page for Prometheus, as it is made, takes no more; where there is no memory for it, whoever asks has no answer.
-const OF_A_PAGE: usize = 128 * 1024;
+const OF_A_PAGE: usize = 512 * 1024;
 const PATIENCE: Duration = Duration::from_secs(5);
 const MOST_AT_ONCE: usize = 16;
 const PAUSE: Duration = Duration::from_millis(100);
@@ -88,7 +89,7 @@ fn parts_of(line: &[u8]) -> (&[u8], &[u8], &[u8]) {
     (method, parts.next().unwrap_or_default(), parts.next().unwrap_or_default())
 }
 
-/// The cache's counts, and the server's own.
+/// The cache's counts and times, and the server's own.
 #[must_use]
 pub fn page(server: &Server) -> String {
     let mut text = server.items.cache().stats().to_prometheus();
@@ -98,7 +99,20 @@ pub fn page(server: &Server) -> String {
     add(&mut text, "connections", "", "gauge", server.open_connections() as u64);
     add(&mut text, "in_flight_free_bytes", "", "gauge", server.in_flight.left() as u64);
     add(&mut text, "uptime_seconds", "", "gauge", server.started.elapsed().as_secs());
+    if let Some(times) = server.items.cache().times() {
+        text += &times.to_prometheus();
+        add_times(&mut text, &server.times());
+    }
     text
+}
+
+// How long commands took, of one in sixteen.
+fn add_times(text: &mut String, times: &Histograms) {
+    let name = "kilambosetryd_command_seconds";
+    let _ = writeln!(text, "# TYPE {name} histogram");
+    for ((_, kind), times) in KINDS.iter().zip(times) {
+        *text += &times.to_prometheus(name, &format!("kind=\"{}\"", kind.replace(' ', "_")));
+    }
 }
 
 fn add(text: &mut String, name: &str, end: &str, kind: &str, value: u64) {

@@ -5,7 +5,7 @@ use crate::finds::Finds;
 use crate::items::Items;
 use crate::limits::{has_memory, InFlight, Patience};
 use crate::page::history::{History, Sample};
-use crate::times::Times;
+use crate::times::{Histograms, Times};
 use kilambosetry::{Closed, HybridCache};
 use std::sync::Arc;
 use std::time::Instant;
@@ -101,8 +101,14 @@ impl Server {
 
     /// Keeps a sample of now for the page.
     pub fn note(&self) {
+        self.history.note(self.sample(), self.times());
+    }
+
+    /// How long commands took, of all workers.
+    #[must_use]
+    pub fn times(&self) -> Histograms {
         let times: Vec<&Times> = self.times.iter().map(|times| &**times).collect();
-        self.history.note(self.sample(), Times::of_all(&times));
+        Times::of_all(&times)
     }
 
     /// Counts from 0 on anew.

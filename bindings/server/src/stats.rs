@@ -3,17 +3,20 @@ use crate::answers::{Answers, Stream};
 use crate::limits::has_memory;
 use crate::moments;
 use crate::server::{Server, Worker, VERSION};
-use kilambosetry::{Losses, Stats};
+use kilambosetry::{Losses, Stats, Times};
 use std::fmt::Display;
 use std::process;
 use std::{fs, io};
 
 // All rows together, and what makes them, are no longer; the paths of the settings have 4,096 bytes each.
 const LONGEST: usize = 16 * 1024;
+// The times of the cache take no more, as they are told.
+const OF_TIMES: usize = 128 * 1024;
 
 /// Answers the command `stats`.
 pub fn answer<S: Stream>(worker: &Worker, kind: &[u8], answers: &mut Answers<S>) -> io::Result<()> {
-    if !has_memory(LONGEST) || !answers.has_room_for_text(LONGEST) {
+    let taken = if worker.server.config.metrics_port > 0 { LONGEST + OF_TIMES } else { LONGEST };
+    if !has_memory(taken) || !answers.has_room_for_text(LONGEST) {
         answers.line(b"SERVER_ERROR out of memory writing stats");
         return Ok(());
     }
@@ -63,6 +66,24 @@ fn general(server: &Server, tell: &mut dyn FnMut(&str, &dyn Display)) {
     tell("bars", &server.items.bars());
     for (name, value) in of_cache(&stats) {
         tell(name, &value);
+    }
+    if let Some(times) = server.items.cache().times() {
+        of_times(&times, tell);
+    }
+}
+
+// How long things took, in microseconds: half of them, and 99 of a hundred.
+fn of_times(times: &Times, tell: &mut dyn FnMut(&str, &dyn Display)) {
+    let all = [
+        ("get", &times.gets),
+        ("waiting_get", &times.waiting_gets),
+        ("flash_read", &times.device_reads),
+        ("flash_write", &times.device_writes),
+    ];
+    for (name, times) in all {
+        for (part, share) in [("p50", 0.5), ("p99", 0.99)] {
+            tell(&format!("{name}_{part}_us"), &(times.quantile(share) / 1000));
+        }
     }
 }
 

@@ -2,7 +2,7 @@
 use crate::counters::Counter;
 use crate::flags::Verb;
 use crate::request::Command;
-use kilambosetry_pictures::histogram::{place, Histogram, PLACES};
+use kilambosetry::Histogram;
 use std::sync::atomic::{AtomicU32, AtomicU64, Ordering::Relaxed};
 use std::time::{Duration, Instant};
 
@@ -23,6 +23,9 @@ pub const KINDS: [(Kind, &str); 4] = [
     (Kind::Store, "stores"),
     (Kind::Other, "other commands"),
 ];
+
+// So many places each kind has.
+const PLACES: usize = Histogram::PLACES;
 
 /// Times of all kinds.
 pub type Histograms = [Histogram; KINDS.len()];
@@ -94,7 +97,7 @@ impl Times {
     /// Counts one that took so long.
     pub fn add(&self, kind: Kind, time: Duration) {
         let nanoseconds = u64::try_from(time.as_nanos()).unwrap_or(u64::MAX);
-        if let Some(count) = self.counts.get(PLACES * kind as usize + place(nanoseconds)) {
+        if let Some(count) = self.counts.get(PLACES * kind as usize + Histogram::place(nanoseconds)) {
             count.one();
         }
     }

@@ -52,6 +52,41 @@ fn started(running: &Running) {
 }
 
 #[test]
+fn prometheus_and_stats_are_told_how_long_things_took() {
+    let running = in_memory(&WORDS);
+    let mut client = Client::of(&running);
+    for _ in 0..400 {
+        assert_eq!(client.ask("set key 0 0 1\r\nx\r\n"), "STORED");
+        assert_eq!(client.ask("mg key\r\n"), "HD");
+    }
+    let (_, page) = answer(&running, "GET /metrics HTTP/1.1\r\nHost: x\r\n\r\n");
+    let sample = |name: &str| -> u64 {
+        let line =
+            page.lines().find_map(|line| line.strip_prefix(name)).unwrap_or_else(|| panic!("no {name} in {page}"));
+        line.trim().parse().unwrap()
+    };
+    for name in [
+        "kilambosetryd_command_seconds_count{kind=\"stores\"}",
+        "kilambosetryd_command_seconds_bucket{kind=\"stores\",le=\"+Inf\"}",
+    ] {
+        assert!((5..100).contains(&sample(name)), "{name} {}", sample(name));
+    }
+    assert_eq!(sample("kilambosetry_device_read_seconds_count"), 0);
+    assert!(page.contains("# TYPE kilambosetry_waiting_get_seconds histogram\n"), "{page}");
+    assert!(stats(&running).contains("STAT waiting_get_p99_us 0\r\n"));
+    assert!(running.stop());
+    assert!(!stats(&in_memory(&[])).contains("p99_us"));
+}
+
+fn stats(running: &Running) -> String {
+    let mut stream = TcpStream::connect(running.address).unwrap();
+    stream.write_all(b"stats\r\nquit\r\n").unwrap();
+    let mut text = String::new();
+    stream.read_to_string(&mut text).unwrap();
+    text
+}
+
+#[test]
 fn a_server_that_has_just_started_says_that_it_has_no_pictures_yet() {
     let running = in_memory(&WORDS);
     started(&running);

@@ -6,6 +6,7 @@ mod begun;
 mod calls;
 mod inside;
 mod kept;
+mod listening;
 mod loads;
 mod many;
 mod opening;

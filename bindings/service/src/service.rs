@@ -1,16 +1,18 @@
 use crate::inside::Inside;
+use crate::listening::Listening;
 use crate::status::answered;
 use kilambosetry::{Closed, Error, HybridCache};
 
 /// What C has a pointer to.
 pub struct Service {
     pub cache: HybridCache,
+    pub listening: Listening,
     inside: Inside,
 }
 
 impl Service {
     pub fn new(cache: HybridCache) -> Service {
-        Service { cache, inside: Inside::default() }
+        Service { cache, listening: Listening::default(), inside: Inside::default() }
     }
 
     /// Makes a call, unless the cache is shut, and answers its status.

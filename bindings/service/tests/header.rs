@@ -105,6 +105,7 @@ fn types_are_those_of_the_header() {
         ("wanted", "ServiceWanted"),
         ("service_stats", "ServiceStats"),
         ("kept", "ServiceKept"),
+        ("gone", "ServiceGone"),
     ];
     let of_c = c_types();
     assert_eq!(of_c.len(), names.len(), "{:?}", of_c.keys());
@@ -142,6 +143,20 @@ fn what_is_said_of_what_was_kept_is_of_the_header() {
     for (_, constant) in constants {
         let (name, number) = constant.split_once(": u8 = ").unwrap();
         assert!(header.contains(&format!("KILAMBOSETRY_KEPT_{name} = {number}")), "{name}");
+    }
+}
+
+#[test]
+fn causes_are_those_of_the_header() {
+    let (header, listening) = (header(), text_of("src/listening.rs"));
+    let causes: Vec<_> =
+        pieces(&listening, " Cause::", ",").map(|(_, cause)| cause.split_once(" => ").unwrap()).collect();
+    assert_eq!(causes.len(), 16);
+    for (name, number) in causes {
+        let words =
+            name.char_indices().map(|(at, of)| if at > 0 && of.is_uppercase() { format!("_{of}") } else { of.into() });
+        let words = words.collect::<String>().to_uppercase();
+        assert!(header.contains(&format!("KILAMBOSETRY_GONE_{words} = {number}")), "{name}");
     }
 }
 

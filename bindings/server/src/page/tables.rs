@@ -2,8 +2,8 @@
 use super::history::{sum, Sample};
 use crate::stats::losses;
 use crate::times::{Histograms, KINDS};
+use kilambosetry::Histogram;
 use kilambosetry_pictures::bytes::Bytes;
-use kilambosetry_pictures::histogram::Histogram;
 use kilambosetry_pictures::page::Table;
 
 // A count, with its name.

@@ -1,11 +1,22 @@
-//! How many took how long: 32 steps to each power of two, so that a quantile is right to some three parts of a hundred.
+use std::fmt::Write;
 
 const STEPS: u64 = 32;
 const BITS: u32 = STEPS.ilog2();
-/// So many places there are for times.
-pub const PLACES: usize = (64 - BITS as usize + 1) * STEPS as usize;
+const PLACES: usize = (64 - BITS as usize + 1) * STEPS as usize;
+// Prometheus is told how many took less than each power of two between these.
+const LEAST_POWER: u32 = 10;
+const MOST_POWER: u32 = 34;
 
-/// Counts of times, in nanoseconds.
+/// How many took how long, in nanoseconds: 32 steps to each power of two, so that a quantile is right to some three parts of a hundred.
+///
+/// ```
+/// use kilambosetry::Histogram;
+///
+/// let mut times = Histogram::default();
+/// (1..=1000).for_each(|micros| times.add(micros * 1000));
+/// assert!((500_000..520_000).contains(&times.quantile(0.5)));
+/// assert_eq!((times.count(), times.most()), (1000, 1_000_000));
+/// ```
 #[derive(Clone, Debug)]
 pub struct Histogram {
     counts: Vec<u64>,
@@ -19,9 +30,7 @@ impl Default for Histogram {
     }
 }
 
-/// The place in which a time is counted.
-#[must_use]
-pub fn place(time: u64) -> usize {
+fn place(time: u64) -> usize {
     if time < STEPS {
         return time as usize;
     }
@@ -39,6 +48,15 @@ fn longest(place: usize) -> u64 {
 }
 
 impl Histogram {
+    /// So many places there are for times.
+    pub const PLACES: usize = PLACES;
+
+    /// The place in which a time is counted.
+    #[must_use]
+    pub fn place(time: u64) -> usize {
+        place(time)
+    }
+
     /// Of counts of the places that were kept elsewhere. The longest is told as the quantiles are.
     #[must_use]
     pub fn of_counts(counts: impl Iterator<Item = u64>) -> Histogram {
@@ -55,12 +73,14 @@ impl Histogram {
         Histogram::of_counts(self.counts.iter().zip(&before.counts).map(|(count, was)| count.saturating_sub(*was)))
     }
 
+    /// One took so long.
     pub fn add(&mut self, time: u64) {
         self.counts[place(time)] += 1;
         self.count += 1;
         self.most = self.most.max(time);
     }
 
+    /// Those of another took as long, too.
     pub fn add_all(&mut self, other: &Histogram) {
         self.counts.iter_mut().zip(&other.counts).for_each(|(count, more)| *count += more);
         self.count += other.count;
@@ -89,6 +109,44 @@ impl Histogram {
             sum >= wanted
         });
         found.map_or(0, |place| longest(place).min(self.most))
+    }
+
+    // How long all took together, each as long as the longest of its place.
+    fn sum(&self) -> u128 {
+        let times = self.counts.iter().enumerate().filter(|(_, count)| **count > 0);
+        times.map(|(place, count)| u128::from(*count) * u128::from(longest(place).min(self.most))).sum()
+    }
+
+    /// The samples that Prometheus reads of a histogram, in seconds: how many took less than each power of two of nanoseconds, from a
+    /// microsecond to 17 seconds. `labels` are those that each sample has, as `cache="users"`, or none. The sum is right as a quantile
+    /// is. (What kind of metric it is, is said by whoever writes the name first: `# TYPE name histogram`.)
+    ///
+    /// ```
+    /// use kilambosetry::Histogram;
+    ///
+    /// let mut times = Histogram::default();
+    /// [900, 1500, 70_000_000_000].into_iter().for_each(|time| times.add(time));
+    /// let text = times.to_prometheus("load_seconds", "");
+    /// assert!(text.starts_with("load_seconds_bucket{le=\"0.000001023\"} 1\nload_seconds_bucket{le=\"0.000002047\"} 2\n"));
+    /// assert!(text.contains("load_seconds_bucket{le=\"+Inf\"} 3\n") && text.ends_with("load_seconds_count 3\n"));
+    /// ```
+    #[must_use]
+    pub fn to_prometheus(&self, name: &str, labels: &str) -> String {
+        let (mut text, mut less, mut places) = (String::new(), 0, self.counts.iter());
+        let comma = if labels.is_empty() { "" } else { "," };
+        let mut before = 0;
+        for power in LEAST_POWER..=MOST_POWER {
+            let end = place(1 << power);
+            less += places.by_ref().take(end - before).sum::<u64>();
+            before = end;
+            let most = ((1_u64 << power) - 1) as f64 / 1e9;
+            let _ = writeln!(text, "{name}_bucket{{{labels}{comma}le=\"{most:.9}\"}} {less}");
+        }
+        let (own, sum) =
+            (if labels.is_empty() { String::new() } else { format!("{{{labels}}}") }, self.sum() as f64 / 1e9);
+        let _ = writeln!(text, "{name}_bucket{{{labels}{comma}le=\"+Inf\"}} {}", self.count);
+        let _ = write!(text, "{name}_sum{own} {sum:.9}\n{name}_count{own} {}\n", self.count);
+        text
     }
 }
 
