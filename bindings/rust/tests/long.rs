@@ -203,6 +203,9 @@ fn where_a_device_fails_always_a_flush_ends_and_nobody_spins() {
             let value = vec![1; mean_value as usize];
             for number in 0..2000u32 {
                 cache.set(&number.to_be_bytes(), &value, 0).unwrap();
+                if number % 50 == 0 {
+                    cache.flush().unwrap(); // (so that flash has something, also where writers come late)
+                }
             }
             ram.manner.store(manner, SeqCst);
             for number in 0..4000u32 {
