@@ -69,7 +69,7 @@ IsMarked refusal = (refusal ≡ NoMemory) ⊎ (refusal ≡ ValueTooLong)
 abbrev pub Closes : Mark → Status → Option Cache → Option Cache → Option Image → Option Image → Type 0
 Closes mark Done (Some old) new was is = (is_at_rest old.leased.logged.cache ≡ true) × ((new ≡ None) × IsWritten (image_frames mark old.leased) is)
 Closes mark Waits (Some old) new was is = (is_at_rest old.leased.logged.cache ≡ false) × ((new ≡ Some old) × (is ≡ was))
-Closes mark (Refused refusal) (Some old) new was is = IsMarked refusal × ((is ≡ was) × ((new ≡ Some old) ⊎ (new ≡ None)))
+Closes mark (Refused refusal) (Some old) new was is = (refusal ≡ NoMemory) × ((is ≡ was) × ((new ≡ Some old) ⊎ (new ≡ None)))
 Closes mark Empty None new was is = (new ≡ None) × (is ≡ was)
 Closes mark status old new was is = ⊥
 

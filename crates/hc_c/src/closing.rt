@@ -104,14 +104,14 @@ fn beside(alloc: Global, stamps: u64) -> Carried<Global>
 fn saver_of(alloc: Global, cache: Box<Cache>, mark: Mark) -> Result<Saver<Global>, Refusal>
     requires { is_at_rest cache.value.leased.logged.cache ≡ true }
     ensures ok { IfOk result (StreamsOut (image_frames mark cache.value.leased)) }
-    ensures err { IfErr result IsMarked }
+    ensures err { IfErr result (λ refusal. refusal ≡ NoMemory) }
 {
     let leased = Box::into_inner(cache).into_leased();
     let (parts, _, stamps) = leased.close();
     let head = mark.head();
     match Saver::new(alloc, mark.shard(), &head, parts, beside(alloc, stamps)) {
         Ok(saver) => Ok(saver),
-        Err(why) => Err(refusal_of(why)),
+        Err(_) => Err(Refusal::NoMemory),
     }
 }
 

@@ -1,11 +1,13 @@
 -- What a saver still has to give, and what it gives next.
-use Rattle.std.specs.Prelude.{◌≡◌, ℕ, Bool, true, false, List, [], ◌∷◌, ◌++◌, Option, Some, None, if◌then◌else◌}
+use Rattle.std.specs.Prelude.{◌≡◌, ℕ, ◌+◌, ◌^◌, ◌≤◌, Bool, true, false, List, [], ◌∷◌, ◌++◌, length, Option, Some, None, if◌then◌else◌, ⊤}
 use Rattle.std.specs.declared.hash.DefaultHasher.{DefaultHasher as State}
 use Rattle.std.specs.Hash.DefaultHasher.{initial, write, finish}
 use Rattle.hc_image_text.specs.declared.frame.Kind.{Kind}
 use Rattle.hc_image_text.specs.Frames.{Frame, frame_bytes}
 use Rattle.hc_image_text.specs.Images.{is_end, end_frame, frames_bytes}
 use Rattle.hc_engines.specs.large.Index.{Indexed}
+use Rattle.hc_image.specs.declared.refusal.NotSaved.{NotSaved}
+use Rattle.hc_image.specs.declared.refusal.NotSaved.TheVariants.{NoMemory, TooLong}
 
 -- ---- the records that are left
 
@@ -58,6 +60,12 @@ after_of digest (f ∷ fs) = saving fs (write digest (frame_bytes f))
 -- what is left behind it
 abbrev pub after : Saving → Saving
 after s = if s.ended then s else after_of s.digest s.left
+
+-- why it isn't given: memory lacks, or its record has more bytes than a frame can have
+abbrev pub IsWhyNot : NotSaved → List Frame → Type 0
+IsWhyNot NoMemory left = ⊤
+IsWhyNot TooLong [] = ⊥
+IsWhyNot TooLong (f ∷ fs) = 2 ^ 32 ≤ 5 + length f.body
 
 -- all bytes that are still to come
 abbrev pub still : Saving → List ℕ

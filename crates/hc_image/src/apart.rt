@@ -10,7 +10,6 @@ ghost use Rattle.hc_image.specs.Saved.{keys_of, lists_frames, nvm_frames, frames
 
 use crate::carried::Carried;
 use crate::making::Record;
-use crate::refusal::NotSaved;
 use crate::rest::{OnFlash, Rest};
 use hc_image_text::{
     Counters, Head, Kind, Shard, put_counters, put_head, put_number, put_numbers, put_open,
@@ -27,11 +26,12 @@ fn head_record<A: Allocator + Clone + Copy>(
     shard: Shard,
     config: &Config<A>,
     head: &Head,
-) -> Result<Record<A>, NotSaved>
+) -> Result<Record<A>, AllocError>
     ensures { IfOk result (λ made. made ≡ head_frame shard config.now head.now) }
 {
     if config.pools.len() > u32::MAX as usize {
-        return Err(NotSaved::TooLong);
+        // (no cache has more than 16)
+        return Err(AllocError);
     }
     let mut body = Vec::new(alloc);
     match put_head(&mut body, shard, config, head) {
@@ -39,7 +39,7 @@ fn head_record<A: Allocator + Clone + Copy>(
             kind: Kind::Head,
             body,
         }),
-        Err(_) => Err(NotSaved::NoMemory),
+        Err(_) => Err(AllocError),
     }
 }
 
@@ -122,15 +122,15 @@ fn flushed_record<A: Allocator + Clone + Copy>(
 fn push<A: Allocator + Clone>(
     records: &mut Vec<Record<A>, A>,
     made: Result<Record<A>, AllocError>,
-) -> Result<(), NotSaved>
+) -> Result<(), AllocError>
     ensures { (f : Frame) → IfOk made (λ r. r ≡ f) → OnOk result (records.new.items ≡ records.old.items ++ f ∷ []) }
 {
     let Ok(record) = made else {
-        return Err(NotSaved::NoMemory);
+        return Err(AllocError);
     };
     match records.push(record) {
         Ok(()) => Ok(()),
-        Err(_) => Err(NotSaved::NoMemory),
+        Err(_) => Err(AllocError),
     }
 }
 
@@ -158,7 +158,7 @@ fn first_records<A: Allocator + Clone + Copy>(
     parts: &Parts<A>,
     stamps: u64,
     owner: Vec<u8, A>,
-) -> Result<Vec<Record<A>, A>, NotSaved>
+) -> Result<Vec<Record<A>, A>, AllocError>
     ensures { IfOk result (λ records. records.items ≡ head_frame shard parts.now.config head.now ∷ counters_frame (seen_counters parts.now) ∷ stamps_frame stamps ∷ owner_frame owner.items ∷ []) }
 {
     let mut records = Vec::new(alloc);
@@ -176,7 +176,7 @@ fn put_lists<A: Allocator + Clone + Copy>(
     alloc: A,
     records: &mut Vec<Record<A>, A>,
     large: &hc_block::Parts<A>,
-) -> Result<(), NotSaved>
+) -> Result<(), AllocError>
     ensures { OnOk result (records.new.items ≡ records.old.items ++ open_frame large.now.current ∷ sealed_frame large.now.sealed.items ∷ flushed_frame large.now.flushed.items ∷ []) }
 {
     push(records, open_record(alloc, large.current))?;
@@ -195,14 +195,14 @@ struct Queues<A: Allocator> {
 fn put_out<A: Allocator + Clone + Copy>(
     puts: &mut Vec<Entry<A>, A>,
     nvm: &mut Nvm<A>,
-) -> Result<(), NotSaved>
+) -> Result<(), AllocError>
     ensures moved { OnOk result (entries_of puts.old.items ++ nvm.old.nvm.queue ≡ entries_of puts.new.items ++ drop 1 nvm.old.nvm.queue) }
     ensures nvm { nvm.new.nvm ≡ record nvm.old.nvm { queue = drop 1 nvm.old.nvm.queue } }
 {
     match nvm.hand_out_put() {
         Some(put) => match puts.push(put) {
             Ok(()) => Ok(()),
-            Err(_) => Err(NotSaved::NoMemory),
+            Err(_) => Err(AllocError),
         },
         None => Ok(()),
     }
@@ -212,7 +212,7 @@ fn put_out<A: Allocator + Clone + Copy>(
 fn puts_out<A: Allocator + Clone + Copy>(
     alloc: A,
     nvm: &mut Nvm<A>,
-) -> Result<Vec<Entry<A>, A>, NotSaved>
+) -> Result<Vec<Entry<A>, A>, AllocError>
     ensures puts { IfOk result (λ puts. entries_of puts.items ≡ nvm.old.nvm.queue) }
     ensures nvm { OnOk result (nvm.new.nvm ≡ record nvm.old.nvm { queue = [] }) }
 {
@@ -227,14 +227,14 @@ fn puts_out<A: Allocator + Clone + Copy>(
 fn key_out<A: Allocator + Clone + Copy>(
     keys: &mut Vec<Key<A>, A>,
     nvm: &mut Nvm<A>,
-) -> Result<(), NotSaved>
+) -> Result<(), AllocError>
     ensures moved { OnOk result (keys.old.items ++ keys_of nvm.old.nvm.tombstones ≡ keys.new.items ++ keys_of (drop 1 nvm.old.nvm.tombstones)) }
     ensures nvm { nvm.new.nvm ≡ record nvm.old.nvm { tombstones = drop 1 nvm.old.nvm.tombstones } }
 {
     match nvm.hand_out_tombstone() {
         Some(key) => match keys.push(key) {
             Ok(()) => Ok(()),
-            Err(_) => Err(NotSaved::NoMemory),
+            Err(_) => Err(AllocError),
         },
         None => Ok(()),
     }
@@ -244,7 +244,7 @@ fn key_out<A: Allocator + Clone + Copy>(
 fn keys_out<A: Allocator + Clone + Copy>(
     alloc: A,
     nvm: &mut Nvm<A>,
-) -> Result<Vec<Key<A>, A>, NotSaved>
+) -> Result<Vec<Key<A>, A>, AllocError>
     ensures keys { IfOk result (λ keys. keys.items ≡ keys_of nvm.old.nvm.tombstones) }
     ensures nvm { OnOk result (nvm.new.nvm ≡ record nvm.old.nvm { tombstones = [] }) }
 {
@@ -258,7 +258,7 @@ fn keys_out<A: Allocator + Clone + Copy>(
 fn queues_out<A: Allocator + Clone + Copy>(
     alloc: A,
     nvm: &mut Nvm<A>,
-) -> Result<Queues<A>, NotSaved>
+) -> Result<Queues<A>, AllocError>
     ensures puts { IfOk result (λ queues. entries_of queues.puts.items ≡ nvm.old.nvm.queue) }
     ensures keys { IfOk result (λ queues. queues.keys.items ≡ keys_of nvm.old.nvm.tombstones) }
     ensures nvm { OnOk result (nvm.new.nvm.pair ≡ nvm.old.nvm.pair) }
@@ -302,7 +302,7 @@ fn engines_out<A: Allocator + Clone + Copy>(
     queues: Queues<A>,
     nvm: Nvm<A>,
     records: &mut Vec<Record<A>, A>,
-) -> Result<OnFlash<A>, NotSaved>
+) -> Result<OnFlash<A>, AllocError>
     requires small { length nvm.nvm.pair.small.jobs ≡ 0 }
     requires large { length nvm.nvm.pair.large.jobs ≡ 0 }
     ensures records { OnOk result (records.new.items ≡ records.old.items ++ open_frame nvm.nvm.pair.large.current ∷ sealed_frame nvm.nvm.pair.large.sealed ∷ flushed_frame nvm.nvm.pair.large.flushed ∷ []) }
@@ -322,7 +322,7 @@ fn flash_out<A: Allocator + Clone + Copy>(
     alloc: A,
     mut nvm: Nvm<A>,
     records: &mut Vec<Record<A>, A>,
-) -> Result<OnFlash<A>, NotSaved>
+) -> Result<OnFlash<A>, AllocError>
     requires { rests nvm.nvm ≡ true }
     ensures records { OnOk result (records.new.items ≡ records.old.items ++ lists_frames (Some nvm.nvm)) }
     ensures frames { IfOk result (λ f. f ≡ nvm_frames (Some nvm.nvm)) }
@@ -350,7 +350,7 @@ fn of_flash<A: Allocator + Clone + Copy>(
     alloc: A,
     nvm: Option<Nvm<A>>,
     records: &mut Vec<Record<A>, A>,
-) -> Result<OnFlash<A>, NotSaved>
+) -> Result<OnFlash<A>, AllocError>
     requires { flash_rests (nvm_of nvm) ≡ true }
     ensures records { OnOk result (records.new.items ≡ records.old.items ++ lists_frames (nvm_of nvm)) }
     ensures frames { IfOk result (λ f. f ≡ nvm_frames (nvm_of nvm)) }
@@ -366,7 +366,7 @@ fn rest_behind<A: Allocator + Clone + Copy>(
     mut records: Vec<Record<A>, A>,
     digests: Vec<u64, A>,
     mut parts: Parts<A>,
-) -> Result<Rest<A>, NotSaved>
+) -> Result<Rest<A>, AllocError>
     requires { is_at_rest parts ≡ true }
     ensures { IfOk result (λ rest. rest ≡ (records.items ++ lists_frames parts.nvm) ++ (map digest_frame digests.items ++ (nvm_frames parts.nvm ++ map item_frame (items_of parts.memory.pools)))) }
 {
@@ -382,14 +382,14 @@ fn rest_behind<A: Allocator + Clone + Copy>(
     }
 }
 
-/// All records of the image of these parts. Refused only when out of memory, or where the head is too long for a frame.
+/// All records of the image of these parts. Refused only when out of memory.
 pub(crate) fn rest_of<A: Allocator + Clone + Copy>(
     alloc: A,
     shard: Shard,
     head: &Head,
     parts: Parts<A>,
     carried: Carried<A>,
-) -> Result<Rest<A>, NotSaved>
+) -> Result<Rest<A>, AllocError>
     ensures { IfOk result (λ rest. rest ≡ frames_of shard head.now carried parts) }
 {
     parts.comes_back();

@@ -7,12 +7,12 @@ ghost use Rattle.hc_image.specs.Loading.{item_by};
 ghost use Rattle.hc_image.specs.declared.refusal.Refusal.TheVariants.{Unfit};
 ghost use Rattle.hc_image_text.specs.Items.{item_of as seen};
 
-use crate::refusal::{NotSaved, Refusal};
+use crate::refusal::Refusal;
 use hc_image_text::{KeptItem, Kind, put_item};
 use hc_memory::Item;
 use hc_state::Parts;
 use hc_types::{Entry, VALUE_MAX};
-use std::alloc::Allocator;
+use std::alloc::{AllocError, Allocator};
 
 /// The item, as an image has it.
 fn kept_of<A: Allocator>(item: Item<A>) -> KeptItem<A>
@@ -74,14 +74,14 @@ fn put_one_item<A: Allocator + Clone>(
     alloc: A,
     out: &mut Vec<u8, A>,
     item: Item<A>,
-) -> Result<Option<Kind>, NotSaved>
+) -> Result<Option<Kind>, AllocError>
     ensures { IfOk result (λ made. Puts (item_frame item) made out.old.items out.new.items) }
 {
     item.is_short();
     let kept = kept_of(item);
     match put_item(alloc, out, &kept) {
         Ok(()) => Ok(Some(Kind::Item)),
-        Err(_) => Err(NotSaved::NoMemory),
+        Err(_) => Err(AllocError),
     }
 }
 
@@ -97,7 +97,7 @@ pub(crate) fn next_item<A: Allocator + Clone>(
     alloc: A,
     parts: &mut Parts<A>,
     out: &mut Vec<u8, A>,
-) -> Result<Option<Kind>, NotSaved>
+) -> Result<Option<Kind>, AllocError>
     ensures { IfOk result (λ made. Makes made (map item_frame (items_of parts.old.memory.pools)) (map item_frame (items_of parts.new.memory.pools)) out.old.items out.new.items) }
 {
     match hand_out(parts) {

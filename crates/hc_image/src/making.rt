@@ -6,12 +6,11 @@ ghost use Rattle.hc_region.specs.Resting.{rest_of};
 ghost use Rattle.hc_image.specs.Saved.{put_frame, stone_frame, word_frame, region_frame, lead_frame, digest_frame, rest_or_clean};
 ghost use Rattle.hc_image.specs.Saving.{Puts, Makes};
 
-use crate::refusal::NotSaved;
 use hc_block::{Lead, Leads};
 use hc_image_text::{Kind, put_entry, put_key, put_lead, put_number, put_region, put_word};
 use hc_region::{AtRest, Region};
 use hc_types::{Entry, Key, VALUE_MAX};
-use std::alloc::Allocator;
+use std::alloc::{AllocError, Allocator};
 use std::marker::Model;
 use std::vec::IntoIter;
 
@@ -36,12 +35,12 @@ impl<A: Allocator> Model for Record<A> {
 
 impl<A: Allocator + Clone> Record<A> {
     /// The record goes behind the bytes.
-    fn put(&self, out: &mut Vec<u8, A>) -> Result<Option<Kind>, NotSaved>
+    fn put(&self, out: &mut Vec<u8, A>) -> Result<Option<Kind>, AllocError>
         ensures { IfOk result (λ made. Puts self.now made out.old.items out.new.items) }
     {
         match out.extend_from_slice(self.body.as_slice()) {
             Ok(()) => Ok(Some(self.kind)),
-            Err(_) => Err(NotSaved::NoMemory),
+            Err(_) => Err(AllocError),
         }
     }
 }
@@ -50,12 +49,12 @@ impl<A: Allocator + Clone> Record<A> {
 fn put_digest<A: Allocator + Clone>(
     out: &mut Vec<u8, A>,
     digest: u64,
-) -> Result<Option<Kind>, NotSaved>
+) -> Result<Option<Kind>, AllocError>
     ensures { IfOk result (λ made. Puts (digest_frame digest) made out.old.items out.new.items) }
 {
     match put_number(out, digest) {
         Ok(()) => Ok(Some(Kind::Digests)),
-        Err(_) => Err(NotSaved::NoMemory),
+        Err(_) => Err(AllocError),
     }
 }
 
@@ -64,15 +63,16 @@ fn put_put<A: Allocator + Clone>(
     alloc: A,
     out: &mut Vec<u8, A>,
     put: &Entry<A>,
-) -> Result<Option<Kind>, NotSaved>
+) -> Result<Option<Kind>, AllocError>
     ensures { IfOk result (λ made. Puts (put_frame (entry_of put.now)) made out.old.items out.new.items) }
 {
     if put.value.len() as u64 > VALUE_MAX {
-        return Err(NotSaved::TooLong);
+        // (no cache has a longer one)
+        return Err(AllocError);
     }
     match put_entry(alloc, out, put) {
         Ok(()) => Ok(Some(Kind::Put)),
-        Err(_) => Err(NotSaved::NoMemory),
+        Err(_) => Err(AllocError),
     }
 }
 
@@ -80,12 +80,12 @@ fn put_put<A: Allocator + Clone>(
 fn put_stone<A: Allocator + Clone>(
     out: &mut Vec<u8, A>,
     key: &Key<A>,
-) -> Result<Option<Kind>, NotSaved>
+) -> Result<Option<Kind>, AllocError>
     ensures { IfOk result (λ made. Puts (stone_frame key.now) made out.old.items out.new.items) }
 {
     match put_key(out, key) {
         Ok(()) => Ok(Some(Kind::Tombstone)),
-        Err(_) => Err(NotSaved::NoMemory),
+        Err(_) => Err(AllocError),
     }
 }
 
@@ -93,12 +93,12 @@ fn put_stone<A: Allocator + Clone>(
 fn put_bucket<A: Allocator + Clone>(
     out: &mut Vec<u8, A>,
     word: Option<u64>,
-) -> Result<Option<Kind>, NotSaved>
+) -> Result<Option<Kind>, AllocError>
     ensures { IfOk result (λ made. Puts (word_frame word) made out.old.items out.new.items) }
 {
     match put_word(out, word) {
         Ok(()) => Ok(Some(Kind::Words)),
-        Err(_) => Err(NotSaved::NoMemory),
+        Err(_) => Err(AllocError),
     }
 }
 
@@ -116,15 +116,16 @@ fn rest_of<A: Allocator + Clone + Copy>(region: &Region<A>) -> AtRest
 fn put_one_region<A: Allocator + Clone + Copy>(
     out: &mut Vec<u8, A>,
     region: &Region<A>,
-) -> Result<Option<Kind>, NotSaved>
+) -> Result<Option<Kind>, AllocError>
     ensures { IfOk result (λ made. Puts (region_frame region.now) made out.old.items out.new.items) }
 {
     if region.appended().len() > u32::MAX as usize {
-        return Err(NotSaved::TooLong);
+        // (no region has so many)
+        return Err(AllocError);
     }
     match put_region(out, rest_of(region), region) {
         Ok(()) => Ok(Some(Kind::Region)),
-        Err(_) => Err(NotSaved::NoMemory),
+        Err(_) => Err(AllocError),
     }
 }
 
@@ -132,12 +133,12 @@ fn put_one_region<A: Allocator + Clone + Copy>(
 fn put_one_lead<A: Allocator + Clone>(
     out: &mut Vec<u8, A>,
     lead: &Lead,
-) -> Result<Option<Kind>, NotSaved>
+) -> Result<Option<Kind>, AllocError>
     ensures { IfOk result (λ made. Puts (lead_frame lead.now) made out.old.items out.new.items) }
 {
     match put_lead(out, lead.hash(), lead.place()) {
         Ok(()) => Ok(Some(Kind::Leads)),
-        Err(_) => Err(NotSaved::NoMemory),
+        Err(_) => Err(AllocError),
     }
 }
 
@@ -147,7 +148,7 @@ fn put_one_lead<A: Allocator + Clone>(
 pub(crate) fn next_record<A: Allocator + Clone>(
     records: &mut IntoIter<Record<A>, A>,
     out: &mut Vec<u8, A>,
-) -> Result<Option<Kind>, NotSaved>
+) -> Result<Option<Kind>, AllocError>
     ensures { IfOk result (λ made. Makes made (into_iter_items records.old) (into_iter_items records.new) out.old.items out.new.items) }
 {
     match records.next() {
@@ -160,7 +161,7 @@ pub(crate) fn next_record<A: Allocator + Clone>(
 pub(crate) fn next_digest<A: Allocator + Clone>(
     digests: &mut IntoIter<u64, A>,
     out: &mut Vec<u8, A>,
-) -> Result<Option<Kind>, NotSaved>
+) -> Result<Option<Kind>, AllocError>
     ensures { IfOk result (λ made. Makes made (map digest_frame (into_iter_items digests.old)) (map digest_frame (into_iter_items digests.new)) out.old.items out.new.items) }
 {
     match digests.next() {
@@ -174,7 +175,7 @@ pub(crate) fn next_put<A: Allocator + Clone>(
     alloc: A,
     puts: &mut IntoIter<Entry<A>, A>,
     out: &mut Vec<u8, A>,
-) -> Result<Option<Kind>, NotSaved>
+) -> Result<Option<Kind>, AllocError>
     ensures { IfOk result (λ made. Makes made (map put_frame (entries_of (into_iter_items puts.old))) (map put_frame (entries_of (into_iter_items puts.new))) out.old.items out.new.items) }
 {
     match puts.next() {
@@ -187,7 +188,7 @@ pub(crate) fn next_put<A: Allocator + Clone>(
 pub(crate) fn next_stone<A: Allocator + Clone>(
     keys: &mut IntoIter<Key<A>, A>,
     out: &mut Vec<u8, A>,
-) -> Result<Option<Kind>, NotSaved>
+) -> Result<Option<Kind>, AllocError>
     ensures { IfOk result (λ made. Makes made (map stone_frame (into_iter_items keys.old)) (map stone_frame (into_iter_items keys.new)) out.old.items out.new.items) }
 {
     match keys.next() {
@@ -200,7 +201,7 @@ pub(crate) fn next_stone<A: Allocator + Clone>(
 pub(crate) fn next_word<A: Allocator + Clone>(
     words: &mut IntoIter<Option<u64>, A>,
     out: &mut Vec<u8, A>,
-) -> Result<Option<Kind>, NotSaved>
+) -> Result<Option<Kind>, AllocError>
     ensures { IfOk result (λ made. Makes made (map word_frame (into_iter_items words.old)) (map word_frame (into_iter_items words.new)) out.old.items out.new.items) }
 {
     match words.next() {
@@ -213,7 +214,7 @@ pub(crate) fn next_word<A: Allocator + Clone>(
 pub(crate) fn next_region<A: Allocator + Clone + Copy>(
     regions: &mut IntoIter<Region<A>, A>,
     out: &mut Vec<u8, A>,
-) -> Result<Option<Kind>, NotSaved>
+) -> Result<Option<Kind>, AllocError>
     ensures { IfOk result (λ made. Makes made (map region_frame (into_iter_items regions.old)) (map region_frame (into_iter_items regions.new)) out.old.items out.new.items) }
 {
     match regions.next() {
@@ -226,7 +227,7 @@ pub(crate) fn next_region<A: Allocator + Clone + Copy>(
 pub(crate) fn next_lead<A: Allocator + Clone>(
     leads: &mut Leads<A>,
     out: &mut Vec<u8, A>,
-) -> Result<Option<Kind>, NotSaved>
+) -> Result<Option<Kind>, AllocError>
     ensures { IfOk result (λ made. Makes made (map lead_frame leads.old) (map lead_frame leads.new) out.old.items out.new.items) }
 {
     match leads.next() {

@@ -10,13 +10,12 @@ use crate::items::next_item;
 use crate::making::{
     Record, next_digest, next_lead, next_put, next_record, next_region, next_stone, next_word,
 };
-use crate::refusal::NotSaved;
 use hc_block::Leads;
 use hc_image_text::Kind;
 use hc_region::Region;
 use hc_state::Parts;
 use hc_types::{Entry, Key};
-use std::alloc::Allocator;
+use std::alloc::{AllocError, Allocator};
 use std::marker::Model;
 use std::vec::IntoIter;
 
@@ -93,7 +92,7 @@ impl<A: Allocator> Model for Rest<A> {
 fn next_if_any<A: Allocator + Clone>(
     leads: &mut Option<Leads<A>>,
     out: &mut Vec<u8, A>,
-) -> Result<Option<Kind>, NotSaved>
+) -> Result<Option<Kind>, AllocError>
     ensures { IfOk result (λ made. Makes made (map lead_frame (leads_of leads.old)) (map lead_frame (leads_of leads.new)) out.old.items out.new.items) }
 {
     match leads {
@@ -107,7 +106,7 @@ fn next_large<A: Allocator + Clone + Copy>(
     regions: &mut IntoIter<Region<A>, A>,
     leads: &mut Option<Leads<A>>,
     out: &mut Vec<u8, A>,
-) -> Result<Option<Kind>, NotSaved>
+) -> Result<Option<Kind>, AllocError>
     ensures { IfOk result (λ made. Makes made (engine_frames [] (into_iter_items regions.old) (leads_of leads.old)) (engine_frames [] (into_iter_items regions.new) (leads_of leads.new)) out.old.items out.new.items) }
 {
     match next_region(regions, out) {
@@ -122,7 +121,7 @@ fn next_of_engines<A: Allocator + Clone + Copy>(
     regions: &mut IntoIter<Region<A>, A>,
     leads: &mut Option<Leads<A>>,
     out: &mut Vec<u8, A>,
-) -> Result<Option<Kind>, NotSaved>
+) -> Result<Option<Kind>, AllocError>
     ensures { IfOk result (λ made. Makes made (engine_frames (into_iter_items words.old) (into_iter_items regions.old) (leads_of leads.old)) (engine_frames (into_iter_items words.new) (into_iter_items regions.new) (leads_of leads.new)) out.old.items out.new.items) }
 {
     match next_word(words, out) {
@@ -137,7 +136,7 @@ fn next_waiting<A: Allocator + Clone + Copy>(
     puts: &mut IntoIter<Entry<A>, A>,
     keys: &mut IntoIter<Key<A>, A>,
     out: &mut Vec<u8, A>,
-) -> Result<Option<Kind>, NotSaved>
+) -> Result<Option<Kind>, AllocError>
     ensures { IfOk result (λ made. Makes made (waiting_frames (entries_of (into_iter_items puts.old)) (into_iter_items keys.old)) (waiting_frames (entries_of (into_iter_items puts.new)) (into_iter_items keys.new)) out.old.items out.new.items) }
 {
     match next_put(alloc, puts, out) {
@@ -148,7 +147,7 @@ fn next_waiting<A: Allocator + Clone + Copy>(
 
 impl<A: Allocator + Clone + Copy> OnFlash<A> {
     /// The next record goes behind the bytes.
-    fn next(&mut self, alloc: A, out: &mut Vec<u8, A>) -> Result<Option<Kind>, NotSaved>
+    fn next(&mut self, alloc: A, out: &mut Vec<u8, A>) -> Result<Option<Kind>, AllocError>
         ensures { IfOk result (λ made. Makes made self.old self.new out.old.items out.new.items) }
     {
         match next_waiting(alloc, &mut self.puts, &mut self.keys, out) {
@@ -163,7 +162,7 @@ fn next_of_first<A: Allocator + Clone + Copy>(
     records: &mut IntoIter<Record<A>, A>,
     digests: &mut IntoIter<u64, A>,
     out: &mut Vec<u8, A>,
-) -> Result<Option<Kind>, NotSaved>
+) -> Result<Option<Kind>, AllocError>
     ensures { IfOk result (λ made. Makes made (into_iter_items records.old ++ map digest_frame (into_iter_items digests.old)) (into_iter_items records.new ++ map digest_frame (into_iter_items digests.new)) out.old.items out.new.items) }
 {
     match next_record(records, out) {
@@ -178,7 +177,7 @@ fn next_of_last<A: Allocator + Clone + Copy>(
     on_flash: &mut OnFlash<A>,
     parts: &mut Parts<A>,
     out: &mut Vec<u8, A>,
-) -> Result<Option<Kind>, NotSaved>
+) -> Result<Option<Kind>, AllocError>
     ensures { IfOk result (λ made. Makes made (on_flash.old ++ map item_frame (items_of parts.old.memory.pools)) (on_flash.new ++ map item_frame (items_of parts.new.memory.pools)) out.old.items out.new.items) }
 {
     match on_flash.next(alloc, out) {
@@ -189,7 +188,11 @@ fn next_of_last<A: Allocator + Clone + Copy>(
 
 impl<A: Allocator + Clone + Copy> Rest<A> {
     /// The next record goes behind the bytes: its kind, or none where all were given.
-    pub(crate) fn next(&mut self, alloc: A, out: &mut Vec<u8, A>) -> Result<Option<Kind>, NotSaved>
+    pub(crate) fn next(
+        &mut self,
+        alloc: A,
+        out: &mut Vec<u8, A>,
+    ) -> Result<Option<Kind>, AllocError>
         ensures { IfOk result (λ made. Makes made self.old self.new out.old.items out.new.items) }
     {
         match next_of_first(&mut self.records, &mut self.digests, out) {

@@ -1,10 +1,11 @@
 // The image of a cache at rest is given, frame after frame.
-ghost use Rattle.std.specs.Prelude.{◌≡◌, ℕ, List, [], ◌++◌, ◌≤◌, not, true, false, length, drop, IfOk, OnOk, OnErr, IsErr};
+ghost use Rattle.std.specs.Prelude.{◌≡◌, ℕ, List, [], ◌++◌, ◌≤◌, ◌^◌, not, true, false, length, drop, IfOk, IfErr, OnOk, OnErr, IsErr};
 ghost use Rattle.std.specs.Hash.DefaultHasher.{initial, write, finish};
 ghost use Rattle.hc_image_text.specs.Images.{is_end, end_frame};
 ghost use Rattle.hc_image_text.specs.Frames.{framed, frame_bytes};
 ghost use Rattle.hc_image.specs.Saved.{frames_of};
-ghost use Rattle.hc_image.specs.Saving.{saving, given, after, given_of, after_of};
+ghost use Rattle.hc_image.specs.Saving.{IsWhyNot, saving, given, after, given_of, after_of};
+ghost use Rattle.hc_image.specs.declared.refusal.NotSaved.TheVariants.{NoMemory};
 
 use crate::apart::rest_of;
 use crate::carried::Carried;
@@ -12,7 +13,7 @@ use crate::refusal::NotSaved;
 use crate::rest::Rest;
 use hc_image_text::{FRONT, Head, ImageWriter, Kind, Shard};
 use hc_state::Parts;
-use std::alloc::Allocator;
+use std::alloc::{AllocError, Allocator};
 use std::marker::Model;
 use std::mem;
 
@@ -51,7 +52,8 @@ impl<A: Allocator> Model for Saver<A> {
 
 /// Five bytes, in whose place the front of a frame comes.
 fn put_front<A: Allocator + Clone>(frame: &mut Vec<u8, A>) -> Result<(), NotSaved>
-    ensures { OnOk result ((before : List ℕ) × (frame.new.items ≡ frame.old.items ++ before) × (length before ≡ 5)) }
+    ensures why { IfErr result (λ why. why ≡ NoMemory) }
+    ensures front { OnOk result ((before : List ℕ) × (frame.new.items ≡ frame.old.items ++ before) × (length before ≡ 5)) }
 {
     match frame.extend_from_slice(&[0; FRONT]) {
         Ok(()) => Ok(()),
@@ -68,7 +70,7 @@ impl<A: Allocator + Clone + Copy> Saver<A> {
         head: &Head,
         parts: Parts<A>,
         carried: Carried<A>,
-    ) -> Result<Saver<A>, NotSaved>
+    ) -> Result<Saver<A>, AllocError>
         ensures { IfOk result (λ saver. saver ≡ saving (frames_of shard head.now carried parts) initial) }
     {
         match rest_of(alloc, shard, head, parts, carried) {
@@ -84,14 +86,15 @@ impl<A: Allocator + Clone + Copy> Saver<A> {
     }
 
     /// The next frame of the image stands in `frame` alone. False, and no byte, where the image ended with the frame before. Refused
-    /// only when out of memory, or where the owner's bytes are too many for a frame; then the image can't be given, and no more frame
-    /// comes.
+    /// only when out of memory, or where the next record, of the owner's bytes, has too many for a frame; then the image can't be given,
+    /// and no more frame comes.
     pub fn next(&mut self, frame: &mut Vec<u8, A>) -> Result<bool, NotSaved>
         ensures more { IfOk result (λ more. more ≡ not self.old.ended) }
         ensures frame { OnOk result (frame.new.items ≡ given self.old) }
         ensures after { OnOk result (self.new ≡ after self.old) }
         ensures broken { OnErr result (self.new.broken ≡ true) }
         ensures stays { self.old.broken ≡ true → IsErr result }
+        ensures why { IfErr result (λ why. IsWhyNot why self.old.left) }
     {
         frame.clear();
         if self.broken {
@@ -116,6 +119,7 @@ impl<A: Allocator + Clone + Copy> Saver<A> {
         requires goes_on { self.old.ended ≡ false }
         ensures frame { OnOk result (frame.new.items ≡ given_of self.old.digest self.old.left) }
         ensures after { OnOk result (self.new ≡ after_of self.old.digest self.old.left) }
+        ensures why { IfErr result (λ why. IsWhyNot why self.old.left) }
     {
         put_front(frame)?;
         match self.rest.next(self.alloc, frame) {
@@ -124,7 +128,7 @@ impl<A: Allocator + Clone + Copy> Saver<A> {
                 self.ended = true;
                 end(&mut self.writer, frame)
             }
-            Err(why) => Err(why),
+            Err(_) => Err(NotSaved::NoMemory),
         }
     }
 }
@@ -139,6 +143,7 @@ fn make<A: Allocator>(
     requires inner { is_end kind ≡ false }
     ensures frame { OnOk result (frame.new.items ≡ frame_bytes (framed kind (drop 5 frame.old.items))) }
     ensures fed { OnOk result (writer.new ≡ write writer.old frame.new.items) }
+    ensures why { IfErr result (λ why. 2 ^ 32 ≤ length frame.old.items) }
 {
     if frame.len() > u32::MAX as usize {
         return Err(NotSaved::TooLong);
@@ -154,6 +159,7 @@ fn end<A: Allocator + Clone>(
 ) -> Result<(), NotSaved>
     ensures frame { OnOk result (frame.new.items ≡ frame_bytes (end_frame (finish writer.old))) }
     ensures fed { writer.new ≡ initial }
+    ensures why { IfErr result (λ why. why ≡ NoMemory) }
 {
     let last = mem::replace(writer, ImageWriter::new()).end();
     frame.clear();
