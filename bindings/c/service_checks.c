@@ -633,6 +633,8 @@ static unsigned count_rows(kilambosetry_service *service, unsigned many) {
         uint8_t status = kilambosetry_service_get(service, key, key_len, row, sizeof row, &len, KILAMBOSETRY_FOREVER);
         CHECK(status == KILAMBOSETRY_MISS || (status == KILAMBOSETRY_DONE && version_of(i, row, len) == 7));
         found += status == KILAMBOSETRY_DONE;
+        /* (what it reads pushes others out: none is lost for want of room in the queue, also where writers come late) */
+        if (i % 8 == 7) CHECK(kilambosetry_service_flush(service) == KILAMBOSETRY_DONE);
     }
     return found;
 }
