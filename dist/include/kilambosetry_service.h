@@ -419,6 +419,46 @@ typedef struct {
 /* Tells what was done so far, of all shards together. Each is asked by itself, so that no two numbers need be of one moment. */
 void kilambosetry_service_tell(kilambosetry_service *service, kilambosetry_service_stats *stats);
 
+/* ---- what is forgotten, key by key as far as that is known */
+
+/* Why a key is gone, or some keys are. Of the first four the key is told, since a call has it. Of the others only how many: they are
+ * counted by their reasons (`kilambosetry_losses_t`), and their keys are told to nobody in C. */
+enum {
+    KILAMBOSETRY_GONE_DELETED = 1,          /* it was deleted or invalidated, whether or not there was an item */
+    KILAMBOSETRY_GONE_CHANGED = 2,          /* a change of its row was ended */
+    KILAMBOSETRY_GONE_EXPIRED = 3,          /* a get found it expired in memory */
+    KILAMBOSETRY_GONE_UNREAD = 4,           /* a get found that a page can't be read, or came back otherwise than written */
+    KILAMBOSETRY_GONE_CLEARED = 5,          /* all was cleared, or all of a shard: so many items in memory */
+    KILAMBOSETRY_GONE_NO_FLASH = 6,         /* from here on as the losses of that name */
+    KILAMBOSETRY_GONE_TOMBSTONE = 7,
+    KILAMBOSETRY_GONE_NOT_ADMITTED = 8,
+    KILAMBOSETRY_GONE_TOO_LARGE = 9,
+    KILAMBOSETRY_GONE_QUEUE_FULL = 10,
+    KILAMBOSETRY_GONE_EVICTED_EXPIRED = 11, /* `expired` */
+    KILAMBOSETRY_GONE_BUCKET_FULL = 12,
+    KILAMBOSETRY_GONE_RECLAIMED = 13,
+    KILAMBOSETRY_GONE_NO_CLEAN_REGION = 14,
+    KILAMBOSETRY_GONE_COLLISION = 15,
+    KILAMBOSETRY_GONE_FAULT = 16
+};
+
+typedef struct {
+    uint64_t count;  /* how many are gone */
+    uint64_t missed; /* how many so far of which nobody is told, since there was no room for a note, or no memory */
+    uint8_t cause;
+    bool has_key;    /* whether the key is told: then it is one */
+} kilambosetry_gone;
+
+/* Has what is forgotten from now on noted, to be taken by the call below, up to so many notes at a time. One of before hears no
+ * more. With 0 nothing is noted. */
+uint8_t kilambosetry_service_listen(kilambosetry_service *service, size_t room);
+
+/* Takes the next note, and waits for it: DONE, and the key is at the head of `key`, which has room for 255 bytes (of less, its head),
+ * with its length in `key_len`. TIMED_OUT, where none comes within the limit; CLOSED, once the cache is shut, or another listens and
+ * this one was told all; EMPTY, where nobody listens. To be called by one thread. */
+uint8_t kilambosetry_service_next_gone(kilambosetry_service *service, uint8_t *key, size_t key_room, size_t *key_len,
+                                       kilambosetry_gone *gone, int64_t limit);
+
 /* Tells what the options came to. */
 void kilambosetry_service_tell_numbers(const kilambosetry_service *service, kilambosetry_service_numbers *numbers);
 
