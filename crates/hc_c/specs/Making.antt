@@ -2,6 +2,7 @@
 use Rattle.std.specs.Prelude.{◌≡◌, ◌⊎◌, ◌/◌, ℕ, nat_lt, if◌then◌else◌, List, [], map, replicate, Option, Some, None}
 use Rattle.hc_types.specs.Config.{Config}
 use Rattle.hc_types.specs.Limits.{first_wrong}
+use Rattle.hc_types.specs.declared.config.Admission.TheVariants.{All}
 use Rattle.hc_types.specs.declared.config.FlashConfig.{FlashConfig}
 use Rattle.hc_types.specs.declared.config.PoolSize.{PoolSize}
 use Rattle.hc_types.specs.declared.refusal.Refusal.{Refusal}
@@ -32,6 +33,7 @@ numbers_of flash = record {
   bits = flash.bits;
   admit_min = flash.admit_min;
   admit_max = flash.admit_max;
+  admission = All;
 }
 
 -- these pools, and this flash or none

@@ -10,7 +10,7 @@ ghost use Rattle.hc_c.specs.Statuses.{Says};
 use crate::cache::Cache;
 use crate::cache_handle::CacheHandle;
 use crate::status::Status;
-use hc_core::{Config, Core, FlashConfig, PoolSize, Refusal, Totals};
+use hc_core::{Admission, Config, Core, FlashConfig, PoolSize, Refusal, Totals};
 use hc_leased::{Leased, slots_for};
 use hc_shards::{Sharded, shares_are_right};
 use hc_types::hash_of;
@@ -56,6 +56,7 @@ impl Flash {
             bits: self.bits,
             admit_min: self.admit_min,
             admit_max: self.admit_max,
+            admission: Admission::All,
         }
     }
 }
