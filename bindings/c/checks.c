@@ -199,7 +199,7 @@ static bool device_fails;
 static bool by_handles;
 
 static const kilambosetry_pool one_item[] = {{200, 1}};
-static const kilambosetry_flash flash = {512, 8, 4, 2, 1, 256, 16, 16, 1, 200};
+static const kilambosetry_flash flash = {512, 8, 4, 2, 1, 256, 16, 16, 1, 200, 0};
 
 /* Does the operation for which the job waits, by handles to pages, and hands in what came of it. */
 static uint8_t operate_by_handles(kilambosetry_cache *cache, uint64_t job) {
@@ -264,6 +264,9 @@ static void check_new_with_flash(void) {
     bad = flash;
     bad.bits = 65;
     CHECK(kilambosetry_new_with_flash(&cache, one_item, 1, &bad) == KILAMBOSETRY_BAD_BITS && !cache.full);
+    bad = flash;
+    bad.reject_first = 268435457;
+    CHECK(kilambosetry_new_with_flash(&cache, one_item, 1, &bad) == KILAMBOSETRY_BAD_QUEUE && !cache.full);
     CHECK(kilambosetry_new_with_flash(&cache, wrong, 1, &flash) == KILAMBOSETRY_BAD_POOL && !cache.full);
     CHECK(kilambosetry_new_with_flash(&cache, one_item, 1, &flash) == KILAMBOSETRY_DONE && cache.full);
     work(&cache);
@@ -413,6 +416,30 @@ static void check_full_queue(void) {
     kilambosetry_free(&cache);
 }
 
+/* What was turned away once goes to flash the second time. (`a` and `b` have slots of their own.) */
+static void check_reject_first(void) {
+    kilambosetry_cache cache = KILAMBOSETRY_NONE;
+    kilambosetry_flash rejects = flash;
+    kilambosetry_losses_t losses;
+    kilambosetry_counts_t counts;
+    uint8_t out[8];
+    size_t len = 0;
+    rejects.reject_first = 8;
+    CHECK(kilambosetry_new_with_flash(&cache, one_item, 1, &rejects) == KILAMBOSETRY_DONE);
+    for (int round = 0; round < 2; round++) {
+        CHECK(kilambosetry_set(&cache, 0, BYTES("a"), BYTES("one"), 0) == KILAMBOSETRY_DONE);
+        CHECK(kilambosetry_set(&cache, 0, BYTES("b"), BYTES("two"), 0) == KILAMBOSETRY_DONE);
+        if (round == 0) CHECK(kilambosetry_get(&cache, BYTES("a"), out, sizeof out, &len) == KILAMBOSETRY_MISS);
+        CHECK(queued(&cache) == (round == 0 ? 0 : 1));
+        work(&cache);
+    }
+    CHECK(kilambosetry_losses(&cache, &losses) == KILAMBOSETRY_DONE && losses.not_admitted == 2 && all(&losses) == 2);
+    CHECK(kilambosetry_counts(&cache, &counts) == KILAMBOSETRY_DONE && counts.writes == 1);
+    CHECK(kilambosetry_get(&cache, BYTES("a"), out, sizeof out, &len) == KILAMBOSETRY_WAITS);
+    work(&cache);
+    kilambosetry_free(&cache);
+}
+
 /* What was loaded before a change isn't stored after it, and one at a time loads a key. */
 static void check_leases(void) {
     kilambosetry_cache cache = KILAMBOSETRY_NONE;
@@ -465,7 +492,7 @@ static void check_words(void) {
 /* Shards: which a key is of, what a shard's share is, and what is refused. */
 static void check_shards(void) {
     static const kilambosetry_pool whole[] = {{4096, 40}};
-    kilambosetry_flash of_shards = {512, 1, 3, 1, 1, 100, 8, 8, 0, 2000};
+    kilambosetry_flash of_shards = {512, 1, 3, 1, 1, 100, 8, 8, 0, 2000, 0};
     kilambosetry_cache shards[2] = {KILAMBOSETRY_NONE, KILAMBOSETRY_NONE};
     kilambosetry_usage_t usage;
     uint8_t out[4];
@@ -545,6 +572,7 @@ int main(void) {
     check_forgetting();
     check_work_and_replies();
     check_full_queue();
+    check_reject_first();
     check_shards();
     check_slots();
     check_leases();

@@ -60,6 +60,9 @@ typedef struct {
     uint64_t bits;         /* the bits of a kept hash: 1 to 64 */
     uint64_t admit_min;    /* the fewest bytes, of key and value, of an item that is written to flash */
     uint64_t admit_max;    /* the most: admit_min to 1048831 */
+    uint64_t reject_first; /* slots of the table that knows what was turned away: 1 to 268435456, of 4 bytes of memory each. An
+                            * item is written to flash only if its key was turned away once before, lately: it was the last of
+                            * its slot. 0: there is no table, and each is written */
 } kilambosetry_flash;
 
 /* A device operation. */
@@ -83,7 +86,8 @@ typedef struct {
 typedef struct {
     uint64_t no_flash;        /* evicted to make room: there is no flash */
     uint64_t tombstone;       /* evicted: its key waits to be deleted from flash */
-    uint64_t not_admitted;    /* evicted: shorter or longer than what is admitted to flash */
+    uint64_t not_admitted;    /* evicted: shorter or longer than what is admitted to flash; or, with `reject_first`, not turned
+                               * away before, lately. Which of the two it was isn't told */
     uint64_t too_large;       /* evicted: longer than a region */
     uint64_t queue_full;      /* evicted: as many items as may be wait for flash */
     uint64_t expired;         /* evicted when it was expired */

@@ -74,6 +74,13 @@ static inline const char *kilambosetry_service_strerror(uint8_t status) {
 
 /* ---- what the cache is to be */
 
+/* Which of the items that memory evicts are written to flash, of those that are neither too short nor too long for it. */
+enum {
+    KILAMBOSETRY_ADMIT_ALL = 0,
+    KILAMBOSETRY_REJECT_FIRST = 1 /* those whose key was turned away once before, lately: for flash that is much smaller than what is
+                                   * asked for */
+};
+
 /* The options, by what one knows. `KILAMBOSETRY_SERVICE_OPTIONS` has all of them: change what is to be otherwise. */
 typedef struct {
     uint64_t memory;     /* bytes of memory for items, with what is kept beside each; what flash keeps comes on top */
@@ -91,7 +98,8 @@ typedef struct {
     bool overwrite;      /* a file or block device is taken that has something and isn't ours, and what it has is lost */
     bool unnamed;        /* the path is a folder's, and the flash a file there without a name: it goes as the process ends */
     const kilambosetry_pool *pool;          /* the limits of all shards together, in place of those of `memory`; or null */
-    const kilambosetry_flash *flash_numbers; /* the numbers of a shard's flash, in place of those of `flash`; or null */
+    const kilambosetry_flash *flash_numbers; /* the numbers of a shard's flash, in place of those of `flash`; or null. Its `reject_first`
+                                              * is in place of what `admission` comes to where it isn't 0 */
     uint64_t (*clock)(void *context);       /* a clock of seconds; the system's, where it is null. It waits for nothing */
     void *clock_context;
     const char *keep;      /* the file by which the next cache has again what this one had: see below; null: nothing is kept */
@@ -100,12 +108,15 @@ typedef struct {
     bool keep_flash;       /* what memory has goes to flash at the end, and no more than flash has is kept */
     void (*watch)(void *context, uint64_t bytes, uint64_t shards, uint64_t of); /* is told how far that file is; or null */
     void *watch_context;
+    uint64_t admission;       /* KILAMBOSETRY_ADMIT_ALL or KILAMBOSETRY_REJECT_FIRST */
+    uint64_t admission_slots; /* slots of the table that REJECT_FIRST has of what was turned away, of all shards together, of 4 bytes of
+                               * memory each: 1 to 268435456 of each; 0: as many as flash has items of the mean length */
 } kilambosetry_service_options;
 
-/* 64 MB of memory, 1 GB of flash, keys of 24 bytes, values of 1000. */
+/* 64 MB of memory, 1 GB of flash, to which all goes, keys of 24 bytes, values of 1000. */
 #define KILAMBOSETRY_SERVICE_OPTIONS \
     {64000000, 1000000000, 0, 24, 1000, 0, 2, 2, 4096, 10, 60, false, false, false, NULL, NULL, NULL, NULL, \
-     NULL, 300, 10, false, NULL, NULL}
+     NULL, 300, 10, false, NULL, NULL, KILAMBOSETRY_ADMIT_ALL, 0}
 
 /* What the options come to, for all shards together, and the memory that it takes once all is full. */
 typedef struct {
@@ -122,6 +133,7 @@ typedef struct {
     uint64_t buffers_bytes; /* of the regions that are being filled */
     uint64_t queue_bytes;   /* of items of the mean length that wait for flash */
     uint64_t digests_bytes; /* of the digests of pages */
+    uint64_t tags_bytes;    /* of the table of what was turned away; 0, where all goes to flash */
     uint64_t memory_bytes;  /* all together */
     uint64_t flash_items;   /* items of the mean length that flash holds */
     uint64_t flash_bytes_for_others; /* bytes of flash that these never use */

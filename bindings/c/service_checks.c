@@ -266,7 +266,7 @@ static void set_second(uint64_t now) {
 
 static kilambosetry_service_options small_options(void) {
     static const kilambosetry_pool pool = {8000, 64};
-    static const kilambosetry_flash flash = {PAGE, 64, 12, 8, 2, 200, 64, 64, 1, 4000};
+    static const kilambosetry_flash flash = {PAGE, 64, 12, 8, 2, 200, 64, 64, 1, 4000, 0};
     kilambosetry_service_options options = KILAMBOSETRY_SERVICE_OPTIONS;
     options.shards = 4;
     options.pool = &pool; /* 16 items a shard */
@@ -349,7 +349,8 @@ static void check_bad_number(kilambosetry_service_options options, const char *n
 static void check_numbers(void) {
     kilambosetry_service_options options = KILAMBOSETRY_SERVICE_OPTIONS, bad = options;
     static const kilambosetry_pool pool = {8000, 0};
-    static const kilambosetry_flash flash = {PAGE, 64, 12, 8, 2, 200, 0, 64, 1, 4000};
+    static const kilambosetry_flash flash = {PAGE, 64, 12, 8, 2, 200, 0, 64, 1, 4000, 0};
+    static const kilambosetry_flash many_slots = {PAGE, 64, 12, 8, 2, 200, 64, 64, 1, 4000, 268435457};
     kilambosetry_service_numbers numbers;
     CHECK(kilambosetry_service_count(&options, true, &numbers, NULL) == KILAMBOSETRY_DONE);
     CHECK(numbers.items_bytes <= options.memory && numbers.pages * 4096 <= options.flash && numbers.flash.bits == 64);
@@ -357,6 +358,13 @@ static void check_numbers(void) {
     CHECK(numbers.leases_bytes > 0 && numbers.shards_bytes > 0 && numbers.shards == 8);
     CHECK(numbers.flash_items > 900000 && numbers.written_bytes == 1024 + 14 && numbers.flash_bytes_for_others == 8 * 4096);
     CHECK(numbers.pool.items == 4 * (options.memory / (1024 + 282)) && numbers.flash.small_max == 0);
+    CHECK(numbers.tags_bytes == 0 && numbers.flash.reject_first == 0);
+    bad.admission = KILAMBOSETRY_REJECT_FIRST;
+    CHECK(kilambosetry_service_count(&bad, true, &numbers, NULL) == KILAMBOSETRY_DONE);
+    CHECK(numbers.flash.reject_first == numbers.flash_items / 8 && numbers.tags_bytes == 32 * numbers.flash.reject_first);
+    bad.admission_slots = 80;
+    CHECK(kilambosetry_service_count(&bad, true, &numbers, NULL) == KILAMBOSETRY_DONE && numbers.flash.reject_first == 10);
+    bad = options;
     CHECK(kilambosetry_service_count(&options, false, &numbers, NULL) == KILAMBOSETRY_DONE && numbers.pages == 0);
     unlink(file);
     bad.shards = 4097, check_bad_number(bad, "shards"), bad = options;
@@ -371,6 +379,9 @@ static void check_numbers(void) {
     bad.index_memory = 1000, check_bad_number(bad, "index_memory"), bad = options;
     bad.pool = &pool, check_bad_number(bad, "pool.items"), bad = options;
     bad.flash_numbers = &flash, check_bad_number(bad, "flash_numbers.queue"), bad = options;
+    bad.flash_numbers = &many_slots, check_bad_number(bad, "flash_numbers.reject_first"), bad = options;
+    bad.admission = 2, check_bad_number(bad, "admission"), bad = options;
+    bad.admission = KILAMBOSETRY_REJECT_FIRST, bad.admission_slots = 7, check_bad_number(bad, "admission_slots"), bad = options;
     CHECK(strcmp(kilambosetry_service_strerror(KILAMBOSETRY_IN_USE), "InUse") == 0);
     CHECK(strcmp(kilambosetry_service_strerror(KILAMBOSETRY_NO_ROOM), "NoRoom") == 0);
     CHECK(KILAMBOSETRY_IS_REFUSAL(KILAMBOSETRY_CLOSED) && KILAMBOSETRY_IS_REFUSAL(KILAMBOSETRY_KEY_EMPTY));
@@ -1550,7 +1561,7 @@ static bool write_or_lose(void *context, uint32_t page, const uint8_t *bytes, si
 
 /* Values of this word again and again, which begin with their version: whatever the word is, what the device has lost is a miss. */
 static void check_lost_writes_of(uint64_t word) {
-    static const kilambosetry_flash flash = {PAGE, 1, 8, 16, 1, 0, 64, 64, 1, 7000};
+    static const kilambosetry_flash flash = {PAGE, 1, 8, 16, 1, 0, 64, 64, 1, 7000, 0};
     static const kilambosetry_pool pool = {6000, 100};
     kilambosetry_service_options options = small_options();
     kilambosetry_device losing = of_device;

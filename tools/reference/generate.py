@@ -21,6 +21,8 @@ POOLS = [[80, 120, 200, 1000], [180, 300, 500, 1000], [320, 400, 1000, 2500], [1
 class Gen:
     def __init__(self, seed, lines):
         self.chance = random.Random(seed)
+        other = random.Random(f"admission {seed}")  # of its own, so that the rest of a seed's trace is drawn as without it
+        self.admission = f" rejectfirst {other.choice([1, 2, 3, 5, 8, 1000])}" if other.random() < 0.4 else ""
         self.lines, self.most = [], lines
         self.replay = reference.Replay(self.answered)
         self.last = None
@@ -53,7 +55,7 @@ class Gen:
         most = c.choice([2000, 2000, 2000, 5000, 500, 120])
         self.clean = c.randrange(1, regions)
         self.put(f"flash {page} {c.choice([1, 1, 2, 3])} {regions} {self.pages} {self.clean} {self.small} "
-                 f"{c.choice([1, 3, 8, 8, 8, 20])} {c.choice([1, 2, 3, 8, 8, 8, 64])} {least} {most}")
+                 f"{c.choice([1, 3, 8, 8, 8, 20])} {c.choice([1, 2, 3, 8, 8, 8, 64])} {least} {most}{self.admission}")
         n = c.choice([3, 4, 6, 8, 12, 18])
         self.keys = c.sample(KEYS, n)
         self.fail = c.choice([0, 0, 0.02, 0.1, 0.3])

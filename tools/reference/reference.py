@@ -152,9 +152,11 @@ def decode_entry(data):
 
 
 class Cache:
-    def __init__(self, pools, flash):
+    def __init__(self, pools, flash, slots=None):
         self.pools = [PoolState(*p) for p in pools]
         self.flash = flash
+        self.slots = slots  # None where each key is let in
+        self.turned = {}  # slot -> tag of the last of its keys that was turned away
         self.linked = {}
         self.now = 0
         self.charges = self.calls = self.job_count = 0
@@ -192,6 +194,15 @@ class Cache:
 
     def is_small(self, key, value):
         return len(key) + len(value) <= self.small_max
+
+    def slot(self, key):
+        return fnv(key) % self.slots
+
+    def tag(self, key):
+        return fnv(key) >> 32 or 1
+
+    def lets_in(self, key):
+        return self.slots is None or self.turned.get(self.slot(key)) == self.tag(key)
 
     def alive(self, expiry):
         return expiry == 0 or self.now < expiry
@@ -279,12 +290,14 @@ class Cache:
             why = "noflash"
         elif key in self.buried:
             why = "tombstone"
-        elif not self.admit_min <= size <= self.admit_max:
+        elif not self.admit_min <= size <= self.admit_max or not self.lets_in(key):
             why = "notadmitted"
         elif not self.is_small(key, item.value) and 14 + size > self.region_bytes:
             why = "toolarge"
         elif len(self.queue) == self.queue_max:
             why = "queuefull"
+        if why == "notadmitted" and self.slots is not None:
+            self.turned[self.slot(key)] = self.tag(key)
         if why:
             self.lose(("key", key), "evicted " + why, " %d %d" % (pool, want))
             return
@@ -852,7 +865,7 @@ def value_of(text):
     return text[-1:] * times
 
 
-def config_refusal(pools, flash):
+def config_refusal(pools, flash, slots):
     if not 1 <= len(pools) <= 16 or any(not (64 <= b <= 1 << 32 and 1 <= i <= 1 << 20) for b, i in pools):
         return 3
     if flash:
@@ -865,7 +878,7 @@ def config_refusal(pools, flash):
             return 6
         if small_max > page - 16:
             return 7
-        if not 1 <= queue <= 65535 or not least <= most <= 1_048_831:
+        if not 1 <= queue <= 65535 or not least <= most <= 1_048_831 or slots is not None and not 1 <= slots <= 1 << 28:
             return 8
         if not 1 <= bits <= 64:
             return 9
@@ -893,14 +906,20 @@ class Replay:
             self.pools.append((number(fields[0]), number(fields[1])))
             return True
         if word in (b"flash", b"noflash"):
+            slots = None
+            if word == b"flash" and fields[10:11] == [b"rejectfirst"]:
+                if len(fields) != 12:
+                    raise Fault
+                slots = number(fields[11])
+                fields = fields[:10]
             if self.cache or len(fields) != (10 if word == b"flash" else 0):
                 raise Fault
             flash = [number(f) for f in fields] or None
-            refused = config_refusal(self.pools, flash)
+            refused = config_refusal(self.pools, flash, slots)
             if refused:
                 self.write(self.refusal(refused))
                 return False
-            self.cache = Cache(self.pools, flash)
+            self.cache = Cache(self.pools, flash, slots)
             return True
         forms = {b"set": 4, b"add": 4, b"get": 1, b"del": 1, b"now": 1, b"writer": 0, b"filler": 0, b"reclaim": 0, b"done": 1, b"reply": 1, b"restart": 0}
         if word == b"io":
@@ -985,6 +1004,8 @@ def log_of(data):
     replay.run(data)
     lines = ["pool %d %d" % p for p in replay.pools]
     lines.append("flash " + " ".join(map(str, replay.cache.flash)) if replay.cache.flash else "noflash")
+    if replay.cache.slots is not None:
+        lines[-1] += " rejectfirst %d" % replay.cache.slots
     return "".join(line + "\n" for line in lines + replay.cache.log)
 
 

@@ -1,6 +1,6 @@
 //! Which options? Those that are tried, and the choice among them by what came of each.
 use crate::bytes::Bytes;
-use kilambosetry::{OpenError, Options};
+use kilambosetry::{Admission, OpenError, Options};
 
 /// What there may be at most.
 #[derive(Clone, Copy, Debug, PartialEq, Eq)]
@@ -16,6 +16,7 @@ pub struct Limits {
 pub struct Tried {
     pub memory: u64,
     pub flash: u64,
+    pub admission: Admission,
     /// Bytes that they say are resident.
     pub said: u64,
     pub hit_ratio: f64,
@@ -56,13 +57,16 @@ fn largest(options: &Options, most: u64) -> Option<u64> {
     fits(least).then_some(least)
 }
 
-/// The options to be tried: no flash, half of it and all of it, each with all the memory that there may be, a half and a quarter.
+/// The options to be tried: no flash, half of it and all of it, each of these by each way to admit, and all with all the memory that
+/// there may be, a half and a quarter.
 #[must_use]
-pub fn candidates(options: &Options, limits: &Limits) -> Vec<Options> {
-    let mut all = Vec::new();
-    let flash = limits.flash.0;
-    for flash in if flash > 0 { vec![0, flash / 2, flash] } else { vec![0] } {
-        let options = Options { flash, ..options.clone() };
+pub fn candidates(options: &Options, limits: &Limits, admissions: &[Admission]) -> Vec<Options> {
+    let (mut all, mut flashes) = (Vec::new(), vec![(0, Admission::All)]);
+    for flash in [limits.flash.0 / 2, limits.flash.0].into_iter().filter(|flash| *flash > 0) {
+        flashes.extend(admissions.iter().map(|admission| (flash, *admission)));
+    }
+    for (flash, admission) in flashes {
+        let options = Options { flash, admission, ..options.clone() };
         let Some(most) = largest(&options, limits.memory.0) else { continue };
         let sizes = [most / 4, most / 2, most].map(round);
         let with = sizes.map(|memory| Options { memory, ..options.clone() });
@@ -107,11 +111,13 @@ pub fn choice(tried: &[Tried], wishes: &Wishes) -> Option<usize> {
 /// The options, as they are written.
 #[must_use]
 pub fn code(options: &Options) -> String {
-    let Options { memory, flash, mean_key, mean_value, shards, .. } = options;
+    let Options { memory, flash, admission, mean_key, mean_value, shards, .. } = options;
     let flash = if *flash > 0 { format!("flash: {}, ", grouped(*flash)) } else { String::new() };
+    let admission =
+        if *admission == Admission::All { String::new() } else { format!("admission: Admission::{admission:?}, ") };
     let means = format!("mean_key: {mean_key}, mean_value: {}", grouped(*mean_value));
     let shards = if *shards > 0 { format!("shards: {shards}, ") } else { String::new() };
-    format!("Options {{ memory: {}, {flash}{means}, {shards}..Options::default() }}", grouped(*memory))
+    format!("Options {{ memory: {}, {flash}{admission}{means}, {shards}..Options::default() }}", grouped(*memory))
 }
 
 fn grouped(number: u64) -> String {
@@ -137,17 +143,23 @@ mod tests {
     #[test]
     fn what_is_tried_stays_within_the_limits() {
         let limits = Limits { memory: Bytes(100_000_000), flash: Bytes(1_000_000_000) };
-        let all = candidates(&options(), &limits);
+        let all = candidates(&options(), &limits, &[Admission::All]);
         assert!(all.len() >= 7, "{}", all.len());
+        let each = candidates(&options(), &limits, Admission::EACH);
+        let with_flash = |all: &[Options]| all.iter().filter(|options| options.flash > 0).count();
+        assert_eq!((with_flash(&each), each.len() - with_flash(&each)), (2 * with_flash(&all), 3));
+        assert!(each.iter().all(|options| said(options).unwrap() <= 100_000_000));
+        assert!(each.iter().all(|options| options.flash > 0 || options.admission == Admission::All));
         assert!(all.iter().all(|options| said(options).unwrap() <= 100_000_000 && options.flash <= 1_000_000_000));
         let most = |flash| all.iter().filter(|options| options.flash == flash).map(|it| said(it).unwrap()).max();
         assert!(most(0) > Some(98_000_000), "{:?}", most(0)); // and they use what there may be
-        assert!(candidates(&options(), &Limits { memory: Bytes(1000), flash: Bytes(0) }).is_empty());
+        assert!(candidates(&options(), &Limits { memory: Bytes(1000), flash: Bytes(0) }, &[]).is_empty());
     }
 
     fn tried(said: u64, flash: u64, hit_ratio: f64) -> Tried {
         let (amplification, written_a_request) = (1.0, 100.0);
-        Tried { memory: said, flash, said, hit_ratio, memory_hit_ratio: hit_ratio, amplification, written_a_request }
+        let (memory, admission, memory_hit_ratio) = (said, Admission::All, hit_ratio);
+        Tried { memory, flash, admission, said, hit_ratio, memory_hit_ratio, amplification, written_a_request }
     }
 
     #[test]
@@ -174,5 +186,8 @@ mod tests {
             code,
             "Options { memory: 64_000_000, mean_key: 24, mean_value: 400, shards: 4, ..Options::default() }"
         );
+        let admission = Admission::RejectFirst;
+        let admits = super::code(&Options { memory: 64_000_000, flash: 1000, admission, ..options() });
+        assert!(admits.contains(", flash: 1_000, admission: Admission::RejectFirst, mean_key: 24,"), "{admits}");
     }
 }

@@ -4,7 +4,7 @@ use crate::feed::Pace;
 use crate::requests::Means;
 use crate::run::Place;
 use clap::{value_parser, Args};
-use kilambosetry::Options;
+use kilambosetry::{Admission, Options};
 use std::env;
 use std::path::PathBuf;
 
@@ -19,6 +19,14 @@ pub struct Caches {
     /// Bytes of flash; 0: none
     #[arg(short, long, value_name = "BYTES", default_value = "0", value_delimiter = ',')]
     pub flash: Vec<Bytes>,
+
+    /// What goes to flash of what leaves memory: all, or reject-first, only what was turned away once before
+    #[arg(long, value_name = "WHICH", default_value = "all", value_delimiter = ',')]
+    pub admission: Vec<Admission>,
+
+    /// Slots of the table that reject-first has of what was turned away; else as many as flash has items of the mean length
+    #[arg(long, value_name = "COUNT")]
+    pub admission_slots: Option<u64>,
 
     /// Parts of the cache with a lock each, 1 to 4096; 0: as many as memory and flash want
     #[arg(short, long, value_name = "COUNT", default_value = "0", value_delimiter = ',', value_parser = value_parser!(u16).range(0..=4096))]
@@ -66,6 +74,7 @@ pub struct Caches {
 pub struct Case {
     pub memory: Bytes,
     pub flash: Bytes,
+    pub admission: Admission,
     /// 0: as many as memory and flash want.
     pub shards: u16,
     pub threads: u16,
@@ -82,11 +91,22 @@ impl Caches {
     pub fn cases(&self) -> Vec<Case> {
         let mut cases = Vec::new();
         for (memory, flash) in pairs(&self.memory, &self.flash) {
-            for (shards, threads) in pairs(&self.shards, &self.threads) {
-                cases.extend(self.pace.iter().map(|pace| Case { memory, flash, shards, threads, pace: *pace }));
+            for (admission, shards) in pairs(self.admissions(flash), &self.shards) {
+                for (threads, pace) in pairs(&self.threads, &self.pace) {
+                    cases.push(Case { memory, flash, admission, shards, threads, pace });
+                }
             }
         }
         cases
+    }
+
+    // Without flash there is nothing to choose.
+    fn admissions(&self, flash: Bytes) -> &[Admission] {
+        if flash.0 == 0 {
+            &[Admission::All]
+        } else {
+            &self.admission
+        }
     }
 
     /// The options of one.
@@ -100,6 +120,8 @@ impl Caches {
             flash: case.flash.0,
             shards: case.shards,
             index_memory: self.index_memory.map(|bytes| bytes.0),
+            admission: case.admission,
+            admission_slots: self.admission_slots,
             writers: u64::from(self.writers),
             direct: self.direct,
             overwrite: self.overwrite,
@@ -118,5 +140,31 @@ impl Caches {
             Some(path) if path.is_dir() => Place::Folder(path.clone()),
             Some(path) => Place::File(path.clone()),
         }
+    }
+}
+
+#[cfg(test)]
+mod tests {
+    use super::*;
+    use clap::Parser;
+
+    #[derive(Parser)]
+    struct Words {
+        #[command(flatten)]
+        caches: Caches,
+    }
+
+    #[test]
+    fn there_is_a_run_for_each_way_to_admit_where_there_is_flash() {
+        let words = ["it", "--flash", "0,10M", "--admission", "all,reject-first", "--admission-slots", "800"];
+        let caches = Words::parse_from(words).caches;
+        let cases: Vec<_> = caches.cases().iter().map(|case| (case.flash.0, case.admission)).collect();
+        assert_eq!(cases, [(0, Admission::All), (10_000_000, Admission::All), (10_000_000, Admission::RejectFirst)]);
+        let slots = caches.cases().into_iter().skip(1).map(|case| {
+            let options = Options { shards: 8, ..caches.options(&case, None) };
+            options.numbers().unwrap().flash.unwrap().reject_first
+        });
+        assert_eq!(slots.collect::<Vec<_>>(), [0, 100]);
+        assert!(Words::try_parse_from(["it", "--admission", "some"]).is_err());
     }
 }

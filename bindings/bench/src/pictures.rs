@@ -15,10 +15,14 @@ const FLASH: Words = |case| match case.flash.0 {
     0 => "no flash".to_string(),
     _ => format!("flash {}", case.flash),
 };
+const ADMISSION: Words = |case| match case.flash.0 {
+    0 => String::new(),
+    _ => format!("admission {}", case.admission),
+};
 const SHARDS: Words = |case| format!("shards {}", case.shards);
 const THREADS: Words = |case| format!("threads {}", case.threads);
 const PACE: Words = |case| format!("pace {}", case.pace);
-const ALL: [Words; 5] = [MEMORY, FLASH, SHARDS, THREADS, PACE];
+const ALL: [Words; 6] = [MEMORY, FLASH, ADMISSION, SHARDS, THREADS, PACE];
 
 /// The pictures that these runs have something to show in.
 #[must_use]
@@ -68,7 +72,8 @@ fn lines(outcomes: &[Outcome], across: Words, point: impl Fn(&Outcome) -> (f64, 
     let shown: Vec<Words> = shown.collect();
     let mut lines: Vec<Line> = Vec::new();
     for outcome in outcomes {
-        let name = shown.iter().map(|words| words(&outcome.case)).collect::<Vec<_>>().join(", ");
+        let words = shown.iter().map(|words| words(&outcome.case)).filter(|words| !words.is_empty());
+        let name = words.collect::<Vec<_>>().join(", ");
         match lines.iter_mut().find(|line| line.name == name) {
             Some(line) => line.points.push(point(outcome)),
             None => lines.push(Line { name, points: vec![point(outcome)] }),

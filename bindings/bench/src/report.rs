@@ -6,7 +6,7 @@ use crate::json::Json;
 use crate::page::Table;
 use crate::run::Measured;
 use crate::tally::part;
-use kilambosetry::Histogram;
+use kilambosetry::{Admission, Histogram};
 use std::fmt;
 
 /// The quantiles that are told, with their names.
@@ -22,14 +22,26 @@ pub struct Outcome {
 }
 
 impl Case {
+    // What its flash takes, where it has one.
+    fn admission_in_words(&self) -> String {
+        match self.flash.0 {
+            0 => "-".to_string(),
+            _ => self.admission.to_string(),
+        }
+    }
+
     /// It in words.
     #[must_use]
     pub fn in_words(&self) -> String {
         let flash = if self.flash.0 > 0 { format!("flash {}, ", self.flash) } else { "no flash, ".to_string() };
+        let admission = match self.admission {
+            Admission::All => String::new(),
+            admission => format!("{admission}, "),
+        };
         let many = |count: u64, name: &str| format!("{count} {name}{}", if count == 1 { "" } else { "s" });
         let (shards, threads) = (many(self.shards.into(), "shard"), many(self.threads.into(), "thread"));
         let pace = if self.pace == Pace::Full { String::new() } else { format!(", pace {}", self.pace) };
-        format!("memory {}, {flash}{shards}, {threads}{pace}", self.memory)
+        format!("memory {}, {flash}{admission}{shards}, {threads}{pace}", self.memory)
     }
 }
 
@@ -138,9 +150,10 @@ pub(crate) fn micros(nanos: u64) -> String {
 // A column: its name, what stands in it, and whether it is left out where it is the same in all of several rows.
 type Column = (&'static str, fn(&Outcome) -> String, bool);
 
-const COLUMNS: [Column; 13] = [
+const COLUMNS: [Column; 14] = [
     ("memory", |outcome| outcome.case.memory.to_string(), false),
     ("flash", |outcome| outcome.case.flash.to_string(), true),
+    ("admission", |outcome| outcome.case.admission_in_words(), true),
     ("shards", |outcome| outcome.measured.numbers.shards.to_string(), true),
     ("threads", |outcome| outcome.case.threads.to_string(), true),
     ("pace", |outcome| outcome.case.pace.to_string(), true),
@@ -208,6 +221,7 @@ fn json_of_outcome(outcome: &Outcome) -> Json {
     Json::object([
         ("memory", case.memory.0.into()),
         ("flash", case.flash.0.into()),
+        ("admission", case.admission.name().into()),
         ("shards", u64::from(measured.numbers.shards).into()),
         ("threads", u64::from(case.threads).into()),
         ("pace", case.pace.to_string().as_str().into()),

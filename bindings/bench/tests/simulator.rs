@@ -1,5 +1,9 @@
-//! The bench's hit ratio is that of a simulator of ten lines, within a point, for a load of each kind.
-use kilambosetry::Options;
+//! The bench's hit ratio is that of a simulator of ten lines, within a point, for a load of each kind; with flash that of one with
+//! regions, and with slots where flash takes only what was turned away once before.
+#[path = "support/simulated.rs"]
+mod simulated;
+
+use kilambosetry::{Admission, Flash, Options, Pool};
 use kilambosetry_bench::drive::Way;
 use kilambosetry_bench::feed::Pace;
 use kilambosetry_bench::generate::{Generated, Load};
@@ -7,7 +11,9 @@ use kilambosetry_bench::request::{Op, Request, Source};
 use kilambosetry_bench::run::{run, Place};
 use kilambosetry_bench::shards::Sampled;
 use kilambosetry_bench::sizes::Sizes;
+use simulated::{simulated, Simulated};
 use std::collections::{BTreeMap, HashMap};
+use std::env;
 
 // The ten lines: so many bytes, of which an item takes 32 and those of its key and value; the one that was used least lately goes.
 fn hit_ratio(mut source: impl Source, most: u64) -> f64 {
@@ -80,6 +86,52 @@ fn with_scans_and_keys_of_one_use() {
 fn of_values_of_several_lengths() {
     for sizes in ["100,300,2000", "pareto:100:1.5:20000"] {
         agrees(sizes, Load { sizes: sizes.parse().unwrap(), ..load("zipf:0.9") });
+    }
+}
+
+// A hundred items in memory and a thousand on flash, in regions of 16.
+fn with_flash(admission: Admission) -> Options {
+    let flash = Flash {
+        page: 4096,
+        buckets: 1,
+        regions: 64,
+        region_pages: 1,
+        clean: 1,
+        small_max: 0,
+        queue: 64,
+        bits: 64,
+        admit_min: 1,
+        admit_max: 1000,
+        reject_first: 0,
+    };
+    let pool = Some(Pool { bytes: 27_400, items: 100 });
+    let options = Options { shards: 1, mean_key: 20, mean_value: 222, admission, ..Options::default() };
+    Options { pool, flash_numbers: Some(flash), ..options }
+}
+
+// Hits within a point, and what is written within a tenth. What comes back from flash isn't written again.
+fn agrees_with_flash(admission: Admission, load: &Load) -> Simulated {
+    let (options, place, warm) = (with_flash(admission), Place::Folder(env::temp_dir()), 20_000);
+    let way = Way { threads: 1, pace: Pace::Full, warm, keeps_up: true, is_quiet: true };
+    let measured = run(Box::new(Generated::new(load.clone())), &options, &place, &way).unwrap();
+    let slots = measured.numbers.flash.unwrap().reject_first as usize;
+    assert_eq!(slots, if admission == Admission::All { 0 } else { 63 * 16 });
+    let sizes = simulated::Sizes { memory: 100, regions: 63, of_a_region: 16, slots };
+    let wanted = simulated(Generated::new(load.clone()), &sizes, warm);
+    let (hits, written) = (measured.tally.hit_ratio(), measured.written() as f64 / 256.0);
+    assert!((hits - wanted.hits).abs() < 0.01, "{admission}, {load:?}: {hits:.4}, and {:.4}", wanted.hits);
+    let times = written / wanted.written as f64;
+    assert!((0.9..1.1).contains(&times), "{admission}, {load:?}: {written} written, and {}", wanted.written);
+    wanted
+}
+
+#[test]
+fn with_flash_by_what_it_takes() {
+    for (law, once) in [("zipf:0.8", 0.0), ("zipf:1.0", 0.2)] {
+        let load = Load { requests: 60_000, sizes: Sizes::List(vec![222]), sets: 0.0, deletes: 0.0, once, ..load(law) };
+        let each = [Admission::All, Admission::RejectFirst];
+        let [all, rejected] = each.map(|admission| agrees_with_flash(admission, &load));
+        assert!(rejected.hits > all.hits + 0.02 && rejected.written < all.written / 4, "{law}");
     }
 }
 

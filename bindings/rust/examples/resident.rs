@@ -62,6 +62,7 @@ fn flash_for(items: u64, value: u64, small_max: u64) -> Flash {
         bits: 64,
         admit_min: 1,
         admit_max: 200_000,
+        reject_first: 0,
     }
 }
 

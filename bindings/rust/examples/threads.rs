@@ -36,6 +36,7 @@ const FLASH: Flash = Flash {
     bits: 40,
     admit_min: 1,
     admit_max: 100_000,
+    reject_first: 0,
 };
 
 /// A cache under a lock, and its file.

@@ -32,6 +32,10 @@ pub struct Flash {
     pub admit_min: u64,
     /// The most: `admit_min` to 1,048,831.
     pub admit_max: u64,
+    /// How many slots the table has that knows what was turned away: 1 to 268,435,456, of 4 bytes of memory each. An item is
+    /// written to flash only if its key was turned away once before, lately: it was the last of its slot. 0: there is no table,
+    /// and each is written.
+    pub reject_first: u64,
 }
 
 impl Flash {
@@ -160,6 +164,7 @@ pub enum Take {
 ///     bits: 64,
 ///     admit_min: 1,
 ///     admit_max: 200,
+///     reject_first: 0,
 /// };
 /// let mut device = Pages(vec![[0; 512]; flash.pages() as usize]);
 /// let mut cache = Engine::new(&[Pool { bytes: 200, items: 1 }], &flash)?;

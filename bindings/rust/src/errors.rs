@@ -215,7 +215,7 @@ fn advice(name: &str) -> &'static str {
         "mean_key" => " (bytes: the cache takes no longer key)",
         "mean_value" => " (bytes: the cache takes no longer value)",
         "shards" => " (0: as many as memory and flash want)",
-        "pool.bytes" | "pool.items" => " (of all shards together)",
+        "pool.bytes" | "pool.items" | "admission_slots" => " (of all shards together)",
         "writers" | "fillers" => " (threads)",
         name if name.starts_with("flash_numbers.") => " (of a shard)",
         _ => "",

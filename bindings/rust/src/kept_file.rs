@@ -12,8 +12,8 @@ use std::io;
 const VERSION: u32 = 1;
 // Bytes that are written or read at once, where no frame is longer.
 const AT_ONCE: usize = 1 << 20;
-// The most bytes of a part, and of what the owner keeps beside it.
-const LONGEST: usize = 1 << 30;
+// The most bytes of a part: the longest frame has a table of 2^28 slots, of 4 bytes each, of what was turned away.
+const LONGEST: usize = (1 << 30) + 16;
 /// The most bytes that may be kept for the cache's owner.
 pub(crate) const MOST_BESIDE: usize = 1 << 16;
 

@@ -41,6 +41,7 @@
 //! [`KeyValue`] has the calls that all of them have, for code that is to run over any.
 #![warn(missing_docs)]
 
+mod admission;
 mod bars;
 mod bell;
 #[doc(hidden)]
@@ -99,6 +100,7 @@ mod value;
 mod waits;
 mod wakes;
 
+pub use admission::Admission;
 pub use change::Change;
 pub use checked::{DeviceCounts, PageDevice};
 pub use clock::Clock;
@@ -190,7 +192,8 @@ pub struct Losses {
     pub no_flash: u64,
     /// Evicted: its key waits to be deleted from flash.
     pub tombstone: u64,
-    /// Evicted: shorter or longer than what is admitted to flash.
+    /// Evicted: shorter or longer than what is admitted to flash; or, where flash takes only what was turned away once before
+    /// ([`Admission::RejectFirst`]), not turned away before, lately. Which of the two it was isn't told.
     pub not_admitted: u64,
     /// Evicted: longer than a region.
     pub too_large: u64,

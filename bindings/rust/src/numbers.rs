@@ -14,6 +14,8 @@ pub(crate) const MOST_POOLS: u64 = 16;
 const BUCKET: u64 = 24;
 const REGION: u64 = 132;
 const DIGEST: u64 = 8;
+// What a slot takes of the table of what was turned away.
+const TAG: u64 = 4;
 // What a slot for tickets takes, and a place for turns, of which there is one to 16 slots.
 const SLOT: u64 = 8;
 const TURN: u64 = 24;
@@ -123,6 +125,12 @@ impl Numbers {
         self.pages().saturating_mul(DIGEST)
     }
 
+    /// Bytes of the table that knows what was turned away: 4 for each slot. 0, where all goes to flash.
+    #[must_use]
+    pub fn tags_bytes(&self) -> u64 {
+        self.all(|flash| flash.reject_first.saturating_mul(TAG))
+    }
+
     /// Slots for tickets of one shard. All shards together have 65,536 or a few more, so that a load ends without need as seldom
     /// as in one shard, however many there are.
     #[must_use]
@@ -182,7 +190,7 @@ impl Numbers {
     #[must_use]
     pub fn memory_bytes(&self) -> u64 {
         let beside = [self.index_bytes(), self.buckets_bytes(), self.buffers_bytes(), self.queue_bytes()];
-        let first = self.items_bytes().saturating_add(self.digests_bytes());
+        let first = self.items_bytes().saturating_add(self.digests_bytes()).saturating_add(self.tags_bytes());
         let first = first.saturating_add(self.leases_bytes()).saturating_add(self.shards_bytes());
         beside.iter().fold(first, |sum, bytes| sum.saturating_add(*bytes))
     }
@@ -206,6 +214,10 @@ impl fmt::Display for Numbers {
             row("buffers", self.buffers_bytes(), "a region a shard".to_string())?;
             row("queue", self.queue_bytes(), format!("{} items a shard", flash.queue))?;
             row("digests", self.digests_bytes(), format!("{} pages", self.pages()))?;
+            if flash.reject_first > 0 {
+                let of = format!("{} slots a shard: what was turned away once goes to flash", flash.reject_first);
+                row("tags", self.tags_bytes(), of)?;
+            }
             row("flash", self.flash_bytes(), format!("{} items", self.flash_items()))?;
             self.fmt_flash(f, flash)?;
         }

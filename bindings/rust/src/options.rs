@@ -1,4 +1,4 @@
-use crate::{Clock, Flash, Keep, Pool};
+use crate::{Admission, Clock, Flash, Keep, Pool};
 use std::fmt;
 use std::time::Duration;
 
@@ -26,8 +26,13 @@ pub struct Options {
     /// Bytes of flash: up to 4,294,967,295 pages.
     pub flash: u64,
     /// Bytes of memory that may be kept of what is on flash: the index or the buckets, and the digests of pages. Without it as many
-    /// as `memory`, or 64 MB where that is less and buckets keep no more.
+    /// as `memory`, or 64 MB where that is less and buckets keep no more. The table of `admission` isn't among them.
     pub index_memory: Option<u64>,
+    /// Which of the items that memory evicts are written to flash: all, or those that were turned away once before.
+    pub admission: Admission,
+    /// The slots of [`Admission::RejectFirst`]'s table, of all shards together, of 4 bytes of memory each: 1 to 268,435,456 of each
+    /// shard. Without it as many as flash has items of the mean length.
+    pub admission_slots: Option<u64>,
     /// The mean bytes of a key: 1 to 255.
     pub mean_key: u64,
     /// The mean bytes of a value: 1 to 1,048,576.
@@ -59,7 +64,8 @@ pub struct Options {
     pub unknown_for: Duration,
     /// The most bytes and items of all shards together, in place of those that `memory` comes to.
     pub pool: Option<Pool>,
-    /// The ten numbers of one shard's flash, in place of those that `flash` and `page` come to.
+    /// The eleven numbers of one shard's flash, in place of those that `flash` and `page` come to. Of these `reject_first` is in place
+    /// of what `admission` comes to where it isn't 0.
     pub flash_numbers: Option<Flash>,
     /// The clock of times to live.
     pub clock: Clock,
@@ -71,13 +77,15 @@ pub struct Options {
 }
 
 impl Default for Options {
-    /// 64 MB of memory, 1 GB of flash, values of 1,000 bytes, as many shards as these want, two writers and two fillers, ten
-    /// seconds for a load, a minute for a commit whose answer is lost, and the system's clock.
+    /// 64 MB of memory, 1 GB of flash, to which all goes, values of 1,000 bytes, as many shards as these want, two writers and two
+    /// fillers, ten seconds for a load, a minute for a commit whose answer is lost, and the system's clock.
     fn default() -> Options {
         Options {
             memory: 64_000_000,
             flash: 1_000_000_000,
             index_memory: None,
+            admission: Admission::All,
+            admission_slots: None,
             mean_key: 24,
             mean_value: 1000,
             shards: 0,

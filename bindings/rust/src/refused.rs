@@ -50,7 +50,7 @@ impl Refused {
     pub const BAD_REGIONS: Refused = Refused(6);
     /// `small_max` is outside its limits.
     pub const BAD_SMALL_MAX: Refused = Refused(7);
-    /// `queue`, `admit_min` or `admit_max` is outside its limits.
+    /// `queue`, `admit_min`, `admit_max` or `reject_first` is outside its limits.
     pub const BAD_QUEUE: Refused = Refused(8);
     /// `bits` is outside its limits.
     pub const BAD_BITS: Refused = Refused(9);

@@ -161,7 +161,7 @@ pub(crate) fn options_of(shards: &Shards) -> u64 {
     add(&[pool.bytes, pool.items, u64::from(pools), u64::from(shards.numbers.slots())]);
     if let Some(flash) = flash {
         add(&[flash.page, flash.buckets, flash.regions, flash.region_pages, flash.clean]);
-        add(&[flash.small_max, flash.queue, flash.bits, flash.admit_min, flash.admit_max]);
+        add(&[flash.small_max, flash.queue, flash.bits, flash.admit_min, flash.admit_max, flash.reject_first]);
     }
     digest.end()
 }

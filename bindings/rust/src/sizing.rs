@@ -1,6 +1,6 @@
 //! What [`Options`] come to: how many shards, and the numbers of each.
 use crate::numbers::{Numbers, BESIDE, CHARGE, MOST_BYTES, MOST_ITEMS, MOST_POOLS};
-use crate::{Flash, OpenError, Options, Pool};
+use crate::{Admission, Flash, OpenError, Options, Pool};
 
 /// Shards, at most.
 pub(crate) const MOST_SHARDS: u64 = 4096;
@@ -24,6 +24,8 @@ const MOST_REGIONS: u64 = 1 << 16;
 // Pages of all shards, and items in a shard's queue, at most.
 const MOST_PAGES: u64 = u32::MAX as u64;
 const MOST_QUEUED: u64 = u16::MAX as u64;
+// Slots of a shard's table of what was turned away, at most.
+const MOST_SLOTS: u64 = 1 << 28;
 // The most bytes of a key and a value.
 const LONGEST_KEY: u64 = 255;
 const LONGEST_VALUE: u64 = 1 << 20;
@@ -54,7 +56,22 @@ impl Options {
             Some(flash) => given_flash(flash, u64::from(numbers.shards))?,
             None => self.flash_of_a_shard(&numbers)?,
         };
-        Ok(Numbers { flash: Some(flash), ..numbers })
+        let reject_first = self.slots_of_a_shard(&Numbers { flash: Some(flash), ..numbers }, flash.reject_first)?;
+        Ok(Numbers { flash: Some(Flash { reject_first, ..flash }), ..numbers })
+    }
+
+    // The slots of a shard's table of what was turned away, where the flash's own numbers give so many, 0: those that the options
+    // come to. 0, where there is no table.
+    fn slots_of_a_shard(&self, numbers: &Numbers, given: u64) -> Result<u64, OpenError> {
+        let shards = u64::from(numbers.shards);
+        match (self.admission, self.admission_slots) {
+            _ if given > 0 => Ok(given),
+            (Admission::All, _) => Ok(0),
+            (Admission::RejectFirst, None) => Ok((numbers.flash_items() / shards).clamp(1, MOST_SLOTS)),
+            (Admission::RejectFirst, Some(slots)) => {
+                Ok(within("admission_slots", slots, shards, shards * MOST_SLOTS)? / shards)
+            }
+        }
     }
 
     /// What they come to, without flash.
@@ -172,6 +189,7 @@ impl Options {
             bits: 64,
             admit_min: 1,
             admit_max: (region_pages * self.page - BESIDE_LARGE).min(LONGEST_KEY + LONGEST_VALUE),
+            reject_first: 0,
         })
     }
 
@@ -257,6 +275,7 @@ fn given_flash(flash: &Flash, shards: u64) -> Result<Flash, OpenError> {
     within("flash_numbers.bits", flash.bits, 1, 64)?;
     within("flash_numbers.admit_max", flash.admit_max, 0, LONGEST_KEY + LONGEST_VALUE)?;
     within("flash_numbers.admit_min", flash.admit_min, 0, flash.admit_max)?;
+    within("flash_numbers.reject_first", flash.reject_first, 0, MOST_SLOTS)?;
     within("shards", shards, 1, MOST_PAGES / flash.pages())?;
     Ok(*flash)
 }

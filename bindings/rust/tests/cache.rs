@@ -158,6 +158,7 @@ const FLASH: Flash = Flash {
     bits: 64,
     admit_min: 1,
     admit_max: 900,
+    reject_first: 0,
 };
 
 // A cache for one item, and its device.

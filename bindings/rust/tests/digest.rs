@@ -39,6 +39,7 @@ fn stale(word: u64, key_bytes: usize) -> (usize, u64) {
         bits: 64,
         admit_min: 1,
         admit_max: 60_000,
+        reject_first: 0,
     };
     let pool = Some(Pool { bytes: 45_000, items: 100 });
     let options = Options { shards: 1, writers: 1, fillers: 1, pool, flash_numbers: Some(flash), ..Options::default() };

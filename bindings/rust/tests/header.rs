@@ -126,7 +126,21 @@ fn each_type_lies_in_memory_as_in_c() {
         };
     }
     compare!(Pool, "pool", bytes, items);
-    compare!(Flash, "flash", page, buckets, regions, region_pages, clean, small_max, queue, bits, admit_min, admit_max);
+    compare!(
+        Flash,
+        "flash",
+        page,
+        buckets,
+        regions,
+        region_pages,
+        clean,
+        small_max,
+        queue,
+        bits,
+        admit_min,
+        admit_max,
+        reject_first
+    );
     compare!(Counts, "counts_t", stored, hits, misses, removes, losses, reads, writes);
     compare!(
         Losses,

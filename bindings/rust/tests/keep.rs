@@ -1,6 +1,7 @@
 //! A cache that keeps what it had: what is found again, and when nothing is.
 use kilambosetry::{
-    Began, Clock, HybridCache, Keep, KeepWhat, Kept, Lookup, NotKept, OpenError, Options, PageDevice, Watch, WhyEmpty,
+    Admission, Began, Clock, HybridCache, Keep, KeepWhat, Kept, Lookup, NotKept, OpenError, Options, PageDevice, Watch,
+    WhyEmpty,
 };
 use std::fs;
 use std::io;
@@ -254,6 +255,10 @@ fn a_file_that_does_not_fit_is_refused_by_name() {
     assert_eq!(refused(&place.options), WhyEmpty::NoFile);
     closed();
     assert_eq!(refused(&Options { memory: 310_000, ..place.options.clone() }), WhyEmpty::OtherOptions);
+    closed();
+    let admitting = Options { admission: Admission::RejectFirst, ..place.options.clone() };
+    assert_eq!(why(&place.open_with(&admitting)), WhyEmpty::OtherOptions);
+    assert_eq!(place.has_files(), (false, false));
     closed();
     assert_eq!(refused(&Options { flash: 4_100_000, ..place.options.clone() }), WhyEmpty::NoSeal);
     closed();

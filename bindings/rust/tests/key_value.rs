@@ -17,6 +17,7 @@ const FLASH: Flash = Flash {
     bits: 64,
     admit_min: 1,
     admit_max: 400,
+    reject_first: 0,
 };
 
 struct Pages(Vec<[u8; 512]>);

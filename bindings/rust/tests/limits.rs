@@ -1,5 +1,5 @@
 //! Options at their limits are refused, and print themselves, whatever their numbers are.
-use kilambosetry::{Flash, HybridCache, Options, Pool};
+use kilambosetry::{Admission, Flash, HybridCache, Options, Pool};
 
 const FLASH: Flash = Flash {
     page: 4096,
@@ -12,6 +12,7 @@ const FLASH: Flash = Flash {
     bits: 64,
     admit_min: 1,
     admit_max: 200,
+    reject_first: 0,
 };
 
 fn with(flash: Flash) -> Options {
@@ -45,6 +46,9 @@ fn numbers_at_their_limits_are_refused() {
         with(Flash { page: MOST, ..FLASH }),
         with(Flash { page: 0, ..FLASH }),
         with(Flash { admit_max: MOST, ..FLASH }),
+        with(Flash { reject_first: MOST, ..FLASH }),
+        Options { admission: Admission::RejectFirst, admission_slots: Some(MOST), ..Options::default() },
+        Options { admission: Admission::RejectFirst, admission_slots: Some(0), ..Options::default() },
     ] {
         assert!(HybridCache::open(&path, &options).is_err(), "{options:?}");
         assert!(!options.to_string().is_empty());

@@ -111,6 +111,7 @@ fn with_flash(is_broken: &Arc<AtomicBool>) -> HybridCache {
         bits: 64,
         admit_min: 1,
         admit_max: 2000,
+        reject_first: 0,
     };
     let pool = Some(Pool { bytes: 8000, items: 16 });
     let options = Options { shards: 2, page: 512, pool, flash_numbers: Some(flash), ..Options::default() };

@@ -102,6 +102,7 @@ fn small() -> Options {
         bits: 64,
         admit_min: 1,
         admit_max: 2000,
+        reject_first: 0,
     };
     let pool = Pool { bytes: 16_000, items: 32 };
     Options { shards: 4, pool: Some(pool), flash_numbers: Some(flash), ..Options::default() }

@@ -176,6 +176,7 @@ fn out_of_memory_calls_are_refused_and_jobs_go_on() {
         bits: 64,
         admit_min: 1,
         admit_max: 4000,
+        reject_first: 0,
     };
     let pool = Pool { bytes: 16_000, items: 64 };
     let options = Options { shards: 4, pool: Some(pool), flash_numbers: Some(flash), ..Options::default() };
@@ -233,6 +234,7 @@ fn are_answered(refused: u64) -> bool {
         bits: 64,
         admit_min: 1,
         admit_max: 4000,
+        reject_first: 0,
     };
     let pool = Pool { bytes: 4000, items: 16 };
     let options = Options { shards: 1, pool: Some(pool), flash_numbers: Some(flash), ..Options::default() };
@@ -288,6 +290,7 @@ fn two_caches() -> [HybridCache; 2] {
         bits: 64,
         admit_min: 1,
         admit_max: 4000,
+        reject_first: 0,
     };
     let pool = Some(Pool { bytes: 4000, items: 16 });
     let options = Options { shards: 2, pool, flash_numbers: Some(flash), ..Options::default() };

@@ -1,5 +1,5 @@
 //! What options come to, and what is refused of them.
-use kilambosetry::{Flash, HybridCache, Numbers, OpenError, Options, PageDevice, Pool};
+use kilambosetry::{Admission, Flash, HybridCache, Numbers, OpenError, Options, PageDevice, Pool};
 use std::io;
 use std::time::Duration;
 
@@ -120,6 +120,37 @@ fn index_memory_chooses_between_regions_and_buckets() {
     assert!(small_flash(&Options { index_memory: Some(10 * GB), ..options }));
 }
 
+#[test]
+fn what_was_turned_away_is_known_by_slots() {
+    let all = Options { shards: 4, ..common() };
+    let some = Options { admission: Admission::RejectFirst, ..all.clone() };
+    let (numbers, without) = (some.numbers().unwrap(), all.numbers().unwrap());
+    let slots = |options: &Options| options.numbers().unwrap().flash.unwrap().reject_first;
+    // as many as flash has items of the mean length, and 4 bytes each
+    assert_eq!((slots(&all), slots(&some)), (0, numbers.flash_items() / 4));
+    assert!(numbers.flash_items() > 3_000_000);
+    assert_eq!((without.tags_bytes(), numbers.tags_bytes()), (0, 16 * slots(&some)));
+    assert_eq!(numbers.memory_bytes(), without.memory_bytes() + numbers.tags_bytes());
+    // (nothing else is as it wouldn't be without it)
+    assert_eq!(numbers.flash.map(|flash| Flash { reject_first: 0, ..flash }), without.flash);
+    let text = some.to_string();
+    let row = format!("MB  {} slots a shard: what was turned away once goes to flash\n", slots(&some));
+    assert!(text.contains("\ntags ") && text.contains(&row) && !all.to_string().contains("\ntags "), "{text}");
+    // or as many as are asked for
+    let given = |slots| Options { admission_slots: Some(slots), ..some.clone() };
+    assert_eq!([4, 1003, 1 << 30].map(|of_all| slots(&given(of_all))), [1, 250, 1 << 28]);
+    assert_eq!(slots(&Options { admission: Admission::All, ..given(1000) }), 0);
+    // also of a flash by its numbers, if these don't say how many themselves
+    let by_hand = |reject_first| Options { flash_numbers: Some(Flash { reject_first, ..FLASH }), ..given(1000) };
+    assert_eq!((slots(&by_hand(0)), slots(&by_hand(70))), (250, 70));
+    assert_eq!(slots(&Options { admission: Admission::All, ..by_hand(70) }), 70);
+    // flash that is much larger than its items' mean length has no more slots than may be
+    let most = Options { mean_key: 1, mean_value: 1, index_memory: Some(TB), shards: 1, ..given(1) };
+    let large = Flash { buckets: 1 << 20, regions: 65_536, region_pages: 4096, ..FLASH };
+    let most = Options { flash_numbers: Some(large), admission_slots: None, ..most };
+    assert_eq!(slots(&most), 1 << 28);
+}
+
 // What is refused by what is kept of flash is taken with the numbers that the refusal names, and with no less.
 #[test]
 fn flash_that_keeps_more_than_it_may_is_refused() {
@@ -146,6 +177,7 @@ const FLASH: Flash = Flash {
     bits: 64,
     admit_min: 1,
     admit_max: 1000,
+    reject_first: 0,
 };
 
 fn by_hand(flash: Flash) -> Options {
@@ -199,6 +231,18 @@ fn each_number_is_refused_by_its_name() {
         (by_hand(Flash { admit_min: 1001, ..FLASH }), "flash_numbers.admit_min is 1001, and not 0 to 1000 (of a shard)".into()),
         (by_hand(Flash { admit_max: 2 * MB, ..FLASH }), "flash_numbers.admit_max is 2000000, and not 0 to 1048831 (of a shard)".into()),
         (
+            by_hand(Flash { reject_first: (1 << 28) + 1, ..FLASH }),
+            "flash_numbers.reject_first is 268435457, and not 0 to 268435456 (of a shard)".into(),
+        ),
+        (
+            Options { admission: Admission::RejectFirst, admission_slots: Some(3), shards: 4, ..common() },
+            "admission_slots is 3, and not 4 to 1073741824 (of all shards together)".into(),
+        ),
+        (
+            Options { admission: Admission::RejectFirst, admission_slots: Some(MOST), shards: 4, ..common() },
+            format!("admission_slots is {MOST}, and not 4 to 1073741824 (of all shards together)"),
+        ),
+        (
             Options { shards: 4096, ..by_hand(Flash { regions: 65_536, region_pages: 4096, ..FLASH }) },
             format!("shards is 4096, and not 1 to 15 {shards}"),
         ),
@@ -239,6 +283,7 @@ fn what_numbers_are_told_of_is_opened() {
         opens(&Options { shards, ..common() });
     }
     opens(&Options { patience: Duration::MAX, ..common() });
+    opens(&Options { admission: Admission::RejectFirst, ..common() });
     for (bytes, items) in [(256, 4), (256, 67_108_864), (274_877_906_944, 4), (274_877_906_944, 67_108_864)] {
         let options = in_pool(bytes, items);
         let numbers = options.numbers().unwrap();
@@ -246,5 +291,6 @@ fn what_numbers_are_told_of_is_opened() {
     }
     for flash in [FLASH, Flash { admit_max: 0, admit_min: 0, ..FLASH }, Flash { small_max: 4080, clean: 3, ..FLASH }] {
         opens(&by_hand(flash));
+        opens(&by_hand(Flash { reject_first: 1, ..flash }));
     }
 }

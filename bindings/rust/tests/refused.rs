@@ -91,6 +91,7 @@ fn tiny(refuses_workers: &Arc<AtomicBool>) -> HybridCache {
         bits: 64,
         admit_min: 1,
         admit_max: 1000,
+        reject_first: 0,
     };
     let (pool, workers) = (Pool { bytes: 600, items: 1 }, 1);
     let options = Options { shards: 1, writers: workers, fillers: workers, page: 512, ..Options::default() };

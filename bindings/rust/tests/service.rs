@@ -29,6 +29,7 @@ fn small() -> Options {
         bits: 64,
         admit_min: 1,
         admit_max: 4000,
+        reject_first: 0,
     };
     let pool = Pool { bytes: 16_000, items: 64 };
     Options { shards: 4, pool: Some(pool), flash_numbers: Some(flash), ..Options::default() }

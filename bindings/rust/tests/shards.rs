@@ -109,6 +109,7 @@ fn on_flash(shards: u16) -> Options {
         bits: 64,
         admit_min: 1,
         admit_max: 4000,
+        reject_first: 0,
     };
     let pool = Pool { bytes: 100_000 * u64::from(shards), items: 8 * u64::from(shards) };
     Options { shards, pool: Some(pool), flash_numbers: Some(flash), ..Options::default() }

@@ -36,6 +36,7 @@ fn with_flash() -> HybridCache {
         bits: 64,
         admit_min: 1,
         admit_max: 2000,
+        reject_first: 0,
     };
     let pool = Some(Pool { bytes: 8000, items: 16 });
     let options = Options { shards: 2, page: 512, pool, flash_numbers: Some(flash), ..Options::default() };

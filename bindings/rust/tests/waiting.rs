@@ -80,6 +80,7 @@ fn with_flash(workers: u64) -> (HybridCache, impl Fn(bool)) {
         bits: 64,
         admit_min: 1,
         admit_max: 2000,
+        reject_first: 0,
     };
     let pool = Some(Pool { bytes: 4000, items: 8 });
     let options = Options { shards: 1, writers: workers, fillers: workers, page: 512, pool, ..Options::default() };

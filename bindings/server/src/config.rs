@@ -2,7 +2,7 @@
 use crate::head::HEAD;
 use crate::limits::Patience;
 use clap::Parser;
-use kilambosetry::{HybridCache, Keep, KeepWhat, OpenError, Options, Watch};
+use kilambosetry::{Admission, HybridCache, Keep, KeepWhat, Numbers, OpenError, Options, Watch};
 use std::net::IpAddr;
 use std::path::PathBuf;
 use std::time::Duration;
@@ -28,6 +28,15 @@ pub struct Config {
     /// Megabytes of memory that may be kept of what is on flash; 0: as many as of memory for items, or 64
     #[arg(long, value_name = "MEGABYTES", default_value_t = 0)]
     pub index_memory: u64,
+
+    /// What goes to flash of what leaves memory: all, or reject-first, only what was turned away once before, for flash that is much
+    /// smaller than what is asked for
+    #[arg(long, value_name = "WHICH", default_value_t = Admission::All, requires = "flash")]
+    pub admission: Admission,
+
+    /// Slots of the table of what was turned away, of 4 bytes each; 0: as many as flash has items of the mean length
+    #[arg(long, value_name = "COUNT", default_value_t = 0, requires = "flash")]
+    pub admission_slots: u64,
 
     /// Takes a file or device of flash that has anything and is no cache's: what it has is lost
     #[arg(long)]
@@ -134,6 +143,8 @@ impl Config {
             memory: self.memory.saturating_mul(MEGABYTE),
             flash: self.flash_size.saturating_mul(MEGABYTE),
             index_memory: (self.index_memory > 0).then(|| self.index_memory.saturating_mul(MEGABYTE)),
+            admission: self.admission,
+            admission_slots: (self.admission_slots > 0).then_some(self.admission_slots),
             mean_key: self.mean_key,
             mean_value: self.mean_value.saturating_add(HEAD as u64),
             shards: self.shards,
@@ -200,11 +211,22 @@ impl Config {
         usize::try_from(self.in_flight.saturating_mul(MEGABYTE)).unwrap_or(usize::MAX)
     }
 
-    // As many as are given, or were chosen.
-    fn chosen_shards(&self) -> u16 {
+    // What the options come to, where they aren't refused.
+    fn numbers(&self) -> Option<Numbers> {
         let options = self.options();
         let numbers = if self.flash.is_some() { options.numbers() } else { options.numbers_in_memory() };
-        numbers.map_or(self.shards, |numbers| numbers.shards)
+        numbers.ok()
+    }
+
+    // As many as are given, or were chosen.
+    fn chosen_shards(&self) -> u16 {
+        self.numbers().map_or(self.shards, |numbers| numbers.shards)
+    }
+
+    // The slots of all shards together of the table of what was turned away; 0, where there is none.
+    fn chosen_slots(&self) -> u64 {
+        let slots = |numbers: Numbers| Some(numbers.flash?.reject_first * u64::from(numbers.shards));
+        self.numbers().and_then(slots).unwrap_or(0)
     }
 
     /// The settings, each by the name that memcached has for it, or by its own.
@@ -258,9 +280,47 @@ impl Config {
             ("mean_value", self.mean_value.to_string()),
             ("shards", self.chosen_shards().to_string()),
             ("index_memory", self.index_memory.saturating_mul(MEGABYTE).to_string()),
+            ("admission", self.admission.to_string()),
+            ("admission_slots", self.chosen_slots().to_string()),
             ("fillers", self.fillers.to_string()),
             ("writers", self.writers.to_string()),
             ("metrics_port", self.metrics_port.to_string()),
         ]
+    }
+}
+
+#[cfg(test)]
+mod tests {
+    use super::*;
+
+    fn config(words: &[&str]) -> Result<Config, clap::Error> {
+        Config::try_parse_from(["kilambosetryd"].iter().chain(words))
+    }
+
+    fn named(config: &Config, name: &str) -> String {
+        config.named().into_iter().find(|(other, _)| *other == name).unwrap().1
+    }
+
+    #[test]
+    fn all_goes_to_flash_unless_it_is_said_otherwise() {
+        let all = config(&["-e", "flash"]).unwrap();
+        assert_eq!((named(&all, "admission"), named(&all, "admission_slots")), ("all".into(), "0".into()));
+        let words = ["-e", "flash", "--shards", "8", "--admission", "reject-first"];
+        let some = config(&words).unwrap();
+        let items = some.options().numbers().unwrap().flash_items();
+        assert_eq!(named(&some, "admission"), "reject-first");
+        assert_eq!(named(&some, "admission_slots"), (items / 8 * 8).to_string());
+        let given = config(&[&words[..], &["--admission-slots", "800"]].concat()).unwrap();
+        assert_eq!(named(&given, "admission_slots"), "800");
+    }
+
+    #[test]
+    fn an_admission_that_is_none_is_refused() {
+        let refused = |words: &[&str]| config(words).unwrap_err().to_string();
+        assert!(refused(&["-e", "flash", "--admission", "some"]).contains("it is all or reject-first"));
+        assert!(refused(&["--admission", "reject-first"]).contains("--flash <FILE>"));
+        let words = ["-e", "/nowhere/flash", "--shards", "8", "--admission", "reject-first", "--admission-slots", "7"];
+        let refused = config(&words).unwrap().open().unwrap_err().to_string();
+        assert!(refused.starts_with("admission_slots is 7, and not 8 to 2147483648 "), "{refused}");
     }
 }

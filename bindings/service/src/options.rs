@@ -1,6 +1,6 @@
 use crate::status::{answered, DONE};
 use crate::why::Why;
-use kilambosetry::{Clock, Flash, Keep, KeepWhat, Numbers, OpenError, Options, Pool, Watch};
+use kilambosetry::{Admission, Clock, Flash, Keep, KeepWhat, Numbers, OpenError, Options, Pool, Watch};
 use std::ffi::{c_char, c_void, CStr, OsStr, OsString};
 use std::os::unix::ffi::OsStrExt;
 use std::time::Duration;
@@ -32,7 +32,12 @@ pub struct ServiceOptions {
     keep_flash: bool,
     watch: Option<extern "C" fn(context: *mut c_void, bytes: u64, shards: u64, of: u64)>,
     watch_context: *mut c_void,
+    admission: u64,
+    admission_slots: u64,
 }
+
+// What C calls them, in order.
+const ADMISSIONS: [Admission; 2] = [Admission::All, Admission::RejectFirst];
 
 // A place of the caller's that threads may share.
 #[derive(Clone, Copy)]
@@ -71,7 +76,15 @@ impl ServiceOptions {
             options.clock = Clock::try_new(move || clock(context.at()))?;
         }
         options.keep = self.to_keep()?;
+        options.admission = self.to_admission()?;
+        options.admission_slots = (self.admission_slots > 0).then_some(self.admission_slots);
         Ok(options)
+    }
+
+    fn to_admission(&self) -> Result<Admission, OpenError> {
+        let named = usize::try_from(self.admission).ok().and_then(|number| ADMISSIONS.get(number));
+        let most = ADMISSIONS.len() as u64 - 1;
+        named.copied().ok_or(OpenError::Number { name: "admission", given: self.admission, least: 0, most })
     }
 
     fn to_keep(&self) -> Result<Option<Keep>, OpenError> {
@@ -127,6 +140,7 @@ pub struct ServiceNumbers {
     buffers_bytes: u64,
     queue_bytes: u64,
     digests_bytes: u64,
+    tags_bytes: u64,
     memory_bytes: u64,
     flash_items: u64,
     flash_bytes_for_others: u64,
@@ -144,6 +158,7 @@ const NO_FLASH: Flash = Flash {
     bits: 0,
     admit_min: 0,
     admit_max: 0,
+    reject_first: 0,
 };
 
 impl From<Numbers> for ServiceNumbers {
@@ -162,6 +177,7 @@ impl From<Numbers> for ServiceNumbers {
             buffers_bytes: numbers.buffers_bytes(),
             queue_bytes: numbers.queue_bytes(),
             digests_bytes: numbers.digests_bytes(),
+            tags_bytes: numbers.tags_bytes(),
             memory_bytes: numbers.memory_bytes(),
             flash_items: numbers.flash_items(),
             flash_bytes_for_others: numbers.flash_bytes_for_others(),

@@ -5,7 +5,7 @@ use std::io;
 use std::ptr;
 
 // The names of numbers, as C has them.
-const NAMES: [&CStr; 20] = [
+const NAMES: [&CStr; 23] = [
     c"memory",
     c"flash",
     c"index_memory",
@@ -26,6 +26,9 @@ const NAMES: [&CStr; 20] = [
     c"flash_numbers.bits",
     c"flash_numbers.admit_min",
     c"flash_numbers.admit_max",
+    c"flash_numbers.reject_first",
+    c"admission",
+    c"admission_slots",
 ];
 
 /// Why a cache isn't opened: `kilambosetry_why`.

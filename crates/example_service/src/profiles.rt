@@ -2,7 +2,9 @@
 ghost use Rattle.std.specs.Prelude.{◌≡◌, IfOk};
 
 use crate::worker::Worker;
-use hc_core::{Config, Core, Counting, FlashConfig, Found, PoolSize, Refusal, Reply, Said};
+use hc_core::{
+    Admission, Config, Core, Counting, FlashConfig, Found, PoolSize, Refusal, Reply, Said,
+};
 use std::alloc::{AllocError, Global};
 use std::io;
 
@@ -27,6 +29,7 @@ pub const FLASH: FlashConfig = FlashConfig {
     bits: 16,
     admit_min: 1,
     admit_max: 22,
+    admission: Admission::All,
 };
 
 /// For so many seconds a profile may be served from the cache.

@@ -1,7 +1,9 @@
 -- What a new cache is.
-use Rattle.std.specs.Prelude.{◌≡◌, ◌⊎◌, ◌/◌, ℕ, nat_lt, if◌then◌else◌, List, [], map, replicate, Option, Some, None}
+use Rattle.std.specs.Prelude.{◌≡◌, ◌⊎◌, ◌/◌, ◌==◌, ℕ, nat_lt, if◌then◌else◌, List, [], map, replicate, Option, Some, None}
 use Rattle.hc_types.specs.Config.{Config}
 use Rattle.hc_types.specs.Limits.{first_wrong}
+use Rattle.hc_types.specs.declared.config.Admission.{Admission}
+use Rattle.hc_types.specs.declared.config.Admission.TheVariants.{All, RejectFirst}
 use Rattle.hc_types.specs.declared.config.FlashConfig.{FlashConfig}
 use Rattle.hc_types.specs.declared.config.PoolSize.{PoolSize}
 use Rattle.hc_types.specs.declared.refusal.Refusal.{Refusal}
@@ -20,6 +22,10 @@ use Rattle.hc_c.specs.declared.status.Status.TheVariants.{Done, Refused}
 abbrev pub size_of : Pool → PoolSize
 size_of pool = record { bytes = pool.bytes; items = pool.items }
 
+-- so many slots; none, where all goes in
+abbrev pub admission_of : ℕ → Admission
+admission_of slots = if slots == 0 then All else RejectFirst slots
+
 abbrev pub numbers_of : Flash → FlashConfig
 numbers_of flash = record {
   page = flash.page;
@@ -32,6 +38,7 @@ numbers_of flash = record {
   bits = flash.bits;
   admit_min = flash.admit_min;
   admit_max = flash.admit_max;
+  admission = admission_of flash.reject_first;
 }
 
 -- these pools, and this flash or none

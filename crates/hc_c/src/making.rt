@@ -4,13 +4,13 @@ ghost use Rattle.hc_types.specs.Limits.{first_wrong};
 ghost use Rattle.hc_types.specs.declared.refusal.Refusal.TheVariants.{NoMemory};
 ghost use Rattle.hc_leased.specs.Leased.{lease_slots};
 ghost use Rattle.hc_shards.specs.Shards.{shard_of, share_of, sharded_wrong};
-ghost use Rattle.hc_c.specs.Making.{config_of, sharded_of, size_of, numbers_of, slots_within, IsFresh, Makes, MakesShard, MayNotMake, MayNotMakeShard};
+ghost use Rattle.hc_c.specs.Making.{config_of, sharded_of, size_of, admission_of, numbers_of, slots_within, IsFresh, Makes, MakesShard, MayNotMake, MayNotMakeShard};
 ghost use Rattle.hc_c.specs.Statuses.{Says};
 
 use crate::cache::Cache;
 use crate::cache_handle::CacheHandle;
 use crate::status::Status;
-use hc_core::{Config, Core, FlashConfig, PoolSize, Refusal, Totals};
+use hc_core::{Admission, Config, Core, FlashConfig, PoolSize, Refusal, Totals};
 use hc_leased::{Leased, slots_for};
 use hc_shards::{Sharded, shares_are_right};
 use hc_types::hash_of;
@@ -39,6 +39,8 @@ pub struct Flash {
     pub bits: u64,
     pub admit_min: u64,
     pub admit_max: u64,
+    /// How many slots the table has of what was turned away, so that only what was turned away once before goes in; 0: all goes in.
+    pub reject_first: u64,
 }
 
 impl Flash {
@@ -56,7 +58,19 @@ impl Flash {
             bits: self.bits,
             admit_min: self.admit_min,
             admit_max: self.admit_max,
+            admission: admission(self.reject_first),
         }
+    }
+}
+
+/// What a number of slots says, of which 0 stands for no table.
+fn admission(slots: u64) -> Admission
+    ensures { result ≡ admission_of slots }
+{
+    if slots == 0 {
+        Admission::All
+    } else {
+        Admission::RejectFirst { slots }
     }
 }
 

@@ -2,6 +2,7 @@
 use Rattle.std.proofs.Common.{◌≡◌, ◌&&◌, ◌+◌, ◌++◌, ℕ, true, false, List, [], ◌∷◌, Some, None, refl, replicate, take}
 use Rattle.std.specs.List.{list_all}
 use Rattle.hc_types.specs.Config.{Config}
+use Rattle.hc_types.specs.declared.config.Admission.TheVariants.{All}
 use Rattle.hc_types.specs.declared.config.FlashConfig.{FlashConfig}
 use Rattle.hc_engines.specs.Engine.{Write, Written}
 use Rattle.hc_engines.specs.large.Entries.{entry_bytes}
@@ -23,7 +24,7 @@ by deed = record { client = 0; deed = deed }
 
 -- regions of so many pages
 abbrev flash_of : ℕ → FlashConfig
-flash_of pages = record { page = 512; buckets = 1; regions = 3; region_pages = pages; clean = 1; small_max = 100; queue = 8; bits = 8; admit_min = 0; admit_max = 2000 }
+flash_of pages = record { page = 512; buckets = 1; regions = 3; region_pages = pages; clean = 1; small_max = 100; queue = 8; bits = 8; admit_min = 0; admit_max = 2000; admission = All }
 
 -- one item in memory
 abbrev config_of : ℕ → Config

@@ -1,5 +1,6 @@
 -- Rows 2 and 5, as schedules: the machine follows them.
 use Rattle.std.proofs.Common.{◌≡◌, ◌++◌, ℕ, true, false, List, [], ◌∷◌, Some, None, refl, sym, subst, replicate}
+use Rattle.hc_types.specs.declared.config.Admission.TheVariants.{All}
 use Rattle.hc_bucket.specs.Reading.{page_at, entries_at, entry_at, body_at, content_at, whole_at}
 use Rattle.hc_engines.specs.Engine.{Read, Write, Page, Written}
 use Rattle.hc_history.specs.Note as note
@@ -31,7 +32,7 @@ unfolding page_at entries_at entry_at body_at content_at whole_at bits_of
 found_and_removed-follows = record { stops = refl; follows = (computed (refl, (refl, refl, refl), (refl, refl, refl)) refl refl refl (claimed_by refl refl refl) (ends_by refl refl refl), (computed (refl, refl, refl, refl, refl, refl, refl) refl refl refl (claimed_by refl refl refl) (ends_by refl refl refl), (computed (refl, refl, refl, refl, refl, refl, refl) refl refl refl (claimed_by refl refl refl) (ends_by refl refl refl), (computed (refl, refl, refl, refl, refl, refl, refl) refl refl refl (claimed_by refl refl refl) (ends_by refl refl refl), (computed (refl, refl, refl, refl, refl, refl, refl) refl refl refl (claimed_by refl refl refl) (ends_by refl refl refl), refl))))) }
 
 abbrev one_item : Config
-one_item = record { pools = record { bytes = 1000; items = 1 } ∷ []; flash = Some (record { page = 512; buckets = 1; regions = 3; region_pages = 1; clean = 1; small_max = 100; queue = 8; bits = 8; admit_min = 0; admit_max = 2000 }) }
+one_item = record { pools = record { bytes = 1000; items = 1 } ∷ []; flash = Some (record { page = 512; buckets = 1; regions = 3; region_pages = 1; clean = 1; small_max = 100; queue = 8; bits = 8; admit_min = 0; admit_max = 2000; admission = All }) }
 
 abbrev back_from_flash : List Step
 back_from_flash = by (Open 0 0 (97 ∷ []) (111 ∷ 110 ∷ 101 ∷ []) 0) ∷ by (Put 0) ∷ by (Open 0 0 (98 ∷ []) (116 ∷ 119 ∷ 111 ∷ []) 0) ∷ by (Put 0) ∷ by WriterTake ∷ by (Io 1 false) ∷ by (Finish 1) ∷ by (Open 0 0 (99 ∷ []) (116 ∷ 104 ∷ 114 ∷ 101 ∷ 101 ∷ []) 0) ∷ by (Put 0) ∷ by WriterTake ∷ by (Io 2 false) ∷ by (Finish 2) ∷ by (Io 2 false) ∷ by (Finish 2) ∷ by (Find (97 ∷ [])) ∷ by FillerTake ∷ by (Io 3 false) ∷ by (Finish 3) ∷ by (Reply 4) ∷ []

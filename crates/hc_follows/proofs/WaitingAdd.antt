@@ -1,5 +1,6 @@
 -- An add that waits keeps its charge, and is answered that its key exists.
 use Rattle.std.proofs.Common.{◌≡◌, ◌++◌, ℕ, true, false, List, [], ◌∷◌, Some, None, refl, replicate}
+use Rattle.hc_types.specs.declared.config.Admission.TheVariants.{All}
 use Rattle.hc_bucket.specs.Reading.{page_at, entries_at, entry_at, body_at, content_at, whole_at}
 use Rattle.hc_engines.specs.Engine.{Read, Write, Page, Written}
 use Rattle.hc_history.specs.Note as note
@@ -21,7 +22,7 @@ abbrev Followed : Config → List Step → Type 0
 Followed config steps = Follows config steps (run config [] steps).answers (run config [] steps).parts (ended (run config [] steps)).part None
 
 abbrev waiting_config : Config
-waiting_config = record { pools = record { bytes = 1000; items = 1 } ∷ []; flash = Some (record { page = 512; buckets = 1; regions = 3; region_pages = 1; clean = 1; small_max = 100; queue = 8; bits = 8; admit_min = 0; admit_max = 2000 }) }
+waiting_config = record { pools = record { bytes = 1000; items = 1 } ∷ []; flash = Some (record { page = 512; buckets = 1; regions = 3; region_pages = 1; clean = 1; small_max = 100; queue = 8; bits = 8; admit_min = 0; admit_max = 2000; admission = All }) }
 
 abbrev waiting : List Step
 waiting = by (Open 0 0 (97 ∷ []) (111 ∷ 110 ∷ 101 ∷ []) 0) ∷ by (Put 0) ∷ by (Open 0 0 (98 ∷ []) (116 ∷ 119 ∷ 111 ∷ []) 0) ∷ by (Put 0) ∷ by WriterTake ∷ by (Io 1 false) ∷ by (Finish 1) ∷ by (Open 0 0 (97 ∷ []) (116 ∷ 104 ∷ 114 ∷ 101 ∷ 101 ∷ []) 0) ∷ by (PutNew 0) ∷ by (Discard 0) ∷ by FillerTake ∷ by (Io 2 false) ∷ by (Finish 2) ∷ by (Reply 3) ∷ []

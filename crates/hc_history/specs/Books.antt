@@ -4,7 +4,8 @@ use Rattle.std.specs.Prelude.{ℕ, ◌+◌, ◌==◌, nat_lt, Bool, true, false,
 use Rattle.std.specs.List.{list_any}
 use Rattle.std.specs.Str.{bytes_eq}
 use Rattle.hc_types.specs.Loss as loss
-use Rattle.hc_types.specs.Loss.{Scope}
+use Rattle.hc_types.specs.Loss.{Scope, Evicted}
+use Rattle.hc_types.specs.declared.loss.Why.TheVariants.{NotAdmitted}
 use Rattle.hc_types.specs.declared.config.FlashConfig.{FlashConfig}
 use Rattle.hc_types.specs.Tally.{count}
 use Rattle.hc_history.specs.Note.{Op, Insert, Add, Find, Remove, Reply, Note, Begin, Did, End, Lose, Charged, Linked, Freed, Queued, Unqueued, Writing, Written, Buried, Raised, Now}
@@ -66,6 +67,14 @@ buried [] = []
 buried (Buried key ∷ older) = key ∷ buried older
 buried (Raised key ∷ older) = without_key key (buried older)
 buried (note ∷ older) = buried older
+
+-- ---- keys that were turned away
+
+-- the keys that were lost as not admitted, the last one first
+abbrev pub turned : List Note → List (List ℕ)
+turned [] = []
+turned (Lose (loss.Key key) (Evicted pool want NotAdmitted) ∷ older) = key ∷ turned older
+turned (note ∷ older) = turned older
 
 -- ---- calls
 

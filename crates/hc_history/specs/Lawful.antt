@@ -6,7 +6,10 @@ use Rattle.hc_types.specs.Charge.{charge_of}
 use Rattle.hc_types.specs.Loss as loss
 use Rattle.hc_types.specs.Loss.{Scope, Cause, Evicted, BucketFull, Reclaimed, NoCleanRegion, Collision, Expired, Fault}
 use Rattle.hc_types.specs.Config.{Config}
+use Rattle.hc_types.specs.Admission.{slot_of, tag_of}
 use Rattle.hc_types.specs.Places.{kept_of, bucket_at, is_small_by, region_bytes, is_page_of, last_page}
+use Rattle.hc_types.specs.declared.config.Admission.{Admission}
+use Rattle.hc_types.specs.declared.config.Admission.TheVariants.{All, RejectFirst}
 use Rattle.hc_types.specs.declared.config.PoolSize.{PoolSize}
 use Rattle.hc_types.specs.declared.config.FlashConfig.{FlashConfig}
 use Rattle.hc_types.specs.declared.loss.Why.{Why}
@@ -15,7 +18,7 @@ use Rattle.hc_types.specs.Tally.{tally, count}
 use Rattle.hc_bucket.specs.Bloom.{word_has}
 use Rattle.hc_bucket.specs.Putting.{last_of, is_pushed_out}
 use Rattle.hc_history.specs.Note.{Op, Insert, Add, Find, Remove, Reply, Stored, Exists, Hit, Miss, FoundInMemory, NotInMemory, Note, Begin, Did, End, Lose, Charged, Linked, Freed, Queued, Unqueued, Writing, Written, Buried, Raised, Read, Wrote, Opened, Flushed, Cleared, Now}
-use Rattle.hc_history.specs.Books.{Charge, Call, Answer, Entry, charges, waiting, writing, buried, is_among, begun, open_calls, open_call, owed, entry_at, now_at, expired_at, value_at, value_length, has_number, is_linked}
+use Rattle.hc_history.specs.Books.{Charge, Call, Answer, Entry, charges, waiting, writing, buried, is_among, turned, begun, open_calls, open_call, owed, entry_at, now_at, expired_at, value_at, value_length, has_number, is_linked}
 use Rattle.hc_history.specs.Pages.{bytes_at, entries_in, bucket_entries, has_key}
 use Rattle.hc_history.specs.Regions.{is_one_of, in_use, clean_count, IsLowestClean, flushed, behind, put_from, put_under_way, before_put, is_put_of, Filing, filed, is_filed, is_passed, is_placed}
 
@@ -109,11 +112,21 @@ IsFreed older key = ⊥
 abbrev pub is_admitted : FlashConfig → ℕ → Bool
 is_admitted flash bytes = nat_le flash.admit_min bytes && nat_le bytes flash.admit_max
 
+-- of the keys of its slot that were turned away, the last has the key's tag
+abbrev pub is_remembered : ℕ → List (List ℕ) → List ℕ → Bool
+is_remembered slots [] key = false
+is_remembered slots (k ∷ keys) key = if slot_of slots k == slot_of slots key then tag_of k == tag_of key else is_remembered slots keys key
+
+-- the key is let in where these were turned away: each is, or each that was turned away once before, lately
+abbrev pub is_let_in : Admission → List (List ℕ) → List ℕ → Bool
+is_let_in All keys key = true
+is_let_in (RejectFirst slots) keys key = is_remembered slots keys key
+
 -- why an evicted entry of the key, with a value of this length, can't wait: the first reason that holds
 abbrev pub refused_by : FlashConfig → List Note → List ℕ → ℕ → Option Why
 refused_by flash older key len =
     if is_among key (buried older) then Some Tombstone
-    else (if not (is_admitted flash (length key + len)) then Some NotAdmitted
+    else (if not (is_admitted flash (length key + len) && is_let_in flash.admission (turned older) key) then Some NotAdmitted
     else (if not (is_small_by flash key len) && nat_lt (region_bytes flash) (14 + length key + len) then Some TooLarge
     else (if length (waiting older) == flash.queue then Some QueueFull
     else None)))

@@ -5,6 +5,7 @@ pub mod Books
 pub mod Pages
 pub mod Regions
 pub mod Lawful
+pub mod Tags
 pub mod Honest
 pub mod Stats
 pub mod Counts

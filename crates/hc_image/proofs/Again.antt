@@ -5,6 +5,7 @@ use Rattle.std.proofs.lemmas.Option.{none-some, same_Some}
 use Rattle.std.proofs.lemmas.Bool.{lt-ltb, le-leb, and_from, eq-eqb}
 use Rattle.hc_types.specs.FlashEntry.{FlashEntry}
 use Rattle.hc_types.specs.Config.{Config}
+use Rattle.hc_types.specs.Admission.{slots_of}
 use Rattle.hc_engines.specs.large.Entries.{IsLarge}
 use Rattle.hc_engines.specs.large.Index.{Indexed, leading}
 use Rattle.hc_engines.specs.large.Region.{Region}
@@ -30,7 +31,7 @@ use Rattle.hc_image_text.specs.Regions.{IsResting}
 use Rattle.hc_image_text.specs.Leads.{IsLead}
 use Rattle.hc_image_text.proofs.Again.{number_again, lead_again, word_again, item_again, key_again, counters_again, open_again, numbers_again, region_again}
 use Rattle.hc_image_text.proofs.Headed.{head_again}
-use Rattle.hc_image.specs.Saved.{Carried, numbered, rest_or_clean, item_frame, put_frame, stone_frame, word_frame, region_frame, lead_frame, digest_frame, head_frame, counters_frame, stamps_frame, owner_frame, open_frame, sealed_frame, flushed_frame, jobs_of, counters_of, keys_of, lists_frames, nvm_frames, frames_of}
+use Rattle.hc_image.specs.Saved.{Carried, numbered, rest_or_clean, item_frame, put_frame, stone_frame, word_frame, region_frame, lead_frame, digest_frame, head_frame, counters_frame, stamps_frame, owner_frame, open_frame, sealed_frame, flushed_frame, tags_frame, jobs_of, counters_of, keys_of, lists_frames, nvm_frames, frames_of}
 use Rattle.hc_image.specs.Fitting.{puts_fit, stones_fit, flash_fits, if_flash_fits, item_fits}
 use Rattle.hc_image.specs.Refusing.{follow, made, read, if_fits}
 use Rattle.hc_image.specs.Loading.{Asked, Gathered, Stage, nothing_yet, gathering, filling_in, empty, is_asked, begins, step, steps, done, load_frames, nvm_at, nvm_fits, filled_by, filling_of, filled, item_by, restored}
@@ -71,8 +72,8 @@ of_list P whole xs x ys all e = in_list P xs x ys (subst (λ l. All P l) (sym e)
 
 -- ---- what was gathered, as it grows
 
-abbrev came : Counters → ℕ → List ℕ → List ℕ → List FlashEntry → List (List ℕ) → List (Option ℕ) → List Region → Option ℕ → List ℕ → List ℕ → List Indexed → Gathered
-came c s o d p k w r cur se fl ix = record {
+abbrev came : Counters → ℕ → List ℕ → List ℕ → List FlashEntry → List (List ℕ) → List (Option ℕ) → List Region → Option ℕ → List ℕ → List ℕ → List Indexed → List ℕ → Gathered
+came c s o d p k w r cur se fl ix tg = record {
   counters = c;
   carried = record { stamps = s; digests = d; owner = o };
   puts = p;
@@ -83,6 +84,7 @@ came c s o d p k w r cur se fl ix = record {
   sealed = se;
   flushed = fl;
   index = ix;
+  tags = tg;
 }
 
 -- a hash above all others goes behind them
@@ -97,54 +99,54 @@ above_all x (z ∷ zs) ys rises =
     over hash [] x ys all = all.0
     over hash (z ∷ zs) x ys all = over hash zs x ys all.1
 
-digests_in : (asked : Asked) (c : Counters) (s : ℕ) (o ds : List ℕ) (cur : Option ℕ) (se fl : List ℕ) → All (λ n. n < 2 ^ 64) ds
-    → steps asked (map digest_frame ds) (gathering (came c s o [] [] [] [] [] cur se fl [])) ≡ Ok (gathering (came c s o ds [] [] [] [] cur se fl []))
-digests_in asked c s o ds cur se fl fit =
-    all_steps asked digest_frame (λ xs. gathering (came c s o xs [] [] [] [] cur se fl [])) ds
-    (λ xs x ys e. ap (λ n. made gathering (read (λ d. came c s o (xs ++ d ∷ []) [] [] [] [] cur se fl []) n)) (number_again x (of_list (λ n. n < 2 ^ 64) ds xs x ys fit e)))
+digests_in : (asked : Asked) (c : Counters) (s : ℕ) (o ds : List ℕ) (cur : Option ℕ) (se fl tg : List ℕ) → All (λ n. n < 2 ^ 64) ds
+    → steps asked (map digest_frame ds) (gathering (came c s o [] [] [] [] [] cur se fl [] tg)) ≡ Ok (gathering (came c s o ds [] [] [] [] cur se fl [] tg))
+digests_in asked c s o ds cur se fl tg fit =
+    all_steps asked digest_frame (λ xs. gathering (came c s o xs [] [] [] [] cur se fl [] tg)) ds
+    (λ xs x ys e. ap (λ n. made gathering (read (λ d. came c s o (xs ++ d ∷ []) [] [] [] [] cur se fl [] tg) n)) (number_again x (of_list (λ n. n < 2 ^ 64) ds xs x ys fit e)))
     [] ds refl
 
-puts_in : (asked : Asked) (c : Counters) (s : ℕ) (o ds : List ℕ) (ps : List FlashEntry) (cur : Option ℕ) (se fl : List ℕ) → All IsLarge ps
-    → steps asked (map put_frame ps) (gathering (came c s o ds [] [] [] [] cur se fl [])) ≡ Ok (gathering (came c s o ds ps [] [] [] cur se fl []))
-puts_in asked c s o ds ps cur se fl fit =
-    all_steps asked put_frame (λ xs. gathering (came c s o ds xs [] [] [] cur se fl [])) ps
-    (λ xs x ys e. ap (λ n. made gathering (read (λ p. came c s o ds (xs ++ p ∷ []) [] [] [] cur se fl []) n)) (entry_again x (of_list IsLarge ps xs x ys fit e)))
+puts_in : (asked : Asked) (c : Counters) (s : ℕ) (o ds : List ℕ) (ps : List FlashEntry) (cur : Option ℕ) (se fl tg : List ℕ) → All IsLarge ps
+    → steps asked (map put_frame ps) (gathering (came c s o ds [] [] [] [] cur se fl [] tg)) ≡ Ok (gathering (came c s o ds ps [] [] [] cur se fl [] tg))
+puts_in asked c s o ds ps cur se fl tg fit =
+    all_steps asked put_frame (λ xs. gathering (came c s o ds xs [] [] [] cur se fl [] tg)) ps
+    (λ xs x ys e. ap (λ n. made gathering (read (λ p. came c s o ds (xs ++ p ∷ []) [] [] [] cur se fl [] tg) n)) (entry_again x (of_list IsLarge ps xs x ys fit e)))
     [] ps refl
 
 abbrev IsKey : List ℕ → Type 0
 IsKey key = (1 ≤ length key) × (length key ≤ 255)
 
-keys_in : (asked : Asked) (c : Counters) (s : ℕ) (o ds : List ℕ) (ps : List FlashEntry) (ks : List (List ℕ)) (cur : Option ℕ) (se fl : List ℕ) → All IsKey ks
-    → steps asked (map stone_frame ks) (gathering (came c s o ds ps [] [] [] cur se fl [])) ≡ Ok (gathering (came c s o ds ps ks [] [] cur se fl []))
-keys_in asked c s o ds ps ks cur se fl fit =
-    all_steps asked stone_frame (λ xs. gathering (came c s o ds ps xs [] [] cur se fl [])) ks
+keys_in : (asked : Asked) (c : Counters) (s : ℕ) (o ds : List ℕ) (ps : List FlashEntry) (ks : List (List ℕ)) (cur : Option ℕ) (se fl tg : List ℕ) → All IsKey ks
+    → steps asked (map stone_frame ks) (gathering (came c s o ds ps [] [] [] cur se fl [] tg)) ≡ Ok (gathering (came c s o ds ps ks [] [] cur se fl [] tg))
+keys_in asked c s o ds ps ks cur se fl tg fit =
+    all_steps asked stone_frame (λ xs. gathering (came c s o ds ps xs [] [] cur se fl [] tg)) ks
     (λ xs x ys e. let is : IsKey x = of_list IsKey ks xs x ys fit e in
-    ap (λ n. made gathering (read (λ k. came c s o ds ps (xs ++ k ∷ []) [] [] cur se fl []) n)) (key_again x is.0 is.1))
+    ap (λ n. made gathering (read (λ k. came c s o ds ps (xs ++ k ∷ []) [] [] cur se fl [] tg) n)) (key_again x is.0 is.1))
     [] ks refl
 
-words_in : (asked : Asked) (c : Counters) (s : ℕ) (o ds : List ℕ) (ps : List FlashEntry) (ks : List (List ℕ)) (ws : List (Option ℕ)) (cur : Option ℕ) (se fl : List ℕ) → All FitsWord ws
-    → steps asked (map word_frame ws) (gathering (came c s o ds ps ks [] [] cur se fl [])) ≡ Ok (gathering (came c s o ds ps ks ws [] cur se fl []))
-words_in asked c s o ds ps ks ws cur se fl fit =
-    all_steps asked word_frame (λ xs. gathering (came c s o ds ps ks xs [] cur se fl [])) ws
-    (λ xs x ys e. ap (λ n. made gathering (read (λ w. came c s o ds ps ks (xs ++ w ∷ []) [] cur se fl []) n)) (word_again x (of_list FitsWord ws xs x ys fit e)))
+words_in : (asked : Asked) (c : Counters) (s : ℕ) (o ds : List ℕ) (ps : List FlashEntry) (ks : List (List ℕ)) (ws : List (Option ℕ)) (cur : Option ℕ) (se fl tg : List ℕ) → All FitsWord ws
+    → steps asked (map word_frame ws) (gathering (came c s o ds ps ks [] [] cur se fl [] tg)) ≡ Ok (gathering (came c s o ds ps ks ws [] cur se fl [] tg))
+words_in asked c s o ds ps ks ws cur se fl tg fit =
+    all_steps asked word_frame (λ xs. gathering (came c s o ds ps ks xs [] cur se fl [] tg)) ws
+    (λ xs x ys e. ap (λ n. made gathering (read (λ w. came c s o ds ps ks (xs ++ w ∷ []) [] cur se fl [] tg) n)) (word_again x (of_list FitsWord ws xs x ys fit e)))
     [] ws refl
 
 abbrev Rests : Region → Type 0
 Rests region = IsResting (rest_or_clean (rest_of region.status)) region
 
-regions_in : (asked : Asked) (c : Counters) (s : ℕ) (o ds : List ℕ) (ps : List FlashEntry) (ks : List (List ℕ)) (ws : List (Option ℕ)) (rs : List Region) (cur : Option ℕ) (se fl : List ℕ) → All Rests rs
-    → steps asked (map region_frame rs) (gathering (came c s o ds ps ks ws [] cur se fl [])) ≡ Ok (gathering (came c s o ds ps ks ws rs cur se fl []))
-regions_in asked c s o ds ps ks ws rs cur se fl fit =
-    all_steps asked region_frame (λ xs. gathering (came c s o ds ps ks ws xs cur se fl [])) rs
-    (λ xs x ys e. ap (λ n. made gathering (read (λ r. came c s o ds ps ks ws (xs ++ r ∷ []) cur se fl []) n)) (region_again (rest_or_clean (rest_of x.status)) x (of_list Rests rs xs x ys fit e)))
+regions_in : (asked : Asked) (c : Counters) (s : ℕ) (o ds : List ℕ) (ps : List FlashEntry) (ks : List (List ℕ)) (ws : List (Option ℕ)) (rs : List Region) (cur : Option ℕ) (se fl tg : List ℕ) → All Rests rs
+    → steps asked (map region_frame rs) (gathering (came c s o ds ps ks ws [] cur se fl [] tg)) ≡ Ok (gathering (came c s o ds ps ks ws rs cur se fl [] tg))
+regions_in asked c s o ds ps ks ws rs cur se fl tg fit =
+    all_steps asked region_frame (λ xs. gathering (came c s o ds ps ks ws xs cur se fl [] tg)) rs
+    (λ xs x ys e. ap (λ n. made gathering (read (λ r. came c s o ds ps ks ws (xs ++ r ∷ []) cur se fl [] tg) n)) (region_again (rest_or_clean (rest_of x.status)) x (of_list Rests rs xs x ys fit e)))
     [] rs refl
 
-leads_in : (asked : Asked) (c : Counters) (s : ℕ) (o ds : List ℕ) (ps : List FlashEntry) (ks : List (List ℕ)) (ws : List (Option ℕ)) (rs : List Region) (cur : Option ℕ) (se fl : List ℕ) (ix : List Indexed) → All IsLead ix → Rises ix
-    → steps asked (map lead_frame ix) (gathering (came c s o ds ps ks ws rs cur se fl [])) ≡ Ok (gathering (came c s o ds ps ks ws rs cur se fl ix))
-leads_in asked c s o ds ps ks ws rs cur se fl ix fit rises =
-    all_steps asked lead_frame (λ xs. gathering (came c s o ds ps ks ws rs cur se fl xs)) ix
-    (λ xs x ys e. ap (λ n. made gathering (read (λ (l : Indexed). came c s o ds ps ks ws rs cur se fl (leading l.hash l.place xs)) n)) (lead_again x (of_list IsLead ix xs x ys fit e))
-    ∙ ap (λ l. Ok (gathering (came c s o ds ps ks ws rs cur se fl l))) (above_all x xs ys (subst Rises (sym e) rises)))
+leads_in : (asked : Asked) (c : Counters) (s : ℕ) (o ds : List ℕ) (ps : List FlashEntry) (ks : List (List ℕ)) (ws : List (Option ℕ)) (rs : List Region) (cur : Option ℕ) (se fl tg : List ℕ) (ix : List Indexed) → All IsLead ix → Rises ix
+    → steps asked (map lead_frame ix) (gathering (came c s o ds ps ks ws rs cur se fl [] tg)) ≡ Ok (gathering (came c s o ds ps ks ws rs cur se fl ix tg))
+leads_in asked c s o ds ps ks ws rs cur se fl tg ix fit rises =
+    all_steps asked lead_frame (λ xs. gathering (came c s o ds ps ks ws rs cur se fl xs tg)) ix
+    (λ xs x ys e. ap (λ n. made gathering (read (λ (l : Indexed). came c s o ds ps ks ws rs cur se fl (leading l.hash l.place xs) tg) n)) (lead_again x (of_list IsLead ix xs x ys fit e))
+    ∙ ap (λ l. Ok (gathering (came c s o ds ps ks ws rs cur se fl l tg))) (above_all x xs ys (subst Rises (sym e) rises)))
     [] ix refl
 
 -- ---- the records that there are once
@@ -161,26 +163,28 @@ head_in asked head carried cache fits same is =
 
 first_in : (asked : Asked) (head : Head) (carried : Carried) (cache : Cache) (more : List Frame) → Fits head carried cache → cache.config ≡ asked.config → is_asked asked head ≡ Ok tt
     → steps asked (head_frame asked.shard cache.config head ∷ counters_frame (counters_of cache) ∷ stamps_frame carried.stamps ∷ owner_frame carried.owner ∷ more) nothing_yet
-    ≡ steps asked more (gathering (came (counters_of cache) carried.stamps carried.owner [] [] [] [] [] None [] [] []))
+    ≡ steps asked more (gathering (came (counters_of cache) carried.stamps carried.owner [] [] [] [] [] None [] [] [] []))
 first_in asked head carried cache more fits same is =
     let c = counters_of cache in
     one_step asked (head_frame asked.shard cache.config head) (counters_frame c ∷ stamps_frame carried.stamps ∷ owner_frame carried.owner ∷ more) nothing_yet (gathering empty) (head_in asked head carried cache fits same is)
-    ∙ one_step asked (counters_frame c) (stamps_frame carried.stamps ∷ owner_frame carried.owner ∷ more) (gathering empty) (gathering (came c 0 [] [] [] [] [] [] None [] [] []))
-    (ap (λ n. made gathering (read (λ x. came x 0 [] [] [] [] [] [] None [] [] []) n)) (counters_again c fits.counters))
-    ∙ one_step asked (stamps_frame carried.stamps) (owner_frame carried.owner ∷ more) (gathering (came c 0 [] [] [] [] [] [] None [] [] [])) (gathering (came c carried.stamps [] [] [] [] [] [] None [] [] []))
-    (ap (λ n. made gathering (read (λ x. came c x [] [] [] [] [] [] None [] [] []) n)) (number_again carried.stamps fits.stamps))
+    ∙ one_step asked (counters_frame c) (stamps_frame carried.stamps ∷ owner_frame carried.owner ∷ more) (gathering empty) (gathering (came c 0 [] [] [] [] [] [] None [] [] [] []))
+    (ap (λ n. made gathering (read (λ x. came x 0 [] [] [] [] [] [] None [] [] [] []) n)) (counters_again c fits.counters))
+    ∙ one_step asked (stamps_frame carried.stamps) (owner_frame carried.owner ∷ more) (gathering (came c 0 [] [] [] [] [] [] None [] [] [] [])) (gathering (came c carried.stamps [] [] [] [] [] [] None [] [] [] []))
+    (ap (λ n. made gathering (read (λ x. came c x [] [] [] [] [] [] None [] [] [] []) n)) (number_again carried.stamps fits.stamps))
 
 lists_in : (asked : Asked) (c : Counters) (s : ℕ) (o : List ℕ) (nvm : Nvm) (more : List Frame) → NvmFits nvm
-    → steps asked (lists_frames (Some nvm) ++ more) (gathering (came c s o [] [] [] [] [] None [] [] []))
-    ≡ steps asked more (gathering (came c s o [] [] [] [] [] nvm.pair.large.current nvm.pair.large.sealed nvm.pair.large.flushed []))
+    → steps asked (lists_frames (Some nvm) ++ more) (gathering (came c s o [] [] [] [] [] None [] [] [] []))
+    ≡ steps asked more (gathering (came c s o [] [] [] [] [] nvm.pair.large.current nvm.pair.large.sealed nvm.pair.large.flushed [] nvm.tags))
 lists_in asked c s o nvm more fits =
     let b = nvm.pair.large in
-    one_step asked (open_frame b.current) (sealed_frame b.sealed ∷ flushed_frame b.flushed ∷ more) (gathering (came c s o [] [] [] [] [] None [] [] [])) (gathering (came c s o [] [] [] [] [] b.current [] [] []))
-    (ap (λ n. made gathering (read (λ x. came c s o [] [] [] [] [] x [] [] []) n)) (open_again b.current fits.current))
-    ∙ one_step asked (sealed_frame b.sealed) (flushed_frame b.flushed ∷ more) (gathering (came c s o [] [] [] [] [] b.current [] [] [])) (gathering (came c s o [] [] [] [] [] b.current b.sealed [] []))
-    (ap (λ n. made gathering (read (λ x. came c s o [] [] [] [] [] b.current x [] []) n)) (numbers_again b.sealed fits.sealed))
-    ∙ one_step asked (flushed_frame b.flushed) more (gathering (came c s o [] [] [] [] [] b.current b.sealed [] [])) (gathering (came c s o [] [] [] [] [] b.current b.sealed b.flushed []))
-    (ap (λ n. made gathering (read (λ x. came c s o [] [] [] [] [] b.current b.sealed x []) n)) (numbers_again b.flushed fits.flushed))
+    one_step asked (open_frame b.current) (sealed_frame b.sealed ∷ flushed_frame b.flushed ∷ tags_frame nvm.tags ∷ more) (gathering (came c s o [] [] [] [] [] None [] [] [] [])) (gathering (came c s o [] [] [] [] [] b.current [] [] [] []))
+    (ap (λ n. made gathering (read (λ x. came c s o [] [] [] [] [] x [] [] [] []) n)) (open_again b.current fits.current))
+    ∙ one_step asked (sealed_frame b.sealed) (flushed_frame b.flushed ∷ tags_frame nvm.tags ∷ more) (gathering (came c s o [] [] [] [] [] b.current [] [] [] [])) (gathering (came c s o [] [] [] [] [] b.current b.sealed [] [] []))
+    (ap (λ n. made gathering (read (λ x. came c s o [] [] [] [] [] b.current x [] [] []) n)) (numbers_again b.sealed fits.sealed))
+    ∙ one_step asked (flushed_frame b.flushed) (tags_frame nvm.tags ∷ more) (gathering (came c s o [] [] [] [] [] b.current b.sealed [] [] [])) (gathering (came c s o [] [] [] [] [] b.current b.sealed b.flushed [] []))
+    (ap (λ n. made gathering (read (λ x. came c s o [] [] [] [] [] b.current b.sealed x [] []) n)) (numbers_again b.flushed fits.flushed))
+    ∙ one_step asked (tags_frame nvm.tags) more (gathering (came c s o [] [] [] [] [] b.current b.sealed b.flushed [] [])) (gathering (came c s o [] [] [] [] [] b.current b.sealed b.flushed [] nvm.tags))
+    (ap (λ n. made gathering (read (λ x. came c s o [] [] [] [] [] b.current b.sealed b.flushed [] x) n)) (numbers_again nvm.tags fits.tags))
 
 -- ---- the items
 
@@ -223,25 +227,26 @@ no_item [] e = refl
 no_item (x ∷ xs) e = absurd (omega (arith, e))
 
 same_nvm : (nvm : Nvm) → rests nvm ≡ true
-    → nvm_at (Some nvm.pair.small.flash) (block_at nvm.pair.large.regions nvm.pair.large.current nvm.pair.large.sealed nvm.pair.large.flushed nvm.pair.large.index) nvm.pair.small.words nvm.queue (keys_of nvm.tombstones) nvm.made ≡ Some nvm
+    → nvm_at (Some nvm.pair.small.flash) (block_at nvm.pair.large.regions nvm.pair.large.current nvm.pair.large.sealed nvm.pair.large.flushed nvm.pair.large.index) nvm.pair.small.words nvm.queue (keys_of nvm.tombstones) nvm.made nvm.tags ≡ Some nvm
 same_nvm nvm rest =
     let idle = idle_nvm nvm rest in
     let small = no_item nvm.pair.small.jobs idle.0 in
     let large = no_item nvm.pair.large.jobs idle.1 in
     let pair : ◌≡◌ {A = Pair} (record { small = record nvm.pair.small { jobs = [] }; large = record nvm.pair.large { jobs = [] } }) nvm.pair =
     λ i. record { small = record nvm.pair.small { jobs = sym small i }; large = record nvm.pair.large { jobs = sym large i } } in
-    ap (λ (p : Pair). Some (of_parts p nvm.queue (keys_of nvm.tombstones) nvm.made)) pair ∙ ap Some (sym (rest_is_parts nvm rest))
+    ap (λ (p : Pair). Some (of_parts p nvm.queue (keys_of nvm.tombstones) nvm.made nvm.tags)) pair ∙ ap Some (sym (rest_is_parts nvm rest))
 
 -- what waits for it and stands on it can be a cache's
 flash_is : (nvm : Nvm) → NvmFits nvm → rests nvm ≡ true
-    → flash_fits nvm.pair.small.flash (block_at nvm.pair.large.regions nvm.pair.large.current nvm.pair.large.sealed nvm.pair.large.flushed nvm.pair.large.index) nvm.pair.small.words nvm.queue (keys_of nvm.tombstones) ≡ true
+    → flash_fits nvm.pair.small.flash (block_at nvm.pair.large.regions nvm.pair.large.current nvm.pair.large.sealed nvm.pair.large.flushed nvm.pair.large.index) nvm.pair.small.words nvm.queue (keys_of nvm.tombstones) nvm.tags ≡ true
 flash_is nvm fits rest =
     let flash = nvm.pair.small.flash in
     let ks = keys_of nvm.tombstones in
     let stones : nvm.tombstones ≡ map waiting_stone ks = ap (λ (n : Nvm). n.tombstones) (rest_is_parts nvm rest) in
-    and_from (is_none (misfit flash nvm.pair.large) && (length nvm.pair.small.words == flash.buckets)) (puts_fit flash [] nvm.queue && stones_fit [] ks)
+    and_from (length nvm.tags == slots_of flash.admission) ((is_none (misfit flash nvm.pair.large) && (length nvm.pair.small.words == flash.buckets)) && (puts_fit flash [] nvm.queue && stones_fit [] ks)) (eq-eqb (length nvm.tags) (slots_of flash.admission) fits.slots)
+    (and_from (is_none (misfit flash nvm.pair.large) && (length nvm.pair.small.words == flash.buckets)) (puts_fit flash [] nvm.queue && stones_fit [] ks)
     (and_from (is_none (misfit flash nvm.pair.large)) (length nvm.pair.small.words == flash.buckets) (none_is (misfit flash nvm.pair.large) fits.large) (eq-eqb (length nvm.pair.small.words) flash.buckets fits.count))
-    (and_from (puts_fit flash [] nvm.queue) (stones_fit [] ks) (puts_are flash [] nvm.queue fits.waits) (stones_are [] ks (subst (λ (stones : List Tombstone). AllStonesFit [] stones) stones fits.buried)))
+    (and_from (puts_fit flash [] nvm.queue) (stones_fit [] ks) (puts_are flash [] nvm.queue fits.waits) (stones_are [] ks (subst (λ (stones : List Tombstone). AllStonesFit [] stones) stones fits.buried))))
 
 -- ---- all of it
 
@@ -250,15 +255,15 @@ none_again : (asked : Asked) (head : Head) (carried : Carried) (cache : Cache) �
 none_again asked head carried cache fits same is none =
     let c = counters_of cache in
     let items = map item_frame (items_of cache.memory.pools) in
-    let g = came c carried.stamps carried.owner carried.digests [] [] [] [] None [] [] [] in
+    let g = came c carried.stamps carried.owner carried.digests [] [] [] [] None [] [] [] [] in
     let flash : asked.config.flash ≡ None = ap (λ (x : Config). x.flash) (sym same) ∙ fits.flash ∙ ap flash_of none in
     let start : (filled_by asked.config g).cache ≡ begun cache.config cache.memory.made cache.now cache.calls cache.nvm =
-    (λ i. begun asked.config cache.memory.made cache.now cache.calls (nvm_at (flash i) (block_at [] None [] [] []) [] [] [] c.jobs))
+    (λ i. begun asked.config cache.memory.made cache.now cache.calls (nvm_at (flash i) (block_at [] None [] [] []) [] [] [] c.jobs []))
     ∙ (λ i. begun (sym same i) cache.memory.made cache.now cache.calls (sym none i)) in
     ap (λ (n : Option Nvm). load_frames asked (head_frame asked.shard cache.config head ∷ counters_frame c ∷ stamps_frame carried.stamps ∷ owner_frame carried.owner ∷ (lists_frames n ++ (map digest_frame carried.digests ++ (nvm_frames n ++ items))))) none
     ∙ ap (follow (done asked)) (first_in asked head carried cache (map digest_frame carried.digests ++ items) fits same is
-    ∙ goes_on asked (map digest_frame carried.digests) items (gathering (came c carried.stamps carried.owner [] [] [] [] [] None [] [] [])) (gathering g) (digests_in asked c carried.stamps carried.owner carried.digests None [] [] fits.digests))
-    ∙ items_last asked g (items_of cache.memory.pools) cache fits.items (ap (λ f. if_flash_fits f (block_at [] None [] [] []) [] [] []) flash) (ap (with_items (items_of cache.memory.pools)) start ∙ fits.comes)
+    ∙ goes_on asked (map digest_frame carried.digests) items (gathering (came c carried.stamps carried.owner [] [] [] [] [] None [] [] [] [])) (gathering g) (digests_in asked c carried.stamps carried.owner carried.digests None [] [] [] fits.digests))
+    ∙ items_last asked g (items_of cache.memory.pools) cache fits.items (ap (λ f. if_flash_fits f (block_at [] None [] [] []) [] [] [] []) flash) (ap (with_items (items_of cache.memory.pools)) start ∙ fits.comes)
 
 some_again : (asked : Asked) (head : Head) (carried : Carried) (cache : Cache) (nvm : Nvm) → Fits head carried cache → cache.config ≡ asked.config → is_asked asked head ≡ Ok tt → cache.nvm ≡ Some nvm
     → load_frames asked (frames_of asked.shard head carried cache) ≡ Ok (filling_of carried cache)
@@ -271,18 +276,18 @@ some_again asked head carried cache nvm fits same is there =
     let ks = keys_of nvm.tombstones in
     let fit : NvmFits nvm = fits.nvm nvm there in
     let items = map item_frame (items_of cache.memory.pools) in
-    let g1 = came c s o [] [] [] [] [] b.current b.sealed b.flushed [] in
-    let g2 = came c s o ds [] [] [] [] b.current b.sealed b.flushed [] in
-    let g3 = came c s o ds nvm.queue [] [] [] b.current b.sealed b.flushed [] in
-    let g4 = came c s o ds nvm.queue ks [] [] b.current b.sealed b.flushed [] in
-    let g5 = came c s o ds nvm.queue ks nvm.pair.small.words [] b.current b.sealed b.flushed [] in
-    let g6 = came c s o ds nvm.queue ks nvm.pair.small.words b.regions b.current b.sealed b.flushed [] in
-    let g = came c s o ds nvm.queue ks nvm.pair.small.words b.regions b.current b.sealed b.flushed b.index in
+    let g1 = came c s o [] [] [] [] [] b.current b.sealed b.flushed [] nvm.tags in
+    let g2 = came c s o ds [] [] [] [] b.current b.sealed b.flushed [] nvm.tags in
+    let g3 = came c s o ds nvm.queue [] [] [] b.current b.sealed b.flushed [] nvm.tags in
+    let g4 = came c s o ds nvm.queue ks [] [] b.current b.sealed b.flushed [] nvm.tags in
+    let g5 = came c s o ds nvm.queue ks nvm.pair.small.words [] b.current b.sealed b.flushed [] nvm.tags in
+    let g6 = came c s o ds nvm.queue ks nvm.pair.small.words b.regions b.current b.sealed b.flushed [] nvm.tags in
+    let g = came c s o ds nvm.queue ks nvm.pair.small.words b.regions b.current b.sealed b.flushed b.index nvm.tags in
     let rest : rests nvm ≡ true = ap (λ (n : Option Nvm). flash_rests n) (sym there) ∙ flash_at_rest cache fits.rests in
     let made : c.jobs ≡ nvm.made = ap jobs_of there in
     let flash : asked.config.flash ≡ Some nvm.pair.small.flash = ap (λ (x : Config). x.flash) (sym same) ∙ fits.flash ∙ ap flash_of there in
     let start : (filled_by asked.config g).cache ≡ begun cache.config cache.memory.made cache.now cache.calls cache.nvm =
-    (λ i. begun asked.config cache.memory.made cache.now cache.calls (nvm_at (flash i) (block_at b.regions b.current b.sealed b.flushed b.index) nvm.pair.small.words nvm.queue ks (made i)))
+    (λ i. begun asked.config cache.memory.made cache.now cache.calls (nvm_at (flash i) (block_at b.regions b.current b.sealed b.flushed b.index) nvm.pair.small.words nvm.queue ks (made i) nvm.tags))
     ∙ ap (begun asked.config cache.memory.made cache.now cache.calls) (same_nvm nvm rest)
     ∙ (λ i. begun (sym same i) cache.memory.made cache.now cache.calls (sym there i)) in
     let ps = map put_frame nvm.queue in
@@ -298,14 +303,14 @@ some_again asked head carried cache nvm fits same is there =
     ∙ ap (follow (done asked))
     (first_in asked head carried cache (lists_frames (Some nvm) ++ (map digest_frame ds ++ (ps ++ (kf ++ (ws ++ (rs ++ (ls ++ items))))))) fits same is
     ∙ lists_in asked c s o nvm (map digest_frame ds ++ (ps ++ (kf ++ (ws ++ (rs ++ (ls ++ items)))))) fit
-    ∙ goes_on asked (map digest_frame ds) (ps ++ (kf ++ (ws ++ (rs ++ (ls ++ items))))) (gathering g1) (gathering g2) (digests_in asked c s o ds b.current b.sealed b.flushed fits.digests)
-    ∙ goes_on asked ps (kf ++ (ws ++ (rs ++ (ls ++ items)))) (gathering g2) (gathering g3) (puts_in asked c s o ds nvm.queue b.current b.sealed b.flushed fit.puts)
-    ∙ goes_on asked kf (ws ++ (rs ++ (ls ++ items))) (gathering g3) (gathering g4) (keys_in asked c s o ds nvm.queue ks b.current b.sealed b.flushed fit.keys)
-    ∙ goes_on asked ws (rs ++ (ls ++ items)) (gathering g4) (gathering g5) (words_in asked c s o ds nvm.queue ks nvm.pair.small.words b.current b.sealed b.flushed fit.words)
-    ∙ goes_on asked rs (ls ++ items) (gathering g5) (gathering g6) (regions_in asked c s o ds nvm.queue ks nvm.pair.small.words b.regions b.current b.sealed b.flushed fit.regions)
-    ∙ goes_on asked ls items (gathering g6) (gathering g) (leads_in asked c s o ds nvm.queue ks nvm.pair.small.words b.regions b.current b.sealed b.flushed b.index fit.leads fit.rises))
+    ∙ goes_on asked (map digest_frame ds) (ps ++ (kf ++ (ws ++ (rs ++ (ls ++ items))))) (gathering g1) (gathering g2) (digests_in asked c s o ds b.current b.sealed b.flushed nvm.tags fits.digests)
+    ∙ goes_on asked ps (kf ++ (ws ++ (rs ++ (ls ++ items)))) (gathering g2) (gathering g3) (puts_in asked c s o ds nvm.queue b.current b.sealed b.flushed nvm.tags fit.puts)
+    ∙ goes_on asked kf (ws ++ (rs ++ (ls ++ items))) (gathering g3) (gathering g4) (keys_in asked c s o ds nvm.queue ks b.current b.sealed b.flushed nvm.tags fit.keys)
+    ∙ goes_on asked ws (rs ++ (ls ++ items)) (gathering g4) (gathering g5) (words_in asked c s o ds nvm.queue ks nvm.pair.small.words b.current b.sealed b.flushed nvm.tags fit.words)
+    ∙ goes_on asked rs (ls ++ items) (gathering g5) (gathering g6) (regions_in asked c s o ds nvm.queue ks nvm.pair.small.words b.regions b.current b.sealed b.flushed nvm.tags fit.regions)
+    ∙ goes_on asked ls items (gathering g6) (gathering g) (leads_in asked c s o ds nvm.queue ks nvm.pair.small.words b.regions b.current b.sealed b.flushed nvm.tags b.index fit.leads fit.rises))
     ∙ items_last asked g (items_of cache.memory.pools) cache fits.items
-    (ap (λ f. if_flash_fits f (block_at b.regions b.current b.sealed b.flushed b.index) nvm.pair.small.words nvm.queue ks) flash ∙ flash_is nvm fit rest)
+    (ap (λ f. if_flash_fits f (block_at b.regions b.current b.sealed b.flushed b.index) nvm.pair.small.words nvm.queue ks nvm.tags) flash ∙ flash_is nvm fit rest)
     (ap (with_items (items_of cache.memory.pools)) start ∙ fits.comes)
 
 by_nvm : (asked : Asked) (head : Head) (carried : Carried) (cache : Cache) (nvm : Option Nvm) → Fits head carried cache → cache.config ≡ asked.config → is_asked asked head ≡ Ok tt → cache.nvm ≡ nvm

@@ -16,6 +16,9 @@ one_behind xs ys x zs e = ap (λ l. l ++ zs) e ∙ append_assoc xs (x ∷ []) zs
 pub three_behind : {X : Type 0} (a : List X) (x y z : X) (b c d : List X) → b ≡ a ++ x ∷ [] → c ≡ b ++ y ∷ [] → d ≡ c ++ z ∷ [] → d ≡ a ++ x ∷ y ∷ z ∷ []
 three_behind a x y z b c d e f g = g ∙ one_behind b c y (z ∷ []) f ∙ one_behind a b x (y ∷ z ∷ []) e
 
+pub four_behind : {X : Type 0} (a : List X) (w x y z : X) (b c d e : List X) → b ≡ a ++ w ∷ [] → c ≡ b ++ x ∷ [] → d ≡ c ++ y ∷ [] → e ≡ d ++ z ∷ [] → e ≡ a ++ w ∷ x ∷ y ∷ z ∷ []
+four_behind a w x y z b c d e p q r s = three_behind b x y z c d e q r s ∙ one_behind a b w (x ∷ y ∷ z ∷ []) p
+
 pub four_made : {X : Type 0} (a : List X) (w x y z : X) (b c d e : List X) → a ≡ [] → b ≡ a ++ w ∷ [] → c ≡ b ++ x ∷ [] → d ≡ c ++ y ∷ [] → e ≡ d ++ z ∷ [] → e ≡ w ∷ x ∷ y ∷ z ∷ []
 four_made a w x y z b c d e none p q r s = three_behind b x y z c d e q r s ∙ one_behind a b w (x ∷ y ∷ z ∷ []) p ∙ ap (λ l. l ++ w ∷ x ∷ y ∷ z ∷ []) none
 

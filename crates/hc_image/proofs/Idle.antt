@@ -34,11 +34,11 @@ none_out : (keys : List (List ℕ)) → list_any is_out (map waiting_stone keys)
 none_out [] = refl
 none_out (key ∷ keys) = none_out keys
 
-pub rests_of : (pair : Pair) (made : ℕ) (puts : List FlashEntry) (keys : List (List ℕ)) → is_idle pair ≡ true → rests (of_parts pair puts keys made) ≡ true
-rests_of pair made puts keys idle = (λ i. ((idle i && (length {A = Job} [] == 0)) && (length {A = Fill} [] == 0)) && not (none_out keys i))
+pub rests_of : (pair : Pair) (made : ℕ) (tags : List ℕ) (puts : List FlashEntry) (keys : List (List ℕ)) → is_idle pair ≡ true → rests (of_parts pair puts keys made tags) ≡ true
+rests_of pair made tags puts keys idle = (λ i. ((idle i && (length {A = Job} [] == 0)) && (length {A = Fill} [] == 0)) && not (none_out keys i))
 
 -- engines at rest for which something waits again
-pub waits_rest : (n m : Nvm) (pair : Pair) (made : ℕ) (puts : List FlashEntry) (keys : List (List ℕ)) → is_idle pair ≡ true → m ≡ of_parts pair [] [] made
+pub waits_rest : (n m : Nvm) (pair : Pair) (made : ℕ) (tags : List ℕ) (puts : List FlashEntry) (keys : List (List ℕ)) → is_idle pair ≡ true → m ≡ of_parts pair [] [] made tags
     → n ≡ record m { queue = m.queue ++ puts; tombstones = m.tombstones ++ map waiting_stone keys } → rests n ≡ true
-waits_rest n m pair made puts keys idle is e =
-    ap rests (e ∙ (λ i. record (is i) { queue = (is i).queue ++ puts; tombstones = (is i).tombstones ++ map waiting_stone keys })) ∙ rests_of pair made puts keys idle
+waits_rest n m pair made tags puts keys idle is e =
+    ap rests (e ∙ (λ i. record (is i) { queue = (is i).queue ++ puts; tombstones = (is i).tombstones ++ map waiting_stone keys })) ∙ rests_of pair made tags puts keys idle

@@ -24,6 +24,6 @@ pub bits_fit : (config : Config) (flash : FlashConfig) → first_wrong config �
 bits_fit config flash h e = (limits_from flash (sym (ap wrong_behind e) ∙ wrong_flash config h)).bits
 
 -- what waits and stands on flash goes by the flash that it was made for
-pub flash_is : (flash : Option FlashConfig) (block : Block) (words : List (Option ℕ)) (puts : List FlashEntry) (keys : List (List ℕ)) (made : ℕ) → flash_of (nvm_at flash block words puts keys made) ≡ flash
-flash_is None block words puts keys made = refl
-flash_is (Some flash) block words puts keys made = refl
+pub flash_is : (flash : Option FlashConfig) (block : Block) (words : List (Option ℕ)) (puts : List FlashEntry) (keys : List (List ℕ)) (made : ℕ) (tags : List ℕ) → flash_of (nvm_at flash block words puts keys made tags) ≡ flash
+flash_is None block words puts keys made tags = refl
+flash_is (Some flash) block words puts keys made tags = refl

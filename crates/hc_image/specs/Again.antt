@@ -1,5 +1,6 @@
 -- The law of both: what a saver gives of a cache at rest, a loader makes the same cache of.
 use Rattle.std.specs.Prelude.{◌≡◌, ℕ, ◌<◌, ◌≤◌, ◌^◌, true, List, length, All, Some, None, Ok, [], ◌∷◌, ◌++◌}
+use Rattle.hc_types.specs.Admission.{slots_of}
 use Rattle.hc_engines.specs.large.Entries.{IsLarge}
 use Rattle.hc_engines.specs.large.Region.{Region}
 use Rattle.hc_region.specs.Resting.{rest_of}
@@ -42,6 +43,8 @@ pub record NvmFits (nvm : Nvm) : Type 0 where
   pub count : length nvm.pair.small.words ≡ nvm.pair.small.flash.buckets
   pub waits : AllPutsFit nvm.pair.small.flash [] nvm.queue
   pub buried : AllStonesFit [] nvm.tombstones
+  pub tags : All (λ tag. tag < 2 ^ 32) nvm.tags
+  pub slots : length nvm.tags ≡ slots_of nvm.pair.small.flash.admission
 
 -- A cache at rest, whose items come back (hc_state's `Parts::comes_back`), and what is kept beside it: of which all numbers fit into
 -- their bytes.

@@ -2,6 +2,7 @@
 use Rattle.std.specs.Prelude.{ℕ, ◌==◌, nat_le, nat_lt, not, Bool, true, ◌&&◌, ◌||◌, List, [], ◌∷◌, ◌++◌, length, Option, Some, None, is_none}
 use Rattle.std.specs.List.{list_any}
 use Rattle.hc_types.specs.FlashEntry.{FlashEntry}
+use Rattle.hc_types.specs.Admission.{slots_of}
 use Rattle.hc_types.specs.Places.{is_small_by}
 use Rattle.hc_types.specs.declared.config.FlashConfig.{FlashConfig}
 use Rattle.hc_engines.specs.large.Entries.{entry_bytes}
@@ -43,14 +44,18 @@ stones_fit before (key ∷ keys) = stone_fits before key && stones_fit (before +
 abbrev pub waiting_fits : FlashConfig → List FlashEntry → List (List ℕ) → Bool
 waiting_fits flash puts keys = puts_fit flash [] puts && stones_fit [] keys
 
--- what waits for flash, and what stands on it
-abbrev pub flash_fits : FlashConfig → Block → List (Option ℕ) → List FlashEntry → List (List ℕ) → Bool
-flash_fits flash block words puts keys = engines_fit flash block words && waiting_fits flash puts keys
+-- the table has as many slots as are configured
+abbrev pub tags_fit : FlashConfig → List ℕ → Bool
+tags_fit flash tags = length tags == slots_of flash.admission
+
+-- what waits for flash, what stands on it, and what was turned away
+abbrev pub flash_fits : FlashConfig → Block → List (Option ℕ) → List FlashEntry → List (List ℕ) → List ℕ → Bool
+flash_fits flash block words puts keys tags = tags_fit flash tags && (engines_fit flash block words && waiting_fits flash puts keys)
 
 -- nothing, where the configuration has no flash
-abbrev pub if_flash_fits : Option FlashConfig → Block → List (Option ℕ) → List FlashEntry → List (List ℕ) → Bool
-if_flash_fits None block words puts keys = true
-if_flash_fits (Some flash) block words puts keys = flash_fits flash block words puts keys
+abbrev pub if_flash_fits : Option FlashConfig → Block → List (Option ℕ) → List FlashEntry → List (List ℕ) → List ℕ → Bool
+if_flash_fits None block words puts keys tags = true
+if_flash_fits (Some flash) block words puts keys tags = flash_fits flash block words puts keys tags
 
 -- the item's value is no longer than one can be, and it can stand beside those that came
 abbrev pub item_fits : Cache → Item → Bool

@@ -61,6 +61,7 @@ pub record Gathered : Type 0 where
   pub sealed : List ℕ
   pub flushed : List ℕ
   pub index : List Indexed
+  pub tags : List ℕ
 
 -- the cache so far, and what it carries
 pub record Filling : Type 0 where
@@ -95,6 +96,7 @@ empty = record {
   sealed = [];
   flushed = [];
   index = [];
+  tags = [];
 }
 
 abbrev pub aged : Result (Unit {0}) Refused → Result (Unit {0}) Refusal
@@ -139,6 +141,7 @@ recorded kinds.Region body g = read (λ region. record g { regions = g.regions +
 recorded kinds.Open body g = read (λ current. record g { current = current }) (open_in body)
 recorded kinds.Sealed body g = read (λ sealed. record g { sealed = sealed }) (numbers_in body)
 recorded kinds.Flushed body g = read (λ flushed. record g { flushed = flushed }) (numbers_in body)
+recorded kinds.Tags body g = read (λ tags. record g { tags = tags }) (numbers_in body)
 recorded kinds.Leads body g = read (λ x. with_lead x g) (lead_in body)
 recorded kind body g = Err NotWhole
 
@@ -149,16 +152,16 @@ recorded_in (Some g) kind body = recorded kind body g
 -- ---- the cache
 
 -- both engines at rest, and what waits for them, where the configuration has flash
-abbrev pub nvm_at : Option FlashConfig → Block → List (Option ℕ) → List FlashEntry → List (List ℕ) → ℕ → Option Nvm
-nvm_at None block words puts keys made = None
-nvm_at (Some flash) block words puts keys made = Some (of_parts (record { small = record { flash = flash; words = words; jobs = [] }; large = block }) puts keys made)
+abbrev pub nvm_at : Option FlashConfig → Block → List (Option ℕ) → List FlashEntry → List (List ℕ) → ℕ → List ℕ → Option Nvm
+nvm_at None block words puts keys made tags = None
+nvm_at (Some flash) block words puts keys made tags = Some (of_parts (record { small = record { flash = flash; words = words; jobs = [] }; large = block }) puts keys made tags)
 
 abbrev pub nvm_by : Option FlashConfig → Gathered → Option Nvm
-nvm_by flash g = nvm_at flash (block_at g.regions g.current g.sealed g.flushed g.index) g.words g.puts g.keys g.counters.jobs
+nvm_by flash g = nvm_at flash (block_at g.regions g.current g.sealed g.flushed g.index) g.words g.puts g.keys g.counters.jobs g.tags
 
 -- what came of flash can be that of a cache with this configuration
 abbrev pub nvm_fits : Option FlashConfig → Gathered → Bool
-nvm_fits flash g = if_flash_fits flash (block_at g.regions g.current g.sealed g.flushed g.index) g.words g.puts g.keys
+nvm_fits flash g = if_flash_fits flash (block_at g.regions g.current g.sealed g.flushed g.index) g.words g.puts g.keys g.tags
 
 -- the cache without items
 abbrev pub filled_by : Config → Gathered → Filling

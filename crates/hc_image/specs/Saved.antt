@@ -85,6 +85,9 @@ sealed_frame numbers = framed kinds.Sealed (numbers_bytes numbers)
 abbrev pub flushed_frame : List ℕ → Frame
 flushed_frame numbers = framed kinds.Flushed (numbers_bytes numbers)
 
+abbrev pub tags_frame : List ℕ → Frame
+tags_frame tags = framed kinds.Tags (numbers_bytes tags)
+
 -- ---- all of them
 
 abbrev pub jobs_of : Option Nvm → ℕ
@@ -97,10 +100,10 @@ counters_of cache = record { charges = cache.memory.made; jobs = jobs_of cache.n
 abbrev pub keys_of : List Tombstone → List (List ℕ)
 keys_of stones = map (λ (stone : Tombstone). stone.key) stones
 
--- which regions are open, wait for their flush, and are on flash
+-- which regions are open, wait for their flush, and are on flash, and what was turned away
 abbrev pub lists_frames : Option Nvm → List Frame
 lists_frames None = []
-lists_frames (Some nvm) = open_frame nvm.pair.large.current ∷ sealed_frame nvm.pair.large.sealed ∷ flushed_frame nvm.pair.large.flushed ∷ []
+lists_frames (Some nvm) = open_frame nvm.pair.large.current ∷ sealed_frame nvm.pair.large.sealed ∷ flushed_frame nvm.pair.large.flushed ∷ tags_frame nvm.tags ∷ []
 
 -- what there is once
 abbrev pub first_frames : Shard → Head → Carried → Cache → List Frame

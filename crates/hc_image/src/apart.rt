@@ -6,17 +6,18 @@ ghost use Rattle.hc_nvm.specs.Resting.{rests};
 ghost use Rattle.hc_state.specs.Whole.{nvm_of};
 ghost use Rattle.hc_state.specs.Resting.{flash_rests, is_at_rest};
 ghost use Rattle.hc_image_text.specs.Frames.{Frame};
-ghost use Rattle.hc_image.specs.Saved.{keys_of, lists_frames, nvm_frames, frames_of, counters_of as seen_counters, waiting_frames, engine_frames, head_frame, counters_frame, stamps_frame, owner_frame, open_frame, sealed_frame, flushed_frame, digest_frame, item_frame};
+ghost use Rattle.hc_image.specs.Saved.{keys_of, lists_frames, nvm_frames, frames_of, counters_of as seen_counters, waiting_frames, engine_frames, head_frame, counters_frame, stamps_frame, owner_frame, open_frame, sealed_frame, flushed_frame, tags_frame, digest_frame, item_frame};
 
 use crate::carried::Carried;
 use crate::making::Record;
 use crate::rest::{OnFlash, Rest};
 use hc_image_text::{
     Counters, Head, Kind, Shard, put_counters, put_head, put_number, put_numbers, put_open,
+    put_tags,
 };
 use hc_nvm::Nvm;
 use hc_state::Parts;
-use hc_types::{Config, Entry, Key};
+use hc_types::{Config, Entry, Key, Tags};
 use std::alloc::{AllocError, Allocator};
 use std::collections::VecDeque;
 
@@ -171,17 +172,34 @@ fn first_records<A: Allocator + Clone + Copy>(
     Ok(records)
 }
 
-/// The records of the lists of regions.
+/// The record of what was turned away.
+fn tags_record<A: Allocator + Clone + Copy>(
+    alloc: A,
+    tags: &Tags<A>,
+) -> Result<Record<A>, AllocError>
+    ensures { IfOk result (λ made. made ≡ tags_frame tags.now) }
+{
+    let mut body = Vec::new(alloc);
+    put_tags(&mut body, tags.as_slice())?;
+    Ok(Record {
+        kind: Kind::Tags,
+        body,
+    })
+}
+
+/// The records of the lists of regions, and of what was turned away.
 fn put_lists<A: Allocator + Clone + Copy>(
     alloc: A,
     records: &mut Vec<Record<A>, A>,
     large: &hc_block::Parts<A>,
+    tags: &Tags<A>,
 ) -> Result<(), AllocError>
-    ensures { OnOk result (records.new.items ≡ records.old.items ++ open_frame large.now.current ∷ sealed_frame large.now.sealed.items ∷ flushed_frame large.now.flushed.items ∷ []) }
+    ensures { OnOk result (records.new.items ≡ records.old.items ++ open_frame large.now.current ∷ sealed_frame large.now.sealed.items ∷ flushed_frame large.now.flushed.items ∷ tags_frame tags.now ∷ []) }
 {
     push(records, open_record(alloc, large.current))?;
     push(records, sealed_record(alloc, &large.sealed))?;
-    push(records, flushed_record(alloc, &large.flushed))
+    push(records, flushed_record(alloc, &large.flushed))?;
+    push(records, tags_record(alloc, tags))
 }
 
 /// The puts that wait, and the keys of the tombstones.
@@ -262,6 +280,7 @@ fn queues_out<A: Allocator + Clone + Copy>(
     ensures puts { IfOk result (λ queues. entries_of queues.puts.items ≡ nvm.old.nvm.queue) }
     ensures keys { IfOk result (λ queues. queues.keys.items ≡ keys_of nvm.old.nvm.tombstones) }
     ensures nvm { OnOk result (nvm.new.nvm.pair ≡ nvm.old.nvm.pair) }
+    ensures tags { OnOk result (nvm.new.nvm.tags ≡ nvm.old.nvm.tags) }
 {
     let puts = match puts_out(alloc, nvm) {
         Ok(puts) => puts,
@@ -305,13 +324,14 @@ fn engines_out<A: Allocator + Clone + Copy>(
 ) -> Result<OnFlash<A>, AllocError>
     requires small { length nvm.nvm.pair.small.jobs ≡ 0 }
     requires large { length nvm.nvm.pair.large.jobs ≡ 0 }
-    ensures records { OnOk result (records.new.items ≡ records.old.items ++ open_frame nvm.nvm.pair.large.current ∷ sealed_frame nvm.nvm.pair.large.sealed ∷ flushed_frame nvm.nvm.pair.large.flushed ∷ []) }
+    ensures records { OnOk result (records.new.items ≡ records.old.items ++ open_frame nvm.nvm.pair.large.current ∷ sealed_frame nvm.nvm.pair.large.sealed ∷ flushed_frame nvm.nvm.pair.large.flushed ∷ tags_frame nvm.nvm.tags ∷ []) }
     ensures frames { IfOk result (λ f. f ≡ waiting_frames (entries_of queues.puts.items) queues.keys.items ++ engine_frames nvm.nvm.pair.small.words nvm.nvm.pair.large.regions nvm.nvm.pair.large.index) }
 {
-    let (small, large) = nvm.into_pair().into_parts();
+    let (pair, tags) = nvm.into_parts();
+    let (small, large) = pair.into_parts();
     let words = small.into_words();
     let large = large.into_parts();
-    match put_lists(alloc, records, &large) {
+    match put_lists(alloc, records, &large, &tags) {
         Ok(()) => Ok(assembled(queues, words, large)),
         Err(why) => Err(why),
     }

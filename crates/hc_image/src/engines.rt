@@ -13,16 +13,17 @@ use hc_bighash::BigHash;
 use hc_block::{BlockCache, Parts as Large, Reason};
 use hc_nvm::{Nvm, Unfit};
 use hc_pair::Pair;
-use hc_types::{Entry, FlashConfig, Key};
+use hc_types::{Entry, FlashConfig, Key, Tags};
 use std::alloc::Allocator;
 
-/// What came of flash: how many jobs there were, what waits, and what the engines have.
+/// What came of flash: how many jobs there were, what waits, what the engines have, and what was turned away.
 pub(crate) struct OnFlash<A: Allocator> {
     pub(crate) jobs: u64,
     pub(crate) puts: Vec<Entry<A>, A>,
     pub(crate) keys: Vec<Key<A>, A>,
     pub(crate) words: Vec<Option<u64>, A>,
     pub(crate) large: Large<A>,
+    pub(crate) tags: Vec<u32, A>,
 }
 
 // (written out, so that who drops it calls this one function)
@@ -34,6 +35,7 @@ impl<A: Allocator> Drop for OnFlash<A> {
             keys: _,
             words: _,
             large: _,
+            tags: _,
         } = self;
     }
 }
@@ -88,6 +90,7 @@ fn large_of<A: Allocator + Clone + Copy>(
 fn joined<A: Allocator + Clone + Copy>(
     alloc: A,
     made: u64,
+    tags: Vec<u32, A>,
     small: BigHash<A>,
     large: BlockCache<A>,
 ) -> Nvm<A>
@@ -96,12 +99,12 @@ fn joined<A: Allocator + Clone + Copy>(
     requires small { small.jobs ≡ [] }
     requires large { large.block.jobs ≡ [] }
     requires leads { LeadsWell small.flash large.block }
-    ensures nvm { result.nvm ≡ of_parts (record { small = small; large = large.block }) [] [] made }
+    ensures nvm { result.nvm ≡ of_parts (record { small = small; large = large.block }) [] [] made tags.items }
     ensures alone { LargeAlone small.flash large.block }
 {
     let pair = Pair::from_parts(small, large);
     pair.is_sound();
-    Nvm::from_parts(alloc, pair, made)
+    Nvm::from_parts(alloc, pair, made, Tags::from_vec(tags))
 }
 
 /// Both engines, with nothing that waits for them.
@@ -110,11 +113,12 @@ fn bare_of<A: Allocator + Clone + Copy>(
     alloc: A,
     flash: FlashConfig,
     made: u64,
+    tags: Vec<u32, A>,
     words: Vec<Option<u64>, A>,
     parts: Large<A>,
 ) -> Result<Nvm<A>, Refusal>
     requires { flash_wrong flash ≡ None }
-    ensures nvm { IfOk result (λ n. n.nvm ≡ of_parts (record { small = record { flash = flash; words = words.items; jobs = [] }; large = block_at parts.regions.items parts.current parts.sealed.items parts.flushed.items parts.index }) [] [] made) }
+    ensures nvm { IfOk result (λ n. n.nvm ≡ of_parts (record { small = record { flash = flash; words = words.items; jobs = [] }; large = block_at parts.regions.items parts.current parts.sealed.items parts.flushed.items parts.index }) [] [] made tags.items) }
     ensures fits { OnOk result (engines_fit flash (block_at parts.regions.items parts.current parts.sealed.items parts.flushed.items parts.index) words.items ≡ true) }
     ensures why { IfErr result (IsUnfit (engines_fit flash (block_at parts.regions.items parts.current parts.sealed.items parts.flushed.items parts.index) words.items)) }
     ensures large { IfOk result (λ n. LargeAlone n.nvm.pair.small.flash n.nvm.pair.large) }
@@ -124,7 +128,7 @@ fn bare_of<A: Allocator + Clone + Copy>(
         Err(why) => return Err(why),
     };
     match small_of(alloc, flash, words) {
-        Ok(small) => Ok(joined(alloc, made, small, large)),
+        Ok(small) => Ok(joined(alloc, made, tags, small, large)),
         Err(why) => Err(why),
     }
 }
@@ -234,9 +238,9 @@ impl<A: Allocator + Clone + Copy> OnFlash<A> {
     #[tactic(auto, using(crate::proofs::Refusing::unfit_left, crate::proofs::Refusing::unfit_right))]
     pub(crate) fn into_nvm(self, alloc: A, flash: FlashConfig) -> Result<Nvm<A>, Refusal>
         requires { flash_wrong flash ≡ None }
-        ensures nvm { IfOk result (λ n. n.nvm ≡ of_parts (record { small = record { flash = flash; words = self.words.items; jobs = [] }; large = block_at self.large.regions.items self.large.current self.large.sealed.items self.large.flushed.items self.large.index }) (entries_of self.puts.items) self.keys.items self.jobs) }
-        ensures fits { OnOk result (flash_fits flash (block_at self.large.regions.items self.large.current self.large.sealed.items self.large.flushed.items self.large.index) self.words.items (entries_of self.puts.items) self.keys.items ≡ true) }
-        ensures why { IfErr result (IsUnfit (flash_fits flash (block_at self.large.regions.items self.large.current self.large.sealed.items self.large.flushed.items self.large.index) self.words.items (entries_of self.puts.items) self.keys.items)) }
+        ensures nvm { IfOk result (λ n. n.nvm ≡ of_parts (record { small = record { flash = flash; words = self.words.items; jobs = [] }; large = block_at self.large.regions.items self.large.current self.large.sealed.items self.large.flushed.items self.large.index }) (entries_of self.puts.items) self.keys.items self.jobs self.tags.items) }
+        ensures fits { OnOk result (flash_fits flash (block_at self.large.regions.items self.large.current self.large.sealed.items self.large.flushed.items self.large.index) self.words.items (entries_of self.puts.items) self.keys.items self.tags.items ≡ true) }
+        ensures why { IfErr result (IsUnfit (flash_fits flash (block_at self.large.regions.items self.large.current self.large.sealed.items self.large.flushed.items self.large.index) self.words.items (entries_of self.puts.items) self.keys.items self.tags.items)) }
         ensures rests { IfOk result (λ n. rests n.nvm ≡ true) }
         ensures large { IfOk result (λ n. LargeAlone n.nvm.pair.small.flash n.nvm.pair.large) }
     {
@@ -246,8 +250,12 @@ impl<A: Allocator + Clone + Copy> OnFlash<A> {
             keys,
             words,
             large,
+            tags,
         } = self;
-        match bare_of(alloc, flash, jobs, words, large) {
+        if tags.len() as u64 != flash.admission.slots() {
+            return Err(Refusal::Unfit);
+        }
+        match bare_of(alloc, flash, jobs, tags, words, large) {
             Ok(nvm) => with_waiting(nvm, puts, keys),
             Err(why) => Err(why),
         }

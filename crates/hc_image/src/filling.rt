@@ -59,9 +59,9 @@ fn if_flash<A: Allocator + Clone + Copy>(
     on_flash: OnFlash<A>,
 ) -> Result<Option<Nvm<A>>, Refusal>
     requires { wrong_behind flash ≡ None }
-    ensures nvm { IfOk result (λ n. nvm_of n ≡ nvm_at flash (block_at on_flash.large.regions.items on_flash.large.current on_flash.large.sealed.items on_flash.large.flushed.items on_flash.large.index) on_flash.words.items (entries_of on_flash.puts.items) on_flash.keys.items on_flash.jobs) }
-    ensures fits { OnOk result (if_flash_fits flash (block_at on_flash.large.regions.items on_flash.large.current on_flash.large.sealed.items on_flash.large.flushed.items on_flash.large.index) on_flash.words.items (entries_of on_flash.puts.items) on_flash.keys.items ≡ true) }
-    ensures why { IfErr result (IsUnfit (if_flash_fits flash (block_at on_flash.large.regions.items on_flash.large.current on_flash.large.sealed.items on_flash.large.flushed.items on_flash.large.index) on_flash.words.items (entries_of on_flash.puts.items) on_flash.keys.items)) }
+    ensures nvm { IfOk result (λ n. nvm_of n ≡ nvm_at flash (block_at on_flash.large.regions.items on_flash.large.current on_flash.large.sealed.items on_flash.large.flushed.items on_flash.large.index) on_flash.words.items (entries_of on_flash.puts.items) on_flash.keys.items on_flash.jobs on_flash.tags.items) }
+    ensures fits { OnOk result (if_flash_fits flash (block_at on_flash.large.regions.items on_flash.large.current on_flash.large.sealed.items on_flash.large.flushed.items on_flash.large.index) on_flash.words.items (entries_of on_flash.puts.items) on_flash.keys.items on_flash.tags.items ≡ true) }
+    ensures why { IfErr result (IsUnfit (if_flash_fits flash (block_at on_flash.large.regions.items on_flash.large.current on_flash.large.sealed.items on_flash.large.flushed.items on_flash.large.index) on_flash.words.items (entries_of on_flash.puts.items) on_flash.keys.items on_flash.tags.items)) }
     ensures rests { IfOk result (λ n. IfSome (nvm_of n) (λ nvm. rests nvm ≡ true)) }
     ensures large { IfOk result (λ n. IfSome (nvm_of n) (λ nvm. LargeAlone nvm.pair.small.flash nvm.pair.large)) }
 {

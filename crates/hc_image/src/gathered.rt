@@ -17,7 +17,7 @@ use bytes::Bytes;
 use hc_block::{Index, Parts as Large};
 use hc_image_text::{
     Counters, Kind, counters_in, key_in, lead_in, number_in, numbers_in, open_in, region_in,
-    word_in,
+    tags_in, word_in,
 };
 use hc_region::{Region, entry_in};
 use hc_types::{Entry, Key};
@@ -33,6 +33,7 @@ pub(crate) struct Gathered<A: Allocator> {
     pub(crate) keys: Vec<Key<A>, A>,
     pub(crate) words: Vec<Option<u64>, A>,
     pub(crate) large: Large<A>,
+    pub(crate) tags: Vec<u32, A>,
 }
 
 // (written out, so that who drops it calls this one function)
@@ -45,6 +46,7 @@ impl<A: Allocator> Drop for Gathered<A> {
             keys: _,
             words: _,
             large: _,
+            tags: _,
         } = self;
     }
 }
@@ -55,7 +57,7 @@ impl<A: Allocator> Model for Gathered<A> {
 
     ghost Value = { Meaning };
 
-    ghost view = { λ g. record { counters = g.counters; carried = g.carried; puts = entries_of g.puts.items; keys = g.keys.items; words = g.words.items; regions = g.large.regions.items; current = g.large.current; sealed = g.large.sealed.items; flushed = g.large.flushed.items; index = g.large.index } };
+    ghost view = { λ g. record { counters = g.counters; carried = g.carried; puts = entries_of g.puts.items; keys = g.keys.items; words = g.words.items; regions = g.large.regions.items; current = g.large.current; sealed = g.large.sealed.items; flushed = g.large.flushed.items; index = g.large.index; tags = g.tags.items } };
 }
 
 /// The bytes, shared by what is read from them.
@@ -141,6 +143,18 @@ fn list_of<A: Allocator + Clone + Copy>(alloc: A, body: &[u8]) -> Result<VecDequ
     }
 }
 
+/// The tags that these bytes are.
+fn tags_of<A: Allocator + Clone + Copy>(alloc: A, body: &[u8]) -> Result<Vec<u32, A>, Refusal>
+    ensures ok { IfOk result (λ tags. numbers_in_seen body.now ≡ Some tags.items) }
+    ensures why { IfErr result (IsWhy (ok_or (numbers_in_seen body.now) NotWhole)) }
+{
+    match tags_in(alloc, body) {
+        Ok(Some(tags)) => Ok(tags),
+        Ok(None) => Err(Refusal::NotWhole),
+        Err(_) => Err(Refusal::NoMemory),
+    }
+}
+
 /// One more stands behind the others. Refused only when out of memory.
 fn push<T: Drop, A: Allocator + Clone>(items: &mut Vec<T, A>, item: T) -> Result<(), Refusal>
     ensures ok { OnOk result (items.new.items ≡ items.old.items ++ item ∷ []) }
@@ -161,6 +175,7 @@ impl<A: Allocator> Gathered<A> {
         ensures puts { entries_of result.2.puts.items ≡ self.puts }
         ensures keys { result.2.keys.items ≡ self.keys }
         ensures words { result.2.words.items ≡ self.words }
+        ensures tags { result.2.tags.items ≡ self.tags }
         ensures large { block_at result.2.large.regions.items result.2.large.current result.2.large.sealed.items result.2.large.flushed.items result.2.large.index ≡ block_at self.regions self.current self.sealed self.flushed self.index }
     {
         let Gathered {
@@ -170,6 +185,7 @@ impl<A: Allocator> Gathered<A> {
             keys,
             words,
             large,
+            tags,
         } = self;
         let on_flash = OnFlash {
             jobs: counters.jobs,
@@ -177,6 +193,7 @@ impl<A: Allocator> Gathered<A> {
             keys,
             words,
             large,
+            tags,
         };
         (counters, carried, on_flash)
     }
@@ -205,6 +222,7 @@ impl<A: Allocator + Clone + Copy> Gathered<A> {
             keys: Vec::new(alloc),
             words: Vec::new(alloc),
             large,
+            tags: Vec::new(alloc),
         })
     }
 
@@ -226,6 +244,7 @@ impl<A: Allocator + Clone + Copy> Gathered<A> {
             Kind::Sealed => self.take_sealed(alloc, body),
             Kind::Flushed => self.take_flushed(alloc, body),
             Kind::Leads => self.take_lead(body),
+            Kind::Tags => self.take_tags(alloc, body),
             Kind::Head | Kind::Item | Kind::End => Err(Refusal::NotWhole),
         }
     }
@@ -344,6 +363,19 @@ impl<A: Allocator + Clone + Copy> Gathered<A> {
         match list_of(alloc, body) {
             Ok(flushed) => {
                 self.large.flushed = flushed;
+                Ok(())
+            }
+            Err(why) => Err(why),
+        }
+    }
+
+    fn take_tags(&mut self, alloc: A, body: &[u8]) -> Result<(), Refusal>
+        ensures ok { OnOk result (recorded kinds.Tags body.now self.old ≡ Ok self.new) }
+        ensures why { IfErr result (IsWhy (recorded kinds.Tags body.now self.old)) }
+    {
+        match tags_of(alloc, body) {
+            Ok(tags) => {
+                self.tags = tags;
                 Ok(())
             }
             Err(why) => Err(why),

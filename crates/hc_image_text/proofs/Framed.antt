@@ -23,6 +23,7 @@ kind_again kinds.Open = refl
 kind_again kinds.Sealed = refl
 kind_again kinds.Flushed = refl
 kind_again kinds.Leads = refl
+kind_again kinds.Tags = refl
 kind_again kinds.Stamps = refl
 kind_again kinds.Digests = refl
 kind_again kinds.Owner = refl
@@ -77,11 +78,12 @@ kind_spelled b kind =
     (letter b kinds.Sealed _ kind (b == 83) refl
     (letter b kinds.Flushed _ kind (b == 70) refl
     (letter b kinds.Leads _ kind (b == 76) refl
+    (letter b kinds.Tags _ kind (b == 75) refl
     (letter b kinds.Stamps _ kind (b == 65) refl
     (letter b kinds.Digests _ kind (b == 68) refl
     (letter b kinds.Owner _ kind (b == 66) refl
     (letter b kinds.End None kind (b == 69) refl
-    (λ none. absurd (none-some kind none))))))))))))))))
+    (λ none. absurd (none-some kind none)))))))))))))))))
 
 small_front : (n : ℕ) (xs : List ℕ) → ((i : ℕ) → get_or xs i 0 < 256) → (i : ℕ) → get_or (take n xs) i 0 < 256
 small_front zero xs small i = omega arith

@@ -186,6 +186,7 @@ end_is kinds.Open h = absurd cc
 end_is kinds.Sealed h = absurd cc
 end_is kinds.Flushed h = absurd cc
 end_is kinds.Leads h = absurd cc
+end_is kinds.Tags h = absurd cc
 end_is kinds.Stamps h = absurd cc
 end_is kinds.Digests h = absurd cc
 end_is kinds.Owner h = absurd cc

@@ -1,13 +1,16 @@
 -- The bytes that say whose an image is tell shard and configuration: those of two that differ differ.
-use Rattle.std.proofs.Common.{◌≡◌, ℕ, ◌*◌, ◌==◌, List, [], ◌∷◌, ◌++◌, length, take, drop, Option, Some, None, refl, sym, ap, drop_at, ◌∙◌}
+use Rattle.std.proofs.Common.{◌≡◌, ℕ, ◌*◌, ◌<◌, ◌^◌, ◌==◌, List, [], ◌∷◌, ◌++◌, length, take, drop, Option, Some, None, refl, sym, ap, drop_at, ◌∙◌, arith}
 use Rattle.std.specs.Prelude.{flat_map, if◌then◌else◌}
 use Rattle.std.specs.Int.{w32, w64, to_be_bytes, from_be_bytes}
 use Rattle.std.proofs.lemmas.Nat.{from_be_bytes-to_be_bytes_4, from_be_bytes-to_be_bytes_8}
+use Rattle.hc_types.specs.declared.config.Admission.{Admission}
+use Rattle.hc_types.specs.declared.config.Admission.TheVariants.{All, RejectFirst}
 use Rattle.hc_types.specs.declared.config.FlashConfig.{FlashConfig}
+use Rattle.hc_types.specs.Admission.{slots_of}
 use Rattle.hc_types.specs.declared.config.PoolSize.{PoolSize}
 use Rattle.hc_types.specs.Config.{Config}
 use Rattle.hc_image_text.specs.declared.head.Shard.{Shard}
-use Rattle.hc_image_text.specs.Heads.{pool_size_bytes, flash_bytes, config_bytes, whose_bytes, IsShard, IsPoolSize, IsFlash, IsConfig}
+use Rattle.hc_image_text.specs.Heads.{kind_of, pool_size_bytes, flash_bytes, config_bytes, whose_bytes, IsShard, IsPoolSize, IsFlash, IsConfig}
 use Rattle.hc_image_text.specs.Regions.{rows}
 use Rattle.hc_image_text.proofs.Rows.{rows_again, rows_long}
 
@@ -18,6 +21,9 @@ shard_at bytes = record { number = from_be_bytes w32 (take 4 bytes); of = from_b
 
 abbrev pool_at : List ℕ → PoolSize
 pool_at bytes = record { bytes = from_be_bytes w64 (take 8 bytes); items = from_be_bytes w64 (take 8 (drop 8 bytes)) }
+
+abbrev admission_by : ℕ → ℕ → Admission
+admission_by kind slots = if kind == 0 then All else RejectFirst slots
 
 abbrev flash_at : List ℕ → FlashConfig
 flash_at bytes = record {
@@ -31,6 +37,7 @@ flash_at bytes = record {
   bits = from_be_bytes w64 (take 8 (drop 56 bytes));
   admit_min = from_be_bytes w64 (take 8 (drop 64 bytes));
   admit_max = from_be_bytes w64 (take 8 (drop 72 bytes));
+  admission = admission_by (from_be_bytes w64 (take 8 (drop 80 bytes))) (from_be_bytes w64 (take 8 (drop 88 bytes)));
 }
 
 abbrev flash_in : List ℕ → Option FlashConfig
@@ -51,11 +58,19 @@ sixteen p = refl
 pool_row : (p : PoolSize) (more : List ℕ) → IsPoolSize p → pool_at (pool_size_bytes p ++ more) ≡ p
 pool_row p more fits = rw (from_be_bytes-to_be_bytes_8 p.bytes fits.bytes, from_be_bytes-to_be_bytes_8 p.items fits.items) refl
 
+small_kind : (admission : Admission) → kind_of admission < 2 ^ 64
+small_kind All = omega arith
+small_kind (RejectFirst slots) = omega arith
+
+admission_again : (admission : Admission) → admission_by (kind_of admission) (slots_of admission) ≡ admission
+admission_again All = refl
+admission_again (RejectFirst slots) = refl
+
 flash_again : (flash : Option FlashConfig) → ((f : FlashConfig) → flash ≡ Some f → IsFlash f) → flash_in (flash_bytes flash) ≡ flash
 flash_again None fits = refl
 flash_again (Some f) fits =
     let is = fits f refl in
-    rw (from_be_bytes-to_be_bytes_8 f.page is.page, from_be_bytes-to_be_bytes_8 f.buckets is.buckets, from_be_bytes-to_be_bytes_8 f.regions is.regions, from_be_bytes-to_be_bytes_8 f.region_pages is.region_pages, from_be_bytes-to_be_bytes_8 f.clean is.clean, from_be_bytes-to_be_bytes_8 f.small_max is.small_max, from_be_bytes-to_be_bytes_8 f.queue is.queue, from_be_bytes-to_be_bytes_8 f.bits is.bits, from_be_bytes-to_be_bytes_8 f.admit_min is.admit_min, from_be_bytes-to_be_bytes_8 f.admit_max is.admit_max) refl
+    rw (from_be_bytes-to_be_bytes_8 f.page is.page, from_be_bytes-to_be_bytes_8 f.buckets is.buckets, from_be_bytes-to_be_bytes_8 f.regions is.regions, from_be_bytes-to_be_bytes_8 f.region_pages is.region_pages, from_be_bytes-to_be_bytes_8 f.clean is.clean, from_be_bytes-to_be_bytes_8 f.small_max is.small_max, from_be_bytes-to_be_bytes_8 f.queue is.queue, from_be_bytes-to_be_bytes_8 f.bits is.bits, from_be_bytes-to_be_bytes_8 f.admit_min is.admit_min, from_be_bytes-to_be_bytes_8 f.admit_max is.admit_max, from_be_bytes-to_be_bytes_8 (kind_of f.admission) (small_kind f.admission), from_be_bytes-to_be_bytes_8 (slots_of f.admission) is.slots, admission_again f.admission) refl
 
 config_again : (config : Config) → IsConfig config → config_at (config_bytes config) ≡ config
 config_again config fits =

@@ -17,6 +17,7 @@ kind_byte kinds.Open = 79
 kind_byte kinds.Sealed = 83
 kind_byte kinds.Flushed = 70
 kind_byte kinds.Leads = 76
+kind_byte kinds.Tags = 75
 kind_byte kinds.Stamps = 65
 kind_byte kinds.Digests = 68
 kind_byte kinds.Owner = 66
@@ -35,10 +36,11 @@ kind_in b =
     else (if b == 83 then Some kinds.Sealed
     else (if b == 70 then Some kinds.Flushed
     else (if b == 76 then Some kinds.Leads
+    else (if b == 75 then Some kinds.Tags
     else (if b == 65 then Some kinds.Stamps
     else (if b == 68 then Some kinds.Digests
     else (if b == 66 then Some kinds.Owner
-    else (if b == 69 then Some kinds.End else None))))))))))))))
+    else (if b == 69 then Some kinds.End else None)))))))))))))))
 
 pub record Frame : Type 0 where
   pub kind : Kind

@@ -2,7 +2,10 @@
 use Rattle.std.specs.Prelude.{◌≡◌, refl, ◌⊎◌, ℕ, ◌<◌, ◌-◌, ◌^◌, ◌==◌, nat_le, nat_lt, nat_eq, false, not, List, [], ◌∷◌, ◌++◌, length, take, drop, flat_map, All, Option, Some, None, Result, Ok, Err, if◌then◌else◌}
 use Rattle.std.specs.Int.{w32, w64, to_be_bytes, from_be_bytes}
 use Rattle.std.specs.Cmp.Lexicographic.{pointwise}
+use Rattle.hc_types.specs.declared.config.Admission.{Admission}
+use Rattle.hc_types.specs.declared.config.Admission.TheVariants.{All as TakesAll, RejectFirst}
 use Rattle.hc_types.specs.declared.config.FlashConfig.{FlashConfig}
+use Rattle.hc_types.specs.Admission.{slots_of}
 use Rattle.hc_types.specs.declared.config.PoolSize.{PoolSize}
 use Rattle.hc_types.specs.Config.{Config}
 use Rattle.hc_image_text.specs.declared.head.Head.{Head}
@@ -15,8 +18,13 @@ use Rattle.hc_image_text.specs.declared.head.Refused.TheVariants as refused
 abbrev pub pool_numbers : PoolSize → List ℕ
 pool_numbers p = p.bytes ∷ p.items ∷ []
 
+-- whether a flash takes only some keys
+abbrev pub kind_of : Admission → ℕ
+kind_of TakesAll = 0
+kind_of (RejectFirst slots) = 1
+
 abbrev pub flash_numbers : FlashConfig → List ℕ
-flash_numbers f = f.page ∷ f.buckets ∷ f.regions ∷ f.region_pages ∷ f.clean ∷ f.small_max ∷ f.queue ∷ f.bits ∷ f.admit_min ∷ f.admit_max ∷ []
+flash_numbers f = f.page ∷ f.buckets ∷ f.regions ∷ f.region_pages ∷ f.clean ∷ f.small_max ∷ f.queue ∷ f.bits ∷ f.admit_min ∷ f.admit_max ∷ kind_of f.admission ∷ slots_of f.admission ∷ []
 
 abbrev pub numbers64 : List ℕ → List ℕ
 numbers64 = flat_map (to_be_bytes w64)
@@ -58,6 +66,7 @@ pub record IsFlash (f : FlashConfig) : Type 0 where
   pub bits : f.bits < 2 ^ 64
   pub admit_min : f.admit_min < 2 ^ 64
   pub admit_max : f.admit_max < 2 ^ 64
+  pub slots : slots_of f.admission < 2 ^ 64
 
 -- what a configuration's numbers are, whether or not they are within its limits
 pub record IsConfig (c : Config) : Type 0 where
@@ -83,7 +92,7 @@ abbrev pub name : List ℕ
 name = 75 ∷ 105 ∷ 108 ∷ 97 ∷ 109 ∷ 98 ∷ 111 ∷ 115 ∷ 101 ∷ 116 ∷ 114 ∷ 121 ∷ 107 ∷ 101 ∷ 112 ∷ 116 ∷ []
 
 abbrev pub version : ℕ
-version = 1
+version = 2
 
 abbrev pub begun : ℕ → List ℕ
 begun v = name ++ to_be_bytes w32 v

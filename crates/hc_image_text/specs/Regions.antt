@@ -12,7 +12,7 @@ abbrev pub rows : {X : Type 0} → ℕ → (List ℕ → X) → ℕ → List ℕ
 rows width row zero bytes = []
 rows width row (suc n) bytes = row bytes ∷ rows width row n (drop width bytes)
 
--- ---- a list of regions' numbers: those that wait for their flush, or those on flash
+-- ---- a list of numbers: of regions that wait for their flush or are on flash, or tags
 
 abbrev pub numbers_bytes : List ℕ → List ℕ
 numbers_bytes = flat_map (to_be_bytes w32)

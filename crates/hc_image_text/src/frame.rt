@@ -31,6 +31,8 @@ pub enum Kind {
     Flushed,
     /// Where hashes lead, in order of the hash.
     Leads,
+    /// The tags of the keys that flash turned away, one a slot.
+    Tags,
     /// The count of a cache's stamps.
     Stamps,
     /// Digests of pages, in the order of the pages.
@@ -59,6 +61,7 @@ fn kind_byte(kind: Kind) -> u8
         Kind::Sealed => b'S',
         Kind::Flushed => b'F',
         Kind::Leads => b'L',
+        Kind::Tags => b'K',
         Kind::Stamps => b'A',
         Kind::Digests => b'D',
         Kind::Owner => b'B',
@@ -81,6 +84,7 @@ fn kind_in(byte: u8) -> Option<Kind>
         b'S' => Some(Kind::Sealed),
         b'F' => Some(Kind::Flushed),
         b'L' => Some(Kind::Leads),
+        b'K' => Some(Kind::Tags),
         b'A' => Some(Kind::Stamps),
         b'D' => Some(Kind::Digests),
         b'B' => Some(Kind::Owner),

@@ -2,11 +2,12 @@
 ghost use Rattle.std.specs.Prelude.{◌≡◌, ◌<◌, ◌≤◌, ◌^◌, ◌++◌, ◌==◌, length, get_or, take, drop, flat_map, nat_eq, IfOk, OnOk};
 ghost use Rattle.std.specs.Int.{w32, w64, from_be_bytes};
 ghost use Rattle.std.specs.Cmp.Lexicographic.{pointwise};
-ghost use Rattle.hc_image_text.specs.Heads.{pool_size_bytes, numbers64, flash_numbers, flash_bytes, config_bytes, shard_bytes, whose_bytes, told_bytes, told_at as told_at_seen, told_in as told_in_seen, head_bytes, head_in as head_in_seen, age_checked, name, version, Reads};
+ghost use Rattle.hc_types.specs.Admission.{slots_of};
+ghost use Rattle.hc_image_text.specs.Heads.{kind_of, pool_size_bytes, numbers64, flash_numbers, flash_bytes, config_bytes, shard_bytes, whose_bytes, told_bytes, told_at as told_at_seen, told_in as told_in_seen, head_bytes, head_in as head_in_seen, age_checked, name, version, Reads};
 
 use crate::numbers::{put_number, put_u32};
 use byteorder::{BigEndian, ByteOrder};
-use hc_types::{Config, FlashConfig, PoolSize};
+use hc_types::{Admission, Config, FlashConfig, PoolSize};
 use std::alloc::{AllocError, Allocator};
 
 /// Why bytes aren't the image of a cache, or not one that is to be taken.
@@ -45,7 +46,7 @@ pub struct Head {
 const NAME: [u8; 16] = *b"Kilambosetrykept";
 
 /// The version of images: the bytes of the records, of a page and of an entry, and the hashes.
-const VERSION: u32 = 1;
+const VERSION: u32 = 2;
 
 fn put_pool_size<A: Allocator + Clone>(
     out: &mut Vec<u8, A>,
@@ -86,9 +87,21 @@ fn put_all<A: Allocator + Clone>(out: &mut Vec<u8, A>, numbers: &[u64]) -> Resul
     Ok(())
 }
 
-fn numbers_of(flash: &FlashConfig) -> [u64; 10]
+// Whether a flash takes only some keys, and how many slots it has then.
+fn admission_numbers(admission: Admission) -> (u64, u64)
+    ensures kind { result.0 ≡ kind_of admission }
+    ensures slots { result.1 ≡ slots_of admission }
+{
+    match admission {
+        Admission::All => (0, 0),
+        Admission::RejectFirst { slots } => (1, slots),
+    }
+}
+
+fn numbers_of(flash: &FlashConfig) -> [u64; 12]
     ensures { result ≡ flash_numbers flash.now }
 {
+    let (kind, slots) = admission_numbers(flash.admission);
     [
         flash.page,
         flash.buckets,
@@ -100,6 +113,8 @@ fn numbers_of(flash: &FlashConfig) -> [u64; 10]
         flash.bits,
         flash.admit_min,
         flash.admit_max,
+        kind,
+        slots,
     ]
 }
 

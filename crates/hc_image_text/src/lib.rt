@@ -19,6 +19,7 @@ mod item;
 mod lead;
 mod numbers;
 mod region;
+mod tags;
 mod word;
 
 pub use counters::{Counters, counters_in, put_counters};
@@ -29,6 +30,7 @@ pub use item::{KeptItem, item_in, key_in, put_entry, put_item, put_key};
 pub use lead::{LEAD, lead_in, put_lead};
 pub use numbers::{number_in, put_number};
 pub use region::{numbers_in, open_in, put_numbers, put_open, put_region, region_in};
+pub use tags::{put_tags, tags_in};
 pub use word::{WORD, put_word, word_in};
 
 /// What is written of a record is read again. The function does nothing: its contract is the law. (An entry that waits is read

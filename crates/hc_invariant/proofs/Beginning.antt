@@ -1,5 +1,5 @@
 -- A new cache is good, after no notes.
-use Rattle.std.proofs.Common.{◌≡◌, ℕ, zero, suc, Bool, List, [], ◌∷◌, Option, Some, None, replicate, map, refl, arith, ap, sym}
+use Rattle.std.proofs.Common.{◌≡◌, ℕ, zero, suc, Bool, true, List, [], ◌∷◌, Option, Some, None, replicate, map, refl, arith, ap, sym}
 use Rattle.std.specs.Prelude.{not, option_map}
 use Rattle.std.proofs.lemmas.List.{length-replicate}
 use Rattle.hc_types.specs.Config.{Config}
@@ -18,7 +18,7 @@ use Rattle.hc_memory.specs.Item.{Item}
 use Rattle.hc_memory.specs.Pool.{Pool}
 use Rattle.hc_memory.specs.Memory.{Memory, empty_pool, linked_at}
 use Rattle.hc_memory.proofs.Making.{sound-new}
-use Rattle.hc_types.specs.Limits.{first_wrong}
+use Rattle.hc_types.specs.Limits.{first_wrong, slots_fit}
 use Rattle.hc_machine.specs.items.Items.{items_of}
 use Rattle.hc_machine.specs.items.Allocating.{empty_memory}
 use Rattle.hc_history.specs.Pages.{bytes_at}
@@ -93,10 +93,10 @@ engines flash limits = record {
   large_ones = λ key e h. absurd (cc);
 }
 
-flash_good : (flash : FlashConfig) (memory : Memory) → Limits flash → FlashGood flash [] memory (new_nvm flash)
-flash_good flash memory limits = record {
+flash_good : (flash : FlashConfig) (memory : Memory) → Limits flash → slots_fit flash.admission ≡ true → FlashGood flash [] memory (new_nvm flash)
+flash_good flash memory limits slots = record {
   engines = engines flash limits;
-  waits = record { queue = refl; one_put = λ key. omega arith; can_put = refl; buried = λ key. refl; one_stone = λ key. omega arith; writing = λ key. refl; one_writer = λ key. omega arith };
+  waits = record { turned = record { slots = slots; table = refl }; queue = refl; one_put = λ key. omega arith; can_put = refl; buried = λ key. refl; one_stone = λ key. omega arith; writing = λ key. refl; one_writer = λ key. omega arith };
   jobs = record { run = tt; one = λ n. omega arith; fresh = λ n l. refl; small_ones = λ n e. refl; large_ones = λ n e. refl };
   fills = record { each = tt; one = λ key. omega arith; one_each = λ n. omega arith; one_add = λ n. omega arith };
   pools = tt;
@@ -117,7 +117,7 @@ placed pools (Some flash) key = rw (unlinked key pools, nowhere_small flash key)
 
 part : (flash : Option FlashConfig) (memory : Memory) → FlashLimits flash → FlashPart flash [] memory (option_map new_nvm flash)
 part None memory limits = record { no_waiting = refl; no_writing = refl; no_buried = refl }
-part (Some flash) memory limits = flash_good flash memory limits
+part (Some flash) memory limits = flash_good flash memory limits.0 limits.1
 
 no_calls : (flash : Option FlashConfig) → CallsTell [] 0 [] (fills_of (option_map new_nvm flash))
 no_calls None = calls

@@ -14,7 +14,7 @@ later_flash : (flash : Option FlashConfig) (older : List Note) (memory : Memory)
 later_flash None older memory None moment g = record { no_waiting = g.no_waiting; no_writing = g.no_writing; no_buried = g.no_buried }
 later_flash (Some flash) older memory (Some nvm) moment g = record {
   engines = record { same = g.engines.same; small_fits = g.engines.small_fits; large_sound = g.engines.large_sound; large_fits = g.engines.large_fits; reads = g.engines.reads; regions = record { number = g.engines.regions.number; used = g.engines.regions.used; used_number = g.engines.regions.used_number; in_order = g.engines.regions.in_order; filings = g.engines.regions.filings; current = g.engines.regions.current; filled = g.engines.regions.filled }; buckets = g.engines.buckets; large_ones = g.engines.large_ones };
-  waits = record { queue = g.waits.queue; one_put = g.waits.one_put; can_put = g.waits.can_put; buried = g.waits.buried; one_stone = g.waits.one_stone; writing = g.waits.writing; one_writer = g.waits.one_writer };
+  waits = record { queue = g.waits.queue; one_put = g.waits.one_put; can_put = g.waits.can_put; buried = g.waits.buried; one_stone = g.waits.one_stone; writing = g.waits.writing; one_writer = g.waits.one_writer; turned = g.waits.turned };
   jobs = g.jobs;
   fills = g.fills;
   pools = g.pools;

@@ -2,7 +2,7 @@
 use Rattle.std.specs.Prelude.{◌≡◌, ℕ, ◌<◌, ◌≤◌, ◌==◌, ◌^◌, true, false, List, [], ◌∷◌, length, Option, Some, None}
 use Rattle.hc_types.specs.Config.{Config}
 use Rattle.hc_types.specs.declared.config.FlashConfig.{FlashConfig}
-use Rattle.hc_types.specs.Limits.{first_wrong}
+use Rattle.hc_types.specs.Limits.{first_wrong, slots_fit}
 use Rattle.hc_types.specs.Places.{is_small_by}
 use Rattle.hc_types.specs.Tally.{count}
 use Rattle.hc_types.specs.FlashEntry.{FlashEntry}
@@ -129,10 +129,11 @@ pub record Good (config : Config) (older : List Note) (cache : Cache) : Type 0 w
 
 -- ---- what can run
 
--- what is asked of a configuration: it isn't refused, and the small engine's numbers are within their limits
+-- what is asked of a configuration: it isn't refused, and the numbers of the small engine and of the slots are within their
+-- limits
 abbrev pub FlashLimits : Option FlashConfig → Type 0
 FlashLimits None = Unit {0}
-FlashLimits (Some flash) = Limits flash
+FlashLimits (Some flash) = Limits flash × (slots_fit flash.admission ≡ true)
 
 pub record CanRun (config : Config) : Type 0 where
   pub right : first_wrong config ≡ None

@@ -1,6 +1,8 @@
 -- What the books of a history tell of the state: charges, puts, tombstones, calls, the clock, regions.
-use Rattle.std.specs.Prelude.{◌≡◌, ℕ, ◌+◌, ◌<◌, ◌≤◌, ◌==◌, Bool, false, not, ◌&&◌, List, [], ◌∷◌, ◌++◌, length, map, reverse, Option, Some, None, is_some, option_map, if◌then◌else◌}
+use Rattle.std.specs.Prelude.{◌≡◌, ℕ, ◌+◌, ◌<◌, ◌≤◌, ◌==◌, Bool, true, false, not, ◌&&◌, List, [], ◌∷◌, ◌++◌, length, map, reverse, Option, Some, None, is_some, option_map, if◌then◌else◌}
 use Rattle.hc_types.specs.Config.{Config}
+use Rattle.hc_types.specs.Limits.{slots_fit}
+use Rattle.hc_types.specs.declared.config.Admission.{Admission}
 use Rattle.hc_types.specs.declared.config.FlashConfig.{FlashConfig}
 use Rattle.hc_types.specs.Tally.{tally, count}
 use Rattle.hc_types.specs.FlashEntry.{FlashEntry}
@@ -10,7 +12,8 @@ use Rattle.hc_memory.specs.Memory.{Memory}
 use Rattle.hc_memory.specs.Sound.{Sound}
 use Rattle.hc_machine.specs.items.Items.{items_of}
 use Rattle.hc_history.specs.Note.{Note, Op, Find, Add, Reply}
-use Rattle.hc_history.specs.Books.{Charge, Call, Answer, charges, waiting, writing, buried, is_among, begun, open_calls, open_call, owed}
+use Rattle.hc_history.specs.Books.{Charge, Call, Answer, charges, waiting, writing, buried, is_among, turned, begun, open_calls, open_call, owed}
+use Rattle.hc_history.specs.Tags.{tags_of}
 use Rattle.hc_history.specs.Regions.{in_use, is_one_of, flushed, open_region, filling, Filing, filed}
 use Rattle.hc_engines.specs.large.Region.{Region, is_clean, region_at, filled_to}
 use Rattle.hc_engines.specs.large.Index.{place_at, region_in}
@@ -43,6 +46,11 @@ pub record MemoryTells (config : Config) (older : List Note) (memory : Memory) :
 abbrev pub keys_of : List FlashEntry → List (List ℕ)
 keys_of entries = map (λ (e : FlashEntry). e.key) entries
 
+-- the table of the keys that were turned away, the last one first
+pub record TurnedTell (admission : Admission) (keys : List (List ℕ)) (tags : List ℕ) : Type 0 where
+  pub slots : slots_fit admission ≡ true
+  pub table : tags_of admission keys ≡ tags
+
 pub record WaitsTell (older : List Note) (nvm : Nvm) : Type 0 where
   -- the queue, the oldest first
   pub queue : keys_of nvm.queue ≡ reverse (waiting older)
@@ -53,6 +61,7 @@ pub record WaitsTell (older : List Note) (nvm : Nvm) : Type 0 where
   pub one_stone : (key : List ℕ) → count (is_stone_of key) nvm.tombstones ≤ 1
   pub writing : (key : List ℕ) → is_among key (writing older) ≡ is_written_now nvm key
   pub one_writer : (key : List ℕ) → count (λ (job : Job). puts key job.task) nvm.jobs ≤ 1
+  pub turned : TurnedTell nvm.pair.small.flash.admission (turned older) nvm.tags
 
 -- ---- calls that wait, and replies
 

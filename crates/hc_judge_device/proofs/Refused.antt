@@ -27,6 +27,7 @@ limited flash e =
     let small = passed (nat_le flash.small_max (flash.page - 16)) BadSmallMax _ regions.1 in
     let queue = passed (queue_fits flash) BadQueue _ small.1 in
     let bits = passed (is_within 1 64 flash.bits) BadBits _ queue.1 in
+    let said = and_parts _ _ queue.0 in
     let fits = and_parts _ _ (and_parts _ _ (and_parts _ _ regions.0).0).0 in
     let bucket = within 1 1048576 flash.buckets buckets.0 in
     let pages = within 1 4096 flash.region_pages fits.1 in
@@ -38,4 +39,5 @@ limited flash e =
       some_page = pages.0;
       region_pages = pages.1;
       bits = (within 1 64 flash.bits bits.0).1;
+      slots = said.1;
     }

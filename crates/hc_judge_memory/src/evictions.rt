@@ -1,5 +1,6 @@
 // What a log says of an eviction: the note before it, why the item can't wait, and what comes next.
-ghost use Rattle.std.specs.Prelude.{◌≡◌, ◌≤◌, ◌<◌, ◌^◌, nat_lt, option_map, IfOk, IfSome, List, [], ◌∷◌};
+ghost use Rattle.std.specs.Prelude.{◌≡◌, ◌≤◌, ◌<◌, ◌^◌, true, nat_lt, option_map, IfOk, IfSome, List, [], ◌∷◌};
+ghost use Rattle.hc_types.specs.Limits.{slots_fit};
 ghost use Rattle.hc_types.specs.Places.{region_bytes};
 ghost use Rattle.hc_history.specs.Note.{Note as Meaning};
 ghost use Rattle.hc_history.specs.Books as books;
@@ -13,6 +14,7 @@ use crate::live::{charges, has_charge_of, has_link_of};
 use crate::map::{Entry, entry_at};
 use crate::queue::{is_buried, waiting};
 use crate::room::is_full;
+use crate::turned::is_let_in;
 use hc_history::{Note, Said};
 use hc_types::{Config, FlashConfig, Key, Why, is_small};
 use std::alloc::{AllocError, Allocator};
@@ -100,6 +102,7 @@ pub fn forgotten_by<A: Allocator + Clone>(
 ) -> Result<Option<Why>, AllocError>
     requires bits { IfSome flash.now (λ f. f.bits ≤ 64) }
     requires buckets { IfSome flash.now (λ f. 1 ≤ f.buckets) }
+    requires slots { IfSome flash.now (λ f. slots_fit f.admission ≡ true) }
     ensures { IfOk result (λ why. why ≡ lawful.forgotten_by flash.now (past [] notes.now) key.now) }
 {
     match flash {
@@ -130,14 +133,15 @@ fn refused_by<A: Allocator + Clone>(
     len: u64,
     alloc: &A,
 ) -> Result<Option<Why>, AllocError>
-    requires { len < 2 ^ 63 }
+    requires len { len < 2 ^ 63 }
+    requires slots { slots_fit flash.now.admission ≡ true }
     ensures { IfOk result (λ why. why ≡ lawful.refused_by flash.now (past [] notes.now) key.now len) }
 {
     if is_buried(notes, key) {
         return Ok(Some(Why::Tombstone));
     }
     let bytes = key.len() as u64 + len;
-    if !is_admitted(flash, bytes) {
+    if !is_admitted(flash, bytes) || !is_let_in(flash.admission, notes, key) {
         return Ok(Some(Why::NotAdmitted));
     }
     if !is_small(key, len, flash) && passes_region(flash, 14 + bytes) {

@@ -13,6 +13,7 @@ mod map;
 mod queue;
 mod room;
 mod rules;
+mod turned;
 
 pub use ahead::{next_answer, next_charged};
 pub use answers::{freed_since, is_answer};

@@ -1,5 +1,6 @@
 // Whether a note of memory is lawful after those before it, and before the rest.
-ghost use Rattle.std.specs.Prelude.{◌≡◌, ◌≤◌, ℕ, List, [], IfOk, IfSome};
+ghost use Rattle.hc_types.specs.Limits.{slots_fit};
+ghost use Rattle.std.specs.Prelude.{◌≡◌, ◌≤◌, ℕ, true, List, [], IfOk, IfSome};
 ghost use Rattle.std.specs.List.{list_any};
 ghost use Rattle.hc_types.specs.Loss as loss;
 ghost use Rattle.hc_types.specs.Config.{Config as Settings};
@@ -92,6 +93,7 @@ pub fn may_forget<A: Allocator + Clone>(
 ) -> Result<bool, AllocError>
     requires bits { IfSome config.now.flash (λ f. f.bits ≤ 64) }
     requires buckets { IfSome config.now.flash (λ f. 1 ≤ f.buckets) }
+    requires slots { IfSome config.now.flash (λ f. slots_fit f.admission ≡ true) }
     ensures { IfOk result (λ is_allowed. is_allowed ≡ judge.is_allowed config.now (past [] notes.now) (note.Lose (loss.Key key.now) (loss.Evicted eviction.pool eviction.want eviction.why)) rest.now) }
 {
     let Eviction { pool, want, why } = eviction;

@@ -1,5 +1,6 @@
 -- What becomes of an item that is evicted.
-use Rattle.std.specs.Prelude.{◌≡◌, ℕ, ◌+◌, ◌==◌, Bool, true, false, not, List, [], ◌∷◌, ◌++◌, length, Some, None}
+use Rattle.std.specs.Prelude.{◌≡◌, ℕ, ◌+◌, ◌==◌, Bool, true, false, not, ◌&&◌, List, [], ◌∷◌, ◌++◌, length, Some, None}
+use Rattle.hc_types.specs.Admission.{lets_in, with_tag}
 use Rattle.hc_types.specs.Limits.{is_within}
 use Rattle.hc_types.specs.Loss as loss
 use Rattle.hc_types.specs.Loss.{Cause, Evicted, Expired}
@@ -20,6 +21,11 @@ use Rattle.hc_laws.specs.First.{NonePasses, IsFirst}
 abbrev pub forgotten : Cause → Item → Cache → Told
 forgotten cause item cache = tells (Lose (loss.Key item.key) cause ∷ []) cache
 
+-- where it isn't admitted, its key is among those that were turned away
+abbrev pub turned_away : Why → Item → Nvm → Nvm
+turned_away NotAdmitted item nvm = record nvm { tags = with_tag nvm.tags item.key }
+turned_away why item nvm = nvm
+
 -- its entry waits for flash, behind the others
 abbrev pub queued_last : Nvm → Item → Cache → Told
 queued_last nvm item cache = tells (Queued item.key ∷ []) (with_nvm (record nvm { queue = nvm.queue ++ entry_of_item item ∷ [] }) cache)
@@ -29,7 +35,7 @@ queued_last nvm item cache = tells (Queued item.key ∷ []) (with_nvm (record nv
 -- the table: a reason, and where it holds
 abbrev pub holds : Nvm → FlashEntry → Why → Bool
 holds nvm entry Tombstone = is_buried nvm entry.key
-holds nvm entry NotAdmitted = not (is_within nvm.pair.small.flash.admit_min nvm.pair.small.flash.admit_max (length entry.key + length entry.value))
+holds nvm entry NotAdmitted = not (is_within nvm.pair.small.flash.admit_min nvm.pair.small.flash.admit_max (length entry.key + length entry.value) && lets_in nvm.tags entry.key)
 holds nvm entry TooLarge = is_too_large nvm.pair.small.flash entry
 holds nvm entry QueueFull = length nvm.queue == nvm.pair.small.flash.queue
 holds nvm entry NoFlash = false
@@ -44,7 +50,7 @@ pub record EvictionCase (pool want : ℕ) (item : Item) (cache : Cache) : Type 0
   -- one that isn't clean is forgotten for the first reason that holds
   pub expired : item.clean ≡ false → is_over cache.now (entry_of_item item) ≡ true → leaves pool want item cache ≡ forgotten Expired item cache
   pub no_flash : item.clean ≡ false → is_over cache.now (entry_of_item item) ≡ false → cache.nvm ≡ None → leaves pool want item cache ≡ forgotten (Evicted pool want NoFlash) item cache
-  pub kept_out : (nvm : Nvm) (why : Why) → item.clean ≡ false → is_over cache.now (entry_of_item item) ≡ false → cache.nvm ≡ Some nvm → IsFirst (holds nvm (entry_of_item item)) reasons why → leaves pool want item cache ≡ forgotten (Evicted pool want why) item cache
+  pub kept_out : (nvm : Nvm) (why : Why) → item.clean ≡ false → is_over cache.now (entry_of_item item) ≡ false → cache.nvm ≡ Some nvm → IsFirst (holds nvm (entry_of_item item)) reasons why → leaves pool want item cache ≡ forgotten (Evicted pool want why) item (with_nvm (turned_away why item nvm) cache)
   -- or else it waits, last in the queue
   pub queued : (nvm : Nvm) → item.clean ≡ false → is_over cache.now (entry_of_item item) ≡ false → cache.nvm ≡ Some nvm → NonePasses (holds nvm (entry_of_item item)) reasons → leaves pool want item cache ≡ queued_last nvm item cache
 

@@ -53,6 +53,7 @@ pub record Asked (kind test : Note → Bool) (R : Nvm → Nvm → Type 0) : Type
   pub same : (nvm : Nvm) → R nvm nvm
   pub both : (a b c : Nvm) → R a b → R b c → R a c
   pub queues : (nvm : Nvm) (queue : List FlashEntry) → R nvm (record nvm { queue = queue })
+  pub turns : (nvm : Nvm) (tags : List ℕ) → R nvm (record nvm { tags = tags })
   pub fills : (nvm : Nvm) (fills : List Fill) → R nvm (record nvm { fills = fills })
   pub buries : (nvm : Nvm) (key : List ℕ) → R nvm (record nvm { tombstones = nvm.tombstones ++ record { key = key; taken = false } ∷ [] })
   pub raises : (nvm : Nvm) (ends : Tombstone → Bool) → R nvm (record nvm { tombstones = filter (λ stone. not (ends stone)) nvm.tombstones })

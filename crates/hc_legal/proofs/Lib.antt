@@ -4,4 +4,5 @@ pub mod Computed
 pub mod Logs
 pub mod Past
 pub mod FlashRows
+pub mod TurnedRows
 pub mod MemoryRows

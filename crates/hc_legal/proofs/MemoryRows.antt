@@ -5,6 +5,7 @@ use Rattle.hc_types.specs.Loss as loss
 use Rattle.hc_types.specs.Loss.{Evicted, Expired, Fault}
 use Rattle.hc_types.specs.Config.{Config}
 use Rattle.hc_types.specs.declared.config.PoolSize.{PoolSize}
+use Rattle.hc_types.specs.declared.config.Admission.TheVariants.{All}
 use Rattle.hc_types.specs.declared.config.FlashConfig.{FlashConfig}
 use Rattle.hc_types.specs.declared.loss.Why.TheVariants.{NoFlash}
 use Rattle.hc_history.specs.Note.{Insert, Add, Find, Remove, Stored, Hit, Miss, FoundInMemory, NotInMemory, Note, Begin, Did, End, Lose, Charged, Linked, Freed, Now}
@@ -20,7 +21,7 @@ of bytes = record { pools = pool_of bytes ∷ []; flash = None }
 
 -- the same with flash
 abbrev some_flash : FlashConfig
-some_flash = record { page = 512; buckets = 4; regions = 4; region_pages = 2; clean = 1; small_max = 100; queue = 16; bits = 64; admit_min = 0; admit_max = 1000 }
+some_flash = record { page = 512; buckets = 4; regions = 4; region_pages = 2; clean = 1; small_max = 100; queue = 16; bits = 64; admit_min = 0; admit_max = 1000; admission = All }
 
 abbrev with_flash : ℕ → Config
 with_flash bytes = record { pools = pool_of bytes ∷ []; flash = Some some_flash }

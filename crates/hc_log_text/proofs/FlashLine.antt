@@ -1,15 +1,17 @@
 -- The line of a flash is read as it is written, and nothing else is.
 use Rattle.std.proofs.Common.{◌≡◌, ℕ, ◌^◌, ◌<◌, nat_lt, true, List, [], ◌∷◌, Option, Some, None, refl, sym, ap, ◌∙◌, subst, arith, inl, inr}
 use Rattle.std.proofs.lemmas.Bool.{ltb-true, lt-ltb}
-use Rattle.std.specs.Prelude.{codes, IfSome}
+use Rattle.std.specs.Prelude.{codes, option_map, IfSome}
 use Rattle.std.specs.Fmt.{decimal}
+use Rattle.hc_types.specs.declared.config.Admission.{Admission}
+use Rattle.hc_types.specs.declared.config.Admission.TheVariants.{All, RejectFirst}
 use Rattle.hc_types.specs.declared.config.FlashConfig.{FlashConfig}
 use Rattle.hc_trace_text.specs.Lines.{fields_of}
-use Rattle.hc_log_text.specs.Text.{joined, flash_fields, flash_text}
-use Rattle.hc_log_text.specs.Said.{IsFlash}
+use Rattle.hc_log_text.specs.Text.{joined, admission_fields, flash_fields, flash_text}
+use Rattle.hc_log_text.specs.Said.{IsAdmission, IsFlash}
 use Rattle.hc_trace_text.specs.Grammar.{Five}
-use Rattle.hc_log_text.specs.Reading.{number_at, five_at, flash_with, ten_of, flash_of, ended, ◌>>=◌}
-use Rattle.hc_log_text.proofs.Inverse.{none-is-not-some, same, bound, chosen, ended-is, number-first}
+use Rattle.hc_log_text.specs.Reading.{number_at, number_alone, five_at, admission_in, flash_with, ten_of, flash_of, ended, ◌>>=◌}
+use Rattle.hc_log_text.proofs.Inverse.{none-is-not-some, same, bound, mapped, chosen, number-first, number-last}
 use Rattle.hc_log_text.proofs.ReadBack.{whole}
 use Rattle.hc_log_text.proofs.Spaces.{AllLack, fields-joined, number, word}
 use Rattle.hc_log_text.proofs.Written.{number as read-number}
@@ -39,15 +41,27 @@ five-read a b c d e rest h =
     ∙ ap (λ o. o >>= (λ s. number_at (2 ^ 64) s.1 >>= (λ t. Some ((a, b, c, s.0, t.0), t.1)))) (first-number d (decimal e ∷ rest) h.3)
     ∙ ap (λ o. o >>= (λ t. Some ((a, b, c, d, t.0), t.1))) (first-number e rest h.4)
 
+admission-read : (admission : Admission) → IsAdmission admission → admission_in (admission_fields admission) ≡ Some admission
+admission-read All h = refl
+admission-read (RejectFirst slots) h =
+    ap (option_map RejectFirst) (ap (λ o. o >>= (λ p. ended p.0 p.1)) (first-number slots [] (small slots h)))
+
 pub flash-read : (flash : FlashConfig) → IsFlash flash → flash_of (flash_fields flash) ≡ Some flash
 flash-read flash h =
+    let a : Five = (flash.page, flash.buckets, flash.regions, flash.region_pages, flash.clean) in
     let b : Five = (flash.small_max, flash.queue, flash.bits, flash.admit_min, flash.admit_max) in
-    ap (λ o. o >>= (λ p. five_at p.1 >>= (λ q. ended (flash_with p.0 q.0) q.1)))
-    (five-read flash.page flash.buckets flash.regions flash.region_pages flash.clean (five_fields b [])
+    let rest = admission_fields flash.admission in
+    ap (λ o. o >>= (λ p. five_at p.1 >>= (λ q. option_map (flash_with p.0 q.0) (admission_in q.1))))
+    (five-read flash.page flash.buckets flash.regions flash.region_pages flash.clean (five_fields b rest)
     (small flash.page h.0, small flash.buckets h.1, small flash.regions h.2, small flash.region_pages h.3, small flash.clean h.4))
-    ∙ ap (λ o. o >>= (λ q. ended (flash_with (flash.page, flash.buckets, flash.regions, flash.region_pages, flash.clean) q.0) q.1))
-    (five-read flash.small_max flash.queue flash.bits flash.admit_min flash.admit_max []
+    ∙ ap (λ o. o >>= (λ q. option_map (flash_with a q.0) (admission_in q.1)))
+    (five-read flash.small_max flash.queue flash.bits flash.admit_min flash.admit_max rest
     (small flash.small_max h.5, small flash.queue h.6, small flash.bits h.7, small flash.admit_min h.8, small flash.admit_max h.9))
+    ∙ ap (option_map (flash_with a b)) (admission-read flash.admission h.10)
+
+admission-lack : (admission : Admission) → IsAdmission admission → AllLack (admission_fields admission)
+admission-lack All h = tt
+admission-lack (RejectFirst slots) h = (word (codes "rejectfirst") refl, (number (2 ^ 64) slots (omega arith) (small slots h), tt))
 
 five-lack : (p : Five) (rest : List (List ℕ)) → AllSmall p → AllLack rest → AllLack (five_fields p rest)
 five-lack p rest h a =
@@ -57,9 +71,10 @@ flash-falls : (flash : FlashConfig) → IsFlash flash → fields_of (flash_text 
 flash-falls flash h =
     let a : Five = (flash.page, flash.buckets, flash.regions, flash.region_pages, flash.clean) in
     let b : Five = (flash.small_max, flash.queue, flash.bits, flash.admit_min, flash.admit_max) in
-    fields-joined (codes "flash") (five_fields a (five_fields b [])) (word (codes "flash") refl)
-    (five-lack a (five_fields b []) (small flash.page h.0, small flash.buckets h.1, small flash.regions h.2, small flash.region_pages h.3, small flash.clean h.4)
-    (five-lack b [] (small flash.small_max h.5, small flash.queue h.6, small flash.bits h.7, small flash.admit_min h.8, small flash.admit_max h.9) tt))
+    let rest = admission_fields flash.admission in
+    fields-joined (codes "flash") (five_fields a (five_fields b rest)) (word (codes "flash") refl)
+    (five-lack a (five_fields b rest) (small flash.page h.0, small flash.buckets h.1, small flash.regions h.2, small flash.region_pages h.3, small flash.clean h.4)
+    (five-lack b rest (small flash.small_max h.5, small flash.queue h.6, small flash.bits h.7, small flash.admit_min h.8, small flash.admit_max h.9) (admission-lack flash.admission h.10)))
 
 pub flash-back : (line : List ℕ) (read : Option FlashConfig) → read ≡ flash_of (fields_of line) → (flash : FlashConfig) → IsFlash flash → line ≡ flash_text flash → read ≡ Some flash
 flash-back line read e flash h is = e ∙ ap (λ l. flash_of (fields_of l)) is ∙ ap flash_of (flash-falls flash h) ∙ flash-read flash h
@@ -95,18 +110,34 @@ large n h = ltb-true n (2 ^ 64) h
 abbrev SaidFlash : List (List ℕ) → FlashConfig → Type 0
 SaidFlash fields flash = IsFlash flash × (codes "flash" ∷ fields ≡ flash_fields flash)
 
+record SaidAdmission (fields : List (List ℕ)) (admission : Admission) : Type 0 where
+  fits : IsAdmission admission
+  fields-are : fields ≡ admission_fields admission
+
+admission-said : (fields : List (List ℕ)) (admission : Admission) → admission_in fields ≡ Some admission → SaidAdmission fields admission
+admission-said [] admission h = subst (SaidAdmission []) (same All admission h) (record { fits = tt; fields-are = refl })
+admission-said (first ∷ fields) admission h =
+    elim (chosen first (codes "rejectfirst") (option_map RejectFirst (number_alone (2 ^ 64) fields)) None admission h) [
+      | inl p ↦
+          let m = mapped RejectFirst (number_alone (2 ^ 64) fields) admission p.1 in
+          let n = number-last (2 ^ 64) fields m.first m.is in
+          subst (SaidAdmission (first ∷ fields)) {x = RejectFirst m.first} m.gives (record { fits = large m.first n.small; fields-are = λ i. p.0 i ∷ n.fields-are i })
+      | inr q ↦ absurd (none-is-not-some admission q)
+    ]
+
 ten-said : (fields : List (List ℕ)) (flash : FlashConfig) → ten_of fields ≡ Some flash → SaidFlash fields flash
 ten-said fields flash h =
-    let ba = bound (five_at fields) (λ p. five_at p.1 >>= (λ q. ended (flash_with p.0 q.0) q.1)) flash h in
+    let ba = bound (five_at fields) (λ p. five_at p.1 >>= (λ q. option_map (flash_with p.0 q.0) (admission_in q.1))) flash h in
     let a = five-said fields ba.first ba.is in
-    let bb = bound (five_at ba.first.1) (λ q. ended (flash_with ba.first.0 q.0) q.1) flash ba.next in
+    let bb = bound (five_at ba.first.1) (λ q. option_map (flash_with ba.first.0 q.0) (admission_in q.1)) flash ba.next in
     let b = five-said ba.first.1 bb.first bb.is in
-    let e = ended-is (flash_with ba.first.0 bb.first.0) bb.first.1 flash bb.next in
+    let m = mapped (flash_with ba.first.0 bb.first.0) (admission_in bb.first.1) flash bb.next in
+    let e = admission-said bb.first.1 m.first m.is in
     let s = a.are-small in
     let t = b.are-small in
-    subst (SaidFlash fields) {x = flash_with ba.first.0 bb.first.0} e.is (
-      (large _ s.0, large _ s.1, large _ s.2, large _ s.3, large _ s.4, large _ t.0, large _ t.1, large _ t.2, large _ t.3, large _ t.4),
-      ap (λ z. codes "flash" ∷ z) (a.fields-are ∙ ap (five_fields ba.first.0) (b.fields-are ∙ ap (five_fields bb.first.0) e.none)),
+    subst (SaidFlash fields) {x = flash_with ba.first.0 bb.first.0 m.first} m.gives (
+      (large _ s.0, large _ s.1, large _ s.2, large _ s.3, large _ s.4, large _ t.0, large _ t.1, large _ t.2, large _ t.3, large _ t.4, e.fits),
+      ap (λ z. codes "flash" ∷ z) (a.fields-are ∙ ap (five_fields ba.first.0) (b.fields-are ∙ ap (five_fields bb.first.0) e.fields-are)),
     )
 
 flash-said : (fields : List (List ℕ)) (flash : FlashConfig) → flash_of fields ≡ Some flash → IsFlash flash × (fields ≡ flash_fields flash)

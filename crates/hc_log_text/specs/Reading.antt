@@ -6,6 +6,8 @@ use Rattle.hex.specs.Hex.{decode_of}
 use Rattle.hex.specs.declared.error.FromHexError.{FromHexError}
 use Rattle.hc_types.specs.Loss as loss
 use Rattle.hc_types.specs.Loss.{Scope, Cause}
+use Rattle.hc_types.specs.declared.config.Admission.{Admission}
+use Rattle.hc_types.specs.declared.config.Admission.TheVariants.{All, RejectFirst}
 use Rattle.hc_types.specs.declared.config.FlashConfig.{FlashConfig}
 use Rattle.hc_types.specs.declared.loss.Why.{Why}
 use Rattle.hc_types.specs.declared.loss.Why.TheVariants.{NoFlash, Tombstone, NotAdmitted, TooLarge, QueueFull}
@@ -321,14 +323,19 @@ five_at fields = do
   e ← number_at (2 ^ 64) d.1
   Some ((a.0, b.0, c.0, d.0, e.0), e.1)
 
-abbrev pub flash_with : Five → Five → FlashConfig
-flash_with a b = record { page = a.0; buckets = a.1; regions = a.2; region_pages = a.3; clean = a.4; small_max = b.0; queue = b.1; bits = b.2; admit_min = b.3; admit_max = b.4 }
+-- which keys it takes: all, unless `rejectfirst` and a number say otherwise
+abbrev pub admission_in : List (List ℕ) → Option Admission
+admission_in [] = Some All
+admission_in (word ∷ fields) = if bytes_eq word (codes "rejectfirst") then option_map RejectFirst (number_alone (2 ^ 64) fields) else None
+
+abbrev pub flash_with : Five → Five → Admission → FlashConfig
+flash_with a b admission = record { page = a.0; buckets = a.1; regions = a.2; region_pages = a.3; clean = a.4; small_max = b.0; queue = b.1; bits = b.2; admit_min = b.3; admit_max = b.4; admission = admission }
 
 abbrev pub ten_of : List (List ℕ) → Option FlashConfig
 ten_of fields = do
   a ← five_at fields
   b ← five_at a.1
-  ended (flash_with a.0 b.0) b.1
+  option_map (flash_with a.0 b.0) (admission_in b.1)
 
 abbrev pub flash_of : List (List ℕ) → Option FlashConfig
 flash_of [] = None

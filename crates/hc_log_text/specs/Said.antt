@@ -1,8 +1,10 @@
 -- The notes that a text can say.
-use Rattle.std.specs.Prelude.{◌≡◌, ℕ, ◌^◌, ◌<◌, nat_le, nat_lt, Bool, true, ◌&&◌, List, length, Option, Some, None}
+use Rattle.std.specs.Prelude.{◌≡◌, ℕ, ◌^◌, ◌<◌, nat_le, nat_lt, Bool, true, ◌&&◌, List, length, Option, Some, None, ⊤}
 use Rattle.std.specs.List.{list_all}
 use Rattle.hc_types.specs.Loss as loss
 use Rattle.hc_types.specs.Loss.{Scope, Cause}
+use Rattle.hc_types.specs.declared.config.Admission.{Admission}
+use Rattle.hc_types.specs.declared.config.Admission.TheVariants.{All, RejectFirst}
 use Rattle.hc_types.specs.declared.config.FlashConfig.{FlashConfig}
 use Rattle.hc_history.specs.Note.{Op, Insert, Add, Find, Remove, Reply, Hit, Note, Begin, Did, End, Lose, Charged, Linked, Freed, Queued, Unqueued, Writing, Written, Buried, Raised, Read, Wrote, Opened, Flushed, Cleared, Now}
 use Rattle.hc_trace_text.specs.Numbers.{is_visible, is_key}
@@ -100,8 +102,13 @@ fits (Now moment) = nat_lt moment (2 ^ 64)
 abbrev pub IsSaid : Note → Type 0
 IsSaid note = (is_sayable note ≡ true) × (fits note ≡ true)
 
+-- the number of slots is below 2 ^ 64
+abbrev pub IsAdmission : Admission → Type 0
+IsAdmission All = ⊤
+IsAdmission (RejectFirst slots) = slots < 2 ^ 64
+
 -- its numbers are below 2 ^ 64
 abbrev pub IsFlash : FlashConfig → Type 0
 IsFlash flash =
     (flash.page < 2 ^ 64) × (flash.buckets < 2 ^ 64) × (flash.regions < 2 ^ 64) × (flash.region_pages < 2 ^ 64) × (flash.clean < 2 ^ 64)
-    × (flash.small_max < 2 ^ 64) × (flash.queue < 2 ^ 64) × (flash.bits < 2 ^ 64) × (flash.admit_min < 2 ^ 64) × (flash.admit_max < 2 ^ 64)
+    × (flash.small_max < 2 ^ 64) × (flash.queue < 2 ^ 64) × (flash.bits < 2 ^ 64) × (flash.admit_min < 2 ^ 64) × (flash.admit_max < 2 ^ 64) × IsAdmission flash.admission

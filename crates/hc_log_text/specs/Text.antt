@@ -4,6 +4,8 @@ use Rattle.std.specs.Fmt.{decimal}
 use Rattle.hex.specs.Hex.{encode_lower}
 use Rattle.hc_types.specs.Loss as loss
 use Rattle.hc_types.specs.Loss.{Scope, Cause}
+use Rattle.hc_types.specs.declared.config.Admission.{Admission}
+use Rattle.hc_types.specs.declared.config.Admission.TheVariants.{All, RejectFirst}
 use Rattle.hc_types.specs.declared.config.FlashConfig.{FlashConfig}
 use Rattle.hc_types.specs.declared.loss.Why.{Why}
 use Rattle.hc_types.specs.declared.loss.Why.TheVariants.{NoFlash, Tombstone, NotAdmitted, TooLarge, QueueFull}
@@ -96,11 +98,16 @@ note_fields (Now moment) = codes "now" ∷ decimal moment ∷ []
 abbrev pub note_text : Note → List ℕ
 note_text note = joined (note_fields note)
 
+-- which keys a flash takes: nothing is said where it takes all
+abbrev pub admission_fields : Admission → List (List ℕ)
+admission_fields All = []
+admission_fields (RejectFirst slots) = codes "rejectfirst" ∷ decimal slots ∷ []
+
 -- the numbers of a flash
 abbrev pub flash_fields : FlashConfig → List (List ℕ)
 flash_fields flash =
     codes "flash" ∷ decimal flash.page ∷ decimal flash.buckets ∷ decimal flash.regions ∷ decimal flash.region_pages ∷ decimal flash.clean
-    ∷ decimal flash.small_max ∷ decimal flash.queue ∷ decimal flash.bits ∷ decimal flash.admit_min ∷ decimal flash.admit_max ∷ []
+    ∷ decimal flash.small_max ∷ decimal flash.queue ∷ decimal flash.bits ∷ decimal flash.admit_min ∷ decimal flash.admit_max ∷ admission_fields flash.admission
 
 -- the line of a flash, without its line feed
 abbrev pub flash_text : FlashConfig → List ℕ

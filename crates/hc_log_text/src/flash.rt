@@ -5,14 +5,14 @@ ghost use Rattle.hc_types.specs.declared.config.FlashConfig.{FlashConfig as Flas
 ghost use Rattle.hc_trace_text.specs.Lines.{fields_of};
 ghost use Rattle.hc_trace_text.specs.Texts.{line_text};
 ghost use Rattle.hc_log_text.specs.Left.{left};
-ghost use Rattle.hc_log_text.specs.Reading.{five_at, ten_of, flash_of};
+ghost use Rattle.hc_log_text.specs.Reading.{five_at, admission_in, ten_of, flash_of};
 ghost use Rattle.hc_log_text.specs.Said.{IsFlash};
-ghost use Rattle.hc_log_text.specs.Text.{behind, flash_fields, flash_text};
+ghost use Rattle.hc_log_text.specs.Text.{behind, admission_fields, flash_fields, flash_text};
 
-use crate::alone::is_empty;
+use crate::alone::long_alone;
 use crate::fields::{Rest, field_at, long_at};
-use crate::texts::{add_number_field, add_two};
-use hc_types::FlashConfig;
+use crate::texts::{add_number_field, add_numbered, add_two};
+use hc_types::{Admission, FlashConfig};
 use std::alloc::AllocError;
 
 // Half of the numbers of a flash.
@@ -30,15 +30,27 @@ fn five_in(rest: Rest<'_>) -> Option<(Five, Rest<'_>)>
     Some(((a, b, c, d, e), rest))
 }
 
-// The ten numbers of a flash.
+// Which keys it takes: all, unless `rejectfirst` and a number say otherwise.
+fn admission_at(rest: Rest<'_>) -> Option<Admission>
+    ensures { result ≡ admission_in (left rest.entry) }
+{
+    match field_at(rest) {
+        Some((word, rest)) if word == b"rejectfirst".as_slice() => {
+            let slots = long_alone(rest)?;
+            Some(Admission::RejectFirst { slots })
+        }
+        Some(_) => None,
+        None => Some(Admission::All),
+    }
+}
+
+// The ten numbers of a flash, and which keys it takes.
 fn ten_in(rest: Rest<'_>) -> Option<FlashConfig>
     ensures { result ≡ ten_of (left rest.entry) }
 {
     let ((page, buckets, regions, region_pages, clean), rest) = five_in(rest)?;
     let ((small_max, queue, bits, admit_min, admit_max), rest) = five_in(rest)?;
-    if !is_empty(rest) {
-        return None;
-    }
+    let admission = admission_at(rest)?;
     Some(FlashConfig {
         page,
         buckets,
@@ -50,6 +62,7 @@ fn ten_in(rest: Rest<'_>) -> Option<FlashConfig>
         bits,
         admit_min,
         admit_max,
+        admission,
     })
 }
 
@@ -86,7 +99,17 @@ fn add_five(out: &mut Vec<u8>, five: Five) -> Result<(), AllocError>
     add_number_field(out, e)
 }
 
-// The numbers of a flash, each behind a space.
+// Which keys a flash takes, where it doesn't take all.
+fn add_admission(out: &mut Vec<u8>, admission: Admission) -> Result<(), AllocError>
+    ensures { OnOk result (out.new.items ≡ out.old.items ++ behind (admission_fields admission)) }
+{
+    match admission {
+        Admission::All => Ok(()),
+        Admission::RejectFirst { slots } => add_numbered(out, b"rejectfirst", slots),
+    }
+}
+
+// The numbers of a flash, each behind a space, and which keys it takes.
 fn add_numbers(out: &mut Vec<u8>, flash: &FlashConfig) -> Result<(), AllocError>
     ensures { OnOk result (out.new.items ≡ out.old.items ++ behind (drop 1 (flash_fields flash.now))) }
 {
@@ -105,7 +128,8 @@ fn add_numbers(out: &mut Vec<u8>, flash: &FlashConfig) -> Result<(), AllocError>
         flash.admit_max,
     );
     add_five(out, sizes)?;
-    add_five(out, limits)
+    add_five(out, limits)?;
+    add_admission(out, flash.admission)
 }
 
 /// Writes the line of a flash, and its line feed.

@@ -7,5 +7,6 @@ pub mod LargeRows
 pub mod FillRows
 pub mod FaultRows
 pub mod RefusedRows
+pub mod TurnedRows
 pub mod Refusals
 pub mod Breaks

@@ -4,6 +4,7 @@ use Rattle.hc_types.specs.Charge.{charge_of}
 use Rattle.hc_types.specs.Config.{Config}
 use Rattle.hc_types.specs.Loss as loss
 use Rattle.hc_types.specs.Loss.{Evicted}
+use Rattle.hc_types.specs.declared.config.Admission.TheVariants.{All}
 use Rattle.hc_types.specs.declared.config.FlashConfig.{FlashConfig}
 use Rattle.hc_types.specs.declared.loss.Why.{Why}
 use Rattle.hc_types.specs.FlashEntry.{FlashEntry}
@@ -56,6 +57,7 @@ flash region_pages clean small_max queue admit_min admit_max = record {
   bits = 8;
   admit_min = admit_min;
   admit_max = admit_max;
+  admission = All;
 }
 
 -- one pool, with such flash and with none

@@ -1,5 +1,6 @@
 -- What is asked of flash for the sake of clients: an evicted item comes, and an inserted or removed key goes.
 use Rattle.std.specs.Prelude.{ℕ, ◌+◌, ◌==◌, nat_lt, Bool, false, not, ◌&&◌, List, [], ◌∷◌, ◌++◌, length, Option, Some, None, is_some, option_map, if◌then◌else◌}
+use Rattle.hc_types.specs.Admission.{lets_in, with_tag}
 use Rattle.hc_types.specs.Limits.{is_within}
 use Rattle.hc_types.specs.Loss as loss
 use Rattle.hc_types.specs.Loss.{Cause, Evicted, Expired, Collision}
@@ -45,7 +46,7 @@ abbrev pub why_not : Nvm → FlashEntry → Option Why
 why_not nvm entry =
     let flash = nvm.pair.small.flash in
     if is_buried nvm entry.key then Some Tombstone
-    else (if not (is_within flash.admit_min flash.admit_max (length entry.key + length entry.value)) then Some NotAdmitted
+    else (if not (is_within flash.admit_min flash.admit_max (length entry.key + length entry.value) && lets_in nvm.tags entry.key) then Some NotAdmitted
     else (if is_too_large flash entry then Some TooLarge
     else (if length nvm.queue == flash.queue then Some QueueFull else None)))
 
@@ -53,8 +54,13 @@ why_not nvm entry =
 abbrev pub cause_for : ℕ → ℕ → ℕ → FlashEntry → Nvm → Option Cause
 cause_for now pool want entry nvm = if is_over now entry then Some Expired else option_map (Evicted pool want) (why_not nvm entry)
 
+-- a key that isn't admitted is turned away
+abbrev pub tags_after : Cause → List ℕ → List ℕ → List ℕ
+tags_after (Evicted pool want NotAdmitted) key tags = with_tag tags key
+tags_after cause key tags = tags
+
 abbrev pub waits_unless : Option Cause → FlashEntry → Nvm → Changed
-waits_unless (Some cause) entry nvm = changed (Lose (loss.Key entry.key) cause ∷ []) nvm
+waits_unless (Some cause) entry nvm = changed (Lose (loss.Key entry.key) cause ∷ []) (record nvm { tags = tags_after cause entry.key nvm.tags })
 waits_unless None entry nvm = changed (Queued entry.key ∷ []) (record nvm { queue = nvm.queue ++ entry ∷ [] })
 
 -- an item with no copy on flash was evicted from a pool, where so many bytes were wanted

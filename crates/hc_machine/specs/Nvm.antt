@@ -1,8 +1,10 @@
--- What waits for flash and what comes from it: the puts that wait, the tombstones, the fills, and the jobs.
+-- What waits for flash and what comes from it: the puts that wait, the tombstones, the fills, and the jobs; and what was
+-- turned away.
 use Rattle.std.specs.Prelude.{ℕ, ◌==◌, Bool, true, false, not, ◌&&◌, ◌||◌, List, [], ◌∷◌, ◌++◌, length, filter, find, map, Option, Some, None, is_some, if◌then◌else◌}
 use Rattle.std.specs.List.{list_any}
 use Rattle.std.specs.Str.{bytes_eq}
 use Rattle.hc_types.specs.declared.config.FlashConfig.{FlashConfig}
+use Rattle.hc_types.specs.Admission.{new_tags}
 use Rattle.hc_types.specs.Places.{is_small_by}
 use Rattle.hc_types.specs.FlashEntry.{FlashEntry}
 use Rattle.hc_engines.specs.Engine.{Order}
@@ -55,9 +57,11 @@ pub record Nvm : Type 0 where
   pub jobs : List Job
   -- how many jobs there were
   pub made : ℕ
+  -- by their slots, the tags of the keys that were turned away
+  pub tags : List ℕ
 
 abbrev pub new_nvm : FlashConfig → Nvm
-new_nvm flash = record { pair = new_pair flash; queue = []; tombstones = []; fills = []; jobs = []; made = 0 }
+new_nvm flash = record { pair = new_pair flash; queue = []; tombstones = []; fills = []; jobs = []; made = 0; tags = new_tags flash.admission }
 
 -- ---- puts that wait
 

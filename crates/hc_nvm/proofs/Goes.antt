@@ -93,3 +93,8 @@ kept_with entry nvm queue is can full kept = rw is (record {
   brought = kept.brought;
   served = kept.served;
 })
+
+-- ---- a key is turned away
+
+pub kept_tags : (nvm : Nvm) (tags : List ℕ) → Kept nvm → Kept (record nvm { tags = tags })
+kept_tags nvm tags kept = record { below = kept.below; starts = kept.starts; short = kept.short; numbered = kept.numbered; brought = kept.brought; served = kept.served }

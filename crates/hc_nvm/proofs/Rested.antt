@@ -51,8 +51,8 @@ kept_stones nvm stones kept = record {
 none_of : {X : Type 0} (xs : List X) → (length xs == 0) ≡ true → xs ≡ []
 none_of xs none = nil_from_length xs (eqb-true (length xs) 0 none)
 
-pub kept_idle : (pair : Pair) (made : ℕ) → is_idle pair ≡ true → Kept (of_parts pair [] [] made)
-kept_idle pair made idle =
+pub kept_idle : (pair : Pair) (made : ℕ) (tags : List ℕ) → is_idle pair ≡ true → Kept (of_parts pair [] [] made tags)
+kept_idle pair made tags idle =
     let both = and_parts (length pair.small.jobs == 0) (length pair.large.jobs == 0) idle in
     let small : pair.small.jobs ≡ [] = none_of pair.small.jobs both.0 in
     let large : pair.large.jobs ≡ [] = none_of pair.large.jobs both.1 in
@@ -75,7 +75,7 @@ none_out (stone ∷ stones) none = by_out stone.taken refl (λ h. none_out stone
     by_out true t f none = absurd (cc)
     by_out false t f none = let rest = f none in λ i. record { key = stone.key; taken = t i } ∷ rest i
 
-pub rest_is_parts : (nvm : Nvm) → rests nvm ≡ true → nvm ≡ of_parts nvm.pair nvm.queue (keys_of nvm.tombstones) nvm.made
+pub rest_is_parts : (nvm : Nvm) → rests nvm ≡ true → nvm ≡ of_parts nvm.pair nvm.queue (keys_of nvm.tombstones) nvm.made nvm.tags
 rest_is_parts nvm rest =
     let all = and_parts ((is_idle nvm.pair && (length nvm.jobs == 0)) && (length nvm.fills == 0)) (not (list_any is_out nvm.tombstones)) rest in
     let most = and_parts (is_idle nvm.pair && (length nvm.jobs == 0)) (length nvm.fills == 0) all.0 in
@@ -83,7 +83,7 @@ rest_is_parts nvm rest =
     let stones : nvm.tombstones ≡ map waiting_stone (keys_of nvm.tombstones) = none_out nvm.tombstones all.1 in
     let fills : nvm.fills ≡ [] = none_of nvm.fills most.1 in
     let jobs : nvm.jobs ≡ [] = none_of nvm.jobs some.1 in
-    λ i. record { pair = nvm.pair; queue = nvm.queue; tombstones = stones i; fills = fills i; jobs = jobs i; made = nvm.made }
+    λ i. record { pair = nvm.pair; queue = nvm.queue; tombstones = stones i; fills = fills i; jobs = jobs i; made = nvm.made; tags = nvm.tags }
 
 -- ---- each comes back behind those before it
 

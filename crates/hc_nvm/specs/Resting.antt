@@ -26,9 +26,9 @@ keys_of stones = map (λ (stone : Tombstone). stone.key) stones
 abbrev pub waiting_stone : List ℕ → Tombstone
 waiting_stone key = record { key = key; taken = false }
 
--- of both engines, the puts and the keys of the tombstones, behind so many jobs
-abbrev pub of_parts : Pair → List FlashEntry → List (List ℕ) → ℕ → Nvm
-of_parts pair queue keys made = record { pair = pair; queue = queue; tombstones = map waiting_stone keys; fills = []; jobs = []; made = made }
+-- of both engines, the puts and the keys of the tombstones, behind so many jobs, with these tags
+abbrev pub of_parts : Pair → List FlashEntry → List (List ℕ) → ℕ → List ℕ → Nvm
+of_parts pair queue keys made tags = record { pair = pair; queue = queue; tombstones = map waiting_stone keys; fills = []; jobs = []; made = made; tags = tags }
 
 -- ---- what can come back
 

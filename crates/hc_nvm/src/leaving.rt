@@ -1,7 +1,8 @@
 // What is asked of flash for the sake of clients: an evicted item comes, and an inserted or removed key goes. There is
 // room for all of it, and nothing is refused.
-ghost use Rattle.std.specs.Prelude.{◌≡◌, ◌≢◌, ◌<◌, ◌≤◌, ◌+◌, false, length, option_map, None, IfNone};
+ghost use Rattle.std.specs.Prelude.{◌≡◌, ◌≢◌, ◌<◌, ◌≤◌, ◌+◌, ◌&&◌, false, length, option_map, None, IfNone};
 ghost use Rattle.hc_types.specs.FlashEntry.{entry_of};
+ghost use Rattle.hc_types.specs.Admission.{lets_in};
 ghost use Rattle.hc_types.specs.Limits.{is_within};
 ghost use Rattle.hc_types.specs.Loss.{cause_of};
 ghost use Rattle.hc_engines.specs.Engine.{Put};
@@ -9,9 +10,10 @@ ghost use Rattle.hc_history.specs.Note.{Buried, Queued};
 ghost use Rattle.hc_history.specs.Told.{told_more, where_kept};
 ghost use Rattle.hc_pair.specs.Joined.{CanStart};
 ghost use Rattle.hc_machine.specs.Nvm.{put_at};
-ghost use Rattle.hc_machine.specs.Leaving.{cause_for as cause_seen, why_not as why_not_seen, is_over as is_over_seen, is_too_large as is_too_large_seen, evicted as evicted_step, unqueue as unqueue_step, bury as bury_step, unindex as unindex_step};
+ghost use Rattle.hc_machine.specs.Leaving.{cause_for as cause_seen, why_not as why_not_seen, is_over as is_over_seen, is_too_large as is_too_large_seen, tags_after, evicted as evicted_step, unqueue as unqueue_step, bury as bury_step, unindex as unindex_step};
 ghost use Rattle.hc_machine.specs.Cache.{unmarked_by};
 ghost use Rattle.hc_nvm.specs.Leaving.{unqueued};
+ghost use Rattle.hc_nvm.specs.Starting.{KeepsRoom};
 
 use crate::nvm::Nvm;
 use crate::telling::{lost, tell};
@@ -50,14 +52,14 @@ impl<A: Allocator + Clone + Copy> Nvm<A> {
         !self.pair.is_small(entry) && self.pair.admit(entry).is_err()
     }
 
-    /// Whether the bytes of key and value are within the limits of what is admitted.
+    /// Whether the entry is admitted: the bytes of key and value are within the limits, and the key is let in.
     fn is_admitted(&self, entry: &Entry<A>) -> bool
         requires { length entry.now.value ≤ 1048576 }
-        ensures { result ≡ is_within self.now.nvm.pair.small.flash.admit_min self.now.nvm.pair.small.flash.admit_max (length entry.now.key + length entry.now.value) }
+        ensures { result ≡ (is_within self.now.nvm.pair.small.flash.admit_min self.now.nvm.pair.small.flash.admit_max (length entry.now.key + length entry.now.value) && lets_in self.now.nvm.tags entry.now.key) }
     {
         let flash = self.pair.flash();
         let bytes = entry.key.len() as u64 + entry.value.len() as u64;
-        flash.admit_min <= bytes && bytes <= flash.admit_max
+        flash.admit_min <= bytes && bytes <= flash.admit_max && self.tags.lets_in(&entry.key)
     }
 
     /// Why an entry doesn't wait for flash: the first reason that holds.
@@ -98,6 +100,18 @@ impl<A: Allocator + Clone + Copy> Nvm<A> {
         }
     }
 
+    /// The key was lost for this cause: where it wasn't admitted, it was turned away.
+    fn turn_away(&mut self, cause: &Cause<A>, key: &Key<A>)
+        ensures nvm { self.new.nvm ≡ record self.old.nvm { tags = tags_after (cause_of cause.now) key.now self.old.nvm.tags } }
+        ensures rooms { KeepsRoom self.old self.new }
+    {
+        if let Cause::Evicted { why, .. } = cause {
+            if *why == Why::NotAdmitted {
+                self.tags.turn_away(key);
+            }
+        }
+    }
+
     /// An entry with no copy on flash was evicted from a pool at `now` (seconds), where so many bytes were wanted: it waits
     /// for flash, or its key is forgotten. `copy` is its key once more, and the note that it waits was made where notes are
     /// kept.
@@ -128,6 +142,7 @@ impl<A: Allocator + Clone + Copy> Nvm<A> {
             Some(cause) => {
                 drop(note);
                 drop(entry);
+                self.turn_away(&cause, &copy);
                 let scope = Scope::Key(copy);
                 tell_loss(notes, scope, cause);
             }

@@ -11,7 +11,7 @@ ghost use Rattle.hc_nvm.specs.Resting.{rests, keys_of, waiting_stone, of_parts, 
 
 use crate::nvm::Nvm;
 use hc_pair::Pair;
-use hc_types::{Entry, Key};
+use hc_types::{Entry, Key, Tags};
 use hc_waiting::{Fills, Puts, Tombstones};
 use std::alloc::{AllocError, Allocator};
 
@@ -69,6 +69,14 @@ impl<A: Allocator + Clone + Copy> Nvm<A> {
         self.made
     }
 
+    /// The tags of the keys that were turned away, one a slot.
+    #[must_use]
+    pub fn tags(&self) -> &Tags<A>
+        ensures { result.now ≡ self.now.nvm.tags }
+    {
+        &self.tags
+    }
+
     /// Whether nothing is under way: no job is out, no delete of a tombstone either, and no call waits. Puts and tombstones may
     /// wait. All tombstones are looked at.
     #[must_use]
@@ -103,7 +111,7 @@ impl<A: Allocator + Clone + Copy> Nvm<A> {
     /// What is handed out at rest is all that there is, and comes back in that order: a law to call where a proof asks for it.
     /// It does nothing.
     pub fn comes_back(&self)
-        ensures parts { rests self.now.nvm ≡ true → self.now.nvm ≡ of_parts self.now.nvm.pair self.now.nvm.queue (keys_of self.now.nvm.tombstones) self.now.nvm.made }
+        ensures parts { rests self.now.nvm ≡ true → self.now.nvm ≡ of_parts self.now.nvm.pair self.now.nvm.queue (keys_of self.now.nvm.tombstones) self.now.nvm.made self.now.nvm.tags }
         ensures puts { AllPutsFit self.now.nvm.pair.small.flash [] self.now.nvm.queue }
         ensures stones { AllStonesFit [] self.now.nvm.tombstones }
     {
@@ -111,15 +119,15 @@ impl<A: Allocator + Clone + Copy> Nvm<A> {
         self.tombstones.is_sound();
     }
 
-    /// Both engines, in which nothing is under way, behind so many jobs, by a configuration whose numbers are within their
-    /// limits. Nothing waits yet: puts and tombstones come back by `resume_put` and `resume_tombstone`, in the order in which they
+    /// Both engines, in which nothing is under way, behind so many jobs, with the tags of the keys that were turned away, by a
+    /// configuration whose numbers are within their limits. Nothing waits yet: puts and tombstones come back by `resume_put` and `resume_tombstone`, in the order in which they
     /// were handed out.
     #[must_use]
     #[tactic(auto, using(hc_engines::proofs::small::Limited::limits_from))]
-    pub fn from_parts(alloc: A, pair: Pair<A>, made: u64) -> Nvm<A>
+    pub fn from_parts(alloc: A, pair: Pair<A>, made: u64, tags: Tags<A>) -> Nvm<A>
         requires flash { flash_wrong pair.small.flash ≡ None }
         requires idle { is_idle pair ≡ true }
-        ensures { result.nvm ≡ of_parts pair [] [] made }
+        ensures { result.nvm ≡ of_parts pair [] [] made tags }
     {
         let config = pair.flash();
         let flash = *config;
@@ -134,6 +142,7 @@ impl<A: Allocator + Clone + Copy> Nvm<A> {
             fills,
             jobs,
             made,
+            tags,
         }
     }
 

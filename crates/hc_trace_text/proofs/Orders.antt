@@ -6,10 +6,12 @@ use Rattle.std.specs.Char.{is_ascii_digit}
 use Rattle.std.specs.List.{list_all}
 use Rattle.std.specs.Str.{bytes_eq, all_ascii_digits}
 use Rattle.std.specs.Prelude.{codes}
+use Rattle.hc_types.specs.declared.config.Admission.{Admission}
+use Rattle.hc_types.specs.declared.config.Admission.TheVariants.{RejectFirst}
 use Rattle.hc_trace_text.specs.Lines.{onto_first, fields_of, Lacks}
 use Rattle.hc_trace_text.specs.Numbers.{is_visible, is_key, number_of, below, number_below, value_of}
 use Rattle.hc_trace_text.specs.Steps.{Get, Del, Now, Finish, Reply}
-use Rattle.hc_trace_text.specs.Grammar.{Order, Do, Serve, pool_with, pool_order, item_with, item_of, get_order, del_order, now_order, noflash_order, five_with, five_of, io_with, io_order, done_order, reply_order, alone_of, alone, served, serve_of, order_of}
+use Rattle.hc_trace_text.specs.Grammar.{Order, Do, Serve, pool_with, pool_order, item_with, item_of, get_order, del_order, now_order, noflash_order, admission_of, admission_in, io_with, io_order, done_order, reply_order, alone_of, alone, served, serve_of, order_of}
 use Rattle.hc_trace_text.proofs.Decimals.{both, true-is-not-false, number-digits}
 use Rattle.hc_trace_text.proofs.Parts.{Some-fields, fields-some, fields-one, fields-ended, around, not-true}
 
@@ -257,20 +259,17 @@ fail-from job text (inr p) =
 pub fail-is : (job text : List ℕ) → io_order (job ∷ fields_of text) ≡ (if bytes_eq text (codes "fail") then io_with true (number_of job) else None)
 fail-is job text = fail-from job text (one-or-more text)
 
-no-five : (a b c d : Option ℕ) → None ≡ five_with a b c d None
-no-five None b c d = refl
-no-five (Some a) None c d = refl
-no-five (Some a) (Some b) None d = refl
-no-five (Some a) (Some b) (Some c) None = refl
-no-five (Some a) (Some b) (Some c) (Some d) = refl
+none-either : (b : Bool) → ◌≡◌ {A = Option Admission} None (if b then None else None)
+none-either true = refl
+none-either false = refl
 
-five-from : (a b c d text : List ℕ) → (fields_of text ≡ text ∷ []) ⊎ Parted text
-    → five_of (a ∷ b ∷ c ∷ d ∷ fields_of text) ≡ five_with (number_of a) (number_of b) (number_of c) (number_of d) (number_of text)
-five-from a b c d text (inl one) = ap (λ z. five_of (a ∷ b ∷ c ∷ d ∷ z)) one
-five-from a b c d text (inr p) =
-    ap (λ z. five_of (a ∷ b ∷ c ∷ d ∷ z)) (two text p)
-    ∙ no-five (number_of a) (number_of b) (number_of c) (number_of d)
-    ∙ sym (ap (five_with (number_of a) (number_of b) (number_of c) (number_of d)) (not-number text (number_of text) refl p))
+admission-from : (word text : List ℕ) → (fields_of text ≡ text ∷ []) ⊎ Parted text → admission_in (word ∷ fields_of text) ≡ admission_of word text
+admission-from word text (inl one) = ap (λ z. admission_in (word ∷ z)) one
+admission-from word text (inr p) =
+    ap (λ z. admission_in (word ∷ z)) (two text p)
+    ∙ none-either (bytes_eq word (codes "rejectfirst"))
+    ∙ sym (ap (λ (o : Option ℕ). if bytes_eq word (codes "rejectfirst") then option_map RejectFirst o else None) (not-number text (number_of text) refl p))
 
-pub five-is : (a b c d text : List ℕ) → five_of (a ∷ b ∷ c ∷ d ∷ fields_of text) ≡ five_with (number_of a) (number_of b) (number_of c) (number_of d) (number_of text)
-five-is a b c d text = five-from a b c d text (one-or-more text)
+-- a number has no space, so one is what is left
+pub admission-is : (word text : List ℕ) → admission_in (word ∷ fields_of text) ≡ admission_of word text
+admission-is word text = admission-from word text (one-or-more text)

@@ -1,6 +1,8 @@
 -- What a line of a trace says.
 use Rattle.std.specs.Prelude.{ℕ, ◌==◌, ◌^◌, nat_lt, Bool, true, false, List, [], ◌∷◌, length, Option, Some, None, option_map, codes, if◌then◌else◌}
 use Rattle.std.specs.Str.{bytes_eq}
+use Rattle.hc_types.specs.declared.config.Admission.{Admission}
+use Rattle.hc_types.specs.declared.config.Admission.TheVariants.{All, RejectFirst}
 use Rattle.hc_types.specs.declared.config.FlashConfig.{FlashConfig}
 use Rattle.hc_trace_text.specs.Lines.{fields_of}
 use Rattle.hc_trace_text.specs.Numbers.{number_of, number_below, is_key, value_of}
@@ -75,25 +77,45 @@ abbrev pub five_of : List (List ℕ) → Option Five
 five_of (a ∷ b ∷ c ∷ d ∷ e ∷ []) = five_with (number_of a) (number_of b) (number_of c) (number_of d) (number_of e)
 five_of fields = None
 
+-- `rejectfirst SLOTS`
+abbrev pub admission_of : List ℕ → List ℕ → Option Admission
+admission_of word slots = if bytes_eq word (codes "rejectfirst") then option_map RejectFirst (number_of slots) else None
+
+abbrev pub limits_with : Option Five → Option Admission → Option (Five × Admission)
+limits_with (Some limits) (Some admission) = Some (limits, admission)
+limits_with limits admission = None
+
+-- which keys it takes: all, unless it is said
+abbrev pub admission_in : List (List ℕ) → Option Admission
+admission_in [] = Some All
+admission_in (word ∷ slots ∷ []) = admission_of word slots
+admission_in fields = None
+
+-- the last five numbers of a flash, and what is said behind them
+abbrev pub limits_of : List (List ℕ) → Option (Five × Admission)
+limits_of (a ∷ b ∷ c ∷ d ∷ e ∷ fields) = limits_with (five_of (a ∷ b ∷ c ∷ d ∷ e ∷ [])) (admission_in fields)
+limits_of fields = None
+
 -- the numbers of a flash, in the order of a line
-abbrev pub flash_with : Option Five → Option Five → Option Order
+abbrev pub flash_with : Option Five → Option (Five × Admission) → Option Order
 flash_with (Some sizes) (Some limits) = Some (Flash (record {
   page = sizes.0;
   buckets = sizes.1;
   regions = sizes.2;
   region_pages = sizes.3;
   clean = sizes.4;
-  small_max = limits.0;
-  queue = limits.1;
-  bits = limits.2;
-  admit_min = limits.3;
-  admit_max = limits.4;
+  small_max = limits.0.0;
+  queue = limits.0.1;
+  bits = limits.0.2;
+  admit_min = limits.0.3;
+  admit_max = limits.0.4;
+  admission = limits.1;
 }))
 flash_with sizes limits = None
 
--- `flash PAGE BUCKETS REGIONS REGION_PAGES CLEAN SMALL_MAX QUEUE BITS MIN MAX`
+-- `flash PAGE BUCKETS REGIONS REGION_PAGES CLEAN SMALL_MAX QUEUE BITS MIN MAX`, and behind it nothing or `rejectfirst SLOTS`
 abbrev pub flash_order : List (List ℕ) → Option Order
-flash_order (page ∷ buckets ∷ regions ∷ region_pages ∷ clean ∷ limits) = flash_with (five_of (page ∷ buckets ∷ regions ∷ region_pages ∷ clean ∷ [])) (five_of limits)
+flash_order (page ∷ buckets ∷ regions ∷ region_pages ∷ clean ∷ limits) = flash_with (five_of (page ∷ buckets ∷ regions ∷ region_pages ∷ clean ∷ [])) (limits_of limits)
 flash_order fields = None
 
 abbrev pub io_with : Bool → Option ℕ → Option Order

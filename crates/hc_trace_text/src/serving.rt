@@ -2,13 +2,13 @@
 ghost use Rattle.std.specs.Prelude.{◌≡◌, ◌∷◌, [], true, false, Some, None, MatchOption, option_map};
 ghost use Rattle.hc_trace_text.specs.Lines.{fields_of};
 ghost use Rattle.hc_trace_text.specs.Grammar as spec;
-ghost use Rattle.hc_trace_text.specs.Grammar.{five_with as numbers_with, five_of, flash_with, flash_order, io_with, io_order, done_order, reply_order, alone_of, serve_of};
+ghost use Rattle.hc_trace_text.specs.Grammar.{five_with as numbers_with, admission_of as said_of, admission_in as said_in, limits_of, flash_with, flash_order, io_with, io_order, done_order, reply_order, alone_of, serve_of};
 ghost use Rattle.hc_trace_text.specs.Numbers.{number_of};
 ghost use Rattle.hc_trace_text.specs.Seen.{order_seen};
 
 use crate::grammar::{Order, Work, behind, first_field};
 use crate::numbers::number;
-use hc_types::FlashConfig;
+use hc_types::{Admission, FlashConfig};
 
 // Half of the numbers of a flash.
 type Five = (u64, u64, u64, u64, u64);
@@ -20,20 +20,50 @@ fn five_with(a: &[u8], b: &[u8], c: &[u8], d: &[u8], e: &[u8]) -> Option<Five>
     Some((number(a)?, number(b)?, number(c)?, number(d)?, number(e)?))
 }
 
-// Five numbers, with nothing behind them.
-fn five_in(fields: &[u8]) -> Option<Five>
-    ensures { result ≡ five_of (fields_of fields.now) }
+// What is said of admission: `rejectfirst`, and a number of slots.
+fn admission_of(word: &[u8], slots: &[u8]) -> Option<Admission>
+    ensures { result ≡ said_of word.now slots.now }
+{
+    if word == b"rejectfirst".as_slice() {
+        let slots = number(slots)?;
+        Some(Admission::RejectFirst { slots })
+    } else {
+        None
+    }
+}
+
+// What these fields say of admission.
+fn admission_in(fields: &[u8]) -> Option<Admission>
+    ensures { result ≡ said_in (fields_of fields.now) }
+{
+    let (word, slots) = first_field(fields)?;
+    admission_of(word, slots)
+}
+
+// Five numbers, and which keys a flash takes, where both are there.
+fn limits_with(five: Option<Five>, admission: Option<Admission>) -> Option<(Five, Admission)>
+    ensures { result ≡ spec.limits_with five admission }
+{
+    Some((five?, admission?))
+}
+
+// The last five numbers of a flash, and which keys it takes.
+fn limits_in(fields: &[u8]) -> Option<(Five, Admission)>
+    ensures { result ≡ limits_of (fields_of fields.now) }
 {
     let (a, fields) = first_field(fields)?;
     let (b, fields) = first_field(fields)?;
     let (c, fields) = first_field(fields)?;
     let (d, fields) = first_field(fields)?;
-    five_with(a, b, c, d, fields)
+    match first_field(fields) {
+        Some((e, fields)) => limits_with(five_with(a, b, c, d, e), admission_in(fields)),
+        None => limits_with(five_with(a, b, c, d, fields), Some(Admission::All)),
+    }
 }
 
 // The first five numbers of a flash, and the bytes behind their last space.
 fn first_five(fields: &[u8]) -> Option<(Five, &[u8])>
-    ensures { MatchOption result (flash_order (fields_of fields.now) ≡ None) (λ p. flash_order (fields_of fields.now) ≡ flash_with (Some p.0) (five_of (fields_of p.1.now))) }
+    ensures { MatchOption result (flash_order (fields_of fields.now) ≡ None) (λ p. flash_order (fields_of fields.now) ≡ flash_with (Some p.0) (limits_of (fields_of p.1.now))) }
 {
     let (a, fields) = first_field(fields)?;
     let (b, fields) = first_field(fields)?;
@@ -44,8 +74,8 @@ fn first_five(fields: &[u8]) -> Option<(Five, &[u8])>
 }
 
 // The flash of these numbers.
-fn flash_of(sizes: Five, limits: Five) -> FlashConfig
-    ensures { Some (spec.Flash result) ≡ flash_with (Some sizes) (Some limits) }
+fn flash_of(sizes: Five, limits: Five, admission: Admission) -> FlashConfig
+    ensures { Some (spec.Flash result) ≡ flash_with (Some sizes) (Some (limits, admission)) }
 {
     let (page, buckets, regions, region_pages, clean) = sizes;
     let (small_max, queue, bits, admit_min, admit_max) = limits;
@@ -60,6 +90,7 @@ fn flash_of(sizes: Five, limits: Five) -> FlashConfig
         bits,
         admit_min,
         admit_max,
+        admission,
     }
 }
 
@@ -68,8 +99,8 @@ fn flash_in(fields: &[u8]) -> Option<Order<'_>>
     ensures { option_map order_seen result ≡ flash_order (fields_of fields.now) }
 {
     let (sizes, fields) = first_five(fields)?;
-    let limits = five_in(fields)?;
-    Some(Order::Flash(flash_of(sizes, limits)))
+    let (limits, admission) = limits_in(fields)?;
+    Some(Order::Flash(flash_of(sizes, limits, admission)))
 }
 
 // The operation of this job.

@@ -1,13 +1,16 @@
 -- The definitions against values that were worked out by hand.
-use Rattle.std.proofs.Common.{◌≡◌, ℕ, true, false, List, [], ◌∷◌, map, Option, Some, None, refl}
+use Rattle.std.proofs.Common.{◌≡◌, ℕ, Bool, fold, true, false, List, [], ◌∷◌, map, Option, Some, None, refl}
 use Rattle.std.specs.Prelude.{codes, replicate}
 use Rattle.std.specs.Fmt.{digits}
 use Rattle.hc_types.specs.Fnv.{fnv_1a}
 use Rattle.hc_types.specs.Charge.{charge_of}
 use Rattle.hc_types.specs.Places.{kept_of, bucket_at}
 use Rattle.hc_types.specs.Loss.{Key, Bucket, Hash, covers}
+use Rattle.hc_types.specs.Admission.{slot_of, or_one, tag_of, new_tags, lets_in, with_tag}
 use Rattle.hc_types.specs.Limits.{first_wrong}
 use Rattle.hc_types.specs.Refusals.{refusal_text}
+use Rattle.hc_types.specs.declared.config.Admission.{Admission}
+use Rattle.hc_types.specs.declared.config.Admission.TheVariants.{All, RejectFirst}
 use Rattle.hc_types.specs.declared.config.PoolSize.{PoolSize}
 use Rattle.hc_types.specs.declared.config.FlashConfig.{FlashConfig}
 use Rattle.hc_types.specs.declared.refusal.Refusal.{Refusal}
@@ -53,16 +56,52 @@ abbrev most_pool : PoolSize
 most_pool = record { bytes = 4294967296; items = 1048576 }
 
 abbrev least : FlashConfig
-least = record { page = 512; buckets = 1; regions = 2; region_pages = 1; clean = 1; small_max = 0; queue = 1; bits = 1; admit_min = 0; admit_max = 0 }
+least = record { page = 512; buckets = 1; regions = 2; region_pages = 1; clean = 1; small_max = 0; queue = 1; bits = 1; admit_min = 0; admit_max = 0; admission = All }
 
 abbrev most : FlashConfig
-most = record { page = 4096; buckets = 1048576; regions = 65536; region_pages = 4096; clean = 65535; small_max = 4080; queue = 65535; bits = 64; admit_min = 1048831; admit_max = 1048831 }
+most = record { page = 4096; buckets = 1048576; regions = 65536; region_pages = 4096; clean = 65535; small_max = 4080; queue = 65535; bits = 64; admit_min = 1048831; admit_max = 1048831; admission = RejectFirst 268435456 }
 
 -- the bucket is the kept hash, modulo the number of buckets
 pub buckets : Worked (bucket_at (record least { bits = 8; buckets = 100 }))
     ((codes "a", 40) ∷ (codes "b", 65) ∷ (codes "c", 42) ∷ (codes "d", 15) ∷ (codes "e", 92) ∷ (codes "f", 17)
     ∷ (codes "foobar", 32) ∷ (codes "aa", 83) ∷ (codes "bH", 83) ∷ [])
 buckets = refl
+
+-- ---- keys that were turned away
+
+-- the highest 32 bits of the hashes above
+pub tags : Worked tag_of
+    ((codes "a", 2942557260) ∷ (codes "b", 2942558028) ∷ (codes "c", 2942557772) ∷ (codes "d", 2942556492) ∷ (codes "e", 2942556236) ∷ (codes "f", 2942557004) ∷ (codes "foobar", 2241085809) ∷ [])
+tags = refl
+
+-- none is 0
+pub no_tag_is_zero : or_one 0 ≡ 1
+no_tag_is_zero = refl
+
+-- the hashes above modulo 7
+pub slots : Worked (slot_of 7)
+    ((codes "a", 5) ∷ (codes "b", 0) ∷ (codes "c", 4) ∷ (codes "d", 3) ∷ (codes "e", 0) ∷ (codes "f", 2) ∷ (codes "foobar", 6) ∷ [])
+slots = refl
+
+-- a, b, c, d and e where these were turned away, in turn, with four slots: a and e share one
+abbrev let_in_after : Admission → List (List ℕ) → List Bool
+let_in_after admission keys = map (lets_in (fold with_tag (new_tags admission) keys)) (codes "a" ∷ codes "b" ∷ codes "c" ∷ codes "d" ∷ codes "e" ∷ [])
+
+pub let_in : Worked (let_in_after (RejectFirst 4))
+    (([], false ∷ false ∷ false ∷ false ∷ false ∷ [])
+    ∷ (codes "a" ∷ [], true ∷ false ∷ false ∷ false ∷ false ∷ [])
+    ∷ (codes "a" ∷ codes "d" ∷ [], true ∷ false ∷ false ∷ true ∷ false ∷ [])
+    ∷ (codes "a" ∷ codes "d" ∷ codes "e" ∷ [], false ∷ false ∷ false ∷ true ∷ true ∷ [])
+    ∷ (codes "e" ∷ codes "a" ∷ codes "a" ∷ [], true ∷ false ∷ false ∷ false ∷ false ∷ [])
+    ∷ [])
+let_in = refl
+
+-- without a table all are
+pub all_let_in : Worked (let_in_after All)
+    (([], true ∷ true ∷ true ∷ true ∷ true ∷ [])
+    ∷ (codes "a" ∷ codes "d" ∷ [], true ∷ true ∷ true ∷ true ∷ true ∷ [])
+    ∷ [])
+all_let_in = refl
 
 -- ---- limits
 
@@ -98,6 +137,7 @@ pub flash_within : Worked flash_is
     ∷ (record least { page = 1024 }, None)
     ∷ (record least { page = 2048 }, None)
     ∷ (record least { small_max = 496 }, None)
+    ∷ (record least { admission = RejectFirst 1 }, None)
     ∷ [])
 flash_within = refl
 
@@ -119,6 +159,8 @@ pub flash_outside : Worked flash_is
     ∷ (record most { queue = 65536 }, Some BadQueue)
     ∷ (record least { admit_min = 1 }, Some BadQueue)
     ∷ (record most { admit_max = 1048832 }, Some BadQueue)
+    ∷ (record least { admission = RejectFirst 0 }, Some BadQueue)
+    ∷ (record most { admission = RejectFirst 268435457 }, Some BadQueue)
     ∷ (record least { bits = 0 }, Some BadBits)
     ∷ (record most { bits = 65 }, Some BadBits)
     ∷ [])

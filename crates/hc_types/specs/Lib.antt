@@ -3,6 +3,7 @@ pub mod Tally
 pub mod Fnv
 pub mod Charge
 pub mod Config
+pub mod Admission
 pub mod Limits
 pub mod Places
 pub mod Digest

@@ -1,5 +1,7 @@
 -- The limits of keys and of a configuration.
 use Rattle.std.specs.Prelude.{ℕ, ◌-◌, ◌==◌, nat_lt, nat_le, Bool, true, not, ◌&&◌, ◌||◌, List, [], ◌∷◌, length, Option, Some, None, if◌then◌else◌}
+use Rattle.hc_types.specs.declared.config.Admission.{Admission}
+use Rattle.hc_types.specs.declared.config.Admission.TheVariants.{All, RejectFirst}
 use Rattle.hc_types.specs.declared.config.PoolSize.{PoolSize}
 use Rattle.hc_types.specs.declared.config.FlashConfig.{FlashConfig}
 use Rattle.hc_types.specs.declared.refusal.Refusal.{Refusal}
@@ -30,8 +32,12 @@ page_fits flash = (flash.page == 512) || (flash.page == 1024) || (flash.page == 
 abbrev pub regions_fit : FlashConfig → Bool
 regions_fit flash = is_within 2 65536 flash.regions && is_within 1 4096 flash.region_pages && nat_le 1 flash.clean && nat_lt flash.clean flash.regions
 
+abbrev pub slots_fit : Admission → Bool
+slots_fit All = true
+slots_fit (RejectFirst slots) = is_within 1 268435456 slots
+
 abbrev pub queue_fits : FlashConfig → Bool
-queue_fits flash = is_within 1 65535 flash.queue && nat_le flash.admit_min flash.admit_max && nat_le flash.admit_max 1048831
+queue_fits flash = is_within 1 65535 flash.queue && nat_le flash.admit_min flash.admit_max && nat_le flash.admit_max 1048831 && slots_fit flash.admission
 
 -- the first number of the flash that is outside its limits, by its refusal
 abbrev pub flash_wrong : FlashConfig → Option Refusal

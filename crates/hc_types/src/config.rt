@@ -1,6 +1,6 @@
 // How large the cache is, in memory and on flash.
 ghost use Rattle.std.specs.Prelude.{◌≡◌, ◌↔◌, Some, None, IsOk, IfOk, IfErr};
-ghost use Rattle.hc_types.specs.Limits.{pool_fits, all_fit, regions_fit as all_regions_fit, first_wrong, flash_wrong};
+ghost use Rattle.hc_types.specs.Limits.{pool_fits, all_fit, regions_fit as all_regions_fit, slots_fit as are_slots_fit, queue_fits as is_queue_fit, first_wrong, flash_wrong};
 
 use crate::refusal::Refusal;
 use std::alloc::{AllocError, Allocator, Global};
@@ -11,6 +11,16 @@ use std::marker::Model;
 pub struct PoolSize {
     pub bytes: u64,
     pub items: u64,
+}
+
+/// Which of the items whose size is admitted go to flash.
+#[derive(Clone, Copy, Debug, PartialEq, Eq)]
+pub enum Admission {
+    /// All of them.
+    All,
+    /// Only those whose key was turned away once before, lately (CacheLib's `RejectFirst`): a table of so many slots, of
+    /// 4 bytes each, has of each slot the last key that was turned away. 1 to 268,435,456 slots.
+    RejectFirst { slots: u64 },
 }
 
 /// The flash behind the pools: `buckets` pages of BigHash for small items, then regions of BlockCache for large ones.
@@ -36,6 +46,8 @@ pub struct FlashConfig {
     pub admit_min: u64,
     /// The most bytes, of key and value, of an item that is admitted: `admit_min` to 1,048,831.
     pub admit_max: u64,
+    /// Which of these go to flash.
+    pub admission: Admission,
 }
 
 /// The configuration of a cache: 1 to 16 pools, which are numbered from 0, and flash where there is any. Contracts see
@@ -120,6 +132,27 @@ fn regions_fit(flash: &FlashConfig) -> bool
         && flash.clean < flash.regions
 }
 
+/// Whether the table of the keys that were turned away has a number of slots within its limits, where there is one.
+fn slots_fit(admission: Admission) -> bool
+    ensures { result ≡ are_slots_fit admission }
+{
+    match admission {
+        Admission::All => true,
+        Admission::RejectFirst { slots } => slots >= 1 && slots <= 268_435_456,
+    }
+}
+
+/// Whether the queue's length, and what is admitted, are within their limits.
+fn queue_fits(flash: &FlashConfig) -> bool
+    ensures { result ≡ is_queue_fit flash.now }
+{
+    flash.queue >= 1
+        && flash.queue <= 65_535
+        && flash.admit_min <= flash.admit_max
+        && flash.admit_max <= 1_048_831
+        && slots_fit(flash.admission)
+}
+
 /// Whether each number of the flash is within its limits.
 fn check_flash(flash: &FlashConfig) -> Result<(), Refusal>
     ensures ok { IsOk result ↔ (flash_wrong flash.now ≡ None) }
@@ -137,11 +170,7 @@ fn check_flash(flash: &FlashConfig) -> Result<(), Refusal>
     if flash.small_max > flash.page - 16 {
         return Err(Refusal::BadSmallMax);
     }
-    if flash.queue < 1
-        || flash.queue > 65_535
-        || flash.admit_min > flash.admit_max
-        || flash.admit_max > 1_048_831
-    {
+    if !queue_fits(flash) {
         return Err(Refusal::BadQueue);
     }
     if flash.bits < 1 || flash.bits > 64 {

@@ -2,6 +2,7 @@
 //! forgotten and why.
 #![tactic(auto)]
 
+mod admission;
 mod config;
 mod entry;
 mod key;
@@ -10,7 +11,8 @@ mod loss;
 mod refusal;
 mod shown;
 
-pub use config::{Config, FlashConfig, PoolSize};
+pub use admission::{Tags, slot_of, tag_of};
+pub use config::{Admission, Config, FlashConfig, PoolSize};
 pub use entry::{Entry, VALUE_MAX, charge, is_small};
 pub use key::{KEY_MAX, Key, bucket_of, digest_of, hash, hash_of, kept};
 pub use key_bytes::SHORT_KEY_MAX;

@@ -10,7 +10,7 @@ use crate::requests::Requests;
 use crate::run::{run, Measured, Place};
 use crate::stop;
 use clap::{value_parser, Args};
-use kilambosetry::Options;
+use kilambosetry::{Admission, Options};
 use std::env;
 use std::error::Error;
 use std::path::PathBuf;
@@ -38,6 +38,11 @@ pub struct Advise {
     /// A folder on the device of the flash; a file without a name is made there
     #[arg(long, value_name = "FOLDER")]
     flash_at: Option<PathBuf>,
+
+    /// What goes to flash of what leaves memory: all, or reject-first, only what was turned away once before; with a comma between
+    /// them each is tried
+    #[arg(long, value_name = "WHICH", default_value = "all", value_delimiter = ',')]
+    admission: Vec<Admission>,
 
     /// Parts of the cache with a lock each, 1 to 4096; 0: as many as memory and flash want
     #[arg(short, long, value_name = "COUNT", default_value_t = 0, value_parser = value_parser!(u16).range(0..=4096))]
@@ -76,7 +81,7 @@ impl Advise {
         }
         let options = Options { shards: self.shards, ..options_of(self.requests.means()?) };
         let limits = Limits { memory: self.memory_at_most, flash: self.flash_at_most };
-        let mut candidates = candidates(&options, &limits);
+        let mut candidates = candidates(&options, &limits, &self.admission);
         if candidates.is_empty() {
             return Err(format!("no cache has as little as {} resident", limits.memory).into());
         }
@@ -122,6 +127,10 @@ impl Advise {
 
     fn table(&self, tried: &[Tried], chosen: Option<usize>) -> Table {
         let mut head = vec!["", "memory", "flash", "said", "hits", "in memory", "written for a byte stored"];
+        let admits = self.admission != [Admission::All];
+        if admits {
+            head.insert(3, "admission");
+        }
         if self.rate > 0.0 {
             head.extend(["drive writes a day", "years"]);
         }
@@ -135,6 +144,9 @@ impl Advise {
                 format!("{:.2} %", tried.memory_hit_ratio * 100.0),
                 format!("{:.2}", tried.amplification),
             ];
+            if admits {
+                row.insert(3, if tried.flash > 0 { tried.admission.to_string() } else { "-".to_string() });
+            }
             if self.rate > 0.0 {
                 let writes = tried.drive_writes(self.rate, self.drive.0);
                 row.push(writes.map_or("-".to_string(), |writes| format!("{writes:.2}")));
@@ -161,6 +173,7 @@ impl Advise {
             ("options", code(options).as_str().into()),
             ("memory", tried.memory.into()),
             ("flash", tried.flash.into()),
+            ("admission", tried.admission.name().into()),
             ("said_bytes", tried.said.into()),
             ("hit_ratio", tried.hit_ratio.into()),
             ("memory_hit_ratio", tried.memory_hit_ratio.into()),
@@ -176,6 +189,7 @@ fn tried(options: &Options, measured: &Measured) -> Tried {
     Tried {
         memory: options.memory,
         flash: options.flash,
+        admission: options.admission,
         said: measured.numbers.memory_bytes(),
         hit_ratio: tally.hit_ratio(),
         memory_hit_ratio: tally.memory_hit_ratio(),

@@ -129,6 +129,7 @@ pub fn over(device: &Hanging, words: &[&str]) -> Running {
         bits: 64,
         admit_min: 1,
         admit_max: 4000,
+        reject_first: 0,
     };
     let pool = Pool { bytes: 16_000, items: 64 };
     let options = Options { shards: 4, fillers: 4, pool: Some(pool), flash_numbers: Some(flash), ..Options::default() };

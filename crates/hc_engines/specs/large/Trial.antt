@@ -1,5 +1,6 @@
 -- The machine on the worked rows, its pages in a list of what was written.
 use Rattle.std.specs.Prelude.{ℕ, ◌==◌, List, [], ◌∷◌, replicate, Option, Some, None, if◌then◌else◌}
+use Rattle.hc_types.specs.declared.config.Admission.TheVariants.{All}
 use Rattle.hc_types.specs.declared.config.FlashConfig.{FlashConfig}
 use Rattle.hc_types.specs.FlashEntry.{FlashEntry}
 use Rattle.hc_engines.specs.Engine.{Op, IoResult, Page, Written, Failed, Order, Read, Write, Outcome, nothing}
@@ -82,4 +83,4 @@ abbrev pub entry : ℕ → ℕ → ℕ → FlashEntry
 entry key n byte = record { key = key ∷ []; value = replicate n byte; pool = 0; expiry = 0 }
 
 abbrev pub small_flash : ℕ → ℕ → FlashConfig
-small_flash pages clean = record { page = 512; buckets = 1; regions = 3; region_pages = pages; clean = clean; small_max = 100; queue = 8; bits = 8; admit_min = 0; admit_max = 2000 }
+small_flash pages clean = record { page = 512; buckets = 1; regions = 3; region_pages = pages; clean = clean; small_max = 100; queue = 8; bits = 8; admit_min = 0; admit_max = 2000; admission = All }

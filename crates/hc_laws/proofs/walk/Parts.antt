@@ -14,7 +14,7 @@ use Rattle.hc_memory.specs.Memory.{linked_at, victims_of, after_room, after_unli
 use Rattle.hc_history.specs.Note.{Note, Stored, Exists, Begin, Did, End, Lose, Charged, Linked, Freed, Queued, Unqueued, Written, Buried, Raised, Opened, Flushed, Cleared, Now}
 use Rattle.hc_machine.specs.Nvm.{Nvm, Tombstone, Waiter, Wish, ToFind, ToAdd, Fill, Task, Putting, Deleting, Filling, Flushing, put_at, is_due, fill_at, without_put, without_fill}
 use Rattle.hc_machine.specs.Leaving as leaving
-use Rattle.hc_machine.specs.Leaving.{Changed, changed, cause_for, waits_unless, evicted, unqueue, bury, unindex, outdate}
+use Rattle.hc_machine.specs.Leaving.{Changed, changed, cause_for, tags_after, waits_unless, evicted, unqueue, bury, unindex, outdate}
 use Rattle.hc_machine.specs.Takes.{Filled, region_note, loss_notes, bucket_lost, raise, raise_all, holds, ends_with, written_note, closing_notes, settled}
 use Rattle.hc_machine.specs.Cache.{Cache, Told, tells, and_then, with_memory, with_nvm, on_flash_of, on_flash}
 use Rattle.hc_machine.specs.Evicting.{entry_of_item, leaves_for, leaves, all_leave, make_room, charge, make_charge, handle_for}
@@ -30,7 +30,7 @@ none_both test one two p q = list_any-append test one two ∙ (λ i. p i || q i)
 
 -- whatever flash does
 pub any_flash : (kind test : Note → Bool) → ((note : Note) → kind note ≡ true → test note ≡ false) → Asked kind test AnyFlash
-any_flash kind test h = record { spares = h; same = λ nvm. tt; both = λ a b c p q. tt; queues = λ nvm queue. tt; fills = λ nvm fills. tt; buries = λ nvm key. tt; raises = λ nvm ends. tt; unindexes = λ nvm key. tt }
+any_flash kind test h = record { spares = h; same = λ nvm. tt; both = λ a b c p q. tt; queues = λ nvm queue. tt; turns = λ nvm tags. tt; fills = λ nvm fills. tt; buries = λ nvm key. tt; raises = λ nvm ends. tt; unindexes = λ nvm key. tt }
 
 -- what the test passes, another does too
 pub none_less : (test other : Note → Bool) → ((note : Note) → other note ≡ false → test note ≡ false) → (notes : List Note) → NonePasses other notes → NonePasses test notes
@@ -59,7 +59,7 @@ called note h = h
 
 module _ {test : Note → Bool} {R : Nvm → Nvm → Type 0} where
   asked_less : (kind more : Note → Bool) → ((note : Note) → kind note ≡ true → more note ≡ true) → Asked more test R → Asked kind test R
-  asked_less kind more less a = record { spares = λ note h. a.spares note (less note h); same = a.same; both = a.both; queues = a.queues; fills = a.fills; buries = a.buries; raises = a.raises; unindexes = a.unindexes }
+  asked_less kind more less a = record { spares = λ note h. a.spares note (less note h); same = a.same; both = a.both; queues = a.queues; turns = a.turns; fills = a.fills; buries = a.buries; raises = a.raises; unindexes = a.unindexes }
 
   pub as_flash : Asked is_aside test R → Asked is_of_flash test R
   as_flash a = asked_less is_of_flash is_aside aside a
@@ -117,7 +117,7 @@ module _ {test : Note → Bool} {R : Nvm → Nvm → Type 0} (a : Asked is_of_fl
     where
       go : (cause : Option Cause) → Leaves test R (Some nvm) (waits_unless cause entry nvm).part (Some (waits_unless cause entry nvm).nvm)
       go None = record { none = none_one a (Queued entry.key) refl; flash = a.queues nvm (nvm.queue ++ entry ∷ []) }
-      go (Some cause) = record { none = none_one a (Lose (scopes.Key entry.key) cause) refl; flash = a.same nvm }
+      go (Some cause) = record { none = none_one a (Lose (scopes.Key entry.key) cause) refl; flash = a.turns nvm (tags_after cause entry.key nvm.tags) }
 
   pub unqueue_leaves : (key : List ℕ) (nvm : Nvm) → Leaves test R (Some nvm) (unqueue key nvm).part (Some (unqueue key nvm).nvm)
   unqueue_leaves key nvm = leave_if a (is_some (put_at key nvm.queue)) (Some nvm) _ _ (record { none = none_one a (Unqueued key) refl; flash = a.queues nvm (without_put key nvm.queue) }) (nothing a (Some nvm))

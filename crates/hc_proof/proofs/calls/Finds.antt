@@ -70,7 +70,7 @@ told_good config older cache client key reply g =
     let asks : option_map (λ (x : Call). x.op) (open_call c (open_calls one)) ≡ Some (Find key) = ap (λ (t : Bool). option_map (λ (x : Call). x.op) (cond t (Some (record { number = c; client = client; op = Find key })) (open_call c (open_calls older)))) (same_number c) in
     let same : (k : List ℕ) → entry_at config.flash three k ≡ entry_at config.flash older k = λ k. find_same (open_call c (open_calls one)) (now_at older) key k (entry_at config.flash older k) asks in
     let charges : ChargesTell three items after.memory.charges after.memory.made = record { one_key = r.charges.one_key; one_number = r.charges.one_number; fresh = r.charges.fresh; same = r.charges.same } in
-    let quiet : Quiet older three = record { bytes = refl; engines = λ flash. record { bytes = refl; buckets = refl; in_use = refl; flushed = refl; filed = refl; current = refl; filling = refl }; waiting = refl; writing = refl; buried = refl } in
+    let quiet : Quiet older three = record { bytes = refl; engines = λ flash. record { bytes = refl; buckets = refl; in_use = refl; flushed = refl; filed = refl; current = refl; filling = refl }; waiting = refl; writing = refl; buried = refl; turned = refl } in
     let said : CallsTell two c (cache.owed ++ record { call = c; reply = Some reply } ∷ []) (fills_of cache.nvm) = books.answered older two cache.calls client (Find key) reply cache.owed (fills_of cache.nvm) g.calls refl refl refl in
     rest_is_good config three (record after { calls = c }) (rest_calls config three after items none_moves c cache.owed (rest_still config older three after items items none_moves quiet same refl charges r))
     (books.told two c c reply cache.owed (fills_of cache.nvm) said)

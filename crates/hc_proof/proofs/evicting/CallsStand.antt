@@ -7,13 +7,13 @@ use Rattle.hc_machine.specs.Cache.{Cache, Owed}
 use Rattle.hc_invariant.specs.Tells.{CallsTell}
 use Rattle.hc_invariant.specs.Good.{fills_of}
 use Rattle.hc_proof.specs.frames.Rest.{SameCalls}
-use Rattle.hc_proof.specs.evicting.Bringing.{with_queue}
+use Rattle.hc_proof.specs.evicting.Bringing.{Arrivals, with_arrivals}
 use Rattle.hc_proof.proofs.frames.CallsPass.{calls_over}
 
 pub calls_same : (older newer : List Note) (before after : Cache) (fills : List Fill) → SameCalls older newer before after → CallsTell older before.calls before.owed fills → CallsTell newer after.calls after.owed fills
 calls_same older newer before after fills s t =
     subst (λ (n : ℕ). CallsTell newer n after.owed fills) (sym s.calls) (subst (λ (all : List Owed). CallsTell newer before.calls all fills) (sym s.owes) (calls_over older newer before.calls before.owed fills s.begun s.open_ones s.owed t))
 
-pub fills_queue : (queue : List FlashEntry) (nvm : Option Nvm) → fills_of (with_queue queue nvm) ≡ fills_of nvm
-fills_queue queue None = refl
-fills_queue queue (Some nvm) = refl
+pub fills_queue : (new : Arrivals) (nvm : Option Nvm) → fills_of (with_arrivals new nvm) ≡ fills_of nvm
+fills_queue new None = refl
+fills_queue new (Some nvm) = refl

@@ -33,7 +33,7 @@ use Rattle.hc_invariant.specs.Tells.{ChargesTell}
 use Rattle.hc_invariant.proofs.Pieces.{pieces-join}
 use Rattle.hc_proof.specs.frames.Midst.{none_moves}
 use Rattle.hc_proof.specs.frames.Rest.{Rest}
-use Rattle.hc_proof.specs.evicting.Bringing.{with_queue, Charged, MakeChargeKeeps}
+use Rattle.hc_proof.specs.evicting.Bringing.{Arrivals, with_arrivals, Charged, MakeChargeKeeps}
 use Rattle.hc_proof.proofs.frames.FlashPasses.{passes_charged, flash_passed}
 use Rattle.hc_proof.proofs.evicting.FlashMemory.{flash_beside, open_more}
 use Rattle.hc_proof.proofs.frames.ItemOrder.{found_same, charges_sorted}
@@ -160,15 +160,15 @@ module _ (config : Config) (older : List Note) (cache : Cache) (pool : ℕ) (key
   all_went = all_gone config there.size pool want others cache.memory configured lt (others_none pools cache.memory.charges cache.memory.made pool there rest.sound at) there.items older (with_memory roomy cache) (rest.sound.own pool there at) begins
 
   -- the cache, once they left
-  abbrev emptier : List FlashEntry → Cache
-  emptier queue = record cache { memory = roomy; nvm = with_queue queue cache.nvm }
+  abbrev emptier : Arrivals → Cache
+  emptier new = record cache { memory = roomy; nvm = with_arrivals new cache.nvm }
 
   -- once they left, and the item is charged
-  charged : (queue : List FlashEntry) (part : List Note) → ((tail : List Note) → next_charged tail ≡ Some (pool, want) → Lawful config (past older part) tail → Lawful config older (part ++ tail))
-      → Leaves config (past older part) (with_queue queue cache.nvm) cache.now cache.memory (left ++ others) → NoCalls older (past older part)
-      → ((k : List ℕ) → linked_at k pools ≡ None → (waiting_at (with_queue queue cache.nvm) k ≡ waiting_at cache.nvm k) × (entry_at config.flash (past older part) k ≡ entry_at config.flash older k))
-      → Charged config older cache pool key size (behind part (charge pool key size (emptier queue)))
-  charged queue part lawful l calls other =
+  charged : (new : Arrivals) (part : List Note) → ((tail : List Note) → next_charged tail ≡ Some (pool, want) → Lawful config (past older part) tail → Lawful config older (part ++ tail))
+      → Leaves config (past older part) (with_arrivals new cache.nvm) cache.now cache.memory (left ++ others) → NoCalls older (past older part)
+      → ((k : List ℕ) → linked_at k pools ≡ None → (waiting_at (with_arrivals new cache.nvm) k ≡ waiting_at cache.nvm k) × (entry_at config.flash (past older part) k ≡ entry_at config.flash older k))
+      → Charged config older cache pool key size (behind part (charge pool key size (emptier new)))
+  charged new part lawful l calls other =
       let note : Note = ChargedNote (cache.memory.made + 1) key pool want in
       let mid = past older part in
       let more = charges_more mid (left ++ others) cache.memory.charges pool key size cache.memory.made l.charges in
@@ -194,14 +194,14 @@ module _ (config : Config) (older : List Note) (cache : Cache) (pool : ℕ) (key
           placed = λ key m. rw (same_at key) at (l.placed key);
           sized = l.sized;
           clock = l.clock;
-          flash = flash_beside config.flash (note ∷ mid) cache.memory memory (with_queue queue cache.nvm) none_moves pools_same (λ key s e. less key e) (open_more cache.memory.charges c)
-              (flash_passed config.flash mid note cache.memory (with_queue queue cache.nvm) none_moves p refl l.flash);
+          flash = flash_beside config.flash (note ∷ mid) cache.memory memory (with_arrivals new cache.nvm) none_moves pools_same (λ key s e. less key e) (open_more cache.memory.charges c)
+              (flash_passed config.flash mid note cache.memory (with_arrivals new cache.nvm) none_moves p refl refl l.flash);
         });
         calls = rw whole (record { begun = calls.begins; open_ones = calls.opens; owed = calls.owes; calls = refl; owes = refl });
         charges = refl;
         made = refl;
         pools = pools_same;
-        nvm = (queue, refl);
+        nvm = (new, refl);
         now = refl;
         pages = rw whole calls.pages;
         unlinked = less;
@@ -214,10 +214,10 @@ module _ (config : Config) (older : List Note) (cache : Cache) (pool : ℕ) (key
       let g = all_went in
       let told = all_leave pool want gone (with_memory roomy cache) in
       let e : told.cache ≡ emptier g.same.0 = g.same.1 in
-      let nvm_is : told.cache.nvm ≡ with_queue g.same.0 cache.nvm = ap (λ (c : Cache). c.nvm) e in
+      let nvm_is : told.cache.nvm ≡ with_arrivals g.same.0 cache.nvm = ap (λ (c : Cache). c.nvm) e in
       let now_is : told.cache.now ≡ cache.now = ap (λ (c : Cache). c.now) e in
-      let l : Leaves config (past older told.part) (with_queue g.same.0 cache.nvm) cache.now cache.memory (left ++ others) = subst (λ (c : Cache). Leaves config (past older told.part) c.nvm c.now cache.memory (left ++ others)) e g.left in
-      let other : (k : List ℕ) → linked_at k pools ≡ None → (waiting_at (with_queue g.same.0 cache.nvm) k ≡ waiting_at cache.nvm k) × (entry_at config.flash (past older told.part) k ≡ entry_at config.flash older k) =
+      let l : Leaves config (past older told.part) (with_arrivals g.same.0 cache.nvm) cache.now cache.memory (left ++ others) = subst (λ (c : Cache). Leaves config (past older told.part) c.nvm c.now cache.memory (left ++ others)) e g.left in
+      let other : (k : List ℕ) → linked_at k pools ≡ None → (waiting_at (with_arrivals g.same.0 cache.nvm) k ≡ waiting_at cache.nvm k) × (entry_at config.flash (past older told.part) k ≡ entry_at config.flash older k) =
       λ k none. subst (λ (n : Option Nvm). (waiting_at n k ≡ waiting_at cache.nvm k) × (entry_at config.flash (past older told.part) k ≡ entry_at config.flash older k)) nvm_is (g.other k none) in
       let done = charged g.same.0 told.part (λ tail h law. pieces-join config older told.part tail (g.lawful tail h) law) l g.calls other in
       let whole : Charged config older cache pool key size (behind told.part (charge pool key size told.cache)) = subst (λ (c : Cache). Charged config older cache pool key size (behind told.part (charge pool key size c))) (sym e) done in

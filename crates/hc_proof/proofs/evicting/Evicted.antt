@@ -10,6 +10,9 @@ use Rattle.hc_types.specs.declared.config.FlashConfig.{FlashConfig}
 use Rattle.hc_types.specs.declared.loss.Why.{Why}
 use Rattle.hc_types.specs.declared.loss.Why.TheVariants.{NoFlash, Tombstone, NotAdmitted, TooLarge, QueueFull}
 use Rattle.hc_types.specs.Tally.{count}
+use Rattle.hc_types.specs.Admission.{lets_in, with_tag}
+use Rattle.hc_types.specs.declared.config.Admission.{Admission}
+use Rattle.hc_history.proofs.Remembering.{let-in-is}
 use Rattle.hc_types.specs.FlashEntry.{FlashEntry}
 use Rattle.hc_memory.specs.Item.{Item}
 use Rattle.hc_memory.specs.Pool.{is_at, item_at}
@@ -17,12 +20,12 @@ use Rattle.hc_memory.specs.Memory.{Memory}
 use Rattle.hc_memory.proofs.Keyed.{same_bytes}
 use Rattle.hc_machine.proofs.items.Items.{bytes_eq-sym}
 use Rattle.hc_history.specs.Note.{Note, Lose, Freed, Queued}
-use Rattle.hc_history.specs.Books.{charges, waiting, buried, is_held, is_among, entry_at, expired_at}
+use Rattle.hc_history.specs.Books.{charges, waiting, buried, turned, is_held, is_among, entry_at, expired_at}
 use Rattle.hc_history.specs.Pages.{bytes_at, bucket_entries, has_key}
 use Rattle.hc_history.specs.Lawful as lawful
-use Rattle.hc_history.specs.Lawful.{IsTrueCause, forgotten_by, refused_by, is_in_bucket, MayWait, next_charged, is_charge_of, past}
+use Rattle.hc_history.specs.Lawful.{IsTrueCause, forgotten_by, refused_by, is_let_in, is_in_bucket, MayWait, next_charged, is_charge_of, past}
 use Rattle.hc_machine.specs.Nvm.{Nvm, Fill, put_at, is_put_of, is_buried}
-use Rattle.hc_machine.specs.Leaving.{why_not, is_over, is_too_large, waits_unless}
+use Rattle.hc_machine.specs.Leaving.{why_not, is_over, is_too_large, tags_after, waits_unless}
 use Rattle.hc_engines.specs.small.Entries.{under}
 use Rattle.hc_engines.specs.small.Held as small
 use Rattle.hc_types.proofs.Tallies.{tally-push}
@@ -30,7 +33,7 @@ use Rattle.hc_types.specs.Places.{bucket_at, kept_of}
 use Rattle.std.proofs.lemmas.Grind.{reverse_onto}
 use Rattle.hc_machine.specs.Cache.{Cache, tells}
 use Rattle.hc_machine.specs.Evicting.{entry_of_item, left_in, leaves, leaves_for}
-use Rattle.hc_invariant.specs.Tells.{keys_of}
+use Rattle.hc_invariant.specs.Tells.{keys_of, TurnedTell}
 use Rattle.hc_invariant.specs.Standing.{Placed, first_of, map_of_item, written_at, small_at, large_at}
 use Rattle.hc_invariant.specs.Jobs.{AllFill}
 use Rattle.hc_invariant.proofs.Frames.{waits-is}
@@ -38,22 +41,22 @@ use Rattle.hc_invariant.proofs.Lookups.{put-push}
 use Rattle.hc_invariant.proofs.Placing.{unclean_alone}
 use Rattle.hc_invariant.specs.Good.{InPools}
 use Rattle.hc_proof.specs.frames.Midst.{FlashMidst, FlashInMidst, none_moves, still}
-use Rattle.hc_proof.specs.evicting.Bringing.{with_queue}
-use Rattle.hc_proof.proofs.frames.FlashPasses.{Passes, passes_freed, passes_expired, passes_evicted, passes_queued, flash_passed, flash_requeued, AllUnqueued, QueueFits}
+use Rattle.hc_proof.specs.evicting.Bringing.{Arrivals, with_arrivals}
+use Rattle.hc_proof.proofs.frames.FlashPasses.{Passes, passes_freed, passes_expired, passes_evicted, passes_queued, flash_passed, flash_requeued, flash_turned, AllUnqueued, QueueFits}
 use Rattle.hc_proof.proofs.evicting.ItemsLeave.{Leaves, One, clean_at, lost_at, wait_at, still_first, unqueued, not_own, lost_map, sized_if, rest_none, stands, mapped, freed, gone_at, unlinked_now, expired_is, was_live, was_freed}
 
--- ---- the queue as it is
+-- ---- what evictions change, as it is
 
-abbrev own_queue : Option Nvm → List FlashEntry
-own_queue None = []
-own_queue (Some nvm) = nvm.queue
+abbrev own_arrivals : Option Nvm → Arrivals
+own_arrivals None = record { queue = []; tags = [] }
+own_arrivals (Some nvm) = record { queue = nvm.queue; tags = nvm.tags }
 
-same_queue : (nvm : Option Nvm) → with_queue (own_queue nvm) nvm ≡ nvm
-same_queue None = refl
-same_queue (Some nvm) = refl
+same_arrivals : (nvm : Option Nvm) → with_arrivals (own_arrivals nvm) nvm ≡ nvm
+same_arrivals None = refl
+same_arrivals (Some nvm) = refl
 
-pub same_cache : (cache : Cache) → (queue : List FlashEntry) × (cache ≡ record cache { nvm = with_queue queue cache.nvm })
-same_cache cache = (own_queue cache.nvm, ap (λ (n : Option Nvm). record cache { nvm = n }) (sym (same_queue cache.nvm)))
+pub same_cache : (cache : Cache) → (new : Arrivals) × (cache ≡ record cache { nvm = with_arrivals new cache.nvm })
+same_cache cache = (own_arrivals cache.nvm, ap (λ (n : Option Nvm). record cache { nvm = n }) (sym (same_arrivals cache.nvm)))
 
 -- ---- a clean one
 
@@ -67,7 +70,7 @@ one_clean config older cache pool want before x items c l = record {
     placed = λ key. clean_at (is_at key x) x (item_at key items) _ _ _ _ _ _ (gone_at config older cache.nvm cache.now before x items l key) c (l.placed key);
     sized = l.sized;
     clock = l.clock;
-    flash = flash_passed config.flash older (Freed x.number) before cache.nvm none_moves (passes_freed older x.number) refl l.flash;
+    flash = flash_passed config.flash older (Freed x.number) before cache.nvm none_moves (passes_freed older x.number) refl refl l.flash;
     none = λ key e. rest_none key x items (l.none key e);
   };
   calls = record { begins = refl; opens = refl; owes = refl; pages = refl };
@@ -77,12 +80,20 @@ one_clean config older cache pool want before x items c l = record {
 
 -- ---- one that is forgotten
 
+-- the map without it
+lost_map_at : (config : Config) (older : List Note) (nvm : Option Nvm) (now : ℕ) (before : Memory) (x : Item) (items : List Item) (cause : Cause) → Leaves config older nvm now before (x ∷ items) → is_among x.key (waiting older) ≡ false
+    → (key : List ℕ) → entry_at config.flash (Lose (loss.Key x.key) cause ∷ Freed x.number ∷ older) key ≡ (if is_at key x then None else entry_at config.flash older key)
+lost_map_at config older nvm now before x items cause l apart key = lost_map config.flash x.key key (is_held (Freed x.number ∷ older) key) (entry_at config.flash older key) (is_at key x) (bytes_eq-sym x.key key) held
+  where
+    held : is_at key x ≡ true → is_held (Freed x.number ∷ older) key ≡ false
+    held here = rw (unlinked_now config older nvm now before x items l key here, same_bytes key x.key here, apart) refl
+
 -- a loss of its key, for a cause that tells flash nothing
 pub one_lost : (config : Config) (older : List Note) (cache : Cache) (pool want : ℕ) (before : Memory) (x : Item) (items : List Item) (cause : Cause) → x.clean ≡ false → Leaves config older cache.nvm cache.now before (x ∷ items)
-    → ((past : List Note) → Passes past (Lose (loss.Key x.key) cause)) → ((past : List Note) → waiting (Lose (loss.Key x.key) cause ∷ past) ≡ waiting past) → is_among x.key (waiting older) ≡ false
+    → ((past : List Note) → Passes past (Lose (loss.Key x.key) cause)) → ((past : List Note) → waiting (Lose (loss.Key x.key) cause ∷ past) ≡ waiting past) → ((past : List Note) → turned (Lose (loss.Key x.key) cause ∷ past) ≡ turned past) → is_among x.key (waiting older) ≡ false
     → ((tail : List Note) → next_charged tail ≡ Some (pool, want) → IsTrueCause config (Freed x.number ∷ older) (loss.Key x.key) cause tail)
     → One config older cache pool want before x items (tells (Lose (loss.Key x.key) cause ∷ []) cache)
-one_lost config older cache pool want before x items cause c l passes waits apart true_cause = record {
+one_lost config older cache pool want before x items cause c l passes waits turns apart true_cause = record {
   next = λ tail. refl;
   lawful = λ tail e. (true_cause tail e, tt);
   left = record {
@@ -90,8 +101,8 @@ one_lost config older cache pool want before x items cause c l passes waits apar
     placed = λ key. rw (map_at key, (passes (Freed x.number ∷ older)).pages) (lost_at (is_at key x) x (item_at key items) _ _ _ _ _ _ (gone_at config older cache.nvm cache.now before x items l key) c (l.placed key));
     sized = λ key. rw (map_at key) (sized_if key (is_at key x) (entry_at config.flash older key) (l.sized key));
     clock = (passes (Freed x.number ∷ older)).clock ∙ l.clock;
-    flash = flash_passed config.flash (Freed x.number ∷ older) (Lose (loss.Key x.key) cause) before cache.nvm none_moves (passes (Freed x.number ∷ older)) (waits (Freed x.number ∷ older))
-        (flash_passed config.flash older (Freed x.number) before cache.nvm none_moves (passes_freed older x.number) refl l.flash);
+    flash = flash_passed config.flash (Freed x.number ∷ older) (Lose (loss.Key x.key) cause) before cache.nvm none_moves (passes (Freed x.number ∷ older)) (waits (Freed x.number ∷ older)) (turns (Freed x.number ∷ older))
+        (flash_passed config.flash older (Freed x.number) before cache.nvm none_moves (passes_freed older x.number) refl refl l.flash);
     none = λ key e. rest_none key x items (l.none key e);
   };
   calls = record { begins = refl; opens = refl; owes = refl; pages = refl };
@@ -99,14 +110,8 @@ one_lost config older cache pool want before x items cause c l passes waits apar
   other = λ key o. (refl, rw (map_at key, o) refl);
 }
   where
-    same_key : (a b : List ℕ) → bytes_eq a b ≡ true → a ≡ b
-    same_key a b e = same_bytes a b e
-
-    held : (key : List ℕ) → is_at key x ≡ true → is_held (Freed x.number ∷ older) key ≡ false
-    held key here = rw (unlinked_now config older cache.nvm cache.now before x items l key here, same_key key x.key here, apart) refl
-
     map_at : (key : List ℕ) → entry_at config.flash (Lose (loss.Key x.key) cause ∷ Freed x.number ∷ older) key ≡ (if is_at key x then None else entry_at config.flash older key)
-    map_at key = lost_map config.flash x.key key (is_held (Freed x.number ∷ older) key) (entry_at config.flash older key) (is_at key x) (bytes_eq-sym x.key key) (held key)
+    map_at = lost_map_at config older cache.nvm cache.now before x items cause l apart
 
 -- ---- why
 
@@ -129,19 +134,34 @@ no_flash_step : (config : Config) (older : List Note) (cache : Cache) (pool want
     → x.clean ≡ false → x.pool ≡ pool → lawful.is_full config pool (charges older) want ≡ true → Leaves config older cache.nvm cache.now before (x ∷ items)
     → One config older cache pool want before x items (tells (Lose (loss.Key x.key) (if b then Expired else Evicted pool want NoFlash) ∷ []) cache)
 no_flash_step config older cache pool want before x items true over none empty c home full l =
-    one_lost config older cache pool want before x items Expired c l (λ past. passes_expired past x.key) (λ past. refl) (rw empty refl) (λ tail next. expired_true config older cache.nvm cache.now before x items tail l over)
+    one_lost config older cache pool want before x items Expired c l (λ past. passes_expired past x.key) (λ past. refl) (λ past. refl) (rw empty refl) (λ tail next. expired_true config older cache.nvm cache.now before x items tail l over)
 no_flash_step config older cache pool want before x items false over none empty c home full l =
-    one_lost config older cache pool want before x items (Evicted pool want NoFlash) c l (λ past. passes_evicted past x.key pool want NoFlash) (λ past. refl) (rw empty refl)
+    one_lost config older cache pool want before x items (Evicted pool want NoFlash) c l (λ past. passes_evicted past x.key pool want NoFlash) (λ past. refl) (λ past. refl) (rw empty refl)
     (λ tail next. evicted_true config older cache.nvm cache.now before pool want x items NoFlash tail l over home full (rw none refl) next)
 
 -- ---- with flash
 
 -- why an entry doesn't wait: the books say the same
 why_same : (flash : FlashConfig) (older : List Note) (nvm : Nvm) (e : FlashEntry) → nvm.pair.small.flash ≡ flash → is_among e.key (buried older) ≡ is_buried nvm e.key → length (waiting older) ≡ length nvm.queue
-    → refused_by flash older e.key (length e.value) ≡ why_not nvm e
-why_same flash older nvm e same buried waits =
+    → is_let_in flash.admission (turned older) e.key ≡ lets_in nvm.tags e.key → refused_by flash older e.key (length e.value) ≡ why_not nvm e
+why_same flash older nvm e same buried waits let_in =
     let region : ◌≡◌ {A = ℕ} (flash.page * flash.region_pages) (flash.region_pages * flash.page) = mul_comm flash.page flash.region_pages in
-    rw (same, buried, waits, region) refl
+    rw (same, buried, waits, region, let_in) refl
+
+-- the keys that are let in are those of the table
+lets_same : (flash : FlashConfig) (keys : List (List ℕ)) (nvm : Nvm) (key : List ℕ) → nvm.pair.small.flash ≡ flash → TurnedTell nvm.pair.small.flash.admission keys nvm.tags → is_let_in flash.admission keys key ≡ lets_in nvm.tags key
+lets_same flash keys nvm key same t =
+    ap (λ (f : FlashConfig). is_let_in f.admission keys key) (sym same)
+    ∙ sym (let-in-is nvm.pair.small.flash.admission keys key t.slots)
+    ∙ ap (λ (tags : List ℕ). lets_in tags key) t.table
+
+-- a key that isn't admitted is in the table from then on
+turned_after : (admission : Admission) (older : List Note) (tags key : List ℕ) (pool want : ℕ) (why : Why) → TurnedTell admission (turned older) tags → TurnedTell admission (turned (Lose (loss.Key key) (Evicted pool want why) ∷ older)) (tags_after (Evicted pool want why) key tags)
+turned_after admission older tags key pool want NotAdmitted t = record { slots = t.slots; table = ap (λ (tags : List ℕ). with_tag tags key) t.table }
+turned_after admission older tags key pool want NoFlash t = t
+turned_after admission older tags key pool want Tombstone t = t
+turned_after admission older tags key pool want TooLarge t = t
+turned_after admission older tags key pool want QueueFull t = t
 
 why_none : (a b c d : Bool) → (if a then Some Tombstone else (if not b then Some NotAdmitted else (if c then Some TooLarge else (if d then Some QueueFull else None)))) ≡ None → (a ≡ false) × (c ≡ false)
 why_none a b c d h = grind arith
@@ -200,7 +220,7 @@ module _ (flash : FlashConfig) (config : Config) (older : List Note) (cache : Ca
   waits_length = sym (length-reverse (waiting older)) ∙ ap (λ (keys : List (List ℕ)). length keys) (sym g.waits.queue) ∙ keys_length nvm.queue
 
   forgotten : forgotten_by config.flash (Freed x.number ∷ older) x.key ≡ why_not nvm (entry_of_item x)
-  forgotten = rw (ef, map_is) (why_same flash older nvm (entry_of_item x) g.engines.same (g.waits.buried x.key) waits_length)
+  forgotten = rw (ef, map_is) (why_same flash older nvm (entry_of_item x) g.engines.same (g.waits.buried x.key) waits_length (lets_same flash (turned older) nvm x.key g.engines.same g.waits.turned))
 
   fits_after : is_too_large nvm.pair.small.flash (entry_of_item x) ≡ false → x.pool < length before.pools → QueueFits nvm.pair.small.flash (Queued x.key ∷ Freed x.number ∷ older) (length before.pools) (nvm.queue ++ entry_of_item x ∷ [])
   fits_after small lt = record {
@@ -259,13 +279,36 @@ module _ (flash : FlashConfig) (config : Config) (older : List Note) (cache : Ca
           placed = λ key. rw (queued_now key) (wait_at (is_at key x) x (item_at key items) _ _ _ _ _ _ (gone_at config older cache.nvm cache.now before x items l key) (λ here. rw (same_bytes key x.key here) two.0) c (rw en at (l.placed key)));
           sized = l.sized;
           clock = l.clock;
-          flash = rw ef (flash_requeued flash (Freed x.number ∷ older) (Queued x.key) before nvm none_moves (nvm.queue ++ entry_of_item x ∷ []) (passes_queued (Freed x.number ∷ older) x.key) (fits_after two.1 lt) (fills_after (still none_moves nvm.fills) g.fills.each)
-              (flash_passed (Some flash) older (Freed x.number) before (Some nvm) none_moves (passes_freed older x.number) refl g));
+          flash = rw ef (flash_requeued flash (Freed x.number ∷ older) (Queued x.key) before nvm none_moves (nvm.queue ++ entry_of_item x ∷ []) nvm.tags (passes_queued (Freed x.number ∷ older) x.key) (fits_after two.1 lt) g.waits.turned (fills_after (still none_moves nvm.fills) g.fills.each)
+              (flash_passed (Some flash) older (Freed x.number) before (Some nvm) none_moves (passes_freed older x.number) refl refl g));
           none = λ key e. rest_none key x items (l.none key e);
         };
         calls = record { begins = refl; opens = refl; owes = refl; pages = refl };
-        same = (nvm.queue ++ entry_of_item x ∷ [], rw en refl);
+        same = (record { queue = nvm.queue ++ entry_of_item x ∷ []; tags = nvm.tags }, rw en refl);
         other = λ key o. (rw (queued_now key, o, en) (sym (still_first (put_at key nvm.queue))), refl);
+      }
+
+  -- it is forgotten, and where it isn't admitted it is turned away
+  one_turned : (w : Why) → x.clean ≡ false → is_over cache.now (entry_of_item x) ≡ false → why_not nvm (entry_of_item x) ≡ Some w → x.pool ≡ pool → lawful.is_full config pool (charges older) want ≡ true
+      → One config older cache pool want before x items (tells (Lose (loss.Key x.key) (Evicted pool want w) ∷ []) (record cache { nvm = Some (record nvm { tags = tags_after (Evicted pool want w) x.key nvm.tags }) }))
+  one_turned w c over why home full =
+      let map_at = lost_map_at config older cache.nvm cache.now before x items (Evicted pool want w) l not_waiting in
+      record {
+        next = λ tail. refl;
+        lawful = λ tail next. (evicted_true config older cache.nvm cache.now before pool want x items w tail l over home full (forgotten ∙ why) next, tt);
+        left = record {
+          charges = let t = freed config older cache.nvm cache.now before x items l in record { one_key = t.one_key; one_number = t.one_number; fresh = t.fresh; same = t.same };
+          placed = λ key. rw (map_at key) (lost_at (is_at key x) x (item_at key items) _ _ _ _ _ _ (gone_at config older cache.nvm cache.now before x items l key) c (rw en at (l.placed key)));
+          sized = λ key. rw (map_at key) (sized_if key (is_at key x) (entry_at config.flash older key) (l.sized key));
+          clock = l.clock;
+          flash = rw ef (flash_turned flash (Freed x.number ∷ older) (Lose (loss.Key x.key) (Evicted pool want w)) before nvm none_moves (tags_after (Evicted pool want w) x.key nvm.tags) (passes_evicted (Freed x.number ∷ older) x.key pool want w) refl
+              (turned_after nvm.pair.small.flash.admission (Freed x.number ∷ older) nvm.tags x.key pool want w g.waits.turned)
+              (flash_passed (Some flash) older (Freed x.number) before (Some nvm) none_moves (passes_freed older x.number) refl refl g));
+          none = λ key e. rest_none key x items (l.none key e);
+        };
+        calls = record { begins = refl; opens = refl; owes = refl; pages = refl };
+        same = (record { queue = nvm.queue; tags = tags_after (Evicted pool want w) x.key nvm.tags }, rw en refl);
+        other = λ key o. (rw en refl, rw (map_at key, o) refl);
       }
 
   -- the state that is left as it is
@@ -275,10 +318,8 @@ module _ (flash : FlashConfig) (config : Config) (older : List Note) (cache : Ca
   one_flash : (b : Bool) (o : Option Why) → is_over cache.now (entry_of_item x) ≡ b → why_not nvm (entry_of_item x) ≡ o → x.clean ≡ false → x.pool ≡ pool → x.pool < length before.pools → lawful.is_full config pool (charges older) want ≡ true
       → One config older cache pool want before x items (left_in (waits_unless (if b then Some Expired else option_map (Evicted pool want) o) (entry_of_item x) nvm) cache)
   one_flash true o over why c home lt full = subst (λ (k : Cache). One config older cache pool want before x items (tells (Lose (loss.Key x.key) Expired ∷ []) k)) as_it_is
-      (one_lost config older cache pool want before x items Expired c l (λ past. passes_expired past x.key) (λ past. refl) not_waiting (λ tail next. expired_true config older cache.nvm cache.now before x items tail l over))
-  one_flash false (Some w) over why c home lt full = subst (λ (k : Cache). One config older cache pool want before x items (tells (Lose (loss.Key x.key) (Evicted pool want w) ∷ []) k)) as_it_is
-      (one_lost config older cache pool want before x items (Evicted pool want w) c l (λ past. passes_evicted past x.key pool want w) (λ past. refl) not_waiting
-      (λ tail next. evicted_true config older cache.nvm cache.now before pool want x items w tail l over home full (forgotten ∙ why) next))
+      (one_lost config older cache pool want before x items Expired c l (λ past. passes_expired past x.key) (λ past. refl) (λ past. refl) not_waiting (λ tail next. expired_true config older cache.nvm cache.now before x items tail l over))
+  one_flash false (Some w) over why c home lt full = one_turned w c over why home full
   one_flash false None over why c home lt full = one_queued c over why home lt full
 
 -- ---- whichever it is

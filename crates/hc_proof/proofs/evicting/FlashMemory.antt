@@ -16,7 +16,7 @@ use Rattle.hc_invariant.specs.Jobs.{WishHolds, AllWish, AllFill}
 use Rattle.hc_invariant.specs.Good.{InPools, AllSized, fills_of}
 use Rattle.hc_history.specs.Pages.{bytes_at}
 use Rattle.hc_proof.specs.frames.Midst.{FlashMidst, AllWishes, still}
-use Rattle.hc_proof.specs.evicting.Bringing.{with_queue}
+use Rattle.hc_proof.specs.evicting.Bringing.{Arrivals, with_arrivals}
 
 -- each charge that is open in the one is in the other
 abbrev pub StayOpen : List Open → List Open → Type 0
@@ -118,22 +118,22 @@ both_fills pages pages0 m0 m1 m2 nvm nvm0 moves (fill ∷ fills) bare open_ones 
     )
 
 -- what waited before waits for charges that are open now; all else is as it is beside the memory between
-pub flash_both : (flash : Option FlashConfig) (older0 older : List Note) (m0 m1 m2 : Memory) (nvm : Option Nvm) (queue : List FlashEntry) (moves : List ℕ → Bool) → length m2.pools ≡ length m1.pools → StayBare (fills_of nvm) m1 m2 → StayOpen m0.charges m2.charges
-    → FlashMidst flash older0 m0 nvm moves → FlashMidst flash older m1 (with_queue queue nvm) moves → FlashMidst flash older m2 (with_queue queue nvm) moves
-flash_both None older0 older m0 m1 m2 None queue moves n bare open_ones g0 g = record { no_waiting = g.no_waiting; no_writing = g.no_writing; no_buried = g.no_buried }
-flash_both (Some flash) older0 older m0 m1 m2 (Some nvm) queue moves n bare open_ones g0 g = record {
+pub flash_both : (flash : Option FlashConfig) (older0 older : List Note) (m0 m1 m2 : Memory) (nvm : Option Nvm) (new : Arrivals) (moves : List ℕ → Bool) → length m2.pools ≡ length m1.pools → StayBare (fills_of nvm) m1 m2 → StayOpen m0.charges m2.charges
+    → FlashMidst flash older0 m0 nvm moves → FlashMidst flash older m1 (with_arrivals new nvm) moves → FlashMidst flash older m2 (with_arrivals new nvm) moves
+flash_both None older0 older m0 m1 m2 None new moves n bare open_ones g0 g = record { no_waiting = g.no_waiting; no_writing = g.no_writing; no_buried = g.no_buried }
+flash_both (Some flash) older0 older m0 m1 m2 (Some nvm) new moves n bare open_ones g0 g = record {
   engines = g.engines;
   waits = g.waits;
   jobs = g.jobs;
   fills = record {
-    each = both_fills (bytes_at older) (bytes_at older0) m0 m1 m2 (record nvm { queue = queue }) nvm moves nvm.fills bare open_ones g.fills.each g0.fills.each;
+    each = both_fills (bytes_at older) (bytes_at older0) m0 m1 m2 (record nvm { queue = new.queue; tags = new.tags }) nvm moves nvm.fills bare open_ones g.fills.each g0.fills.each;
     wishes = all_wishes m0 m2 nvm.fills open_ones g0.fills.wishes;
     one = g.fills.one;
     one_each = g.fills.one_each;
     one_add = g.fills.one_add;
   };
-  pools = subst (λ pools. InPools pools queue) (sym n) g.pools;
+  pools = subst (λ pools. InPools pools new.queue) (sym n) g.pools;
   adds = subst (λ pools. AllSized pools (waiters_of nvm.fills)) (sym n) g.adds;
 }
-flash_both None older0 older m0 m1 m2 (Some nvm) queue moves n bare open_ones g0 g = absurd g
-flash_both (Some flash) older0 older m0 m1 m2 None queue moves n bare open_ones g0 g = absurd g
+flash_both None older0 older m0 m1 m2 (Some nvm) new moves n bare open_ones g0 g = absurd g
+flash_both (Some flash) older0 older m0 m1 m2 None new moves n bare open_ones g0 g = absurd g

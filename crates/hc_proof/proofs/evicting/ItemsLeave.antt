@@ -28,7 +28,7 @@ use Rattle.hc_invariant.specs.Laws.{LawfulIn}
 use Rattle.hc_invariant.proofs.Placing.{placed_evict_clean, placed_evict_lost, map_linked}
 use Rattle.hc_invariant.proofs.Ends.{linked_charges}
 use Rattle.hc_proof.specs.frames.Midst.{FlashMidst, none_moves}
-use Rattle.hc_proof.specs.evicting.Bringing.{with_queue}
+use Rattle.hc_proof.specs.evicting.Bringing.{Arrivals, with_arrivals}
 use Rattle.hc_machine.proofs.items.Same.{Same-evicted, charge_found, one_if}
 use Rattle.hc_machine.specs.Calls.{waiting_at, buried_at}
 
@@ -156,5 +156,5 @@ pub record One (config : Config) (older : List Note) (cache : Cache) (pool want 
   pub lawful : (tail : List Note) → next_charged tail ≡ Some (pool, want) → LawfulIn config (Freed x.number ∷ older) told.part tail
   pub left : Leaves config (past (Freed x.number ∷ older) told.part) told.cache.nvm told.cache.now before items
   pub calls : NoCalls (Freed x.number ∷ older) (past (Freed x.number ∷ older) told.part)
-  pub same : (queue : List FlashEntry) × (told.cache ≡ record cache { nvm = with_queue queue cache.nvm })
+  pub same : (new : Arrivals) × (told.cache ≡ record cache { nvm = with_arrivals new cache.nvm })
   pub other : (key : List ℕ) → is_at key x ≡ false → (waiting_at told.cache.nvm key ≡ waiting_at cache.nvm key) × (entry_at config.flash (past (Freed x.number ∷ older) told.part) key ≡ entry_at config.flash older key)

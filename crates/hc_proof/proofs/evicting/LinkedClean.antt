@@ -36,7 +36,7 @@ use Rattle.hc_invariant.proofs.Placing.{placed_fill_small, placed_fill_large}
 use Rattle.hc_invariant.proofs.Lookups.{at_key}
 use Rattle.hc_proof.specs.frames.Midst.{FlashMidst, none_moves}
 use Rattle.hc_proof.specs.frames.Rest.{Rest}
-use Rattle.hc_proof.specs.evicting.Bringing.{with_queue, Charged, IsBrought, Brought, BringKeeps}
+use Rattle.hc_proof.specs.evicting.Bringing.{Arrivals, with_arrivals, Charged, IsBrought, Brought, BringKeeps}
 use Rattle.hc_proof.proofs.evicting.CallsStand.{fills_queue}
 use Rattle.hc_proof.proofs.frames.Charges.{charges_linked, linked-order, open_live}
 use Rattle.hc_proof.proofs.evicting.Charging.{sizes_at, make_charge_keeps, sizes_of}
@@ -149,21 +149,21 @@ module _ (config : Config) (older : List Note) (cache : Cache) (e : FlashEntry) 
   other_item : (k : List ℕ) → bytes_eq k e.key ≡ false → linked_at k after.pools ≡ linked_at k memory.pools
   other_item k o = found k ∙ item_at-push k items (item_by true handle) o ∙ sym (linked-flat k memory.pools)
 
-  -- what of flash changed are the puts that wait
-  queue_is : one.cache.nvm ≡ with_queue charged.nvm.0 cache.nvm
+  -- what of flash changed is what evictions change
+  queue_is : one.cache.nvm ≡ with_arrivals charged.nvm.0 cache.nvm
   queue_is = charged.nvm.1
 
-  stale : (queue : List FlashEntry) (nvm : Option Nvm) (key : List ℕ) → buried_at (with_queue queue nvm) key ≡ buried_at nvm key
-  stale queue None key = refl
-  stale queue (Some nvm) key = refl
+  stale : (new : Arrivals) (nvm : Option Nvm) (key : List ℕ) → buried_at (with_arrivals new nvm) key ≡ buried_at nvm key
+  stale new None key = refl
+  stale new (Some nvm) key = refl
 
-  small_still : (queue : List FlashEntry) (nvm : Option Nvm) (key : List ℕ) → small_at (bytes_at older) (with_queue queue nvm) key ≡ small_at (bytes_at older) nvm key
-  small_still queue None key = refl
-  small_still queue (Some nvm) key = refl
+  small_still : (new : Arrivals) (nvm : Option Nvm) (key : List ℕ) → small_at (bytes_at older) (with_arrivals new nvm) key ≡ small_at (bytes_at older) nvm key
+  small_still new None key = refl
+  small_still new (Some nvm) key = refl
 
-  large_still : (queue : List FlashEntry) (nvm : Option Nvm) (key : List ℕ) → large_at (bytes_at older) (with_queue queue nvm) key ≡ large_at (bytes_at older) nvm key
-  large_still queue None key = refl
-  large_still queue (Some nvm) key = refl
+  large_still : (new : Arrivals) (nvm : Option Nvm) (key : List ℕ) → large_at (bytes_at older) (with_arrivals new nvm) key ≡ large_at (bytes_at older) nvm key
+  large_still new None key = refl
+  large_still new (Some nvm) key = refl
 
   unburied : buried_at one.cache.nvm e.key ≡ false
   unburied = rw queue_is (stale charged.nvm.0 cache.nvm e.key ∙ b.stands.1)
@@ -184,7 +184,7 @@ module _ (config : Config) (older : List Note) (cache : Cache) (e : FlashEntry) 
 
   flash_now : FlashMidst config.flash (Linked handle.number ∷ mid) after one.cache.nvm none_moves
   flash_now =
-      let f = flash_passed config.flash mid (Linked handle.number) memory one.cache.nvm none_moves (passes_linked mid handle.number) refl charged.rest.flash in
+      let f = flash_passed config.flash mid (Linked handle.number) memory one.cache.nvm none_moves (passes_linked mid handle.number) refl refl charged.rest.flash in
       let open_ones : StayOpen cache.memory.charges after.charges =
       subst (λ (cs : List Open). StayOpen cache.memory.charges (closed handle.number cs)) (sym charged.charges) (still_open cache.memory.charges (charge_by handle) (λ m. subst (λ (cs : List Open). count (has_number m) cs ≤ 1) charged.charges (charged.rest.sound.unique m)) fresh) in
       subst (λ (n : Option Nvm). FlashMidst config.flash (Linked handle.number ∷ mid) after n none_moves) (sym queue_is)
@@ -251,9 +251,9 @@ nothing_brought config older cache key found b = record {
   pages = refl;
 }
   where
-    same_nvm : (nvm : Option Nvm) → (queue : List FlashEntry) × (nvm ≡ with_queue queue nvm)
-    same_nvm None = ([], refl)
-    same_nvm (Some nvm) = (nvm.queue, refl)
+    same_nvm : (nvm : Option Nvm) → (new : Arrivals) × (nvm ≡ with_arrivals new nvm)
+    same_nvm None = (record { queue = []; tags = [] }, refl)
+    same_nvm (Some nvm) = (record { queue = nvm.queue; tags = nvm.tags }, refl)
 
 not_refused : (a : Bool) (o : Option Refusal) → (a && not (is_some o)) ≡ true → o ≡ None
 not_refused a None h = refl

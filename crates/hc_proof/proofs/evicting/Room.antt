@@ -20,7 +20,7 @@ use Rattle.hc_machine.specs.Cache.{Cache, Told, tells}
 use Rattle.hc_machine.specs.Evicting.{leaves, all_leave}
 use Rattle.hc_invariant.specs.Laws.{LawfulIn}
 use Rattle.hc_invariant.proofs.Pieces.{pieces-both}
-use Rattle.hc_proof.specs.evicting.Bringing.{with_queue}
+use Rattle.hc_proof.specs.evicting.Bringing.{Arrivals, with_arrivals}
 use Rattle.hc_proof.proofs.evicting.ItemsLeave.{NoCalls, Leaves, was_live}
 use Rattle.hc_proof.proofs.evicting.Evicted.{same_cache, one_leaves}
 use Rattle.hc_machine.proofs.items.FullPool.{full-same, first_own}
@@ -32,15 +32,15 @@ pub record Gone (config : Config) (older : List Note) (cache : Cache) (pool want
   pub lawful : (tail : List Note) → next_charged tail ≡ Some (pool, want) → LawfulIn config older told.part tail
   pub left : Leaves config (past older told.part) told.cache.nvm told.cache.now before items
   pub calls : NoCalls older (past older told.part)
-  pub same : (queue : List FlashEntry) × (told.cache ≡ record cache { nvm = with_queue queue cache.nvm })
+  pub same : (new : Arrivals) × (told.cache ≡ record cache { nvm = with_arrivals new cache.nvm })
   pub other : (key : List ℕ) → linked_at key before.pools ≡ None → (waiting_at told.cache.nvm key ≡ waiting_at cache.nvm key) × (entry_at config.flash (past older told.part) key ≡ entry_at config.flash older key)
 
 next_full : (config : Config) (live : List Charge) (pool want : ℕ) (o : Option (ℕ × ℕ)) → o ≡ Some (pool, want) → lawful.is_full config pool live want ≡ true → IsSomeAnd o (λ next. (next.0 ≡ pool) × (lawful.is_full config pool live next.1 ≡ true))
 next_full config live pool want o e full = rw e (refl, full)
 
-queue_twice : (q r : List FlashEntry) (nvm : Option Nvm) → with_queue r (with_queue q nvm) ≡ with_queue r nvm
-queue_twice q r None = refl
-queue_twice q r (Some nvm) = refl
+arrivals_twice : (q r : Arrivals) (nvm : Option Nvm) → with_arrivals r (with_arrivals q nvm) ≡ with_arrivals r nvm
+arrivals_twice q r None = refl
+arrivals_twice q r (Some nvm) = refl
 
 other_key : (key : List ℕ) (x : Item) (items : List Item) → item_at key (x ∷ items) ≡ None → is_at key x ≡ false
 other_key key x items e = grind arith
@@ -70,7 +70,7 @@ module _ (config : Config) (size : PoolSize) (pool want : ℕ) (others : List It
         );
         left = subst (λ h. Leaves config h two.cache.nvm two.cache.now before (items ++ others)) (sym whole) r.left;
         calls = subst (λ h. NoCalls older h) (sym whole) (record { begins = r.calls.begins ∙ o.calls.begins; opens = r.calls.opens ∙ o.calls.opens; owes = r.calls.owes ∙ o.calls.owes; pages = r.calls.pages ∙ o.calls.pages });
-        same = (r.same.0, r.same.1 ∙ ap (λ (c : Cache). record c { nvm = with_queue r.same.0 c.nvm }) o.same.1 ∙ ap (λ (n : Option Nvm). record cache { nvm = n }) (queue_twice o.same.0 r.same.0 cache.nvm));
+        same = (r.same.0, r.same.1 ∙ ap (λ (c : Cache). record c { nvm = with_arrivals r.same.0 c.nvm }) o.same.1 ∙ ap (λ (n : Option Nvm). record cache { nvm = n }) (arrivals_twice o.same.0 r.same.0 cache.nvm));
         other = λ key e.
             let away = other_key key x (rest ++ others) (l.none key e) in
             let a = o.other key away in

@@ -6,12 +6,12 @@ use Rattle.hc_engines.specs.Engine.{Pages}
 use Rattle.hc_memory.specs.Item.{Item}
 use Rattle.hc_memory.specs.Memory.{Memory}
 use Rattle.hc_history.specs.Note.{Op, Reply, Note, Begin, Did, End, Linked, Freed}
-use Rattle.hc_history.specs.Books.{waiting, writing, buried, charges, entry_at, now_at}
+use Rattle.hc_history.specs.Books.{waiting, writing, buried, turned, charges, entry_at, now_at}
 use Rattle.hc_history.specs.Pages.{bytes_at}
 use Rattle.hc_machine.specs.Nvm.{Nvm}
 use Rattle.hc_machine.specs.Cache.{Cache}
 use Rattle.hc_invariant.specs.Standing.{PlacedAt, small_at, large_at}
-use Rattle.hc_invariant.specs.Tells.{WaitsTell, ChargesTell}
+use Rattle.hc_invariant.specs.Tells.{TurnedTell, WaitsTell, ChargesTell}
 use Rattle.hc_invariant.specs.Jobs.{AllFill}
 use Rattle.hc_invariant.proofs.Frames.{placed_still}
 use Rattle.hc_proof.specs.frames.Midst.{FlashMidst, still}
@@ -25,6 +25,7 @@ pub record Quiet (older newer : List Note) : Type 0 where
   pub waiting : waiting newer ≡ waiting older
   pub writing : writing newer ≡ writing older
   pub buried : buried newer ≡ buried older
+  pub turned : turned newer ≡ turned older
 
 pub waits_still : (older newer : List Note) (nvm : Nvm) → Quiet older newer → WaitsTell older nvm → WaitsTell newer nvm
 waits_still older newer nvm q w = record {
@@ -35,6 +36,7 @@ waits_still older newer nvm q w = record {
   one_stone = w.one_stone;
   writing = λ key. rw (q.writing) (w.writing key);
   one_writer = w.one_writer;
+  turned = subst (λ (keys : List (List ℕ)). TurnedTell nvm.pair.small.flash.admission keys nvm.tags) (sym q.turned) w.turned;
 }
 
 pub flash_still : (flash : Option FlashConfig) (older newer : List Note) (memory : Memory) (nvm : Option Nvm) (moves : List ℕ → Bool) → Quiet older newer → FlashMidst flash older memory nvm moves → FlashMidst flash newer memory nvm moves
@@ -87,16 +89,16 @@ rest_still config older newer cache items items' moves q same clock charges r = 
 -- ---- such notes
 
 pub quiet_begin : (older : List Note) (call client : ℕ) (op : Op) → Quiet older (Begin call client op ∷ older)
-quiet_begin older call client op = record { bytes = refl; engines = λ flash. record { bytes = refl; buckets = refl; in_use = refl; flushed = refl; filed = refl; current = refl; filling = refl }; waiting = refl; writing = refl; buried = refl }
+quiet_begin older call client op = record { bytes = refl; engines = λ flash. record { bytes = refl; buckets = refl; in_use = refl; flushed = refl; filed = refl; current = refl; filling = refl }; waiting = refl; writing = refl; buried = refl; turned = refl }
 
 pub quiet_did : (older : List Note) (call : ℕ) (reply : Reply) → Quiet older (Did call reply ∷ older)
-quiet_did older call reply = record { bytes = refl; engines = λ flash. record { bytes = refl; buckets = refl; in_use = refl; flushed = refl; filed = refl; current = refl; filling = refl }; waiting = refl; writing = refl; buried = refl }
+quiet_did older call reply = record { bytes = refl; engines = λ flash. record { bytes = refl; buckets = refl; in_use = refl; flushed = refl; filed = refl; current = refl; filling = refl }; waiting = refl; writing = refl; buried = refl; turned = refl }
 
 pub quiet_end : (older : List Note) (call : ℕ) → Quiet older (End call ∷ older)
-quiet_end older call = record { bytes = refl; engines = λ flash. record { bytes = refl; buckets = refl; in_use = refl; flushed = refl; filed = refl; current = refl; filling = refl }; waiting = refl; writing = refl; buried = refl }
+quiet_end older call = record { bytes = refl; engines = λ flash. record { bytes = refl; buckets = refl; in_use = refl; flushed = refl; filed = refl; current = refl; filling = refl }; waiting = refl; writing = refl; buried = refl; turned = refl }
 
 pub quiet_freed : (older : List Note) (number : ℕ) → Quiet older (Freed number ∷ older)
-quiet_freed older number = record { bytes = refl; engines = λ flash. record { bytes = refl; buckets = refl; in_use = refl; flushed = refl; filed = refl; current = refl; filling = refl }; waiting = refl; writing = refl; buried = refl }
+quiet_freed older number = record { bytes = refl; engines = λ flash. record { bytes = refl; buckets = refl; in_use = refl; flushed = refl; filed = refl; current = refl; filling = refl }; waiting = refl; writing = refl; buried = refl; turned = refl }
 
 pub quiet_linked : (older : List Note) (number : ℕ) → Quiet older (Linked number ∷ older)
-quiet_linked older number = record { bytes = refl; engines = λ flash. record { bytes = refl; buckets = refl; in_use = refl; flushed = refl; filed = refl; current = refl; filling = refl }; waiting = refl; writing = refl; buried = refl }
+quiet_linked older number = record { bytes = refl; engines = λ flash. record { bytes = refl; buckets = refl; in_use = refl; flushed = refl; filed = refl; current = refl; filling = refl }; waiting = refl; writing = refl; buried = refl; turned = refl }

@@ -107,7 +107,7 @@ pub with_fills : (flash : FlashConfig) (older : List Note) (memory : Memory) (nv
     → AllSized (length memory.pools) (waiters_of fills) → FlashInMidst flash older memory (record nvm { fills = fills }) moves'
 with_fills flash older memory nvm moves moves' fills f g sized = record {
   engines = engines_still flash older older nvm nvm.queue nvm.tombstones fills (same_engines flash older) f.engines;
-  waits = record { queue = f.waits.queue; one_put = f.waits.one_put; can_put = f.waits.can_put; buried = f.waits.buried; one_stone = f.waits.one_stone; writing = f.waits.writing; one_writer = f.waits.one_writer };
+  waits = record { queue = f.waits.queue; one_put = f.waits.one_put; can_put = f.waits.can_put; buried = f.waits.buried; one_stone = f.waits.one_stone; writing = f.waits.writing; one_writer = f.waits.one_writer; turned = f.waits.turned };
   jobs = jobs_still nvm.pair.large.index nvm.queue nvm.tombstones fills nvm (λ k h. h) f.jobs;
   fills = record { each = each_beside (bytes_at older) memory nvm fills (still moves' fills) g.each; wishes = g.wishes; one = g.one; one_each = g.one_each; one_add = g.one_add };
   pools = f.pools;

@@ -1,4 +1,4 @@
--- Notes that tell flash nothing, and a queue that changes alone.
+-- Notes that tell flash nothing, and what evictions change of it.
 use Rattle.std.proofs.Common.{◌≡◌, ℕ, ◌≤◌, Bool, List, [], ◌∷◌, length, reverse, Option, Some, None, refl, ap, sym, ◌∙◌, subst}
 use Rattle.hc_types.specs.Loss as loss
 use Rattle.hc_types.specs.Loss.{Evicted, Expired}
@@ -13,17 +13,17 @@ use Rattle.hc_engines.specs.large.Fits.{Fits, ReadsHold}
 use Rattle.hc_engines.specs.large.Held as large
 use Rattle.hc_memory.specs.Memory.{Memory}
 use Rattle.hc_history.specs.Note.{Note, Lose, Charged, Linked, Freed, Queued}
-use Rattle.hc_history.specs.Books.{waiting, writing, buried, is_among, begun, open_calls, owed, now_at}
+use Rattle.hc_history.specs.Books.{waiting, writing, buried, is_among, turned, begun, open_calls, owed, now_at}
 use Rattle.hc_history.specs.Pages.{bytes_at, bucket_entries}
 use Rattle.hc_history.specs.Regions.{in_use, is_one_of, flushed, open_region, filling, filed}
 use Rattle.hc_machine.specs.Nvm.{Nvm, Fill, Job, put_at, is_put_of}
 use Rattle.hc_machine.specs.Leaving.{is_too_large}
-use Rattle.hc_invariant.specs.Tells.{keys_of, files}
+use Rattle.hc_invariant.specs.Tells.{keys_of, TurnedTell, files}
 use Rattle.hc_invariant.specs.Jobs.{AllRun, AllFill}
 use Rattle.hc_invariant.specs.Good.{InPools}
 use Rattle.hc_proof.specs.frames.Midst.{FlashInMidst, FlashMidst, still}
 
--- all that is said of flash is as it was, but for the puts that wait
+-- all that is said of flash is as it was, but for the puts that wait and the keys that were turned away
 pub record Passes (older : List Note) (note : Note) : Type 0 where
   pub writes : writing (note ∷ older) ≡ writing older
   pub buries : buried (note ∷ older) ≡ buried older
@@ -65,14 +65,14 @@ abbrev pub AllUnqueued : List FlashEntry → List Fill → Type 0
 AllUnqueued queue [] = Unit {0}
 AllUnqueued queue (fill ∷ fills) = (put_at fill.key queue ≡ None) × AllUnqueued queue fills
 
-requeued_fills : (pages : Pages) (memory : Memory) (nvm : Nvm) (queue : List FlashEntry) (fills : List Fill) → AllFill pages memory nvm fills → AllUnqueued queue fills → AllFill pages memory (record nvm { queue = queue }) fills
-requeued_fills pages memory nvm queue [] f u = tt
-requeued_fills pages memory nvm queue (fill ∷ fills) f u =
-    (record { unlinked = f.0.unlinked; unqueued = u.0; unburied = f.0.unburied; wishes = f.0.wishes; brought = f.0.brought }, requeued_fills pages memory nvm queue fills f.1 u.1)
+requeued_fills : (pages : Pages) (memory : Memory) (nvm : Nvm) (queue : List FlashEntry) (tags : List ℕ) (fills : List Fill) → AllFill pages memory nvm fills → AllUnqueued queue fills → AllFill pages memory (record nvm { queue = queue; tags = tags }) fills
+requeued_fills pages memory nvm queue tags [] f u = tt
+requeued_fills pages memory nvm queue tags (fill ∷ fills) f u =
+    (record { unlinked = f.0.unlinked; unqueued = u.0; unburied = f.0.unburied; wishes = f.0.wishes; brought = f.0.brought }, requeued_fills pages memory nvm queue tags fills f.1 u.1)
 
-requeued_run : (nvm : Nvm) (queue : List FlashEntry) (jobs : List Job) → AllRun nvm jobs → AllRun (record nvm { queue = queue }) jobs
-requeued_run nvm queue [] r = tt
-requeued_run nvm queue (job ∷ jobs) r = (r.0, requeued_run nvm queue jobs r.1)
+requeued_run : (nvm : Nvm) (queue : List FlashEntry) (tags : List ℕ) (jobs : List Job) → AllRun nvm jobs → AllRun (record nvm { queue = queue; tags = tags }) jobs
+requeued_run nvm queue tags [] r = tt
+requeued_run nvm queue tags (job ∷ jobs) r = (r.0, requeued_run nvm queue tags jobs r.1)
 
 pub own_unqueued : (pages : Pages) (memory : Memory) (nvm : Nvm) (fills : List Fill) → AllFill pages memory nvm fills → AllUnqueued nvm.queue fills
 own_unqueued pages memory nvm [] f = tt
@@ -85,11 +85,11 @@ pub record QueueFits (flash : FlashConfig) (older : List Note) (pools : ℕ) (qu
   pub can_put : count (is_too_large flash) queue ≡ 0
   pub pools_there : InPools pools queue
 
--- a note that passes, and a queue that fits it
-pub flash_requeued : (flash : FlashConfig) (older : List Note) (note : Note) (memory : Memory) (nvm : Nvm) (moves : List ℕ → Bool) (queue : List FlashEntry) → Passes older note
-    → QueueFits nvm.pair.small.flash (note ∷ older) (length memory.pools) queue → AllUnqueued queue (still moves nvm.fills)
-    → FlashInMidst flash older memory nvm moves → FlashInMidst flash (note ∷ older) memory (record nvm { queue = queue }) moves
-flash_requeued flash older note memory nvm moves queue p q u g =
+-- a note that passes, and a queue and a table that fit it
+pub flash_requeued : (flash : FlashConfig) (older : List Note) (note : Note) (memory : Memory) (nvm : Nvm) (moves : List ℕ → Bool) (queue : List FlashEntry) (tags : List ℕ) → Passes older note
+    → QueueFits nvm.pair.small.flash (note ∷ older) (length memory.pools) queue → TurnedTell nvm.pair.small.flash.admission (turned (note ∷ older)) tags → AllUnqueued queue (still moves nvm.fills)
+    → FlashInMidst flash older memory nvm moves → FlashInMidst flash (note ∷ older) memory (record nvm { queue = queue; tags = tags }) moves
+flash_requeued flash older note memory nvm moves queue tags p q t u g =
     let e = g.engines in
     let r = e.regions in
     let pages = sym p.pages in
@@ -120,10 +120,11 @@ flash_requeued flash older note memory nvm moves queue p q u g =
         one_stone = g.waits.one_stone;
         writing = λ key. ap (is_among key) p.writes ∙ g.waits.writing key;
         one_writer = g.waits.one_writer;
+        turned = t;
       };
-      jobs = record { run = requeued_run nvm queue nvm.jobs g.jobs.run; one = g.jobs.one; fresh = g.jobs.fresh; small_ones = g.jobs.small_ones; large_ones = g.jobs.large_ones };
+      jobs = record { run = requeued_run nvm queue tags nvm.jobs g.jobs.run; one = g.jobs.one; fresh = g.jobs.fresh; small_ones = g.jobs.small_ones; large_ones = g.jobs.large_ones };
       fills = record {
-        each = subst (λ (pages : Pages). AllFill pages memory (record nvm { queue = queue }) (still moves nvm.fills)) pages (requeued_fills (bytes_at older) memory nvm queue (still moves nvm.fills) g.fills.each u);
+        each = subst (λ (pages : Pages). AllFill pages memory (record nvm { queue = queue; tags = tags }) (still moves nvm.fills)) pages (requeued_fills (bytes_at older) memory nvm queue tags (still moves nvm.fills) g.fills.each u);
         wishes = g.fills.wishes;
         one = g.fills.one;
         one_each = g.fills.one_each;
@@ -137,9 +138,17 @@ flash_requeued flash older note memory nvm moves queue p q u g =
 pub own_fits : (flash : FlashConfig) (older : List Note) (note : Note) (memory : Memory) (nvm : Nvm) (moves : List ℕ → Bool) → waiting (note ∷ older) ≡ waiting older → FlashInMidst flash older memory nvm moves → QueueFits nvm.pair.small.flash (note ∷ older) (length memory.pools) nvm.queue
 own_fits flash older note memory nvm moves w g = record { keys = g.waits.queue ∙ ap reverse (sym w); one_put = g.waits.one_put; can_put = g.waits.can_put; pools_there = g.pools }
 
-pub flash_passed : (flash : Option FlashConfig) (older : List Note) (note : Note) (memory : Memory) (nvm : Option Nvm) (moves : List ℕ → Bool) → Passes older note → waiting (note ∷ older) ≡ waiting older → FlashMidst flash older memory nvm moves → FlashMidst flash (note ∷ older) memory nvm moves
-flash_passed None older note memory None moves p w g = record { no_waiting = w ∙ g.no_waiting; no_writing = p.writes ∙ g.no_writing; no_buried = p.buries ∙ g.no_buried }
-flash_passed (Some flash) older note memory (Some nvm) moves p w g =
-    flash_requeued flash older note memory nvm moves nvm.queue p (own_fits flash older note memory nvm moves w g) (own_unqueued (bytes_at older) memory nvm (still moves nvm.fills) g.fills.each) g
-flash_passed None older note memory (Some nvm) moves p w g = absurd g
-flash_passed (Some flash) older note memory None moves p w g = absurd g
+pub flash_passed : (flash : Option FlashConfig) (older : List Note) (note : Note) (memory : Memory) (nvm : Option Nvm) (moves : List ℕ → Bool) → Passes older note → waiting (note ∷ older) ≡ waiting older → turned (note ∷ older) ≡ turned older
+    → FlashMidst flash older memory nvm moves → FlashMidst flash (note ∷ older) memory nvm moves
+flash_passed None older note memory None moves p w s g = record { no_waiting = w ∙ g.no_waiting; no_writing = p.writes ∙ g.no_writing; no_buried = p.buries ∙ g.no_buried }
+flash_passed (Some flash) older note memory (Some nvm) moves p w s g =
+    let same : TurnedTell nvm.pair.small.flash.admission (turned (note ∷ older)) nvm.tags = subst (λ (keys : List (List ℕ)). TurnedTell nvm.pair.small.flash.admission keys nvm.tags) (sym s) g.waits.turned in
+    flash_requeued flash older note memory nvm moves nvm.queue nvm.tags p (own_fits flash older note memory nvm moves w g) same (own_unqueued (bytes_at older) memory nvm (still moves nvm.fills) g.fills.each) g
+flash_passed None older note memory (Some nvm) moves p w s g = absurd g
+flash_passed (Some flash) older note memory None moves p w s g = absurd g
+
+-- a key is turned away, or lost for another cause
+pub flash_turned : (flash : FlashConfig) (older : List Note) (note : Note) (memory : Memory) (nvm : Nvm) (moves : List ℕ → Bool) (tags : List ℕ) → Passes older note → waiting (note ∷ older) ≡ waiting older
+    → TurnedTell nvm.pair.small.flash.admission (turned (note ∷ older)) tags → FlashInMidst flash older memory nvm moves → FlashInMidst flash (note ∷ older) memory (record nvm { tags = tags }) moves
+flash_turned flash older note memory nvm moves tags p w t g =
+    flash_requeued flash older note memory nvm moves nvm.queue tags p (own_fits flash older note memory nvm moves w g) t (own_unqueued (bytes_at older) memory nvm (still moves nvm.fills) g.fills.each) g

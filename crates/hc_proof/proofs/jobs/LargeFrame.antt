@@ -151,6 +151,7 @@ module _ (config : Config) (older part : List Note) (cache : Cache) (nvm : Nvm) 
       one_stone = after.waits.one_stone;
       writing = λ key. after.waits.writing key ∙ sym (step.goes.writing key);
       one_writer = λ key. step.goes.one_writer key (after.waits.one_writer key);
+      turned = after.waits.turned;
     };
     jobs = step.goes.runs;
     fills = step.fills;

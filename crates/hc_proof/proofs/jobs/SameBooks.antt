@@ -7,7 +7,7 @@ use Rattle.hc_history.specs.Note.{Note}
 use Rattle.hc_history.specs.Books.{Call, Answer, open_call, is_among}
 use Rattle.hc_machine.specs.Nvm.{Nvm, Fill}
 use Rattle.hc_machine.specs.Cache.{Owed}
-use Rattle.hc_invariant.specs.Tells.{ChargesTell, WaitsTell, CallsTell, reply_in}
+use Rattle.hc_invariant.specs.Tells.{ChargesTell, TurnedTell, WaitsTell, CallsTell, reply_in}
 use Rattle.hc_proof.specs.jobs.Shell.{SameBooks}
 
 pub charges_same : (older newer : List Note) (items : List Item) (opens : List Open) (made : ℕ) → SameBooks older newer → ChargesTell older items opens made → ChargesTell newer items opens made
@@ -22,6 +22,7 @@ waits_same older newer nvm b w = record {
   one_stone = w.one_stone;
   writing = λ key. ap (is_among key) b.writing ∙ w.writing key;
   one_writer = w.one_writer;
+  turned = subst (λ (keys : List (List ℕ)). TurnedTell nvm.pair.small.flash.admission keys nvm.tags) (sym b.turned) w.turned;
 }
 
 pub calls_same : (older newer : List Note) (calls : ℕ) (all : List Owed) (fills : List Fill) → SameBooks older newer → CallsTell older calls all fills → CallsTell newer calls all fills

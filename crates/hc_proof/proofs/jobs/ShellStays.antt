@@ -33,20 +33,20 @@ use Rattle.hc_proof.proofs.losses.LostHash.{hash_lost, map_of_large, map_of_smal
 
 -- ---- the books
 
-lost_books : (older : List Note) (scope : Scope) (cause : Cause) → SameBooks older (Lose scope cause ∷ older)
-lost_books older scope cause = record { charges = refl; waiting = refl; writing = refl; buried = refl; begun = refl; open_ones = refl; owed = refl; clock = refl }
+lost_books : (older : List Note) (hash : ℕ) (cause : Cause) → SameBooks older (Lose (loss.Hash hash None) cause ∷ older)
+lost_books older hash cause = record { charges = refl; waiting = refl; writing = refl; buried = refl; turned = refl; begun = refl; open_ones = refl; owed = refl; clock = refl }
 
 wrote_books : (older : List Note) (page : ℕ) (bytes : List ℕ) (done : Bool) → SameBooks older (Wrote page bytes done ∷ older)
-wrote_books older page bytes done = record { charges = refl; waiting = refl; writing = refl; buried = refl; begun = refl; open_ones = refl; owed = refl; clock = refl }
+wrote_books older page bytes done = record { charges = refl; waiting = refl; writing = refl; buried = refl; turned = refl; begun = refl; open_ones = refl; owed = refl; clock = refl }
 
 flushed_books : (older : List Note) (r : ℕ) → SameBooks older (Flushed r ∷ older)
-flushed_books older r = record { charges = refl; waiting = refl; writing = refl; buried = refl; begun = refl; open_ones = refl; owed = refl; clock = refl }
+flushed_books older r = record { charges = refl; waiting = refl; writing = refl; buried = refl; turned = refl; begun = refl; open_ones = refl; owed = refl; clock = refl }
 
 read_books : (older : List Note) (page : ℕ) (bytes : Option (List ℕ)) → SameBooks older (Read page bytes ∷ older)
-read_books older page bytes = record { charges = refl; waiting = refl; writing = refl; buried = refl; begun = refl; open_ones = refl; owed = refl; clock = refl }
+read_books older page bytes = record { charges = refl; waiting = refl; writing = refl; buried = refl; turned = refl; begun = refl; open_ones = refl; owed = refl; clock = refl }
 
 cleared_books : (older : List Note) (r : ℕ) → SameBooks older (Cleared r ∷ older)
-cleared_books older r = record { charges = refl; waiting = refl; writing = refl; buried = refl; begun = refl; open_ones = refl; owed = refl; clock = refl }
+cleared_books older r = record { charges = refl; waiting = refl; writing = refl; buried = refl; turned = refl; begun = refl; open_ones = refl; owed = refl; clock = refl }
 
 -- ---- notes that change nothing of it
 
@@ -204,16 +204,16 @@ module _ (config : Config) (flash : FlashConfig) (older : List Note) (memory : M
       sizes = sizes_unmarked memory.flash (loss.Hash hash None) memory.pools ∙ g.sizes;
       flash_is = g.flash_is;
       sound = sound-unmarked memory.flash (loss.Hash hash None) memory.pools (all_unmarked memory.flash (loss.Hash hash None) memory.pools) memory.charges memory.made g.sound refl;
-      charges = charges_same older (Lose (loss.Hash hash None) cause ∷ older) (items_of (all_unmarked memory.flash (loss.Hash hash None) memory.pools)) memory.charges memory.made (lost_books older (loss.Hash hash None) cause)
+      charges = charges_same older (Lose (loss.Hash hash None) cause ∷ older) (items_of (all_unmarked memory.flash (loss.Hash hash None) memory.pools)) memory.charges memory.made (lost_books older hash cause)
           (charges_unmarked older memory.flash (loss.Hash hash None) memory.pools memory.charges memory.made g.charges);
       placed = lost_placed;
       sized = λ key. sized_left (covers (Some flash) (loss.Hash hash None) key (entry_at (Some flash) older key) && not (is_held older key)) key (entry_at (Some flash) older key) (g.sized key);
-      calls = calls_same older (Lose (loss.Hash hash None) cause ∷ older) asked all nvm.fills (lost_books older (loss.Hash hash None) cause) g.calls;
+      calls = calls_same older (Lose (loss.Hash hash None) cause ∷ older) asked all nvm.fills (lost_books older hash cause) g.calls;
       clock = g.clock;
       same = g.same;
       small_fits = g.small_fits;
       buckets = g.buckets;
-      waits = waits_same older (Lose (loss.Hash hash None) cause ∷ older) nvm (lost_books older (loss.Hash hash None) cause) g.waits;
+      waits = waits_same older (Lose (loss.Hash hash None) cause ∷ older) nvm (lost_books older hash cause) g.waits;
       large_ones = λ key e h. large_left (kept_of flash.bits key == hash) key (holds key) e (g.large_ones key) h;
     }
 

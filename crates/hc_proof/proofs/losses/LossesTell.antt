@@ -1,5 +1,5 @@
 -- The invariant's parts that no loss breaks.
-use Rattle.std.proofs.Common.{◌≡◌, ℕ, Bool, true, false, ◌==◌, List, [], ◌∷◌, reverse, Option, refl, arith, ap, sym, ◌∙◌}
+use Rattle.std.proofs.Common.{◌≡◌, ℕ, Bool, true, false, ◌==◌, List, [], ◌∷◌, reverse, Option, refl, arith, ap, sym, ◌∙◌, subst}
 use Rattle.std.specs.Prelude.{is_some, nat_lt, option_map}
 use Rattle.hc_types.specs.Loss as loss
 use Rattle.hc_types.specs.Loss.{Scope, Cause}
@@ -9,7 +9,7 @@ use Rattle.hc_memory.specs.Pool.{item_at}
 use Rattle.hc_history.specs.Note.{Note, Lose}
 use Rattle.hc_history.specs.Books.{Entry, Call, Answer, charges, is_linked, is_held, entry_at, open_call, is_among}
 use Rattle.hc_history.specs.Pages.{bucket_entries}
-use Rattle.hc_invariant.specs.Tells.{reply_in}
+use Rattle.hc_invariant.specs.Tells.{TurnedTell, reply_in}
 use Rattle.hc_invariant.specs.Good.{EntrySized}
 use Rattle.hc_invariant.proofs.Ends.{linked_charges}
 use Rattle.hc_invariant.proofs.Frames.{waits-is, counts_some}
@@ -17,7 +17,7 @@ use Rattle.hc_proof.specs.losses.Losses.{covered, entry_lost, IsNoBucket, WaitsP
 use Rattle.hc_proof.proofs.losses.BooksPass.{map_lost_by}
 
 pub waits_pass : WaitsPass
-waits_pass older newer nvm p w = record {
+waits_pass older newer nvm p s w = record {
   queue = w.queue ∙ ap reverse (sym p.waiting);
   one_put = w.one_put;
   can_put = w.can_put;
@@ -25,6 +25,7 @@ waits_pass older newer nvm p w = record {
   one_stone = w.one_stone;
   writing = λ key. ap (is_among key) p.writing ∙ w.writing key;
   one_writer = w.one_writer;
+  turned = subst (λ (keys : List (List ℕ)). TurnedTell nvm.pair.small.flash.admission keys nvm.tags) (sym s) w.turned;
 }
 
 pub calls_pass : CallsPass

@@ -75,6 +75,7 @@ waits_buried older nvm key none w = record {
   one_stone = λ k. omega (arith, tally-push (λ (stone : Tombstone). if is_stone_of k stone then 1 else 0) nvm.tombstones (stone_of key), one_step key k nvm (bytes_eq key k) refl none (w.one_stone k));
   writing = w.writing;
   one_writer = w.one_writer;
+  turned = w.turned;
 }
 
 fill_buried : (key : List ℕ) (older : List Note) (memory : Memory) (nvm : Nvm) (fill : Fill) → only key fill.key ≡ false → FillHolds (bytes_at older) memory nvm fill → FillHolds (bytes_at older) memory (with_stone key nvm) fill

@@ -186,7 +186,7 @@ engines_unindexed older nvm key e large = record {
 }
 
 waits_unindexed : (older : List Note) (nvm : Nvm) (key : List ℕ) → WaitsTell older nvm → WaitsTell (lost_hash key nvm ∷ older) (unindexed key nvm)
-waits_unindexed older nvm key w = record { queue = w.queue; one_put = w.one_put; can_put = w.can_put; buried = w.buried; one_stone = w.one_stone; writing = w.writing; one_writer = w.one_writer }
+waits_unindexed older nvm key w = record { queue = w.queue; one_put = w.one_put; can_put = w.can_put; buried = w.buried; one_stone = w.one_stone; writing = w.writing; one_writer = w.one_writer; turned = w.turned }
 
 flash_unindexed : (older : List Note) (memory : Memory) (nvm : Nvm) (key : List ℕ) (moves : List ℕ → Bool) → LargeFits (own_flash nvm) (lost_hash key nvm ∷ older) (take_index (hash_in nvm.pair key) nvm.pair.large)
     → FlashInMidst (own_flash nvm) older memory nvm moves → FlashInMidst (own_flash nvm) (lost_hash key nvm ∷ older) (after_unmark memory (hash_scope key nvm)) (unindexed key nvm) moves

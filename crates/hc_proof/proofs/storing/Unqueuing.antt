@@ -42,6 +42,7 @@ waits_unqueued older nvm key w = record {
   one_stone = w.one_stone;
   writing = w.writing;
   one_writer = w.one_writer;
+  turned = w.turned;
 }
 
 -- an Unqueued right after the begin of a call of its key tells nothing of regions

@@ -84,6 +84,9 @@ calm_both a b c x y = record { puts = λ key. omega (arith, x.puts key, y.puts k
 pub beside_queue : (nvm : Nvm) (queue : List FlashEntry) → Beside (Some nvm) → Beside (Some (record nvm { queue = queue }))
 beside_queue nvm queue b = record { one_stone = b.one_stone; jobs = record { one_job = b.jobs.one_job; one_each = b.jobs.one_each; fresh = b.jobs.fresh; asks = b.jobs.asks; large = b.jobs.large } }
 
+pub beside_tags : (nvm : Nvm) (tags : List ℕ) → Beside (Some nvm) → Beside (Some (record nvm { tags = tags }))
+beside_tags nvm tags b = record { one_stone = b.one_stone; jobs = record { one_job = b.jobs.one_job; one_each = b.jobs.one_each; fresh = b.jobs.fresh; asks = b.jobs.asks; large = b.jobs.large } }
+
 unqueue_calm : (key : List ℕ) (nvm : Nvm) → Calm nvm (unqueue key nvm).nvm
 unqueue_calm key nvm = by (is_some (put_at key nvm.queue))
   where

@@ -16,7 +16,7 @@ use Rattle.hc_machine.specs.items.Items.{items_of}
 use Rattle.hc_machine.proofs.items.Flat.{changed-flat}
 use Rattle.hc_machine.proofs.items.Items.{bytes_eq-refl}
 use Rattle.hc_machine.specs.Nvm.{Nvm, Fill, is_put_of}
-use Rattle.hc_machine.specs.Leaving.{cause_for, waits_unless}
+use Rattle.hc_machine.specs.Leaving.{cause_for, tags_after, waits_unless}
 use Rattle.hc_machine.specs.Cache.{Cache, tells, with_memory}
 use Rattle.hc_machine.specs.Evicting.{entry_of_item, left_in, leaves_for, leaves, all_leave, make_room, with_charge, make_charge}
 use Rattle.hc_machine.specs.Calls.{queue_of}
@@ -24,7 +24,7 @@ use Rattle.hc_invariant.specs.Good.{fills_of}
 use Rattle.hc_proof.specs.structure.Parts.{Midst, Stands, all_of, FewerItems}
 use Rattle.hc_proof.specs.structure.Steps.{EvictedNeverWaits}
 use Rattle.hc_proof.proofs.structure.Parts.{parts_of, same_puts, same_fills, same_wait, held_less, held_charged, held_gone, held_waits}
-use Rattle.hc_proof.proofs.structure.Pieces.{beside_queue}
+use Rattle.hc_proof.proofs.structure.Pieces.{beside_queue, beside_tags}
 
 -- ---- items leave
 
@@ -42,7 +42,7 @@ module _ (pool want : ℕ) (seen : List Fill → List Fill) (loose : List Fill) 
       gone nvm h = (held_gone cache.memory x items (queue_of nvm) (seen (fills_of nvm)) (loose ++ fills_of nvm) h.0, h.1, h.2)
 
       caused : (nvm : Nvm) (cause : Option Cause) → Midst cache.memory (x ∷ items) (Some nvm) seen loose → Left (record cache { nvm = Some nvm }) (left_in (waits_unless cause (entry_of_item x) nvm) (record cache { nvm = Some nvm })).cache items seen loose
-      caused nvm (Some cause) h = record { midst = gone (Some nvm) h; memory = refl; fills = refl }
+      caused nvm (Some cause) h = record { midst = (held_gone cache.memory x items nvm.queue (seen nvm.fills) (loose ++ nvm.fills) h.0, beside_tags nvm (tags_after cause x.key nvm.tags) h.1, h.2); memory = refl; fills = refl }
       caused nvm None h = record { midst = (held_waits cache.memory x items nvm.queue (seen nvm.fills) (loose ++ nvm.fills) h.0, beside_queue nvm (nvm.queue ++ entry_of_item x ∷ []) h.1, h.2); memory = refl; fills = refl }
 
       of : (nvm : Option Nvm) → Midst cache.memory (x ∷ items) nvm seen loose → Left (record cache { nvm = nvm }) (leaves_for nvm pool want x (record cache { nvm = nvm })).cache items seen loose

@@ -23,10 +23,15 @@ use Rattle.hc_invariant.specs.Good.{fills_of}
 use Rattle.hc_proof.specs.frames.Midst.{none_moves}
 use Rattle.hc_proof.specs.frames.Rest.{Rest, SameCalls}
 
--- the same, but for the puts that wait
-abbrev pub with_queue : List FlashEntry → Option Nvm → Option Nvm
-with_queue queue None = None
-with_queue queue (Some nvm) = Some (record nvm { queue = queue })
+-- what of flash evictions change: the puts that wait, and the tags of the keys that were turned away
+pub record Arrivals : Type 0 where
+  pub queue : List FlashEntry
+  pub tags : List ℕ
+
+-- the same, but for these
+abbrev pub with_arrivals : Arrivals → Option Nvm → Option Nvm
+with_arrivals new None = None
+with_arrivals new (Some nvm) = Some (record nvm { queue = new.queue; tags = new.tags })
 
 -- ---- room is made, and an item is charged
 
@@ -38,8 +43,8 @@ pub record Charged (config : Config) (older : List Note) (cache : Cache) (pool :
   pub charges : told.cache.memory.charges ≡ cache.memory.charges ++ record { number = cache.memory.made + 1; pool = pool; key = key; size = size } ∷ []
   pub made : told.cache.memory.made ≡ cache.memory.made + 1
   pub pools : length told.cache.memory.pools ≡ length cache.memory.pools
-  -- what of flash changed are the puts that wait
-  pub nvm : (queue : List FlashEntry) × (told.cache.nvm ≡ with_queue queue cache.nvm)
+  -- what of flash evictions change
+  pub nvm : (new : Arrivals) × (told.cache.nvm ≡ with_arrivals new cache.nvm)
   pub now : told.cache.now ≡ cache.now
   -- no page was written
   pub pages : bytes_at (past older told.part) ≡ bytes_at older
@@ -77,7 +82,7 @@ pub record Brought (config : Config) (older : List Note) (cache : Cache) (key : 
   -- the charges that were open are
   pub open_ones : (c : Open) → is_open c cache.memory.charges ≡ true → is_open c told.cache.memory.charges ≡ true
   pub pools : length told.cache.memory.pools ≡ length cache.memory.pools
-  pub nvm : (queue : List FlashEntry) × (told.cache.nvm ≡ with_queue queue cache.nvm)
+  pub nvm : (new : Arrivals) × (told.cache.nvm ≡ with_arrivals new cache.nvm)
   pub fills : fills_of told.cache.nvm ≡ fills_of cache.nvm
   pub queued : waiting_at told.cache.nvm key ≡ waiting_at cache.nvm key
   -- where something is told, the last note tells no large put

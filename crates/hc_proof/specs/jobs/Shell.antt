@@ -13,7 +13,7 @@ use Rattle.hc_memory.specs.Sound.{Sound}
 use Rattle.hc_types.specs.FlashEntry.{FlashEntry}
 use Rattle.hc_machine.specs.items.Items.{items_of}
 use Rattle.hc_history.specs.Note.{Note, Lose, Read, Wrote, Flushed, Cleared}
-use Rattle.hc_history.specs.Books.{entry_at, now_at, charges, waiting, writing, buried, begun, open_calls, owed}
+use Rattle.hc_history.specs.Books.{entry_at, now_at, charges, waiting, writing, buried, turned, begun, open_calls, owed}
 use Rattle.hc_history.specs.Pages.{bytes_at, bucket_entries}
 use Rattle.hc_machine.specs.Nvm.{Nvm, put_at, is_buried}
 use Rattle.hc_machine.specs.Cache.{Owed}
@@ -21,12 +21,13 @@ use Rattle.hc_invariant.specs.Standing.{Placed, written_by}
 use Rattle.hc_invariant.specs.Tells.{ChargesTell, WaitsTell, CallsTell}
 use Rattle.hc_invariant.specs.Good.{EntrySized}
 
--- the books of memory, of the queue, of tombstones, of calls and the clock agree
+-- the books of memory, of the queue, of tombstones, of what was turned away, of calls and the clock agree
 pub record SameBooks (older newer : List Note) : Type 0 where
   pub charges : charges newer ≡ charges older
   pub waiting : waiting newer ≡ waiting older
   pub writing : writing newer ≡ writing older
   pub buried : buried newer ≡ buried older
+  pub turned : turned newer ≡ turned older
   pub begun : begun newer ≡ begun older
   pub open_ones : open_calls newer ≡ open_calls older
   pub owed : owed newer ≡ owed older

@@ -14,7 +14,7 @@ use Rattle.hc_memory.specs.Memory.{Memory, linked_at}
 use Rattle.hc_memory.specs.Sound.{Sound}
 use Rattle.hc_machine.specs.items.Items.{items_of}
 use Rattle.hc_history.specs.Note.{Note}
-use Rattle.hc_history.specs.Books.{Entry, charges, waiting, writing, buried, begun, open_calls, owed, now_at, covers, is_held, entry_at}
+use Rattle.hc_history.specs.Books.{Entry, charges, waiting, writing, buried, turned, begun, open_calls, owed, now_at, covers, is_held, entry_at}
 use Rattle.hc_history.specs.Pages.{bytes_at, bucket_entries}
 use Rattle.hc_history.specs.Regions.{in_use, flushed, open_region}
 use Rattle.hc_history.specs.Lawful.{past}
@@ -57,7 +57,7 @@ AllHash (one ∷ losses) = IsHash one.scope × AllHash losses
 
 -- ---- the books
 
--- what no loss touches: all books but the map, the entries of buckets and what is filed
+-- what no loss touches: all books but the map, what was turned away, the entries of buckets and what is filed
 pub record BooksPass (older newer : List Note) : Type 0 where
   pub charges : charges newer ≡ charges older
   pub waiting : waiting newer ≡ waiting older
@@ -72,6 +72,10 @@ pub record BooksPass (older newer : List Note) : Type 0 where
   pub used : in_use newer ≡ in_use older
   pub flushed : flushed newer ≡ flushed older
   pub current : (flash : FlashConfig) → open_region flash newer ≡ open_region flash older
+
+-- they turn no key away
+abbrev pub TurnsNone : List Loss → Type 0
+TurnsNone losses = (older : List Note) → turned (lost losses older) ≡ turned older
 
 abbrev pub BooksPassLosses : Type 0
 BooksPassLosses = (losses : List Loss) (older : List Note) → BooksPass older (lost losses older)
@@ -211,7 +215,7 @@ UncoveredStays = (flash : Option FlashConfig) (losses : List Loss) (older : List
 -- ---- the invariant's parts that no loss breaks
 
 abbrev pub WaitsPass : Type 0
-WaitsPass = (older newer : List Note) (nvm : Nvm) → BooksPass older newer → WaitsTell older nvm → WaitsTell newer nvm
+WaitsPass = (older newer : List Note) (nvm : Nvm) → BooksPass older newer → turned newer ≡ turned older → WaitsTell older nvm → WaitsTell newer nvm
 
 abbrev pub CallsPass : Type 0
 CallsPass = (older newer : List Note) (calls : ℕ) (all : List Owed) (fills : List Fill) → BooksPass older newer → CallsTell older calls all fills → CallsTell newer calls all fills

@@ -21,7 +21,7 @@ use Rattle.hc_history.specs.Note.{Note, Insert, Stored, Freed, Charged, Begin, L
 use Rattle.hc_history.specs.Told.{Heard, Nothing, Log, Counts, Sums, told_more, is_log, where_kept}
 use Rattle.hc_history.proofs.Telling.{told-twice, told-nothing}
 use Rattle.hc_machine.specs.Nvm.{Nvm, Fill, fill_at, without_fill, put_at}
-use Rattle.hc_machine.specs.Leaving.{Changed, waits_unless, cause_for, unqueue, outdate, bury}
+use Rattle.hc_machine.specs.Leaving.{Changed, tags_after, waits_unless, cause_for, unqueue, outdate, bury}
 use Rattle.hc_machine.specs.Cache.{Cache, Told, Moved, Replied, Discarded, Refused, tells, behind, and_then, answers, stays, with_memory, with_nvm, on_flash, on_flash_of}
 use Rattle.hc_machine.specs.Evicting.{entry_of_item, leaves_for, leaves, all_leave, make_room, with_charge, allocate, allocate_by}
 use Rattle.hc_machine.specs.Waiting.{entry_of_handle, free}
@@ -51,12 +51,12 @@ use Rattle.hc_state.proofs.store.Stored.{store-over, none-left, unqueue-fills, b
 use Rattle.hc_state.proofs.Unkept.{unkept}
 use Rattle.hc_state.proofs.store.Unqueued.{does-log, serves-then}
 
--- ---- what leaves memory changes the puts that wait, and nothing else of flash
+-- ---- what leaves memory changes the puts that wait and what was turned away, and nothing else of flash
 
-module _ (P : Option Nvm → Type 0) (keeps : (nvm : Nvm) (queue : List FlashEntry) → P (Some nvm) → P (Some (record nvm { queue = queue }))) where
+module _ (P : Option Nvm → Type 0) (keeps : (nvm : Nvm) (queue : List FlashEntry) (tags : List ℕ) → P (Some nvm) → P (Some (record nvm { queue = queue; tags = tags }))) where
   waits-keeps : (cause : Option Cause) (entry : FlashEntry) (nvm : Nvm) → P (Some nvm) → P (Some (waits_unless cause entry nvm).nvm)
-  waits-keeps None entry nvm h = keeps nvm (nvm.queue ++ entry ∷ []) h
-  waits-keeps (Some cause) entry nvm h = h
+  waits-keeps None entry nvm h = keeps nvm (nvm.queue ++ entry ∷ []) nvm.tags h
+  waits-keeps (Some cause) entry nvm h = keeps nvm nvm.queue (tags_after cause entry.key nvm.tags) h
 
   for-keeps : (nvm : Option Nvm) (pool want : ℕ) (item : Item) (cache : Cache) → cache.nvm ≡ nvm → P nvm → P (leaves_for nvm pool want item cache).cache.nvm
   for-keeps None pool want item cache has h = subst P (sym has) h
@@ -73,19 +73,19 @@ module _ (P : Option Nvm → Type 0) (keeps : (nvm : Nvm) (queue : List FlashEnt
   room-keeps : (pool want : ℕ) (cache : Cache) → P cache.nvm → P (make_room pool want cache).cache.nvm
   room-keeps pool want cache h = all-keep pool want (victims_of cache.memory pool want) (with_memory (after_room cache.memory pool want) cache) h
 
-queue-serves : {A : Type 0} (keeps : Bool) (key : List ℕ) (plan : Outdating A) (nvm : Nvm) (queue : List FlashEntry) → Serves keeps key nvm plan → Serves keeps key (record nvm { queue = queue }) plan
-queue-serves keeps key plan nvm queue s = record {
+queue-serves : {A : Type 0} (keeps : Bool) (key : List ℕ) (plan : Outdating A) (nvm : Nvm) (queue : List FlashEntry) (tags : List ℕ) → Serves keeps key nvm plan → Serves keeps key (record nvm { queue = queue; tags = tags }) plan
+queue-serves keeps key plan nvm queue tags s = record {
   buries = record { burial_is = s.buries.burial_is; is_there = s.buries.is_there };
   unindexes = record { twice_is = s.unindexes.twice_is; is_there = s.unindexes.is_there };
 }
 
 -- so what outdates the key does it then
 pub room-serves : {A : Type 0} (keeps : Bool) (key : List ℕ) (plan : Outdating A) (pool want : ℕ) (cache : Cache) → ServesIn keeps key cache.nvm plan → ServesIn keeps key (make_room pool want cache).cache.nvm plan
-room-serves keeps key plan pool want cache serves = room-keeps (λ nvm. ServesIn keeps key nvm plan) (λ nvm queue s. queue-serves keeps key plan nvm queue s) pool want cache serves
+room-serves keeps key plan pool want cache serves = room-keeps (λ nvm. ServesIn keeps key nvm plan) (λ nvm queue tags s. queue-serves keeps key plan nvm queue tags s) pool want cache serves
 
 -- and no call waits for the key that waited for none
 room-alone : (key : List ℕ) (pool want : ℕ) (cache : Cache) → fill_in cache.nvm key ≡ None → fill_in (make_room pool want cache).cache.nvm key ≡ None
-room-alone key pool want cache alone = room-keeps (λ nvm. fill_in nvm key ≡ None) (λ nvm queue e. e) pool want cache alone
+room-alone key pool want cache alone = room-keeps (λ nvm. fill_in nvm key ≡ None) (λ nvm queue tags e. e) pool want cache alone
 
 room-memory : (pool want : ℕ) (cache : Cache) → (make_room pool want cache).cache.memory ≡ after_room cache.memory pool want
 room-memory pool want cache = all_leave-stays pool want (victims_of cache.memory pool want) (with_memory (after_room cache.memory pool want) cache)

@@ -43,6 +43,7 @@ closing config flash older memory nvm number key e = record {
   writing = λ k. among-without key k (writing older) ∙ written-after (is_written_now nvm k) (is_among k (writing older)) (bytes_eq key k) (e.not_writing k) (e.writing k);
   not_writing = λ k h. absurd (cc h);
   one_writer = e.one_writer;
+  turned = e.turned;
   jobs = e.jobs;
   stand = e.stand;
   brought = e.brought;
@@ -79,7 +80,7 @@ fills-hold pages memory nvm number (fill ∷ fills) s b n =
 pub flash-good : (config : Config) (flash : FlashConfig) (older : List Note) (memory : Memory) (nvm : Nvm) (number : ℕ) (task : Task) → NoPut task → NoneBrought number nvm.fills → Ending config flash older memory nvm number task → FlashGood flash older memory nvm
 flash-good config flash older memory nvm number task no_put free e = record {
   engines = e.engines;
-  waits = record { queue = e.queue; one_put = e.one_put; can_put = e.can_put; buried = e.buried; one_stone = e.one_stone; writing = λ key. e.writing key ∙ (rw (no_put key) (or_false (is_written_now nvm key))); one_writer = e.one_writer };
+  waits = record { queue = e.queue; one_put = e.one_put; can_put = e.can_put; buried = e.buried; one_stone = e.one_stone; writing = λ key. e.writing key ∙ (rw (no_put key) (or_false (is_written_now nvm key))); one_writer = e.one_writer; turned = e.turned };
   jobs = e.jobs;
   fills = record { each = fills-hold (bytes_at older) memory nvm number nvm.fills e.stand e.brought free; one = e.one_fill; one_each = e.one_each; one_add = e.one_add };
   pools = e.pools;

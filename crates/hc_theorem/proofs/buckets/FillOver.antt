@@ -88,7 +88,7 @@ module _ (config : Config) (flash : FlashConfig) (older : List Note) (cache : Ca
       let moved = fills-moved (bytes_at older) memory nvm (without_fill fill.key nvm.fills) (without_fill fill.key nvm.fills) others in
       record {
         engines = engines-still flash older older nvm less refl refl (passed-all flash older) (λ bucket. refl) e.engines;
-        waits = record { queue = e.queue; one_put = e.one_put; can_put = e.can_put; buried = e.buried; one_stone = e.one_stone; writing = λ key. e.writing key ∙ (rw (no_put key) (or_false _)); one_writer = e.one_writer };
+        waits = record { queue = e.queue; one_put = e.one_put; can_put = e.can_put; buried = e.buried; one_stone = e.one_stone; writing = λ key. e.writing key ∙ (rw (no_put key) (or_false _)); one_writer = e.one_writer; turned = e.turned };
         jobs = record {
           run = any-run nvm less nvm.jobs (λ job r. runs-moved nvm (without_fill fill.key nvm.fills) job job.task (small_job nvm job.number) (large_work nvm job.number) r) e.jobs.run;
           one = e.jobs.one;

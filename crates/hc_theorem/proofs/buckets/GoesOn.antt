@@ -185,6 +185,7 @@ module _ (config : Config) (flash : FlashConfig) (older : List Note) (memory : M
             one_stone = g.waits.one_stone;
             writing = λ key. g.waits.writing key ∙ sym (any-ordered (puts key) number next_order nvm.jobs);
             one_writer = λ key. rw (count-ordered (puts key) number next_order nvm.jobs) (g.waits.one_writer key);
+            turned = g.waits.turned;
           };
           jobs = jobs_same o at g.jobs;
           fills = record { each = fills_same e o at nvm.fills g.fills.each; one = g.fills.one; one_each = g.fills.one_each; one_add = g.fills.one_add };

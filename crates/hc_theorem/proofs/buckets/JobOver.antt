@@ -236,6 +236,7 @@ module _ (config : Config) (flash : FlashConfig) (older newer : List Note) (memo
         not_writing = λ key t. any-count (λ (x : Job). puts key x.task) (without_job number nvm.jobs)
             ∙ written_step key (count (λ (x : Job). puts key x.task) (without_job number nvm.jobs)) (count (λ (x : Job). puts key x.task) nvm.jobs) (puts key job.task) (tally-out (λ (x : Job). if puts key x.task then 1 else 0) number nvm.jobs job at (j.one number)) (f.waits.one_writer key) t;
         one_writer = λ key. omega (arith, tally-out (λ (x : Job). if puts key x.task then 1 else 0) number nvm.jobs job at (j.one number), f.waits.one_writer key);
+        turned = rw (g.same ∙ sym f.engines.same, g.passed.turned) f.waits.turned;
         jobs = jobs_after f.engines.small_fits (g.same ∙ sym f.engines.same) g.left at there none j;
         stand = stand_after g nvm.fills f.fills.each;
         brought = brought_after g f.engines there nvm.fills f.fills.each;

@@ -178,6 +178,7 @@ module _ (config : Config) (flash : FlashConfig) (older : List Note) (memory : M
             one_stone = e.one_stone;
             writing = λ key. e.writing key ∙ or_false _ ∙ ap (λ (js : List Job). list_any (λ (job : Job). puts key job.task) js) l.jobs_are ∙ sym (or_false _) ∙ sym (any-out (puts key) number jobs (record { number = number; task = Filling; order = was }) l.at (l.one number)) ∙ sym (any-ordered (puts key) number order jobs);
             one_writer = λ key. rw (count-ordered (puts key) number order jobs) (l.one_writer key);
+            turned = e.turned;
           };
           jobs = jobs_launched l f e.jobs;
           fills = record { each = fills_launched l f nvm.fills e.stand e.brought l.keys; one = e.one_fill; one_each = e.one_each; one_add = e.one_add };

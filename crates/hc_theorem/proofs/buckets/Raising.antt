@@ -190,6 +190,7 @@ module _ (config : Config) (flash : FlashConfig) (older : List Note) (memory : M
         writing = λ key. ap (is_among key) (writing-raised older gone) ∙ e.writing key;
         not_writing = e.not_writing;
         one_writer = e.one_writer;
+        turned = rw passed.turned e.turned;
         jobs = record { run = any-run nvm left nvm.jobs (runs_left e may) e.jobs.run; one = e.jobs.one; fresh = e.jobs.fresh; small_ones = e.jobs.small_ones; large_ones = e.jobs.large_ones };
         stand = stand_left e nvm.fills e.stand;
         brought = brought-still (bytes_at older) (bytes_at newer) nvm left number nvm.fills refl pages e.brought;

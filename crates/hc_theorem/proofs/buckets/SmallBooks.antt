@@ -15,12 +15,13 @@ use Rattle.hc_theorem.specs.buckets.Small.{IsSmallNote, AllSmall, Passed}
 use Rattle.hc_proof.proofs.books.Elsewhere.{stays_open}
 
 pub passed-all : (flash : FlashConfig) (older : List Note) → Passed flash older older
-passed-all flash older = record { charged = refl; waits = refl; number = refl; open_ones = refl; owes = refl; clock = refl; used = refl; stored = refl; current = refl; filings = refl; filled = refl }
+passed-all flash older = record { charged = refl; waits = refl; turned = refl; number = refl; open_ones = refl; owes = refl; clock = refl; used = refl; stored = refl; current = refl; filings = refl; filled = refl }
 
 pub passed-on : (flash : FlashConfig) (a b c : List Note) → Passed flash a b → Passed flash b c → Passed flash a c
 passed-on flash a b c p q = record {
   charged = q.charged ∙ p.charged;
   waits = q.waits ∙ p.waits;
+  turned = q.turned ∙ p.turned;
   number = q.number ∙ p.number;
   open_ones = q.open_ones ∙ p.open_ones;
   owes = q.owes ∙ p.owes;
@@ -33,13 +34,13 @@ passed-on flash a b c p q = record {
 }
 
 pub passed-note : (flash : FlashConfig) (older : List Note) (note : Note) → IsSmallNote flash note → Passed flash older (note ∷ older)
-passed-note flash older (Read page result) h = record { charged = refl; waits = refl; number = refl; open_ones = refl; owes = refl; clock = refl; used = refl; stored = refl; current = refl; filings = refl; filled = refl }
-passed-note flash older (Wrote page bytes true) h = record { charged = refl; waits = refl; number = refl; open_ones = refl; owes = refl; clock = refl; used = refl; stored = refl; current = refl; filings = refl; filled = refl }
-passed-note flash older (Wrote page bytes false) h = record { charged = refl; waits = refl; number = refl; open_ones = refl; owes = refl; clock = refl; used = refl; stored = refl; current = stays_open flash page (open_region flash older) h; filings = refl; filled = refl }
-passed-note flash older (Lose (loss.Key key) BucketFull) h = record { charged = refl; waits = refl; number = refl; open_ones = refl; owes = refl; clock = refl; used = refl; stored = refl; current = refl; filings = refl; filled = refl }
-passed-note flash older (Lose (loss.Bucket bucket) Fault) h = record { charged = refl; waits = refl; number = refl; open_ones = refl; owes = refl; clock = refl; used = refl; stored = refl; current = refl; filings = refl; filled = refl }
-passed-note flash older (Written key) h = record { charged = refl; waits = refl; number = refl; open_ones = refl; owes = refl; clock = refl; used = refl; stored = refl; current = refl; filings = refl; filled = refl }
-passed-note flash older (Raised key) h = record { charged = refl; waits = refl; number = refl; open_ones = refl; owes = refl; clock = refl; used = refl; stored = refl; current = refl; filings = refl; filled = refl }
+passed-note flash older (Read page result) h = record { charged = refl; waits = refl; turned = refl; number = refl; open_ones = refl; owes = refl; clock = refl; used = refl; stored = refl; current = refl; filings = refl; filled = refl }
+passed-note flash older (Wrote page bytes true) h = record { charged = refl; waits = refl; turned = refl; number = refl; open_ones = refl; owes = refl; clock = refl; used = refl; stored = refl; current = refl; filings = refl; filled = refl }
+passed-note flash older (Wrote page bytes false) h = record { charged = refl; waits = refl; turned = refl; number = refl; open_ones = refl; owes = refl; clock = refl; used = refl; stored = refl; current = stays_open flash page (open_region flash older) h; filings = refl; filled = refl }
+passed-note flash older (Lose (loss.Key key) BucketFull) h = record { charged = refl; waits = refl; turned = refl; number = refl; open_ones = refl; owes = refl; clock = refl; used = refl; stored = refl; current = refl; filings = refl; filled = refl }
+passed-note flash older (Lose (loss.Bucket bucket) Fault) h = record { charged = refl; waits = refl; turned = refl; number = refl; open_ones = refl; owes = refl; clock = refl; used = refl; stored = refl; current = refl; filings = refl; filled = refl }
+passed-note flash older (Written key) h = record { charged = refl; waits = refl; turned = refl; number = refl; open_ones = refl; owes = refl; clock = refl; used = refl; stored = refl; current = refl; filings = refl; filled = refl }
+passed-note flash older (Raised key) h = record { charged = refl; waits = refl; turned = refl; number = refl; open_ones = refl; owes = refl; clock = refl; used = refl; stored = refl; current = refl; filings = refl; filled = refl }
 passed-note flash older note h = absurd h
 
 pub passed-part : (flash : FlashConfig) (older part : List Note) → AllSmall flash part → Passed flash older (past older part)

@@ -68,6 +68,7 @@ module _ (pools : List PoolSize) (flash : FlashConfig) (older : List Note) (cach
     one_stone = w.one_stone;
     writing = λ k. w.writing k ∙ sym (any-push (λ (job : Job). puts k job.task) nvm.jobs (own_job nvm Filling (Get key) Reading) ∙ or_false (list_any (λ (job : Job). puts k job.task) nvm.jobs));
     one_writer = λ k. omega (arith, w.one_writer k, tally-push (λ (job : Job). if puts k job.task then 1 else 0) nvm.jobs (own_job nvm Filling (Get key) Reading));
+    turned = w.turned;
   }
 
   none_yet : bighash.job_at (nvm.made + 1) nvm.pair.small.jobs ≡ None

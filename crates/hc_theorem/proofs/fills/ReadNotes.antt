@@ -47,7 +47,7 @@ good_read config older cache page result g =
       placed = λ k here. r.placed k refl;
       sized = r.sized;
       clock = r.clock;
-      flash = flash_passed config.flash older (WasRead page result) cache.memory cache.nvm none_moves (passes_read older page result) refl r.flash;
+      flash = flash_passed config.flash older (WasRead page result) cache.memory cache.nvm none_moves (passes_read older page result) refl refl r.flash;
     }) (record { number = c.number; open_ones = c.open_ones; one_open = c.one_open; one_waiter = c.one_waiter; owes = c.owes; replies = c.replies; one_reply = c.one_reply; one_owed = c.one_owed; fresh = c.fresh })
 
 -- what the large engine keeps through the notes behind it

@@ -48,6 +48,7 @@ stays kind test h = record {
     taken = λ key h. p.taken key (q.taken key h);
   };
   queues = λ nvm queue. record { flash = refl; jobs = refl; regions = refl; current = refl; sealed = refl; flushed = refl; taken = λ key h. h };
+  turns = λ nvm tags. record { flash = refl; jobs = refl; regions = refl; current = refl; sealed = refl; flushed = refl; taken = λ key h. h };
   fills = λ nvm fills. record { flash = refl; jobs = refl; regions = refl; current = refl; sealed = refl; flushed = refl; taken = λ key h. h };
   buries = λ nvm key. record { flash = refl; jobs = refl; regions = refl; current = refl; sealed = refl; flushed = refl; taken = untaken key nvm.tombstones };
   raises = λ nvm ends. record { flash = refl; jobs = refl; regions = refl; current = refl; sealed = refl; flushed = refl; taken = fewer_taken ends nvm.tombstones };

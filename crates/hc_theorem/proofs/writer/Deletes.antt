@@ -63,6 +63,7 @@ module _ (pools : List PoolSize) (flash : FlashConfig) (older : List Note) (cach
     one_stone = λ k. omega (arith, w.one_stone k, count-taken key k nvm.tombstones);
     writing = λ k. w.writing k ∙ sym (any-push (λ (job : Job). puts k job.task) nvm.jobs (own_job nvm (Deleting key) (Delete key) Reading) ∙ or_false (list_any (λ (job : Job). puts k job.task) nvm.jobs));
     one_writer = λ k. omega (arith, w.one_writer k, tally-push (λ (job : Job). if puts k job.task then 1 else 0) nvm.jobs (own_job nvm (Deleting key) (Delete key) Reading));
+    turned = w.turned;
   }
 
   still_unburied : (k : List ℕ) → stands_in k nvm.tombstones ≡ false → stands_in k (taken_stone key nvm.tombstones) ≡ false
@@ -150,6 +151,7 @@ module _ (pools : List PoolSize) (flash : FlashConfig) (older : List Note) (cach
     one_stone = λ k. omega (arith, w.one_stone k, fewer (λ stone. not (is_stone_of key stone)) (is_stone_of k) nvm.tombstones);
     writing = w.writing;
     one_writer = w.one_writer;
+    turned = w.turned;
   }
 
   delete_ends : Agrees (conf pools flash) older (with_nvm nvm cache) → is_taken key nvm.tombstones ≡ false → stands_in key nvm.tombstones ≡ true → is_busy (bucket_at nvm.pair.small.flash key) nvm.pair.small.jobs ≡ false

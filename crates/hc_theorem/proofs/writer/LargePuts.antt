@@ -37,7 +37,7 @@ use Rattle.hc_invariant.specs.Good.{Agrees, FlashGood, Orderly}
 use Rattle.hc_invariant.specs.Jobs.{AllFill}
 use Rattle.hc_invariant.proofs.Frames.{waits-is}
 use Rattle.hc_invariant.proofs.Lookups.{put-gone}
-use Rattle.hc_proof.specs.losses.Losses.{lost, unmarked, Sides, AllTakeOut, AllHash}
+use Rattle.hc_proof.specs.losses.Losses.{TurnsNone, lost, unmarked, Sides, AllTakeOut, AllHash}
 use Rattle.hc_proof.proofs.losses.CleanMarks.{items_lost}
 use Rattle.hc_proof.proofs.losses.BooksPass.{map_lost_by}
 use Rattle.hc_theorem.specs.writer.Parts.{conf, PutKeeps}
@@ -53,10 +53,10 @@ use Rattle.hc_invariant.specs.Laws.{KeptBy, Kept}
 
 -- the books in which the key has left the queue, and a region was opened or not
 unqueued_is : (key : List ℕ) (older : List Note) → Unqueues key older (Unqueued key ∷ older)
-unqueued_is key older = record { charges = refl; waiting = refl; writing = refl; buried = refl; begun = refl; open_ones = refl; owed = refl; clock = refl; map = λ flash k. refl }
+unqueued_is key older = record { charges = refl; waiting = refl; writing = refl; buried = refl; turned = refl; begun = refl; open_ones = refl; owed = refl; clock = refl; map = λ flash k. refl }
 
 opened_is : (key : List ℕ) (older : List Note) (r : ℕ) → Unqueues key older (Opened r ∷ Unqueued key ∷ older)
-opened_is key older r = record { charges = refl; waiting = refl; writing = refl; buried = refl; begun = refl; open_ones = refl; owed = refl; clock = refl; map = λ flash k. refl }
+opened_is key older r = record { charges = refl; waiting = refl; writing = refl; buried = refl; turned = refl; begun = refl; open_ones = refl; owed = refl; clock = refl; map = λ flash k. refl }
 
 -- ---- what is held after it is large
 
@@ -145,13 +145,17 @@ module _ (pools : List PoolSize) (flash : FlashConfig) (older : List Note) (cach
       → Agrees (conf pools flash) (lost (if b then collision flash put.key ∷ [] else []) after) (record cache { memory = unmarked (if b then collision flash put.key ∷ [] else []) cache.memory; nvm = Some (with_large nvm put.key new) })
   room_good after b g here u told room e l =
       let losses : List Loss = if b then collision flash put.key ∷ [] else [] in
-      good_after pools flash older after losses cache nvm put new g here u l
+      good_after pools flash older after losses cache nvm put new g here u l (turns b)
       (all_placed pools flash older after losses cache nvm put new l.pages (own_placed pools flash older after losses cache nvm put new g u here (free_own b) (held_own told room))
       (other_placed pools flash older after losses cache nvm put new g u (outs b) (hashes b) (λ k o sides. left_room told room b e k o sides)))
     where
       outs : (b : Bool) → AllTakeOut (if b then collision flash put.key ∷ [] else [])
       outs true = (refl, tt)
       outs false = tt
+
+      turns : (b : Bool) → TurnsNone (if b then collision flash put.key ∷ [] else [])
+      turns true books = refl
+      turns false books = refl
 
       hashes : (b : Bool) → AllHash (if b then collision flash put.key ∷ [] else [])
       hashes true = (tt, tt)
@@ -171,7 +175,7 @@ module _ (pools : List PoolSize) (flash : FlashConfig) (older : List Note) (cach
       → LargeAfter flash older (lost unplaced (Unqueued put.key ∷ older)) put.key s new
       → Agrees (conf pools flash) (lost unplaced (Unqueued put.key ∷ older)) (record cache { memory = unmarked unplaced cache.memory; nvm = Some (with_large nvm put.key new) })
   unplaced_good g here told same l =
-      good_after pools flash older after unplaced cache nvm put new g here u l
+      good_after pools flash older after unplaced cache nvm put new g here u l (λ books. refl)
       (all_placed pools flash older after unplaced cache nvm put new l.pages own (λ k o. same_placed pools flash older after unplaced cache nvm put new g u same k o (λ len. other k o)))
     where
       after : List Note

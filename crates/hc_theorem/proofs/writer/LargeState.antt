@@ -21,16 +21,16 @@ use Rattle.hc_engines.specs.large.Sound.{Sound}
 use Rattle.hc_engines.specs.large.Fits.{Fits, ReadsHold}
 use Rattle.hc_machine.specs.items.Items.{items_of}
 use Rattle.hc_history.specs.Note.{Note}
-use Rattle.hc_history.specs.Books.{Call, charges, waiting, writing, buried, begun, open_calls, open_call, owed, now_at, entry_at, without_key}
+use Rattle.hc_history.specs.Books.{Call, charges, waiting, writing, buried, turned, begun, open_calls, open_call, owed, now_at, entry_at, without_key}
 use Rattle.hc_history.specs.Pages.{bytes_at, bucket_entries}
 use Rattle.hc_machine.specs.Nvm.{Nvm, Task, Putting, Deleting, Filling, Flushing, Job, Fill, is_put_of, put_at, without_put}
 use Rattle.hc_machine.specs.Leaving.{is_too_large}
 use Rattle.hc_machine.specs.Cache.{Cache, with_nvm}
 use Rattle.hc_invariant.specs.Standing.{PlacedAt}
-use Rattle.hc_invariant.specs.Tells.{ChargesTell, WaitsTell, CallsTell, RegionsTell, waiters_of, reply_in}
+use Rattle.hc_invariant.specs.Tells.{ChargesTell, TurnedTell, WaitsTell, CallsTell, RegionsTell, waiters_of, reply_in}
 use Rattle.hc_invariant.specs.Jobs.{RunsAs, AllRun, JobsRun, small_job, large_work, Brings, BringsIf, AllFill, FillsHold}
 use Rattle.hc_invariant.specs.Good.{Agrees, FlashGood, InPools, AllSized}
-use Rattle.hc_proof.specs.losses.Losses.{lost, unmarked, SameButMarks}
+use Rattle.hc_proof.specs.losses.Losses.{TurnsNone, lost, unmarked, SameButMarks}
 use Rattle.hc_proof.proofs.losses.CleanMarks.{memory_kept}
 use Rattle.hc_proof.proofs.losses.BooksPass.{books_pass}
 use Rattle.hc_proof.proofs.losses.LossesTell.{waits_pass, calls_pass, charges_pass, sized_pass, fill_passes}
@@ -46,6 +46,7 @@ pub record Unqueues (key : List ℕ) (older after : List Note) : Type 0 where
   pub waiting : waiting after ≡ without_key key (waiting older)
   pub writing : writing after ≡ writing older
   pub buried : buried after ≡ buried older
+  pub turned : turned after ≡ turned older
   pub begun : begun after ≡ begun older
   pub open_ones : open_calls after ≡ open_calls older
   pub owed : owed after ≡ owed older
@@ -114,6 +115,7 @@ module _ (pools : List PoolSize) (flash : FlashConfig) (older after : List Note)
         one_stone = w.one_stone;
         writing = λ k. rw (u.writing) (w.writing k);
         one_writer = w.one_writer;
+        turned = subst (λ (keys : List (List ℕ)). TurnedTell nvm.pair.small.flash.admission keys nvm.tags) (sym u.turned) w.turned;
       }
 
   calls_after : Agrees (conf pools flash) older (with_nvm nvm cache) → Unqueues put.key older after → CallsTell after cache.calls cache.owed nvm.fills
@@ -162,9 +164,9 @@ module _ (pools : List PoolSize) (flash : FlashConfig) (older after : List Note)
       )
 
   -- where keys stand is asked for
-  pub good_after : Agrees (conf pools flash) older (with_nvm nvm cache) → put_at put.key nvm.queue ≡ Some put → Unqueues put.key older after → LargeAfter flash older newer put.key nvm.pair.large new
+  pub good_after : Agrees (conf pools flash) older (with_nvm nvm cache) → put_at put.key nvm.queue ≡ Some put → Unqueues put.key older after → LargeAfter flash older newer put.key nvm.pair.large new → TurnsNone losses
       → ((key : List ℕ) → PlacedAt (Some flash) newer cache_after key) → Agrees (conf pools flash) newer cache_after
-  good_after g here u l placed =
+  good_after g here u l turns placed =
       let f : FlashGood flash older cache.memory nvm = g.flash in
       let k : SameButMarks cache.memory (unmarked losses cache.memory) = memory_kept losses cache.memory in
       let b = books_pass losses after in
@@ -191,7 +193,7 @@ module _ (pools : List PoolSize) (flash : FlashConfig) (older after : List Note)
             buckets = λ bucket within. ap (λ (of : ℕ → List FlashEntry). of bucket) l.entries ∙ f.engines.buckets bucket within ∙ ap (λ (pages : Pages). small.bucket_entries nvm.pair.small pages bucket) (sym l.pages);
             large_ones = λ key e h. l.large_ones key e (ap (λ (pages : Pages). large.held flash pages new key) (sym l.pages) ∙ h);
           };
-          waits = waits_pass after newer nvm_after b (waits_after g u);
+          waits = waits_pass after newer nvm_after b (turns after) (waits_after g u);
           jobs = jobs_large nvm put.key new l.others f.jobs;
           fills = fills_after f here l;
           pools = subst (λ (n : ℕ). InPools n (without_put put.key nvm.queue)) (sym k.number) (pools-without (length cache.memory.pools) put.key nvm.queue f.pools);

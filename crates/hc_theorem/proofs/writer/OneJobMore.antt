@@ -39,6 +39,7 @@ with_job nvm queue stones fills task op phase = record {
   fills = fills;
   jobs = nvm.jobs ++ own_job nvm task op phase ∷ [];
   made = nvm.made + 1;
+  tags = nvm.tags;
 }
 
 -- ---- the small engine's jobs

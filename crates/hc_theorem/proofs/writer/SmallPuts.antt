@@ -114,6 +114,7 @@ module _ (pools : List PoolSize) (flash : FlashConfig) (older : List Note) (cach
     one_stone = w.one_stone;
     writing = λ k. ap (λ (b : Bool). bytes_eq put.key k || b) (w.writing k) ∙ or_swap (bytes_eq put.key k) (is_written_now nvm k) ∙ sym (any-push (λ (job : Job). puts k job.task) nvm.jobs (own_job nvm (Putting put.key) (Put put) phase));
     one_writer = λ k. writer k (bytes_eq put.key k) refl;
+    turned = w.turned;
   }
     where
       writer : (k : List ℕ) (b : Bool) → bytes_eq put.key k ≡ b → count (λ (job : Job). puts k job.task) (nvm.jobs ++ own_job nvm (Putting put.key) (Put put) phase ∷ []) ≤ 1

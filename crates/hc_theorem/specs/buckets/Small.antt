@@ -10,13 +10,13 @@ use Rattle.hc_engines.specs.small.Held as small
 use Rattle.hc_engines.specs.large.Held as large
 use Rattle.hc_memory.specs.Memory.{Memory, linked_at}
 use Rattle.hc_history.specs.Note.{Note, Lose, Written, Raised, Read, Wrote}
-use Rattle.hc_history.specs.Books.{charges, waiting, writing, buried, begun, open_calls, owed, is_among, entry_at, now_at}
+use Rattle.hc_history.specs.Books.{charges, waiting, writing, buried, turned, begun, open_calls, owed, is_among, entry_at, now_at}
 use Rattle.hc_history.specs.Pages.{bytes_at}
 use Rattle.hc_history.specs.Regions.{in_use, flushed, open_region, filed, filling}
 use Rattle.hc_machine.specs.Nvm.{Nvm, Fill, Task, Job, put_at, is_put_of, is_buried, is_stone_of, puts, is_written_now, is_fill_of, is_number_in, adds}
 use Rattle.hc_machine.specs.Leaving.{is_too_large}
 use Rattle.hc_invariant.specs.Standing.{Placed, written_by}
-use Rattle.hc_invariant.specs.Tells.{keys_of, MemoryTells, waiters_of}
+use Rattle.hc_invariant.specs.Tells.{keys_of, TurnedTell, MemoryTells, waiters_of}
 use Rattle.hc_invariant.specs.Jobs.{JobsRun, AllWish, BringsIf}
 use Rattle.hc_invariant.specs.Good.{EnginesFit, EntrySized, AllSized, InPools}
 
@@ -40,6 +40,7 @@ AllSmall flash (note ∷ part) = IsSmallNote flash note × AllSmall flash part
 pub record Passed (flash : FlashConfig) (older newer : List Note) : Type 0 where
   pub charged : charges newer ≡ charges older
   pub waits : waiting newer ≡ waiting older
+  pub turned : turned newer ≡ turned older
   pub number : begun newer ≡ begun older
   pub open_ones : open_calls newer ≡ open_calls older
   pub owes : owed newer ≡ owed older
@@ -90,6 +91,7 @@ pub record Ending (config : Config) (flash : FlashConfig) (older : List Note) (m
   pub writing : (key : List ℕ) → is_among key (writing older) ≡ (is_written_now nvm key || puts key task)
   pub not_writing : (key : List ℕ) → puts key task ≡ true → is_written_now nvm key ≡ false
   pub one_writer : (key : List ℕ) → count (λ (job : Job). puts key job.task) nvm.jobs ≤ 1
+  pub turned : TurnedTell nvm.pair.small.flash.admission (turned older) nvm.tags
   pub jobs : JobsRun nvm
   pub stand : AllStand memory nvm nvm.fills
   pub brought : AllBrought (bytes_at older) nvm number nvm.fills

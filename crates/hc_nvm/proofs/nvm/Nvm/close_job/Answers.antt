@@ -32,8 +32,8 @@ invariant_of-self g c =
 pub returns-clause-taken : goal.returns-clause-taken
 returns-clause-taken g c =
     let i = c.self.invariant in
-    let inside : Nvm = record { pair = c.self.inside.pair; queue = c.self.inside.queue.puts; tombstones = c.self.inside.tombstones.stones; fills = c.self.inside.fills.fills; jobs = c.self.inside.jobs.items; made = c.self.inside.made } in
-    let new : Nvm = record { pair = c.self.inside.pair; queue = c.self.inside.queue.puts; tombstones = c.settle-found.new.stones.stones; fills = c.end_fill-filled.new.fills.fills; jobs = c.take_job-task.new.jobs.items; made = c.self.inside.made } in
+    let inside : Nvm = record { pair = c.self.inside.pair; queue = c.self.inside.queue.puts; tombstones = c.self.inside.tombstones.stones; fills = c.self.inside.fills.fills; jobs = c.self.inside.jobs.items; made = c.self.inside.made; tags = c.self.inside.tags } in
+    let new : Nvm = record { pair = c.self.inside.pair; queue = c.self.inside.queue.puts; tombstones = c.settle-found.new.stones.stones; fills = c.end_fill-filled.new.fills.fills; jobs = c.take_job-task.new.jobs.items; made = c.self.inside.made; tags = c.self.inside.tags } in
     let here : place c.args.number c.self.inside.jobs.items ≡ Some c.args.at = rw (← c.self.view_is) at c.requires.at in
     let alone : (fill : Fill) → fill_by c.args.number inside.fills ≡ Some fill → fill_at fill.key inside.fills ≡ Some fill =
     subst (λ (s : Stock). (fill : Fill) → fill_by c.args.number s.nvm.fills ≡ Some fill → fill_at fill.key s.nvm.fills ≡ Some fill) (sym c.self.view_is) c.requires.alone in
@@ -52,7 +52,7 @@ returns-clause-taken g c =
       same_flash = i.1;
       same_task = c.take_job-task.ensures.task job stood;
       key_is = keyed job there;
-      new_is = λ j. record { pair = c.self.inside.pair; queue = c.self.inside.queue.puts; tombstones = c.settle-found.ensures.left j; fills = c.end_fill-filled.ensures.left j; jobs = c.take_job-task.ensures.jobs j; made = c.self.inside.made };
+      new_is = λ j. record { pair = c.self.inside.pair; queue = c.self.inside.queue.puts; tombstones = c.settle-found.ensures.left j; fills = c.end_fill-filled.ensures.left j; jobs = c.take_job-task.ensures.jobs j; made = c.self.inside.made; tags = c.self.inside.tags };
       found_is = c.settle-found.ensures.found;
       filled_is = c.end_fill-filled.ensures.filled;
       result_is = c.tell_result.ensures.told ∙ ap (λ (o : Order). told_more (g.N.Listener.told c.args.notes.now) (result_note o (result_of c.args.came) ∷ [])) (c.take_job-task.ensures.order job stood);

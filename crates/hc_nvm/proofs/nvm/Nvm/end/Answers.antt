@@ -25,7 +25,7 @@ pub invariant_of-self : goal.invariant_of-self
 invariant_of-self g c =
     let i = c.self.invariant in
     let came = result_of c.args.came in
-    let inside : Nvm = record { pair = c.self.inside.pair; queue = c.self.inside.queue.puts; tombstones = c.self.inside.tombstones.stones; fills = c.self.inside.fills.fills; jobs = c.self.inside.jobs.items; made = c.self.inside.made } in
+    let inside : Nvm = record { pair = c.self.inside.pair; queue = c.self.inside.queue.puts; tombstones = c.self.inside.tombstones.stones; fills = c.self.inside.fills.fills; jobs = c.self.inside.jobs.items; made = c.self.inside.made; tags = c.self.inside.tags } in
     let ends : EndsFill c.args.number came inside (record { key = c.ending.inside.key; over = c.ending.inside.over }) =
     subst (λ (s : Stock). EndsFill c.args.number came s.nvm (record { key = c.ending.inside.key; over = c.ending.inside.over })) (sym c.self.view_is) (subst (λ (e : Ending). EndsFill c.args.number came c.args.self.now.nvm e) (sym c.ending.view_is) c.requires.ends) in
     let kept = handed_kept {T = Outcome} {E = Nvm} (Ok c.end-outcome.result) (λ (o : Outcome). Done o) c.args.number came inside c.end-outcome.new.self c.is_sound.ensures.sound c.is_sound.ensures.apart i.3 (c.end-outcome.ensures.step came ends.ends) tt in
@@ -37,7 +37,7 @@ close_job-requires-clause-alone g c = subst (λ (s : Stock). AreApart c.args.num
 pub close_job-requires-clause-key : goal.close_job-requires-clause-key
 close_job-requires-clause-key g c =
     let came = result_of c.args.came in
-    let inside : Nvm = record { pair = c.self.inside.pair; queue = c.self.inside.queue.puts; tombstones = c.self.inside.tombstones.stones; fills = c.self.inside.fills.fills; jobs = c.self.inside.jobs.items; made = c.self.inside.made } in
+    let inside : Nvm = record { pair = c.self.inside.pair; queue = c.self.inside.queue.puts; tombstones = c.self.inside.tombstones.stones; fills = c.self.inside.fills.fills; jobs = c.self.inside.jobs.items; made = c.self.inside.made; tags = c.self.inside.tags } in
     let ends : EndsFill c.args.number came inside (record { key = c.ending.inside.key; over = c.ending.inside.over }) =
     subst (λ (s : Stock). EndsFill c.args.number came s.nvm (record { key = c.ending.inside.key; over = c.ending.inside.over })) (sym c.self.view_is) (subst (λ (e : Ending). EndsFill c.args.number came c.args.self.now.nvm e) (sym c.ending.view_is) c.requires.ends) in
     ends.key_is
@@ -46,7 +46,7 @@ pub returns-clause-taken : goal.returns-clause-taken
 returns-clause-taken g c =
     let i = c.self.invariant in
     let came = result_of c.args.came in
-    let inside : Nvm = record { pair = c.self.inside.pair; queue = c.self.inside.queue.puts; tombstones = c.self.inside.tombstones.stones; fills = c.self.inside.fills.fills; jobs = c.self.inside.jobs.items; made = c.self.inside.made } in
+    let inside : Nvm = record { pair = c.self.inside.pair; queue = c.self.inside.queue.puts; tombstones = c.self.inside.tombstones.stones; fills = c.self.inside.fills.fills; jobs = c.self.inside.jobs.items; made = c.self.inside.made; tags = c.self.inside.tags } in
     let ends : EndsFill c.args.number came inside (record { key = c.ending.inside.key; over = c.ending.inside.over }) =
     subst (λ (s : Stock). EndsFill c.args.number came s.nvm (record { key = c.ending.inside.key; over = c.ending.inside.over })) (sym c.self.view_is) (subst (λ (e : Ending). EndsFill c.args.number came c.args.self.now.nvm e) (sym c.ending.view_is) c.requires.ends) in
     let here : place c.args.number inside.jobs ≡ Some c.in-Some.at = sym (c.in-Some.ensures.value ∙ ap (place c.args.number) c.as_slice.ensures.value) in

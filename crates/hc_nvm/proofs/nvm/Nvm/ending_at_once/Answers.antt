@@ -13,7 +13,7 @@ use Rattle.hc_nvm.proofs.nvm.Nvm.ending_at_once.Goals as goal
 
 pub returns-in-Ok-Some-clause-ok : goal.returns-in-Ok-Some-clause-ok
 returns-in-Ok-Some-clause-ok g c =
-    let inside : Nvm = record { pair = c.self.inside.pair; queue = c.self.inside.queue.puts; tombstones = c.self.inside.tombstones.stones; fills = c.self.inside.fills.fills; jobs = c.self.inside.jobs.items; made = c.self.inside.made } in
+    let inside : Nvm = record { pair = c.self.inside.pair; queue = c.self.inside.queue.puts; tombstones = c.self.inside.tombstones.stones; fills = c.self.inside.fills.fills; jobs = c.self.inside.jobs.items; made = c.self.inside.made; tags = c.self.inside.tags } in
     let ends : PairEndsAtOnce c.args.key.now c.self.inside.pair c.in-Ok-Some.over = subst (λ (o : Option Ending). PairEndingAtOnce c.args.key.now c.self.inside.pair o) c.in-Ok-Some.field-0-is c.in-Ok-Some.ensures in
     let next : option_map (λ (fill : Fill). fill.key) (next_fill inside) ≡ Some c.args.key.now = subst (λ (s : Stock). option_map (λ (fill : Fill). fill.key) (next_fill s.nvm) ≡ Some c.args.key.now) (sym c.self.view_is) c.requires.next in
     let there : fill_at c.args.key.now inside.fills ≡ next_fill inside = subst (λ (s : Stock). fill_at c.args.key.now s.nvm.fills ≡ next_fill s.nvm) (sym c.self.view_is) c.requires.there in

@@ -22,14 +22,14 @@ bring-requires-clause-free g c = ap (fill_by (c.self.inside.made + 1)) c.reserve
 
 pub bring-requires-clause-open : goal.bring-requires-clause-open
 bring-requires-clause-open g c =
-    let inside : Nvm = record { pair = c.self.inside.pair; queue = c.self.inside.queue.puts; tombstones = c.self.inside.tombstones.stones; fills = c.self.inside.fills.fills; jobs = c.self.inside.jobs.items; made = c.self.inside.made } in
+    let inside : Nvm = record { pair = c.self.inside.pair; queue = c.self.inside.queue.puts; tombstones = c.self.inside.tombstones.stones; fills = c.self.inside.fills.fills; jobs = c.self.inside.jobs.items; made = c.self.inside.made; tags = c.self.inside.tags } in
     let there : fill_at c.args.key.now inside.fills ≡ next_fill inside = subst (λ (s : Stock). fill_at c.args.key.now s.nvm.fills ≡ next_fill s.nvm) (sym c.self.view_is) c.requires.there in
     subst IsFree (sym (ap (fill_at c.args.key.now) c.reserve.ensures.fills ∙ there)) (next-is-free inside)
 
 pub invariant_of-self-2 : goal.invariant_of-self-2
 invariant_of-self-2 g c =
     let i = c.self.invariant in
-    let inside : Nvm = record { pair = c.self.inside.pair; queue = c.self.inside.queue.puts; tombstones = c.self.inside.tombstones.stones; fills = c.self.inside.fills.fills; jobs = c.self.inside.jobs.items; made = c.self.inside.made } in
+    let inside : Nvm = record { pair = c.self.inside.pair; queue = c.self.inside.queue.puts; tombstones = c.self.inside.tombstones.stones; fills = c.self.inside.fills.fills; jobs = c.self.inside.jobs.items; made = c.self.inside.made; tags = c.self.inside.tags } in
     let chosen : option_map (λ (fill : Fill). fill.key) (next_fill inside) ≡ Some c.args.key.now = subst (λ (s : Stock). option_map (λ (fill : Fill). fill.key) (next_fill s.nvm) ≡ Some c.args.key.now) (sym c.self.view_is) c.requires.next in
     let same = c.in_ok-next.ensures.flash in
     let next : Next = next_seen c.in_ok-next.next in
@@ -54,8 +54,8 @@ invariant_of-self-2 g c =
 pub returns-clause-ok : goal.returns-clause-ok
 returns-clause-ok g c =
     let i = c.self.invariant in
-    let inside : Nvm = record { pair = c.self.inside.pair; queue = c.self.inside.queue.puts; tombstones = c.self.inside.tombstones.stones; fills = c.self.inside.fills.fills; jobs = c.self.inside.jobs.items; made = c.self.inside.made } in
-    let new : Nvm = record { pair = c.start_in.new.pair; queue = c.self.inside.queue.puts; tombstones = c.launched-outset.new.stones.stones; fills = c.filled_by-filled.new.fills.fills; jobs = c.launched-outset.new.jobs.items; made = c.launched-outset.result.made } in
+    let inside : Nvm = record { pair = c.self.inside.pair; queue = c.self.inside.queue.puts; tombstones = c.self.inside.tombstones.stones; fills = c.self.inside.fills.fills; jobs = c.self.inside.jobs.items; made = c.self.inside.made; tags = c.self.inside.tags } in
+    let new : Nvm = record { pair = c.start_in.new.pair; queue = c.self.inside.queue.puts; tombstones = c.launched-outset.new.stones.stones; fills = c.filled_by-filled.new.fills.fills; jobs = c.launched-outset.new.jobs.items; made = c.launched-outset.result.made; tags = c.self.inside.tags } in
     let chosen : option_map (λ (fill : Fill). fill.key) (next_fill inside) ≡ Some c.args.key.now = subst (λ (s : Stock). option_map (λ (fill : Fill). fill.key) (next_fill s.nvm) ≡ Some c.args.key.now) (sym c.self.view_is) c.requires.next in
     let take = take_of c.launched-outset.result.take in
     let came : Came inside c.args.key.now c.start_in.new.pair (next_seen c.in_ok-next.next) c.self.inside.tombstones.flash (op_of c.in_ok-op.op) c.start_in.new.jobs.items c.bring.new.fills.fills c.filled_by-filled.new.fills.fills new (take_of c.launched-outset.result.take)
@@ -66,7 +66,7 @@ returns-clause-ok g c =
       same_jobs = c.start_in.ensures.jobs;
       same_fills = c.bring.ensures.fills ∙ ap (taken_fill c.args.key.now (c.self.inside.made + 1)) c.reserve.ensures.fills;
       gone_is = c.filled_by-filled.ensures.left;
-      new_is = λ j. record { pair = c.start_in.new.pair; queue = c.self.inside.queue.puts; tombstones = c.launched-outset.ensures.left j; fills = c.filled_by-filled.new.fills.fills; jobs = c.launched-outset.ensures.jobs j; made = c.launched-outset.ensures.made j };
+      new_is = λ j. record { pair = c.start_in.new.pair; queue = c.self.inside.queue.puts; tombstones = c.launched-outset.ensures.left j; fills = c.filled_by-filled.new.fills.fills; jobs = c.launched-outset.ensures.jobs j; made = c.launched-outset.ensures.made j; tags = c.self.inside.tags };
       take_is = c.launched-outset.ensures.take;
       filled_is = c.filled_by-filled.ensures.filled ∙ ap (λ (f : Option FlashEntry). filled_if (take_of c.launched-outset.result.take) f (fill_at c.args.key.now c.bring.new.fills.fills)) c.launched-outset.ensures.found;
       told_before_is = c.start_in.ensures.told;

@@ -5,7 +5,7 @@ use Rattle.hc_nvm.proofs.nvm.Nvm.hand_out_tombstone.Goals as goal
 
 pub invariant_of-self : goal.invariant_of-self
 invariant_of-self g c =
-    let inside : Nvm = record { pair = c.self.inside.pair; queue = c.self.inside.queue.puts; tombstones = c.self.inside.tombstones.stones; fills = c.self.inside.fills.fills; jobs = c.self.inside.jobs.items; made = c.self.inside.made } in
+    let inside : Nvm = record { pair = c.self.inside.pair; queue = c.self.inside.queue.puts; tombstones = c.self.inside.tombstones.stones; fills = c.self.inside.fills.fills; jobs = c.self.inside.jobs.items; made = c.self.inside.made; tags = c.self.inside.tags } in
     (c.self.invariant.0, c.remove_oldest.ensures.flash ∙ c.self.invariant.1, c.self.invariant.2, kept_stones inside _ c.self.invariant.3)
 
 pub returns-clause-key : goal.returns-clause-key
@@ -13,5 +13,5 @@ returns-clause-key g c = rw (← c.self.view_is) c.remove_oldest.ensures.key
 
 pub returns-clause-nvm : goal.returns-clause-nvm
 returns-clause-nvm g c =
-    let inside : Nvm = record { pair = c.self.inside.pair; queue = c.self.inside.queue.puts; tombstones = c.self.inside.tombstones.stones; fills = c.self.inside.fills.fills; jobs = c.self.inside.jobs.items; made = c.self.inside.made } in
+    let inside : Nvm = record { pair = c.self.inside.pair; queue = c.self.inside.queue.puts; tombstones = c.self.inside.tombstones.stones; fills = c.self.inside.fills.fills; jobs = c.self.inside.jobs.items; made = c.self.inside.made; tags = c.self.inside.tags } in
     rw (← c.self.view_is) (λ i. record inside { tombstones = c.remove_oldest.ensures.stones i })

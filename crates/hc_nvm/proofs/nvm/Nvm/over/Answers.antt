@@ -18,7 +18,7 @@ make_ready-requires g c = place_within c.args.number c.args.at c.args.self.now.n
 
 pub returns-in-Ok-Some-clause-ok : goal.returns-in-Ok-Some-clause-ok
 returns-in-Ok-Some-clause-ok g c =
-    let inside : Nvm = record { pair = c.self.inside.pair; queue = c.self.inside.queue.puts; tombstones = c.self.inside.tombstones.stones; fills = c.self.inside.fills.fills; jobs = c.self.inside.jobs.items; made = c.self.inside.made } in
+    let inside : Nvm = record { pair = c.self.inside.pair; queue = c.self.inside.queue.puts; tombstones = c.self.inside.tombstones.stones; fills = c.self.inside.fills.fills; jobs = c.self.inside.jobs.items; made = c.self.inside.made; tags = c.self.inside.tags } in
     let here : place c.args.number inside.jobs ≡ Some c.args.at = subst (λ (s : Stock). place c.args.number s.nvm.jobs ≡ Some c.args.at) (sym c.self.view_is) c.requires.at in
     let apart : AreApart c.args.number inside.fills = subst (λ (s : Stock). AreApart c.args.number s.nvm.fills) (sym c.self.view_is) (c.fills_are_apart.ensures c.args.number) in
     let keyed : (job : Job) → slice_get inside.jobs c.args.at ≡ Some job → c.in-Ok.key ≡ brought_key c.args.number inside.fills job.task =
@@ -29,14 +29,14 @@ returns-in-Ok-Some-clause-ok g c =
 
 pub returns-then-not-may_end-clause-ok : goal.returns-then-not-may_end-clause-ok
 returns-then-not-may_end-clause-ok g c =
-    let inside : Nvm = record { pair = c.self.inside.pair; queue = c.self.inside.queue.puts; tombstones = c.self.inside.tombstones.stones; fills = c.self.inside.fills.fills; jobs = c.self.inside.jobs.items; made = c.self.inside.made } in
+    let inside : Nvm = record { pair = c.self.inside.pair; queue = c.self.inside.queue.puts; tombstones = c.self.inside.tombstones.stones; fills = c.self.inside.fills.fills; jobs = c.self.inside.jobs.items; made = c.self.inside.made; tags = c.self.inside.tags } in
     let here : place c.args.number inside.jobs ≡ Some c.args.at = subst (λ (s : Stock). place c.args.number s.nvm.jobs ≡ Some c.args.at) (sym c.self.view_is) c.requires.at in
     subst (λ (s : Stock). (taken : Taken) → finish c.args.number (result_of c.args.came.now) s.nvm ≡ Some taken → taken.filled ≡ None) c.self.view_is
     (no_fill_ends c.args.number c.args.at (result_of c.args.came.now) inside c.self.invariant.3.numbered here c.self.invariant.3.served (c.may_end.ensures c.if-not-may_end.true (result_of c.args.came.now)))
 
 pub returns-in-Ok-None-clause-ok : goal.returns-in-Ok-None-clause-ok
 returns-in-Ok-None-clause-ok g c =
-    let inside : Nvm = record { pair = c.self.inside.pair; queue = c.self.inside.queue.puts; tombstones = c.self.inside.tombstones.stones; fills = c.self.inside.fills.fills; jobs = c.self.inside.jobs.items; made = c.self.inside.made } in
+    let inside : Nvm = record { pair = c.self.inside.pair; queue = c.self.inside.queue.puts; tombstones = c.self.inside.tombstones.stones; fills = c.self.inside.fills.fills; jobs = c.self.inside.jobs.items; made = c.self.inside.made; tags = c.self.inside.tags } in
     let here : place c.args.number inside.jobs ≡ Some c.args.at = subst (λ (s : Stock). place c.args.number s.nvm.jobs ≡ Some c.args.at) (sym c.self.view_is) c.requires.at in
     let on = subst (λ (o : Option Ending). IsEnding c.args.number (result_of c.args.came.now) c.self.inside.pair o) c.in-Ok-None.field-0-is c.in-Ok-None.ensures in
     subst (λ (s : Stock). (taken : Taken) → finish c.args.number (result_of c.args.came.now) s.nvm ≡ Some taken → taken.filled ≡ None) c.self.view_is

@@ -23,7 +23,7 @@ settle-found-requires g c =
 pub invariant_of-self-in-Done : goal.invariant_of-self-in-Done
 invariant_of-self-in-Done g c =
     let i = c.self.invariant in
-    let inside : Nvm = record { pair = c.self.inside.pair; queue = c.self.inside.queue.puts; tombstones = c.self.inside.tombstones.stones; fills = c.self.inside.fills.fills; jobs = c.self.inside.jobs.items; made = c.self.inside.made } in
+    let inside : Nvm = record { pair = c.self.inside.pair; queue = c.self.inside.queue.puts; tombstones = c.self.inside.tombstones.stones; fills = c.self.inside.fills.fills; jobs = c.self.inside.jobs.items; made = c.self.inside.made; tags = c.self.inside.tags } in
     let started : start (c.self.inside.made + 1) Reclaim c.self.inside.pair ≡ record { pair = c.start.new.self; next = Done c.in-Done.outcome } = rw c.in-Done.is at c.in_ok-next.ensures.ok in
     let kept = kept_reclaimed inside c.start.new.self c.in-Done.outcome c.settle-found.new.stones.stones c.is_sound.ensures.sound c.is_sound.ensures.apart i.3 started in
     (i.0 ∙ sym kept.0, c.settle-found.ensures.flash ∙ i.1 ∙ sym kept.0, i.2 ∙ sym kept.0, kept.1)
@@ -41,14 +41,14 @@ returns-clause-room g c =
 
 pub returns-clause-ok : goal.returns-clause-ok
 returns-clause-ok g c =
-    let inside : Nvm = record { pair = c.self.inside.pair; queue = c.self.inside.queue.puts; tombstones = c.self.inside.tombstones.stones; fills = c.self.inside.fills.fills; jobs = c.self.inside.jobs.items; made = c.self.inside.made } in
-    let new : Nvm = record { pair = c.start.new.self; queue = c.self.inside.queue.puts; tombstones = c.settle-found.new.stones.stones; fills = c.self.inside.fills.fills; jobs = c.self.inside.jobs.items; made = c.self.inside.made } in
+    let inside : Nvm = record { pair = c.self.inside.pair; queue = c.self.inside.queue.puts; tombstones = c.self.inside.tombstones.stones; fills = c.self.inside.fills.fills; jobs = c.self.inside.jobs.items; made = c.self.inside.made; tags = c.self.inside.tags } in
+    let new : Nvm = record { pair = c.start.new.self; queue = c.self.inside.queue.puts; tombstones = c.settle-found.new.stones.stones; fills = c.self.inside.fills.fills; jobs = c.self.inside.jobs.items; made = c.self.inside.made; tags = c.self.inside.tags } in
     let started : start (c.self.inside.made + 1) Reclaim c.self.inside.pair ≡ record { pair = c.start.new.self; next = Done c.in-Done.outcome } = rw c.in-Done.is at c.in_ok-next.ensures.ok in
     let came : Came inside (c.self.inside.made + 1) c.start.new.self c.in-Done.outcome c.self.inside.tombstones.flash new c.outcome.inside.reclaimed (g.N.Listener.told c.args.notes.now) (g.N.Listener.told c.reserve.new.self) (g.N.Listener.told c.settle-found.new.notes) c.args.pools.now c.settle-found.new.pools = record {
       started = started;
       same_flash = c.self.invariant.1 ∙ sym (started_flash c.self.inside.pair c.start.new.self (c.self.inside.made + 1) Reclaim (Done c.in-Done.outcome) started);
       region_is = ap (λ (o : Outcome). o.reclaimed) c.outcome.view_is;
-      new_is = λ j. record { pair = c.start.new.self; queue = c.self.inside.queue.puts; tombstones = c.settle-found.ensures.left j; fills = c.self.inside.fills.fills; jobs = c.self.inside.jobs.items; made = c.self.inside.made };
+      new_is = λ j. record { pair = c.start.new.self; queue = c.self.inside.queue.puts; tombstones = c.settle-found.ensures.left j; fills = c.self.inside.fills.fills; jobs = c.self.inside.jobs.items; made = c.self.inside.made; tags = c.self.inside.tags };
       told_before_is = c.reserve.ensures.same;
       told_is = c.settle-found.ensures.told;
       marks = c.settle-found.ensures.marks;

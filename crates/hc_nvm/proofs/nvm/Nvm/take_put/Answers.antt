@@ -29,7 +29,7 @@ start_in-requires-clause-tells g c = ap is_reclaim c.in_ok-plan.ensures.op
 pub invariant_of-self-2 : goal.invariant_of-self-2
 invariant_of-self-2 g c =
     let i = c.self.invariant in
-    let inside : Nvm = record { pair = c.self.inside.pair; queue = c.self.inside.queue.puts; tombstones = c.self.inside.tombstones.stones; fills = c.self.inside.fills.fills; jobs = c.self.inside.jobs.items; made = c.self.inside.made } in
+    let inside : Nvm = record { pair = c.self.inside.pair; queue = c.self.inside.queue.puts; tombstones = c.self.inside.tombstones.stones; fills = c.self.inside.fills.fills; jobs = c.self.inside.jobs.items; made = c.self.inside.made; tags = c.self.inside.tags } in
     let same = c.in_ok-next.ensures.flash in
     let next : Next = next_seen c.in_ok-next.next in
     let came = λ (js : List Job). after c.self.inside.tombstones.flash (task_of c.in_ok-plan.plan.task) next c.self.inside.tombstones.stones js c.self.inside.made in
@@ -51,8 +51,8 @@ returns-clause-ok g c =
     let put : FlashEntry = entry_of c.args.entry in
     let small : Bool = is_small_by c.self.inside.pair.small.flash c.args.entry.key (length c.args.entry.value) in
     let is : c.is_small-is_small.result ≡ small = c.is_small-is_small.ensures in
-    let waiting : Nvm = record { pair = c.self.inside.pair; queue = without_put put.key c.self.inside.queue.puts; tombstones = c.self.inside.tombstones.stones; fills = c.self.inside.fills.fills; jobs = c.self.inside.jobs.items; made = c.self.inside.made } in
-    let new : Nvm = record { pair = c.start_in.new.pair; queue = c.remove-removed.new.self.puts; tombstones = c.launched-outset.new.stones.stones; fills = c.self.inside.fills.fills; jobs = c.launched-outset.new.jobs.items; made = c.launched-outset.result.made } in
+    let waiting : Nvm = record { pair = c.self.inside.pair; queue = without_put put.key c.self.inside.queue.puts; tombstones = c.self.inside.tombstones.stones; fills = c.self.inside.fills.fills; jobs = c.self.inside.jobs.items; made = c.self.inside.made; tags = c.self.inside.tags } in
+    let new : Nvm = record { pair = c.start_in.new.pair; queue = c.remove-removed.new.self.puts; tombstones = c.launched-outset.new.stones.stones; fills = c.self.inside.fills.fills; jobs = c.launched-outset.new.jobs.items; made = c.launched-outset.result.made; tags = c.self.inside.tags } in
     let came : Came (put_notes put.key (writing_of small put.key)) (put_task small put.key) (Put put) waiting c.start_in.new.pair (next_seen c.in_ok-next.next) c.self.inside.tombstones.flash (task_of c.in_ok-plan.plan.task) (op_of c.in_ok-plan.plan.op) c.self.inside.tombstones.stones
     c.start_in.new.jobs.items new (take_of c.launched-outset.result.take) (g.N.Listener.told c.args.notes.now) (g.N.Listener.told c.tell_put.new.notes) (g.N.Listener.told c.launched-outset.new.notes) c.args.pools.now c.launched-outset.new.pools = record {
       same_task = c.in_ok-plan.ensures.task ∙ ap (λ (b : Bool). put_task b put.key) is;
@@ -61,7 +61,7 @@ returns-clause-ok g c =
       same_flash = i.1 ∙ sym c.in_ok-next.ensures.flash;
       same_stones = refl;
       same_jobs = c.start_in.ensures.jobs;
-      new_is = λ j. record { pair = c.start_in.new.pair; queue = (c.remove-removed.ensures.puts ∙ ap (λ (k : List _). without_put k c.self.inside.queue.puts) c.in_ok-plan.ensures.unqueued) j; tombstones = c.launched-outset.ensures.left j; fills = c.self.inside.fills.fills; jobs = c.launched-outset.ensures.jobs j; made = c.launched-outset.ensures.made j };
+      new_is = λ j. record { pair = c.start_in.new.pair; queue = (c.remove-removed.ensures.puts ∙ ap (λ (k : List _). without_put k c.self.inside.queue.puts) c.in_ok-plan.ensures.unqueued) j; tombstones = c.launched-outset.ensures.left j; fills = c.self.inside.fills.fills; jobs = c.launched-outset.ensures.jobs j; made = c.launched-outset.ensures.made j; tags = c.self.inside.tags };
       take_is = c.launched-outset.ensures.take;
       told_before_is = c.tell_put.ensures.told ∙ (λ j. told_more (c.start_in.ensures.told j) (put_notes (c.in_ok-plan.ensures.unqueued j) ((c.in_ok-plan.ensures.writing ∙ ap (λ (b : Bool). writing_of b put.key) is) j)));
       told_is = c.launched-outset.ensures.told;

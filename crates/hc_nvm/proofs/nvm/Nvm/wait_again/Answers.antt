@@ -9,7 +9,7 @@ use Rattle.hc_nvm.proofs.nvm.Nvm.wait_again.Goals as goal
 
 pub invariant_of-self : goal.invariant_of-self
 invariant_of-self g c =
-    let inside : Nvm = record { pair = c.self.inside.pair; queue = c.self.inside.queue.puts; tombstones = c.self.inside.tombstones.stones; fills = c.self.inside.fills.fills; jobs = c.self.inside.jobs.items; made = c.self.inside.made } in
+    let inside : Nvm = record { pair = c.self.inside.pair; queue = c.self.inside.queue.puts; tombstones = c.self.inside.tombstones.stones; fills = c.self.inside.fills.fills; jobs = c.self.inside.jobs.items; made = c.self.inside.made; tags = c.self.inside.tags } in
     let fits : PutFits inside.pair.small.flash inside.queue (entry_of c.args.entry) = subst (λ (s : Stock). PutFits s.nvm.pair.small.flash s.nvm.queue (entry_of c.args.entry)) (sym c.self.view_is) c.requires in
     let room = fits.room in
     let short : length inside.queue ≢ inside.pair.small.flash.queue = omega (arith, room) in
@@ -18,6 +18,6 @@ invariant_of-self g c =
 
 pub returns-in-Ok-clause-ok : goal.returns-in-Ok-clause-ok
 returns-in-Ok-clause-ok g c =
-    let inside : Nvm = record { pair = c.self.inside.pair; queue = c.self.inside.queue.puts; tombstones = c.self.inside.tombstones.stones; fills = c.self.inside.fills.fills; jobs = c.self.inside.jobs.items; made = c.self.inside.made } in
+    let inside : Nvm = record { pair = c.self.inside.pair; queue = c.self.inside.queue.puts; tombstones = c.self.inside.tombstones.stones; fills = c.self.inside.fills.fills; jobs = c.self.inside.jobs.items; made = c.self.inside.made; tags = c.self.inside.tags } in
     let puts = c.push.ensures.puts ∙ ap (λ (queue : List FlashEntry). queue ++ entry_of c.args.entry ∷ []) c.ready_put.ensures.puts in
     rw (← c.self.view_is) (λ i. record inside { queue = puts i })

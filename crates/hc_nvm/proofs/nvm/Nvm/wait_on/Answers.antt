@@ -30,8 +30,8 @@ invariant_of-self g c =
 pub returns-clause-taken : goal.returns-clause-taken
 returns-clause-taken g c =
     let i = c.self.invariant in
-    let inside : Nvm = record { pair = c.self.inside.pair; queue = c.self.inside.queue.puts; tombstones = c.self.inside.tombstones.stones; fills = c.self.inside.fills.fills; jobs = c.self.inside.jobs.items; made = c.self.inside.made } in
-    let new : Nvm = record { pair = c.self.inside.pair; queue = c.self.inside.queue.puts; tombstones = c.hold.new.stones.stones; fills = c.self.inside.fills.fills; jobs = c.put_order-was.new.jobs.items; made = c.self.inside.made } in
+    let inside : Nvm = record { pair = c.self.inside.pair; queue = c.self.inside.queue.puts; tombstones = c.self.inside.tombstones.stones; fills = c.self.inside.fills.fills; jobs = c.self.inside.jobs.items; made = c.self.inside.made; tags = c.self.inside.tags } in
+    let new : Nvm = record { pair = c.self.inside.pair; queue = c.self.inside.queue.puts; tombstones = c.hold.new.stones.stones; fills = c.self.inside.fills.fills; jobs = c.put_order-was.new.jobs.items; made = c.self.inside.made; tags = c.self.inside.tags } in
     let here : place c.args.number c.self.inside.jobs.items ≡ Some c.args.at = rw (← c.self.view_is) at c.requires.at in
     let of : (job : Job) → job_at c.args.number inside.jobs ≡ Some job → IsTaken (told_before (result_note job.order (result_of c.args.came) ∷ []) (goes_on job (Io (order_asked c.args.order) c.args.outcome) inside)) new (Work c.args.number (order_of c.twice-ours.result.0)) None
     (g.N.Listener.told c.args.notes.now) (g.N.Listener.told c.hold.new.notes) c.args.pools.now c.hold.new.pools =
@@ -43,7 +43,7 @@ returns-clause-taken g c =
       numbered = i.3.numbered;
       there = there;
       same_flash = i.1;
-      new_is = λ j. record { pair = c.self.inside.pair; queue = c.self.inside.queue.puts; tombstones = c.hold.ensures.left j; fills = c.self.inside.fills.fills; jobs = (c.put_order-was.ensures.jobs job stood ∙ ap (λ (o : Order). set c.self.inside.jobs.items c.args.at (record job { order = o })) c.twice-ours.ensures.second) j; made = c.self.inside.made };
+      new_is = λ j. record { pair = c.self.inside.pair; queue = c.self.inside.queue.puts; tombstones = c.hold.ensures.left j; fills = c.self.inside.fills.fills; jobs = (c.put_order-was.ensures.jobs job stood ∙ ap (λ (o : Order). set c.self.inside.jobs.items c.args.at (record job { order = o })) c.twice-ours.ensures.second) j; made = c.self.inside.made; tags = c.self.inside.tags };
       take_is = ap (Work c.args.number) c.twice-ours.ensures.first;
       result_is = c.tell_result.ensures.told ∙ ap (λ (o : Order). told_more (g.N.Listener.told c.args.notes.now) (result_note o (result_of c.args.came) ∷ [])) (c.put_order-was.ensures.old job stood);
       told_is = c.hold.ensures.told;
