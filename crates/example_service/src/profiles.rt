@@ -2,7 +2,7 @@
 ghost use Rattle.std.specs.Prelude.{◌≡◌, IfOk};
 
 use crate::worker::Worker;
-use hc_core::{Config, Core, Counting, FlashConfig, Found, PoolSize, Refusal, Reply, Said};
+use hc_core::{Config, Core, Counting, FlashConfig, Found, PoolSize, Refusal, Reply, Said, Turns};
 use std::alloc::{AllocError, Global};
 use std::io;
 
@@ -13,6 +13,7 @@ pub const POOL: u8 = 0;
 pub const SIZE: PoolSize = PoolSize {
     bytes: 200,
     items: 10,
+    turns: Turns::ByUse,
 };
 
 /// Behind it are 16 pages of flash. A profile of more than 22 bytes, with its key, isn't written there.

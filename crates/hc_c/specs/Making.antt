@@ -2,6 +2,7 @@
 use Rattle.std.specs.Prelude.{◌≡◌, ◌⊎◌, ◌/◌, ℕ, nat_lt, if◌then◌else◌, List, [], map, replicate, Option, Some, None}
 use Rattle.hc_types.specs.Config.{Config}
 use Rattle.hc_types.specs.Limits.{first_wrong}
+use Rattle.hc_types.specs.declared.turns.Turns.TheVariants.{ByUse}
 use Rattle.hc_types.specs.declared.config.FlashConfig.{FlashConfig}
 use Rattle.hc_types.specs.declared.config.PoolSize.{PoolSize}
 use Rattle.hc_types.specs.declared.refusal.Refusal.{Refusal}
@@ -18,7 +19,7 @@ use Rattle.hc_c.specs.declared.status.Status.{Status}
 use Rattle.hc_c.specs.declared.status.Status.TheVariants.{Done, Refused}
 
 abbrev pub size_of : Pool → PoolSize
-size_of pool = record { bytes = pool.bytes; items = pool.items }
+size_of pool = record { bytes = pool.bytes; items = pool.items; turns = ByUse }
 
 abbrev pub numbers_of : Flash → FlashConfig
 numbers_of flash = record {

@@ -10,7 +10,7 @@ ghost use Rattle.hc_c.specs.Statuses.{Says};
 use crate::cache::Cache;
 use crate::cache_handle::CacheHandle;
 use crate::status::Status;
-use hc_core::{Config, Core, FlashConfig, PoolSize, Refusal, Totals};
+use hc_core::{Config, Core, FlashConfig, PoolSize, Refusal, Totals, Turns};
 use hc_leased::{Leased, slots_for};
 use hc_shards::{Sharded, shares_are_right};
 use hc_types::hash_of;
@@ -68,6 +68,7 @@ pub(crate) fn sizes_of(alloc: Global, pools: &[Pool]) -> Result<Vec<PoolSize>, A
         sizes.push(PoolSize {
             bytes: pool.bytes,
             items: pool.items,
+            turns: Turns::ByUse,
         })?;
     }
     Ok(sizes)

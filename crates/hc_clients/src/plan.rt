@@ -4,7 +4,7 @@ ghost use Rattle.std.specs.Prelude.{◌<◌, length};
 use crate::calls::Call;
 use hc_shards::Sharded;
 use hc_trace_text::{Line, Order, Step, line_in, number};
-use hc_types::{Config, FlashConfig, PoolSize};
+use hc_types::{Config, FlashConfig, PoolSize, Turns};
 use memchr::memchr;
 use std::alloc::{AllocError, Global};
 
@@ -105,7 +105,7 @@ impl<'a> Plan<'a> {
     /// Pools come first, behind the number of shards, and then the flash or that there is none. Behind that, clients alone have requests.
     fn obey(&mut self, order: Order<'a>) -> Result<bool, AllocError> {
         match order {
-            Order::Pool(bytes, items) => self.add_pool(PoolSize { bytes, items }),
+            Order::Pool(bytes, items) => self.add_pool(PoolSize { bytes, items, turns: Turns::ByUse }),
             Order::NoFlash => Ok(self.end_configuration(None)),
             Order::Flash(flash) => Ok(self.end_configuration(Some(flash))),
             Order::Do(step) => self.add_request(step),

@@ -24,4 +24,4 @@ pub use hc_nvm::{Take, Unfinished};
 pub use hc_state::{
     Copied, Found, Inserted, NotBegun, NotTaken, Parts, PartsBuilder, Removed, Unfit, Unlinked,
 };
-pub use hc_types::{Cause, Config, FlashConfig, Key, PoolSize, Refusal, Scope, Why};
+pub use hc_types::{Cause, Config, FlashConfig, Key, PoolSize, Refusal, Scope, Turns, Why};

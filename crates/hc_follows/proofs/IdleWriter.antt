@@ -2,6 +2,7 @@
 use Rattle.std.proofs.Common.{◌≡◌, ◌&&◌, ◌+◌, ◌++◌, ℕ, true, false, List, [], ◌∷◌, Some, None, refl, replicate, take}
 use Rattle.std.specs.List.{list_all}
 use Rattle.hc_types.specs.Config.{Config}
+use Rattle.hc_types.specs.declared.turns.Turns.TheVariants.{ByUse}
 use Rattle.hc_types.specs.declared.config.FlashConfig.{FlashConfig}
 use Rattle.hc_engines.specs.Engine.{Write, Written}
 use Rattle.hc_engines.specs.large.Entries.{entry_bytes}
@@ -27,7 +28,7 @@ flash_of pages = record { page = 512; buckets = 1; regions = 3; region_pages = p
 
 -- one item in memory
 abbrev config_of : ℕ → Config
-config_of pages = record { pools = record { bytes = 1000; items = 1 } ∷ []; flash = Some (flash_of pages) }
+config_of pages = record { pools = record { bytes = 1000; items = 1; turns = ByUse } ∷ []; flash = Some (flash_of pages) }
 
 -- a key with so large a value is set, and the item that was there goes to flash
 abbrev sets : ℕ → ℕ → List Step

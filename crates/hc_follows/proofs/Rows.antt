@@ -8,6 +8,7 @@ use Rattle.hc_machine.specs.Takes.{Finished, Work}
 use Rattle.hc_machine.specs.Cache.{Replied, Waits, Took}
 use Rattle.hc_machine.specs.World.{Says, Made}
 use Rattle.hc_engines.specs.small.Bloom.{bits_of}
+use Rattle.hc_types.specs.declared.turns.Turns.TheVariants.{ByUse}
 use Rattle.hc_types.specs.Config.{Config}
 use Rattle.hc_machine.specs.Schedule.{Step, Deed, Open, Put, Find, Remove, Reply, WriterTake, FillerTake, Io, Finish, Told, Tells, Filled, run, ended}
 use Rattle.hc_follows.specs.Follows.{Follows}
@@ -21,7 +22,7 @@ abbrev Followed : Config → List Step → Type 0
 Followed config steps = Follows config steps (run config [] steps).answers (run config [] steps).parts (ended (run config [] steps)).part None
 
 abbrev no_flash : Config
-no_flash = record { pools = record { bytes = 1000; items = 10 } ∷ []; flash = None }
+no_flash = record { pools = record { bytes = 1000; items = 10; turns = ByUse } ∷ []; flash = None }
 
 abbrev found_and_removed : List Step
 found_and_removed = by (Open 0 0 (107 ∷ []) (118 ∷ []) 0) ∷ by (Put 0) ∷ by (Find (107 ∷ [])) ∷ by (Remove (107 ∷ [])) ∷ by (Find (107 ∷ [])) ∷ []
@@ -31,7 +32,7 @@ unfolding page_at entries_at entry_at body_at content_at whole_at bits_of
 found_and_removed-follows = record { stops = refl; follows = (computed (refl, (refl, refl, refl), (refl, refl, refl)) refl refl refl (claimed_by refl refl refl) (ends_by refl refl refl), (computed (refl, refl, refl, refl, refl, refl, refl) refl refl refl (claimed_by refl refl refl) (ends_by refl refl refl), (computed (refl, refl, refl, refl, refl, refl, refl) refl refl refl (claimed_by refl refl refl) (ends_by refl refl refl), (computed (refl, refl, refl, refl, refl, refl, refl) refl refl refl (claimed_by refl refl refl) (ends_by refl refl refl), (computed (refl, refl, refl, refl, refl, refl, refl) refl refl refl (claimed_by refl refl refl) (ends_by refl refl refl), refl))))) }
 
 abbrev one_item : Config
-one_item = record { pools = record { bytes = 1000; items = 1 } ∷ []; flash = Some (record { page = 512; buckets = 1; regions = 3; region_pages = 1; clean = 1; small_max = 100; queue = 8; bits = 8; admit_min = 0; admit_max = 2000 }) }
+one_item = record { pools = record { bytes = 1000; items = 1; turns = ByUse } ∷ []; flash = Some (record { page = 512; buckets = 1; regions = 3; region_pages = 1; clean = 1; small_max = 100; queue = 8; bits = 8; admit_min = 0; admit_max = 2000 }) }
 
 abbrev back_from_flash : List Step
 back_from_flash = by (Open 0 0 (97 ∷ []) (111 ∷ 110 ∷ 101 ∷ []) 0) ∷ by (Put 0) ∷ by (Open 0 0 (98 ∷ []) (116 ∷ 119 ∷ 111 ∷ []) 0) ∷ by (Put 0) ∷ by WriterTake ∷ by (Io 1 false) ∷ by (Finish 1) ∷ by (Open 0 0 (99 ∷ []) (116 ∷ 104 ∷ 114 ∷ 101 ∷ 101 ∷ []) 0) ∷ by (Put 0) ∷ by WriterTake ∷ by (Io 2 false) ∷ by (Finish 2) ∷ by (Io 2 false) ∷ by (Finish 2) ∷ by (Find (97 ∷ [])) ∷ by FillerTake ∷ by (Io 3 false) ∷ by (Finish 3) ∷ by (Reply 4) ∷ []

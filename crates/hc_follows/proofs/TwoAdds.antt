@@ -3,6 +3,7 @@
 use Rattle.std.proofs.Common.{◌≡◌, ◌++◌, ℕ, true, false, List, [], ◌∷◌, Some, refl, replicate}
 use Rattle.hc_bucket.specs.Reading.{page_at, entries_at, entry_at, body_at, content_at, whole_at}
 use Rattle.hc_engines.specs.small.Bloom.{bits_of}
+use Rattle.hc_types.specs.declared.turns.Turns.TheVariants.{ByUse}
 use Rattle.hc_types.specs.Config.{Config}
 use Rattle.hc_history.specs.Note as note
 use Rattle.hc_history.specs.Note.{Note, Begin, Did, End, Charged, Linked, Freed, Queued, Unqueued, Writing, Written as WasWritten, Buried, Wrote, Now}
@@ -16,7 +17,7 @@ by deed = record { client = 0; deed = deed }
 
 -- two items in memory
 abbrev two_items : Config
-two_items = record { pools = record { bytes = 1000; items = 2 } ∷ []; flash = Some (record { page = 512; buckets = 1; regions = 3; region_pages = 1; clean = 1; small_max = 100; queue = 8; bits = 8; admit_min = 0; admit_max = 2000 }) }
+two_items = record { pools = record { bytes = 1000; items = 2; turns = ByUse } ∷ []; flash = Some (record { page = 512; buckets = 1; regions = 3; region_pages = 1; clean = 1; small_max = 100; queue = 8; bits = 8; admit_min = 0; admit_max = 2000 }) }
 
 -- a goes to flash and expires there; two adds of a wait, and the first one's value expires too
 abbrev two_adds : List Step

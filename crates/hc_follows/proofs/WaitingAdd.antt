@@ -8,6 +8,7 @@ use Rattle.hc_machine.specs.Takes.{Finished, Work}
 use Rattle.hc_machine.specs.Cache.{Replied, Waits, Took}
 use Rattle.hc_machine.specs.World.{Says, Made}
 use Rattle.hc_engines.specs.small.Bloom.{bits_of}
+use Rattle.hc_types.specs.declared.turns.Turns.TheVariants.{ByUse}
 use Rattle.hc_types.specs.Config.{Config}
 use Rattle.hc_machine.specs.Schedule.{Step, Deed, Open, Put, PutNew, Discard, Reply, WriterTake, FillerTake, Io, Finish, Told, Tells, Filled, NoSlot, run, ended}
 use Rattle.hc_follows.specs.Follows.{Follows}
@@ -21,7 +22,7 @@ abbrev Followed : Config → List Step → Type 0
 Followed config steps = Follows config steps (run config [] steps).answers (run config [] steps).parts (ended (run config [] steps)).part None
 
 abbrev waiting_config : Config
-waiting_config = record { pools = record { bytes = 1000; items = 1 } ∷ []; flash = Some (record { page = 512; buckets = 1; regions = 3; region_pages = 1; clean = 1; small_max = 100; queue = 8; bits = 8; admit_min = 0; admit_max = 2000 }) }
+waiting_config = record { pools = record { bytes = 1000; items = 1; turns = ByUse } ∷ []; flash = Some (record { page = 512; buckets = 1; regions = 3; region_pages = 1; clean = 1; small_max = 100; queue = 8; bits = 8; admit_min = 0; admit_max = 2000 }) }
 
 abbrev waiting : List Step
 waiting = by (Open 0 0 (97 ∷ []) (111 ∷ 110 ∷ 101 ∷ []) 0) ∷ by (Put 0) ∷ by (Open 0 0 (98 ∷ []) (116 ∷ 119 ∷ 111 ∷ []) 0) ∷ by (Put 0) ∷ by WriterTake ∷ by (Io 1 false) ∷ by (Finish 1) ∷ by (Open 0 0 (97 ∷ []) (116 ∷ 104 ∷ 114 ∷ 101 ∷ 101 ∷ []) 0) ∷ by (PutNew 0) ∷ by (Discard 0) ∷ by FillerTake ∷ by (Io 2 false) ∷ by (Finish 2) ∷ by (Reply 3) ∷ []

@@ -2,6 +2,8 @@
 use Rattle.std.specs.Prelude.{ℕ, zero, suc, ◌==◌, Bool, true, false, not, ◌&&◌, ◌||◌, List, [], ◌∷◌, Option, Some, None, if◌then◌else◌}
 use Rattle.std.specs.Str.{bytes_eq}
 use Rattle.hc_types.specs.declared.config.PoolSize.{PoolSize}
+use Rattle.hc_types.specs.declared.turns.Turns.{Turns}
+use Rattle.hc_types.specs.declared.turns.Turns.TheVariants.{ByUse, Sieve}
 use Rattle.hc_types.specs.FlashEntry.{FlashEntry}
 use Rattle.hc_engines.specs.Engine.{Order, Read, Write}
 use Rattle.hc_history.specs.Note.{Op as Asked, Add, Find}
@@ -32,8 +34,13 @@ same_entry a b = bytes_eq a.key b.key && (bytes_eq a.value b.value && ((a.pool =
 abbrev pub same_bytes : Option (List ℕ) → Option (List ℕ) → Bool
 same_bytes a b = is_same bytes_eq a b
 
+abbrev pub same_turns : Turns → Turns → Bool
+same_turns ByUse ByUse = true
+same_turns Sieve Sieve = true
+same_turns a b = false
+
 abbrev pub same_size : PoolSize → PoolSize → Bool
-same_size a b = (a.bytes == b.bytes) && (a.items == b.items)
+same_size a b = (a.bytes == b.bytes) && ((a.items == b.items) && same_turns a.turns b.turns)
 
 abbrev pub same_charge : Charge → Charge → Bool
 same_charge a b = (a.number == b.number) && (bytes_eq a.key b.key && ((a.pool == b.pool) && ((a.bytes == b.bytes) && both a.linked b.linked)))

@@ -8,6 +8,7 @@ use Rattle.hc_types.specs.FlashEntry.{FlashEntry}
 use Rattle.hc_engines.specs.Engine.{Pages, Order, Read, Write, IoResult, Page, Written, Failed}
 use Rattle.hc_engines.specs.large.Block as block
 use Rattle.hc_memory.specs.Item.{Item, Open as OpenCharge}
+use Rattle.hc_memory.specs.Order.{Order as Taking, ByUse, Sieve, round}
 use Rattle.hc_memory.specs.Pool.{Pool, is_at, bytes_of}
 use Rattle.hc_memory.specs.Charges.{usage_of}
 use Rattle.hc_memory.specs.Memory.{Memory, linked_at}
@@ -67,11 +68,16 @@ placed_at flash older cache key =
 
 -- ---- memory
 
+-- how items take turns is known of so many items
+abbrev pub order_tells : Taking → ℕ → Bool
+order_tells ByUse len = true
+order_tells (Sieve seen hand) len = (length seen == len) && (round hand len == hand)
+
 abbrev pub own_pools : ℕ → List OpenCharge → List Pool → Bool
 own_pools n opens [] = true
 own_pools n opens (pool ∷ pools) =
     list_all (λ (item : Item). item.pool == n) pool.items
-    && (nat_le ((usage_of n opens).bytes + bytes_of pool.items) pool.size.bytes && (nat_le ((usage_of n opens).number + length pool.items) pool.size.items && own_pools (n + 1) opens pools))
+    && (nat_le ((usage_of n opens).bytes + bytes_of pool.items) pool.size.bytes && (nat_le ((usage_of n opens).number + length pool.items) pool.size.items && (order_tells pool.order (length pool.items) && own_pools (n + 1) opens pools)))
 
 abbrev pub live_ones : List Item → List OpenCharge → List Charge
 live_ones items opens = map charge_at items ++ map open_at opens

@@ -1,5 +1,5 @@
 -- An item that is linked in a pool that can make room for it.
-use Rattle.std.proofs.Common.{◌≡◌, ℕ, zero, suc, Bool, true, false, not, List, [], ◌∷◌, ◌++◌, Option, Some, None, refl, ap, ◌∙◌, slice_get, slice_set}
+use Rattle.std.proofs.Common.{◌≡◌, length, ℕ, zero, suc, Bool, true, false, not, List, [], ◌∷◌, ◌++◌, Option, Some, None, refl, arith, ap, ◌+◌, ◌∙◌, slice_get, slice_set}
 use Rattle.std.specs.Prelude.{if◌then◌else◌, is_some, nat_lt}
 use Rattle.std.specs.Option.{option_map_or}
 use Rattle.hc_types.specs.declared.config.PoolSize.{PoolSize}
@@ -7,10 +7,12 @@ use Rattle.hc_types.specs.declared.refusal.Refusal.TheVariants.{NoPool, ValueToo
 use Rattle.hc_types.specs.Charge.{charge_of}
 use Rattle.hc_memory.specs.declared.usage.Usage.{Usage}
 use Rattle.hc_memory.specs.Item.{Item}
-use Rattle.hc_memory.specs.Pool.{Pool, is_at, item_at, is_full, kept}
+use Rattle.hc_memory.specs.Pool.{Pool, is_at, item_at, is_full, kept, added}
 use Rattle.hc_memory.specs.Charges.{usage_of}
 use Rattle.hc_memory.specs.Memory.{Memory, linked_at, change_at, is_hopeless}
-use Rattle.hc_memory.proofs.Keyed.{item_at-pushed}
+use Rattle.hc_memory.proofs.Keyed.{item_at-pushed, count-none}
+use Rattle.hc_memory.proofs.Keys.{none-counted}
+use Rattle.hc_memory.proofs.Turns.{both-parts}
 use Rattle.hc_machine.specs.items.Allocating.{refusal_of}
 
 -- ---- one pool of all
@@ -47,22 +49,17 @@ got_changed f i [] pool h = absurd cc
 got_changed f zero (p ∷ pools) pool h = let same : p ≡ pool = cc in ap (λ q. Some (f q)) same
 got_changed f (suc i) (p ∷ pools) pool h = ap (λ ps. slice_get ps (suc i)) (change_later i f p pools) ∙ got_changed f i pools pool h
 
-pub pushed : (key : List ℕ) (item : Item) → is_at key item ≡ true → (i : ℕ) (pools : List Pool) (pool : Pool) → slice_get pools i ≡ Some pool → linked_at key pools ≡ None → linked_at key (change_at i (λ p. record p { items = p.items ++ item ∷ [] }) pools) ≡ Some item
+pub pushed : (key : List ℕ) (item : Item) → is_at key item ≡ true → (i : ℕ) (pools : List Pool) (pool : Pool) → slice_get pools i ≡ Some pool → linked_at key pools ≡ None → linked_at key (change_at i (added item) pools) ≡ Some item
 pushed key item own i [] pool g h = absurd cc
 pushed key item own zero (p ∷ pools) pool g h = ap (λ o. if is_some o then o else linked_at key pools) (item_at-pushed key p.items item own (bare key p pools h).here)
 pushed key item own (suc i) (p ∷ pools) pool g h = let b = bare key p pools h in
-    ap (linked_at key) (change_later i (λ q. record q { items = q.items ++ item ∷ [] }) p pools) ∙ linked_later key p (change_at i (λ q. record q { items = q.items ++ item ∷ [] }) pools) b.here ∙ pushed key item own i pools pool g b.there
+    ap (linked_at key) (change_later i (added item) p pools) ∙ linked_later key p (change_at i (added item) pools) b.here ∙ pushed key item own i pools pool g b.there
 
 -- ---- room
 
-pub kept_bare : (key : List ℕ) (size : PoolSize) (usage : Usage) (want : ℕ) (items : List Item) → item_at key items ≡ None → item_at key (kept size usage want items) ≡ None
-kept_bare key size usage want [] h = refl
-kept_bare key size usage want (item ∷ items) h = by (is_full size usage want (item ∷ items)) (is_at key item) h (kept_bare key size usage want items) h
-  where
-    by : (full own : Bool) → (if own then Some item else item_at key items) ≡ None → (item_at key items ≡ None → item_at key (kept size usage want items) ≡ None) → item_at key (item ∷ items) ≡ None → item_at key (if full then kept size usage want items else item ∷ items) ≡ None
-    by true true h more whole = absurd cc
-    by true false h more whole = more h
-    by false own h more whole = whole
+pub kept_bare : (key : List ℕ) (usage : Usage) (want : ℕ) (pool : Pool) → item_at key pool.items ≡ None → item_at key (kept usage want pool).items ≡ None
+kept_bare key usage want pool h =
+    count-none key (kept usage want pool).items (omega (arith, none-counted key pool.items h, both-parts (λ item. if is_at key item then 1 else 0) (length pool.items) usage want pool))
 
 pub room_there : (memory : Memory) (number : ℕ) (key : List ℕ) (size : ℕ) → refusal_of memory number key size ≡ None → (pool : Pool) × (slice_get memory.pools number ≡ Some pool)
 room_there memory number key size h = get (slice_get memory.pools number) (last (nat_lt number _) (nat_lt 1048576 size) (is_hopeless memory number (charge_of key size)) h)

@@ -6,7 +6,7 @@ use Rattle.hc_types.specs.Charge.{charge_of}
 use Rattle.hc_types.specs.declared.refusal.Refusal.{Refusal}
 use Rattle.hc_types.specs.FlashEntry.{FlashEntry}
 use Rattle.hc_memory.specs.Item.{Item, Handle, item_by}
-use Rattle.hc_memory.specs.Pool.{Pool, kept}
+use Rattle.hc_memory.specs.Pool.{Pool, kept, added}
 use Rattle.hc_memory.specs.Charges.{usage_of}
 use Rattle.hc_memory.specs.Memory.{Memory, linked_at, change_at, unlinked, victims_of, after_room}
 use Rattle.hc_engines.specs.Engine.{Outcome}
@@ -90,7 +90,7 @@ module _ (entry : FlashEntry) (cache : Cache) (fresh : is_over cache.now entry �
   bring_is o r = (λ i. if is_some (still_there entry cache.now fresh i) && not (is_some (r i)) then linked_so else tells [] cache)
 
   room : List Pool
-  room = change_at entry.pool (λ (pool : Pool). record pool { items = kept pool.size (usage_of entry.pool cache.memory.charges) want pool.items }) cache.memory.pools
+  room = change_at entry.pool (kept (usage_of entry.pool cache.memory.charges) want) cache.memory.pools
 
   memory_is : (make_charge entry.pool entry.key (length entry.value) cache).cache.memory ≡ with_charge (after_room cache.memory entry.pool want) entry.pool entry.key (length entry.value)
   memory_is = ap (λ m. with_charge m entry.pool entry.key (length entry.value)) (all_keep entry.pool want (victims_of cache.memory entry.pool want) (with_memory (after_room cache.memory entry.pool want) cache))
@@ -99,10 +99,10 @@ module _ (entry : FlashEntry) (cache : Cache) (fresh : is_over cache.now entry �
   unfolding room
   linked_there bare allowed =
       let there = room_there cache.memory entry.pool entry.key (length entry.value) allowed in
-      let still : linked_at entry.key room ≡ None = bare_changed entry.key _ (λ p. kept_bare entry.key p.size (usage_of entry.pool cache.memory.charges) want p.items) entry.pool cache.memory.pools bare in
-      let got = got_changed (λ (pool : Pool). record pool { items = kept pool.size (usage_of entry.pool cache.memory.charges) want pool.items }) entry.pool cache.memory.pools there.0 there.1 in
-      ap (λ (m : Memory). linked_at entry.key (change_at entry.pool (λ pool. record pool { items = pool.items ++ item_by true handle ∷ [] }) (unlinked entry.key m.pools))) memory_is
-      ∙ ap (λ ps. linked_at entry.key (change_at entry.pool (λ pool. record pool { items = pool.items ++ item_by true handle ∷ [] }) ps)) (change_away entry.key _ room still)
+      let still : linked_at entry.key room ≡ None = bare_changed entry.key _ (λ p. kept_bare entry.key (usage_of entry.pool cache.memory.charges) want p) entry.pool cache.memory.pools bare in
+      let got = got_changed (kept (usage_of entry.pool cache.memory.charges) want) entry.pool cache.memory.pools there.0 there.1 in
+      ap (λ (m : Memory). linked_at entry.key (change_at entry.pool (added (item_by true handle)) (unlinked entry.key m.pools))) memory_is
+      ∙ ap (λ ps. linked_at entry.key (change_at entry.pool (added (item_by true handle)) ps)) (change_away entry.key _ room still)
       ∙ pushed entry.key (item_by true handle) (bytes_eq-refl entry.key) entry.pool room _ got still
 
   linked_owes : (linked_so.cache.owed ≡ cache.owed) × (linked_so.cache.now ≡ cache.now)

@@ -15,7 +15,7 @@ use Rattle.hc_machine.specs.Evicting.{entry_of_item}
 use Rattle.hc_machine.specs.Waiting.{live, find_reply}
 use Rattle.hc_machine.specs.Calls.{wait_in, waiting_at, in_memory, must_wait_in, must_wait, find_now, find}
 use Rattle.hc_laws.specs.First.{NonePasses, IsFirst}
-use Rattle.hc_laws.specs.Finding.{answered, waiter, waiting, put_last, FlashAlone, FirstCase, FindTakesTheFirstCase}
+use Rattle.hc_laws.specs.Finding.{answered, waiter, waiting, was_found, FlashAlone, FirstCase, FindTakesTheFirstCase}
 use Rattle.hc_laws.proofs.Firsts.{first_found}
 use Rattle.hc_laws.proofs.Homes.{find_none, find_expired, find_used}
 
@@ -72,7 +72,7 @@ module _ (client : ℕ) (key : List ℕ) (cache : Cache) where
   live_there : (entry : FlashEntry) (t : Bool) → in_memory cache key ≡ Some entry → is_over cache.now entry ≡ t → live cache.now (in_memory cache key) ≡ (if t then None else Some entry)
   live_there entry t h e = ap (live cache.now) h ∙ ap (λ b. if b then None else Some entry) e
 
-  hit : (own : Item) → linked_at key cache.memory.pools ≡ Some own → is_over cache.now (entry_of_item own) ≡ false → find client key cache ≡ answered client key (Hit own.value) (put_last key own cache)
+  hit : (own : Item) → linked_at key cache.memory.pools ≡ Some own → is_over cache.now (entry_of_item own) ≡ false → find client key cache ≡ answered client key (Hit own.value) (was_found key own cache)
   hit own h e = let there = item_there own h in find_is _ _ _ _ (item_waits (entry_of_item own) there) (live_there (entry_of_item own) false there e) (find_used cache.memory cache.now key own h e) refl
 
   expired : (own : Item) → linked_at key cache.memory.pools ≡ Some own → is_over cache.now (entry_of_item own) ≡ true → find client key cache ≡ answered client key Miss cache

@@ -2,7 +2,7 @@
 use Rattle.std.proofs.Common.{◌≡◌, Bool, true, false, ℕ, List, [], ◌∷◌, ◌++◌, Option, Some, None, refl, ap, ◌∙◌}
 use Rattle.std.specs.Prelude.{if◌then◌else◌, is_some}
 use Rattle.hc_memory.specs.Item.{Item}
-use Rattle.hc_memory.specs.Pool.{Pool, item_at, without, used, is_expired, unexpired}
+use Rattle.hc_memory.specs.Pool.{Pool, item_at, found, found_by, is_expired, unexpired}
 use Rattle.hc_memory.specs.Memory.{Memory, linked_at, change_home, after_find}
 
 away_step : (key : List ℕ) (f : Pool → Pool) (pool : Pool) (pools less : List Pool) (o : Option Item) → (linked_at key pools ≡ None → less ≡ pools) → (if is_some o then o else linked_at key pools) ≡ None → (if is_some o then f pool ∷ pools else pool ∷ less) ≡ pool ∷ pools
@@ -35,15 +35,15 @@ change_same key (pool ∷ pools) = same_step pool pools (change_home key (λ p. 
 -- ---- a find
 
 pub find_none : (memory : Memory) (now : ℕ) (key : List ℕ) → linked_at key memory.pools ≡ None → after_find memory now key ≡ memory
-find_none memory now key h = ap (λ (ps : List Pool). record memory { pools = ps }) (change_away key (λ p. record p { items = used key (unexpired now (item_at key p.items)) p.items }) memory.pools h)
+find_none memory now key h = ap (λ (ps : List Pool). record memory { pools = ps }) (change_away key (λ p. found key (unexpired now (item_at key p.items)) p) memory.pools h)
 
 if_over : (now : ℕ) (own : Item) (t : Bool) → is_expired now own ≡ t → unexpired now (Some own) ≡ (if t then None else Some own)
 if_over now own t e = ap (λ b. if b then None else Some own) e
 
 pub find_expired : (memory : Memory) (now : ℕ) (key : List ℕ) (own : Item) → linked_at key memory.pools ≡ Some own → is_expired now own ≡ true → after_find memory now key ≡ memory
 find_expired memory now key own h e = ap (λ (ps : List Pool). record memory { pools = ps })
-    (change_alike key own (λ p. record p { items = used key (unexpired now (item_at key p.items)) p.items }) (λ p. p) memory.pools (λ p at. ap (λ (o : Option Item). record p { items = used key o p.items }) (ap (unexpired now) at ∙ if_over now own true e)) h ∙ change_same key memory.pools)
+    (change_alike key own (λ p. found key (unexpired now (item_at key p.items)) p) (λ p. p) memory.pools (λ p at. ap (λ (o : Option Item). found key o p) (ap (unexpired now) at ∙ if_over now own true e)) h ∙ change_same key memory.pools)
 
-pub find_used : (memory : Memory) (now : ℕ) (key : List ℕ) (own : Item) → linked_at key memory.pools ≡ Some own → is_expired now own ≡ false → after_find memory now key ≡ record memory { pools = change_home key (λ (pool : Pool). record pool { items = without key pool.items ++ own ∷ [] }) memory.pools }
+pub find_used : (memory : Memory) (now : ℕ) (key : List ℕ) (own : Item) → linked_at key memory.pools ≡ Some own → is_expired now own ≡ false → after_find memory now key ≡ record memory { pools = change_home key (λ (pool : Pool). found_by pool.order key own pool) memory.pools }
 find_used memory now key own h e = ap (λ (ps : List Pool). record memory { pools = ps })
-    (change_alike key own (λ p. record p { items = used key (unexpired now (item_at key p.items)) p.items }) (λ p. record p { items = without key p.items ++ own ∷ [] }) memory.pools (λ p at. ap (λ (o : Option Item). record p { items = used key o p.items }) (ap (unexpired now) at ∙ if_over now own false e)) h)
+    (change_alike key own (λ p. found key (unexpired now (item_at key p.items)) p) (λ p. found_by p.order key own p) memory.pools (λ p at. ap (λ (o : Option Item). found key o p) (ap (unexpired now) at ∙ if_over now own false e)) h)

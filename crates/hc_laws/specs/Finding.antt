@@ -2,7 +2,7 @@
 use Rattle.std.specs.Prelude.{◌≡◌, ℕ, ◌+◌, true, false, ◌||◌, List, [], ◌∷◌, ◌++◌, Some, None, if◌then◌else◌}
 use Rattle.hc_types.specs.FlashEntry.{FlashEntry}
 use Rattle.hc_memory.specs.Item.{Item}
-use Rattle.hc_memory.specs.Pool.{Pool, without}
+use Rattle.hc_memory.specs.Pool.{Pool, found_by}
 use Rattle.hc_memory.specs.Memory.{linked_at, change_home}
 use Rattle.hc_engines.specs.pair.Pair.{could_have}
 use Rattle.hc_history.specs.Note.{Find, Reply, Hit, Miss, Begin, Did, End}
@@ -35,9 +35,9 @@ waiting client key nvm fills cache = record {
   part = Begin (cache.calls + 1) client (Find key) ∷ [];
 }
 
--- the key's item goes behind the others of its pool: it is the one that was used last
-abbrev pub put_last : List ℕ → Item → Cache → Cache
-put_last key item cache = with_memory (record cache.memory { pools = change_home key (λ (pool : Pool). record pool { items = without key pool.items ++ item ∷ [] }) cache.memory.pools }) cache
+-- the key's item was found: it goes behind the others of its pool, or is seen, as they take turns
+abbrev pub was_found : List ℕ → Item → Cache → Cache
+was_found key item cache = with_memory (record cache.memory { pools = change_home key (λ (pool : Pool). found_by pool.order key item pool) cache.memory.pools }) cache
 
 -- ---- the cases
 
@@ -49,7 +49,7 @@ pub record FlashAlone (key : List ℕ) (cache : Cache) (nvm : Nvm) : Type 0 wher
 
 pub record FirstCase (client : ℕ) (key : List ℕ) (cache : Cache) : Type 0 where
   -- an unexpired item is a hit, and the one that was used last then
-  pub item : (own : Item) → linked_at key cache.memory.pools ≡ Some own → is_over cache.now (entry_of_item own) ≡ false → find client key cache ≡ answered client key (Hit own.value) (put_last key own cache)
+  pub item : (own : Item) → linked_at key cache.memory.pools ≡ Some own → is_over cache.now (entry_of_item own) ≡ false → find client key cache ≡ answered client key (Hit own.value) (was_found key own cache)
   -- an expired one is a miss, and stays where it is
   pub expired : (own : Item) → linked_at key cache.memory.pools ≡ Some own → is_over cache.now (entry_of_item own) ≡ true → find client key cache ≡ answered client key Miss cache
   pub no_flash : linked_at key cache.memory.pools ≡ None → cache.nvm ≡ None → find client key cache ≡ answered client key Miss cache

@@ -5,6 +5,7 @@ use Rattle.hc_types.specs.Charge.{charge_of}
 use Rattle.hc_types.specs.Config.{Config}
 use Rattle.hc_types.specs.Loss as loss
 use Rattle.hc_types.specs.Loss.{Collision, Fault}
+use Rattle.hc_types.specs.declared.turns.Turns.TheVariants.{ByUse}
 use Rattle.hc_types.specs.declared.config.FlashConfig.{FlashConfig}
 use Rattle.hc_types.specs.FlashEntry.{FlashEntry}
 use Rattle.hc_bucket.specs.Page.{page_bytes}
@@ -16,10 +17,10 @@ abbrev pub the_flash : FlashConfig
 the_flash = record { page = 512; buckets = 1; regions = 3; region_pages = 1; clean = 1; small_max = 100; queue = 8; bits = 8; admit_min = 0; admit_max = 2000 }
 
 abbrev pub one_pool : ℕ → ℕ → Config
-one_pool bytes items = record { pools = record { bytes = bytes; items = items } ∷ []; flash = Some the_flash }
+one_pool bytes items = record { pools = record { bytes = bytes; items = items; turns = ByUse } ∷ []; flash = Some the_flash }
 
 abbrev pub two_pools : Config
-two_pools = record { pools = record { bytes = 1000; items = 1 } ∷ record { bytes = 1000; items = 1 } ∷ []; flash = Some the_flash }
+two_pools = record { pools = record { bytes = 1000; items = 1; turns = ByUse } ∷ record { bytes = 1000; items = 1; turns = ByUse } ∷ []; flash = Some the_flash }
 
 -- ---- keys and values
 

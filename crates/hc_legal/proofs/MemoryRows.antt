@@ -4,6 +4,7 @@ use Rattle.std.proofs.Common.{ℕ, ◌++◌, List, [], ◌∷◌, Some, None, re
 use Rattle.hc_types.specs.Loss as loss
 use Rattle.hc_types.specs.Loss.{Evicted, Expired, Fault}
 use Rattle.hc_types.specs.Config.{Config}
+use Rattle.hc_types.specs.declared.turns.Turns.TheVariants.{ByUse}
 use Rattle.hc_types.specs.declared.config.PoolSize.{PoolSize}
 use Rattle.hc_types.specs.declared.config.FlashConfig.{FlashConfig}
 use Rattle.hc_types.specs.declared.loss.Why.TheVariants.{NoFlash}
@@ -13,7 +14,7 @@ use Rattle.hc_legal.proofs.Computed.{legal, refused_at, refused_end, Refused}
 
 -- a pool of 1000, 100 or 106 bytes, and no flash
 abbrev pool_of : ℕ → PoolSize
-pool_of bytes = record { bytes = bytes; items = 10 }
+pool_of bytes = record { bytes = bytes; items = 10; turns = ByUse }
 
 abbrev of : ℕ → Config
 of bytes = record { pools = pool_of bytes ∷ []; flash = None }
@@ -88,7 +89,7 @@ exactly_full-legal = legal (of 106) exactly_full refl
 
 -- a value that expires at 15 is found at 14 and no longer at 15, and goes where room is made
 abbrev one_item : Config
-one_item = record { pools = record { bytes = 1000; items = 1 } ∷ []; flash = None }
+one_item = record { pools = record { bytes = 1000; items = 1; turns = ByUse } ∷ []; flash = None }
 
 abbrev stores_until : ℕ → ℕ → List ℕ → ℕ → List ℕ → ℕ → List Note
 stores_until charge call key bytes value expiry = Charged charge key 0 bytes ∷ Begin call 0 (Insert key value expiry) ∷ Linked charge ∷ Did call Stored ∷ End call ∷ []

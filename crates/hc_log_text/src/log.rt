@@ -3,7 +3,7 @@ use crate::flash::read_flash;
 use crate::read::read_note;
 use hc_history::Note;
 use hc_trace_text::{Line, Order, line_in};
-use hc_types::{Config, FlashConfig, PoolSize};
+use hc_types::{Config, FlashConfig, PoolSize, Turns};
 use memchr::memchr;
 use std::alloc::{AllocError, Global};
 
@@ -35,7 +35,7 @@ enum Setting {
 // What a line of the configuration says.
 fn setting_in(line: &[u8]) -> Setting {
     match line_in(line) {
-        Line::Says(Order::Pool(bytes, items)) => Setting::Pool(PoolSize { bytes, items }),
+        Line::Says(Order::Pool(bytes, items)) => Setting::Pool(PoolSize { bytes, items, turns: Turns::ByUse }),
         Line::Says(Order::NoFlash) => Setting::End(None),
         _ => match read_flash(line) {
             Some(flash) => Setting::End(Some(flash)),

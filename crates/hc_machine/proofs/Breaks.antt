@@ -1,5 +1,6 @@
 -- A device that fails by itself: each such failure is counted. What a step fails doesn't reach it.
 use Rattle.std.proofs.Common.{◌≡◌, ℕ, Bool, true, false, List, [], ◌∷◌, Some, refl}
+use Rattle.hc_types.specs.declared.turns.Turns.TheVariants.{ByUse}
 use Rattle.hc_types.specs.Config.{Config}
 use Rattle.hc_bucket.specs.Reading.{page_at, entries_at, entry_at, body_at, content_at, whole_at}
 use Rattle.hc_engines.specs.Engine.{IoResult, Written, Failed}
@@ -8,7 +9,7 @@ use Rattle.hc_machine.specs.World as w
 use Rattle.hc_machine.specs.World.{run, Line, Said}
 
 abbrev conf : Config
-conf = record { pools = record { bytes = 1000; items = 1 } ∷ []; flash = Some (record { page = 512; buckets = 1; regions = 3; region_pages = 1; clean = 1; small_max = 100; queue = 8; bits = 8; admit_min = 0; admit_max = 2000 }) }
+conf = record { pools = record { bytes = 1000; items = 1; turns = ByUse } ∷ []; flash = Some (record { page = 512; buckets = 1; regions = 3; region_pages = 1; clean = 1; small_max = 100; queue = 8; bits = 8; admit_min = 0; admit_max = 2000 }) }
 
 -- two small puts are written, one behind the other
 abbrev lines : Bool → List Line

@@ -3,6 +3,7 @@ use Rattle.std.proofs.Common.{◌≡◌, ℕ, true, List, [], ◌∷◌, ◌++�
 use Rattle.hc_types.specs.Config.{Config}
 use Rattle.hc_types.specs.Loss as loss
 use Rattle.hc_types.specs.Loss.{BucketFull}
+use Rattle.hc_types.specs.declared.turns.Turns.TheVariants.{ByUse}
 use Rattle.hc_types.specs.declared.loss.Why.TheVariants.{Tombstone}
 use Rattle.hc_types.specs.FlashEntry.{FlashEntry}
 use Rattle.hc_bucket.specs.Reading.{page_at, entries_at, entry_at, body_at, content_at, whole_at}
@@ -146,7 +147,7 @@ pushed_out-counts = refl
 
 -- two pools of one item, and small items up to 400 bytes
 abbrev pub up_to_400 : Config
-up_to_400 = record { pools = record { bytes = 1000; items = 1 } ∷ record { bytes = 1000; items = 1 } ∷ []; flash = Some (flash 1 1 400 8 0 2000) }
+up_to_400 = record { pools = record { bytes = 1000; items = 1; turns = ByUse } ∷ record { bytes = 1000; items = 1; turns = ByUse } ∷ []; flash = Some (flash 1 1 400 8 0 2000) }
 
 -- 241 bytes, whose entry takes more than half of what a page has left beside one of no bytes
 abbrev half : ℕ → List ℕ

@@ -4,6 +4,7 @@ use Rattle.hc_types.specs.Charge.{charge_of}
 use Rattle.hc_types.specs.Config.{Config}
 use Rattle.hc_types.specs.Loss as loss
 use Rattle.hc_types.specs.Loss.{Evicted}
+use Rattle.hc_types.specs.declared.turns.Turns.TheVariants.{ByUse}
 use Rattle.hc_types.specs.declared.config.FlashConfig.{FlashConfig}
 use Rattle.hc_types.specs.declared.loss.Why.{Why}
 use Rattle.hc_types.specs.FlashEntry.{FlashEntry}
@@ -60,10 +61,10 @@ flash region_pages clean small_max queue admit_min admit_max = record {
 
 -- one pool, with such flash and with none
 abbrev pub on_flash : ℕ → ℕ → FlashConfig → Config
-on_flash bytes items flash = record { pools = record { bytes = bytes; items = items } ∷ []; flash = Some flash }
+on_flash bytes items flash = record { pools = record { bytes = bytes; items = items; turns = ByUse } ∷ []; flash = Some flash }
 
 abbrev pub no_flash : ℕ → ℕ → Config
-no_flash bytes items = record { pools = record { bytes = bytes; items = items } ∷ []; flash = None }
+no_flash bytes items = record { pools = record { bytes = bytes; items = items; turns = ByUse } ∷ []; flash = None }
 
 -- ---- parts of a step
 

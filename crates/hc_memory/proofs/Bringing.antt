@@ -10,10 +10,10 @@ use Rattle.indexmap.proofs.MapLemmas.{swap_remove_last}
 use Rattle.hc_types.specs.Tally.{tally, count}
 use Rattle.hc_types.specs.Charge.{charge_of}
 use Rattle.hc_types.specs.declared.config.FlashConfig.{FlashConfig}
-use Rattle.hc_types.proofs.Tallies.{tally-push, tally-set, tally-drop, find-none}
+use Rattle.hc_types.proofs.Tallies.{tally-push, tally-set, find-none}
 use Rattle.hc_memory.specs.declared.usage.Usage.{Usage}
 use Rattle.hc_memory.specs.Item.{Item, Open, Handle, charge_by, item_by}
-use Rattle.hc_memory.specs.Pool.{Pool, bytes_of, is_at, item_at, without, kept, dropped}
+use Rattle.hc_memory.specs.Pool.{Pool, bytes_of, is_at, item_at, without, added, next_items, next_left, kept, dropped}
 use Rattle.hc_memory.specs.Charges.{has_number, charge_at, closed, usage_of}
 use Rattle.hc_memory.specs.Clean.{Listing, is_missed, Listed}
 use Rattle.hc_memory.specs.Sound.{Sound, items_at}
@@ -22,17 +22,17 @@ use Rattle.hc_memory.proofs.Books.{found_position, found-is_open}
 use Rattle.hc_memory.proofs.Places.{position-removed}
 use Rattle.hc_memory.proofs.Keyed.{same_bytes, without-none}
 use Rattle.hc_memory.proofs.Keys.{get-set, nowhere, none_at}
-use Rattle.hc_memory.proofs.Listing.{taken_count}
 use Rattle.hc_memory.proofs.Handing.{linked-sound}
-use Rattle.hc_memory.proofs.Making.{known, charged-sound, drop-dropped, size-bound}
+use Rattle.hc_memory.proofs.Making.{known, charged-sound, size-bound}
+use Rattle.hc_memory.proofs.Turns.{both-parts, next-parts, stays-next}
 use Rattle.hc_memory.proofs.Rooms.{want-fits}
 use Rattle.hc_memory.proofs.Early.{unlinked-none}
 
 -- ---- the pool
 
 -- the item is put behind the others, and the first of them go
-pub turns : (items put : List Item) (count : ℕ) (x : Item) → put ≡ items ++ x ∷ [] → count ≤ length items → (take count put ≡ take count items) × (drop count put ≡ drop count items ++ x ∷ [])
-turns items put count x is few = (ap (take count) is ∙ take-append-le count items (x ∷ []) few, ap (drop count) is ∙ drop-append-le count items (x ∷ []) few)
+pub firsts : (items put : List Item) (count : ℕ) (x : Item) → put ≡ items ++ x ∷ [] → count ≤ length items → (take count put ≡ take count items) × (drop count put ≡ drop count items ++ x ∷ [])
+firsts items put count x is few = (ap (take count) is ∙ take-append-le count items (x ∷ []) few, ap (drop count) is ∙ drop-append-le count items (x ∷ []) few)
 
 pub pushed-fresh : (key : List ℕ) (items : List Item) (x : Item) → item_at key items ≡ None → without key items ++ x ∷ [] ≡ items ++ x ∷ []
 pushed-fresh key items x none = ap (λ ys. ys ++ x ∷ []) (without-none key items none)
@@ -98,8 +98,8 @@ module _ (m : Memory) (pool : ℕ) (key value : List ℕ) (expiry : ℕ) (there 
   abbrev handle : Handle
   handle = handle_for m pool key value expiry
 
-  abbrev left : List Item
-  left = kept there.size (usage_of pool m.charges) want there.items
+  abbrev left : Pool
+  left = kept (usage_of pool m.charges) want there
 
   abbrev after : Memory
   after = after_link (after_charge m pool key (length value)) true handle
@@ -108,32 +108,29 @@ module _ (m : Memory) (pool : ℕ) (key value : List ℕ) (expiry : ℕ) (there 
     never : charge_at handle.number m.charges ≡ None
     never = find-none (has_number handle.number) m.charges (s.fresh handle.number (omega arith))
 
-    roomy-pools : (after_charge m pool key (length value)).pools ≡ slice_set m.pools pool (record there { items = left })
+    roomy-pools : (after_charge m pool key (length value)).pools ≡ slice_set m.pools pool left
     roomy-pools = ap (λ (r : Memory). r.pools) (known m pool want there at).room
 
-    room-none : items_at key (slice_set m.pools pool (record there { items = left })) ≡ 0
+    room-none : items_at key (slice_set m.pools pool left) ≡ 0
     room-none =
         let f : Item → ℕ = λ x. cond (is_at key x) 1 0 in
-        let n = length (dropped there.size (usage_of pool m.charges) want there.items) in
-        let less = tally-drop f n there.items in
-        let same = ap (tally f) (drop-dropped there.size (usage_of pool m.charges) want there.items) in
-        omega (arith, tally-set (λ (p : Pool). tally f p.items) m.pools pool there (record there { items = left }) at, less, same, absent-none key m.pools none)
+        omega (arith, tally-set (λ (p : Pool). tally f p.items) m.pools pool there left at, both-parts f (length there.items) (usage_of pool m.charges) want there, absent-none key m.pools none)
 
     -- what it is in the end
-    pub brought : after ≡ record { flash = m.flash; pools = slice_set m.pools pool (record there { items = left ++ item_by true handle ∷ [] }); charges = m.charges; made = m.made + 1 }
+    pub brought : after ≡ record { flash = m.flash; pools = slice_set m.pools pool (added (item_by true handle) left); charges = m.charges; made = m.made + 1 }
     brought =
-        let room = slice_set m.pools pool (record there { items = left }) in
-        let push : Pool → Pool = λ p. record p { items = p.items ++ item_by true handle ∷ [] } in
-        let pools : after.pools ≡ slice_set m.pools pool (record there { items = left ++ item_by true handle ∷ [] }) =
+        let room = slice_set m.pools pool left in
+        let push : Pool → Pool = added (item_by true handle) in
+        let pools : after.pools ≡ slice_set m.pools pool (added (item_by true handle) left) =
         (λ i. change_at pool push (unlinked key (roomy-pools i)))
         ∙ ap (change_at pool push) (unlinked-none key room room-none)
-        ∙ ap (λ o. option_map_or (λ p. slice_set room pool (push p)) o room) (get-set m.pools pool there (record there { items = left }) at)
-        ∙ set-set m.pools pool (record there { items = left }) (push (record there { items = left })) in
+        ∙ ap (λ o. option_map_or (λ p. slice_set room pool (push p)) o room) (get-set m.pools pool there left at)
+        ∙ set-set m.pools pool left (push left) in
         let charges = closed-push handle.number m.charges (charge_by handle) never (eq-eqb handle.number handle.number refl) in
         λ i. record { flash = m.flash; pools = pools i; charges = charges i; made = m.made + 1 }
 
     -- the pools are sound
-    pub brought-sound : is_hopeless m pool want ≡ false → Sound (slice_set m.pools pool (record there { items = left ++ item_by true handle ∷ [] })) m.charges (m.made + 1)
+    pub brought-sound : is_hopeless m pool want ≡ false → Sound (slice_set m.pools pool (added (item_by true handle) left)) m.charges (m.made + 1)
     brought-sound room =
         let charged = charged-sound m.pools m.charges m.made pool want there (charge_by handle) s at (sym (known m pool want there at).hopeless ∙ room) refl refl refl in
         let charged' : Sound (after_charge m pool key (length value)).pools (m.charges ++ charge_by handle ∷ []) (m.made + 1) = rw roomy-pools charged in
@@ -149,21 +146,20 @@ module _ (m : Memory) (pool : ℕ) (key value : List ℕ) (expiry : ℕ) (there 
         omega (arith, w.bytes, fits, size-bound there.size w.size)
 
 -- as the code tells its parts
-pub brought-set : (pools : List Pool) (i number want count : ℕ) (usage : Usage) (there new : Pool) (x : Item) → i ≡ number → new ≡ record { size = there.size; items = drop count there.items ++ x ∷ [] } → count ≡ length (dropped there.size usage want there.items)
-    → slice_set pools i new ≡ slice_set pools number (record there { items = kept there.size usage want there.items ++ x ∷ [] })
+pub brought-set : (pools : List Pool) (i number want count : ℕ) (usage : Usage) (there new : Pool) (x : Item) → i ≡ number → new ≡ added x (next_left count there) → count ≡ length (dropped usage want there)
+    → slice_set pools i new ≡ slice_set pools number (added x (kept usage want there))
 brought-set pools i number want count usage there new x same is counted =
-    let left : drop count there.items ≡ kept there.size usage want there.items = ap (λ n. drop n there.items) counted ∙ drop-dropped there.size usage want there.items in
-    let next : new ≡ record there { items = kept there.size usage want there.items ++ x ∷ [] } = is ∙ (λ j. record { size = there.size; items = left j ++ x ∷ [] }) in
-    λ j. slice_set pools (same j) (next j)
+    let left : next_left count there ≡ kept usage want there = ap (λ n. next_left n there) counted ∙ stays-next (length there.items) usage want there in
+    λ j. slice_set pools (same j) ((is ∙ ap (added x) left) j)
 
 -- ---- the index
 
 -- an item that isn't missed is put behind those that stay
-pub listed-brought : (flash : Option FlashConfig) (listing : Listing) (pools : List Pool) (i count : ℕ) (there new : Pool) (x : Item) → Listed flash listing pools → is_missed flash listing x ≡ false → slice_get pools i ≡ Some there → new ≡ record { size = there.size; items = drop count there.items ++ x ∷ [] } → Listed flash listing (slice_set pools i new)
+pub listed-brought : (flash : Option FlashConfig) (listing : Listing) (pools : List Pool) (i count : ℕ) (there new : Pool) (x : Item) → Listed flash listing pools → is_missed flash listing x ≡ false → slice_get pools i ≡ Some there → new ≡ added x (next_left count there) → Listed flash listing (slice_set pools i new)
 listed-brought flash listing pools i count there new x l unmissed at is =
     let f : Item → ℕ = λ y. cond (is_missed flash listing y) 1 0 in
     let none : f x ≡ 0 = ap {B = ℕ} (λ b. cond b 1 0) unmissed in
-    omega (arith, l, none, tally-set (λ (p : Pool). tally f p.items) pools i there new at, ap (λ (p : Pool). tally f p.items) is, tally-push f (drop count there.items) x, tally-drop f count there.items)
+    omega (arith, l, none, tally-set (λ (p : Pool). tally f p.items) pools i there new at, ap (λ (p : Pool). tally f p.items) is, tally-push f (next_left count there).items x, next-parts f count there)
 
 single_step : (key other : List ℕ) (pools : List Pool) (b : Bool) → bytes_eq other key ≡ b → items_at key pools ≡ 0 → items_at other pools ≤ 1 → items_at other pools + cond b 1 0 ≤ 1
 single_step key other pools true e none single =
@@ -173,8 +169,8 @@ single_step key other pools true e none single =
 single_step key other pools false e none single = omega (arith, single)
 
 -- no key of those that went is left
-pub brought-single : (pools : List Pool) (i n : ℕ) (there new : Pool) (gone : List Item) (x : Item) (other : List ℕ) → items_at x.key pools ≡ 0 → items_at other pools ≤ 1 → slice_get pools i ≡ Some there → new ≡ record { size = there.size; items = drop n there.items ++ x ∷ [] } → gone ≡ take n there.items
+pub brought-single : (pools : List Pool) (i n : ℕ) (there new : Pool) (gone : List Item) (x : Item) (other : List ℕ) → items_at x.key pools ≡ 0 → items_at other pools ≤ 1 → slice_get pools i ≡ Some there → new ≡ added x (next_left n there) → gone ≡ next_items n there
     → items_at other (slice_set pools i new) + count (is_at other) gone ≤ 1
 brought-single pools i n there new gone x other none single at is went =
     let f : Item → ℕ = λ y. cond (is_at other y) 1 0 in
-    omega (arith, single_step x.key other pools (bytes_eq other x.key) refl none single, tally-set (λ (p : Pool). tally f p.items) pools i there new at, ap (λ (p : Pool). tally f p.items) is, ap (tally f) went, tally-push f (drop n there.items) x, taken_count f n there.items)
+    omega (arith, single_step x.key other pools (bytes_eq other x.key) refl none single, tally-set (λ (p : Pool). tally f p.items) pools i there new at, ap (λ (p : Pool). tally f p.items) is, ap (tally f) went, tally-push f (next_left n there).items x, next-parts f n there)

@@ -10,14 +10,15 @@ use Rattle.hc_types.specs.Places.{bucket_at, is_small_by}
 use Rattle.hc_types.specs.declared.config.FlashConfig.{FlashConfig}
 use Rattle.hc_types.proofs.Tallies.{tally-push}
 use Rattle.hc_memory.specs.Item.{Item, Open, cost}
-use Rattle.hc_memory.specs.Pool.{Pool, is_at, item_at, without, is_full, bytes_of}
+use Rattle.hc_memory.specs.Pool.{Pool, is_at, item_at, added, removed, is_full, bytes_of}
 use Rattle.hc_memory.specs.Charges.{usage_of}
 use Rattle.hc_memory.specs.Clean.{Listing, is_listed, is_told, Listed}
 use Rattle.hc_memory.specs.Marks.{is_stale, marked, Numbered}
 use Rattle.hc_memory.specs.Memory.{Memory, linked_at, change_at}
 use Rattle.hc_memory.specs.Sound.{Sound, items_at}
 use Rattle.hc_memory.specs.Resting.{is_numbered, is_full_at, misfit_of, after_restore}
-use Rattle.hc_memory.proofs.Keyed.{is_some-mapped, none_of, without-none, unmarked-push}
+use Rattle.hc_memory.proofs.Keyed.{is_some-mapped, none_of}
+use Rattle.hc_memory.proofs.Hands.{removed-none}
 use Rattle.hc_memory.proofs.Bringing.{absent-none, listed-brought}
 use Rattle.hc_memory.proofs.Linking.{sound-linked}
 use Rattle.hc_memory.proofs.Making.{there-of}
@@ -25,7 +26,7 @@ use Rattle.hc_memory.proofs.Putting.{put-small}
 use Rattle.hc_memory.proofs.Sounds.{sound-charged}
 use Rattle.hc_memory.proofs.Marking.{length-marked, listed-same}
 use Rattle.hc_memory.proofs.Restoring.{misfit_by}
-use Rattle.hc_memory.proofs.Unmarked.{bare, off, all_off, pool_off, full-off, item-linked, number-off}
+use Rattle.hc_memory.proofs.Unmarked.{bare, off, pool_off, full-off, item-linked, number-off, added-off}
 
 -- ---- no item is there yet
 
@@ -35,6 +36,7 @@ sound-from pools made s = record {
   few = s.few;
   within = s.within;
   own = s.own;
+  order = s.order;
   single = s.single;
   unique = s.unique;
   fresh = λ number later. refl;
@@ -111,19 +113,16 @@ module _ (flash : Option FlashConfig) (lost : List ℕ) (pools : List Pool) (cha
         room = sym (full-seen (cost x)) ∙ k.3;
       }
 
-  abbrev push : Pool → Pool
-  push p = record p { items = p.items ++ x ∷ [] }
-
   pub room-there : Fits → (pool : Pool) → slice_get pools x.pool ≡ Some pool → is_full pool.size (usage_of x.pool charges) (cost x) pool.items ≡ false
   room-there f pool at = sym (ap (λ o. option_map_or (λ (p : Pool). is_full p.size (usage_of x.pool charges) (cost x) p.items) o true) at) ∙ f.room
 
   pub small : Fits → Sound pools charges made → (pool : Pool) → slice_get pools x.pool ≡ Some pool → bytes_of pool.items + cost x < 2 ^ 64
   small f s pool at = put-small pools charges made x.pool pool (cost x) s at (room-there f pool at)
 
-  after-set : (pool : Pool) → slice_get pools x.pool ≡ Some pool → change_at x.pool push pools ≡ slice_set pools x.pool (push pool)
-  after-set pool at = ap (λ o. option_map_or (λ p. slice_set pools x.pool (push p)) o pools) at
+  after-set : (pool : Pool) → slice_get pools x.pool ≡ Some pool → change_at x.pool (added x) pools ≡ slice_set pools x.pool (added x pool)
+  after-set pool at = ap (λ o. option_map_or (λ p. slice_set pools x.pool (added x p)) o pools) at
 
-  sound_after : (pool : Pool) → slice_get pools x.pool ≡ Some pool → Fits → Sound pools charges made → Sound (slice_set pools x.pool (push pool)) charges made
+  sound_after : (pool : Pool) → slice_get pools x.pool ≡ Some pool → Fits → Sound pools charges made → Sound (slice_set pools x.pool (added x pool)) charges made
   sound_after pool at f s =
       let c : Open = record { number = made + 1; pool = x.pool; key = x.key; size = length x.value } in
       let open_now = sound-charged pools charges made c pool s at refl (room-there f pool at) in
@@ -134,6 +133,7 @@ module _ (flash : Option FlashConfig) (lost : List ℕ) (pools : List Pool) (cha
         few = linked.few;
         within = linked.within;
         own = linked.own;
+        order = linked.order;
         single = linked.single;
         unique = s.unique;
         fresh = s.fresh;
@@ -146,11 +146,11 @@ module _ (flash : Option FlashConfig) (lost : List ℕ) (pools : List Pool) (cha
     pub long : length new ≡ length pools
     pub listed : Listed flash listing new
 
-  pub linked : {T E : Type 0} (r : Result T E) (new : List Pool) (listing : Listing) → Fits → Sound pools charges made → Listed flash listing pools → (x.clean ≡ true → is_told flash listing x ≡ true) → OnOk r (new ≡ change_at x.pool push pools) → OnErr r (new ≡ pools) → Holds new listing
+  pub linked : {T E : Type 0} (r : Result T E) (new : List Pool) (listing : Listing) → Fits → Sound pools charges made → Listed flash listing pools → (x.clean ≡ true → is_told flash listing x ≡ true) → OnOk r (new ≡ change_at x.pool (added x) pools) → OnErr r (new ≡ pools) → Holds new listing
   linked (Ok v) new listing f s l told is same =
       let t = there-of pools x.pool f.there in
       let pool : Pool = t.0 in
-      let next : Pool = push pool in
+      let next : Pool = added x pool in
       let set : new ≡ slice_set pools x.pool next = is ∙ after-set pool t.1 in
       record {
         sound = subst (λ (ps : List Pool). Sound ps charges made) (sym set) (sound_after pool t.1 f s);
@@ -164,11 +164,9 @@ module _ (flash : Option FlashConfig) (lost : List ℕ) (pools : List Pool) (cha
   }
 
   -- what contracts see of it
-  pub seen-after : (new : List Pool) → Fits → new ≡ change_at x.pool push pools → record { flash = flash; pools = marked flash lost new; charges = charges; made = made } ≡ after_restore seen x
+  pub seen-after : (new : List Pool) → Fits → new ≡ change_at x.pool (added x) pools → record { flash = flash; pools = marked flash lost new; charges = charges; made = made } ≡ after_restore seen x
   seen-after new f is =
-      let each : (p : Pool) → push (pool_off (is_stale flash lost) p) ≡ pool_off (is_stale flash lost) (push p) =
-      λ p. λ i. record { size = p.size; items = sym (unmarked-push (is_stale flash lost) p.items x ∙ ap (λ y. all_off (is_stale flash lost) p.items ++ y ∷ []) f.stays) i } in
-      let pools' : marked flash lost new ≡ change_at x.pool push (marked flash lost pools) = ap (marked flash lost) is ∙ sym (number-off (is_stale flash lost) x.pool push each pools) in
+      let pools' : marked flash lost new ≡ change_at x.pool (added x) (marked flash lost pools) = ap (marked flash lost) is ∙ sym (number-off (is_stale flash lost) x.pool (added x) (added-off (is_stale flash lost) x f.stays) pools) in
       λ i. record { flash = flash; pools = pools' i; charges = charges; made = made }
 
 -- an item is told of that is listed, once none is newer
@@ -187,9 +185,9 @@ more-numbered flash lost old new number made n least most given = record {
 }
 
 -- as the code puts it there
-pub put-in : (pools : List Pool) (i : ℕ) (there new : Pool) (x y : Item) (key : List ℕ) → y ≡ x → key ≡ x.key → i ≡ x.pool → slice_get pools x.pool ≡ Some there → item_at x.key there.items ≡ None → new ≡ record { size = there.size; items = without key there.items ++ y ∷ [] }
-    → slice_set pools i new ≡ change_at x.pool (λ p. record p { items = p.items ++ x ∷ [] }) pools
+pub put-in : (pools : List Pool) (i : ℕ) (there new : Pool) (x y : Item) (key : List ℕ) → y ≡ x → key ≡ x.key → i ≡ x.pool → slice_get pools x.pool ≡ Some there → item_at x.key there.items ≡ None → new ≡ added y (removed key there)
+    → slice_set pools i new ≡ change_at x.pool (added x) pools
 put-in pools i there new x y key same keys own at none is =
-    let bare : without key there.items ≡ there.items = ap (λ k. without k there.items) keys ∙ without-none x.key there.items none in
-    let next : new ≡ record { size = there.size; items = there.items ++ x ∷ [] } = is ∙ (λ j. record { size = there.size; items = bare j ++ same j ∷ [] }) in
-    (λ j. slice_set pools (own j) (next j)) ∙ sym (ap (λ o. option_map_or (λ (p : Pool). slice_set pools x.pool (record p { items = p.items ++ x ∷ [] })) o pools) at)
+    let bare : removed key there ≡ there = ap (λ k. removed k there) keys ∙ removed-none x.key there none in
+    let next : new ≡ added x there = is ∙ (λ j. added (same j) (bare j)) in
+    (λ j. slice_set pools (own j) (next j)) ∙ sym (ap (λ o. option_map_or (λ (p : Pool). slice_set pools x.pool (added x p)) o pools) at)

@@ -8,15 +8,12 @@ use Rattle.hc_types.specs.Tally.{count}
 use Rattle.hc_types.proofs.Tallies.{tally-push, tally-set}
 use Rattle.hc_memory.specs.Item.{Item, Handle, item_by}
 use Rattle.hc_memory.specs.Charges.{closed}
-use Rattle.hc_memory.specs.Pool.{Pool, is_at, item_at, without}
+use Rattle.hc_memory.specs.Pool.{Pool, is_at, item_at, added, removed}
 use Rattle.hc_memory.specs.Sound.{items_at}
 use Rattle.hc_memory.specs.Memory.{Memory, has, change_at, unlinked, after_free, after_link, early}
-use Rattle.hc_memory.proofs.Keyed.{count-none, item_at-pushed, without-pushed}
+use Rattle.hc_memory.proofs.Keyed.{count-none, item_at-pushed}
+use Rattle.hc_memory.proofs.Hands.{AllFit, fits-unlinked, removed-added}
 use Rattle.hc_memory.proofs.Linking.{gone}
-
--- the item is the last of the pool
-abbrev pushed : Item → Pool → Pool
-pushed x pool = record pool { items = pool.items ++ x ∷ [] }
 
 module _ (key : List ℕ) where
   none-has : (pool : Pool) → count (is_at key) pool.items ≡ 0 → has key pool ≡ false
@@ -26,63 +23,63 @@ module _ (key : List ℕ) where
   pub unlinked-none : (pools : List Pool) → items_at key pools ≡ 0 → unlinked key pools ≡ pools
   unlinked-none [] none = refl
   unlinked-none (pool ∷ pools) none =
-      ap (λ b. cond b (record pool { items = without key pool.items } ∷ pools) (pool ∷ unlinked key pools)) (none-has pool (omega (arith, none)))
+      ap (λ b. cond b (removed key pool ∷ pools) (pool ∷ unlinked key pools)) (none-has pool (omega (arith, none)))
       ∙ ap (λ ps. pool ∷ ps) (unlinked-none pools (omega (arith, none)))
 
   -- what was put last goes
-  put-out : (x : Item) → is_at key x ≡ true → (pools : List Pool) (own : ℕ) (pool : Pool) → slice_get pools own ≡ Some pool → items_at key pools ≡ 0 → unlinked key (slice_set pools own (pushed x pool)) ≡ pools
-  put-out x same [] own pool at none = absurd cc
-  put-out x same (p ∷ pools) zero pool at none =
+  put-out : (x : Item) → is_at key x ≡ true → (pools : List Pool) (own : ℕ) (pool : Pool) → AllFit pools → slice_get pools own ≡ Some pool → items_at key pools ≡ 0 → unlinked key (slice_set pools own (added x pool)) ≡ pools
+  put-out x same [] own pool fit at none = absurd cc
+  put-out x same (p ∷ pools) zero pool fit at none =
       let is : p ≡ pool = cc in
       let bare : item_at key p.items ≡ None = count-none key p.items (omega (arith, none)) in
-      ap (λ q. unlinked key (pushed x q ∷ pools)) (sym is)
-      ∙ ap (λ o. cond (is_some o) (record p { items = without key (p.items ++ x ∷ []) } ∷ pools) (pushed x p ∷ unlinked key pools)) (item_at-pushed key p.items x same bare)
-      ∙ (λ i. record { size = p.size; items = without-pushed key p.items x same bare i } ∷ pools)
-  put-out x same (p ∷ pools) (suc own) pool at none =
-      let rest = slice_set pools own (pushed x pool) in
-      ap (λ b. cond b (record p { items = without key p.items } ∷ rest) (p ∷ unlinked key rest)) (none-has p (omega (arith, none)))
-      ∙ ap (λ ps. p ∷ ps) (put-out x same pools own pool at (omega (arith, none)))
+      ap (λ q. unlinked key (added x q ∷ pools)) (sym is)
+      ∙ ap (λ o. cond (is_some o) (removed key (added x p) ∷ pools) (added x p ∷ unlinked key pools)) (item_at-pushed key p.items x same bare)
+      ∙ ap (λ q. q ∷ pools) (removed-added key x p same bare (fit 0 p refl))
+  put-out x same (p ∷ pools) (suc own) pool fit at none =
+      let rest = slice_set pools own (added x pool) in
+      ap (λ b. cond b (removed key p ∷ rest) (p ∷ unlinked key rest)) (none-has p (omega (arith, none)))
+      ∙ ap (λ ps. p ∷ ps) (put-out x same pools own pool (λ i q at. fit (suc i) q at) at (omega (arith, none)))
 
-  linked_step : (x : Item) → is_at key x ≡ true → (pools : List Pool) (own : ℕ) (o : Option Pool) → slice_get pools own ≡ o → items_at key pools ≡ 0 → unlinked key (option_map_or (λ p. slice_set pools own (pushed x p)) o pools) ≡ pools
-  linked_step x same pools own None at none = unlinked-none pools none
-  linked_step x same pools own (Some pool) at none = put-out x same pools own pool at none
+  linked_step : (x : Item) → is_at key x ≡ true → (pools : List Pool) (own : ℕ) (o : Option Pool) → AllFit pools → slice_get pools own ≡ o → items_at key pools ≡ 0 → unlinked key (option_map_or (λ p. slice_set pools own (added x p)) o pools) ≡ pools
+  linked_step x same pools own None fit at none = unlinked-none pools none
+  linked_step x same pools own (Some pool) fit at none = put-out x same pools own pool fit at none
 
   -- what was linked goes again
-  unlinked-linked : (x : Item) → is_at key x ≡ true → (pools : List Pool) (own : ℕ) → items_at key pools ≤ 1 → unlinked key (change_at own (pushed x) (unlinked key pools)) ≡ unlinked key pools
-  unlinked-linked x same pools own single = linked_step x same (unlinked key pools) own (slice_get (unlinked key pools) own) refl (gone key pools single)
+  unlinked-linked : (x : Item) → is_at key x ≡ true → (pools : List Pool) (own : ℕ) → AllFit pools → items_at key pools ≤ 1 → unlinked key (change_at own (added x) (unlinked key pools)) ≡ unlinked key pools
+  unlinked-linked x same pools own fit single = linked_step x same (unlinked key pools) own (slice_get (unlinked key pools) own) (fits-unlinked key pools fit) refl (gone key pools single)
 
   one_step : (x : Item) (b : Bool) → is_at key x ≡ b → cond b 1 0 ≤ 1
   one_step x true e = omega arith
   one_step x false e = omega arith
 
-  single_step : (x : Item) (pools : List Pool) (own : ℕ) (o : Option Pool) → slice_get pools own ≡ o → items_at key pools ≡ 0 → items_at key (option_map_or (λ p. slice_set pools own (pushed x p)) o pools) ≤ 1
+  single_step : (x : Item) (pools : List Pool) (own : ℕ) (o : Option Pool) → slice_get pools own ≡ o → items_at key pools ≡ 0 → items_at key (option_map_or (λ p. slice_set pools own (added x p)) o pools) ≤ 1
   single_step x pools own None at none = omega (arith, none)
   single_step x pools own (Some pool) at none =
-      let sum = tally-set (λ (p : Pool). count (is_at key) p.items) pools own pool (pushed x pool) at in
+      let sum = tally-set (λ (p : Pool). count (is_at key) p.items) pools own pool (added x pool) at in
       let push = tally-push (λ (y : Item). cond (is_at key y) 1 0) pool.items x in
       omega (arith, sum, push, none, one_step x (is_at key x) refl)
 
-  pub linked-single : (x : Item) (pools : List Pool) (own : ℕ) → items_at key pools ≤ 1 → items_at key (change_at own (pushed x) (unlinked key pools)) ≤ 1
+  pub linked-single : (x : Item) (pools : List Pool) (own : ℕ) → items_at key pools ≤ 1 → items_at key (change_at own (added x) (unlinked key pools)) ≤ 1
   linked-single x pools own single = single_step x (unlinked key pools) own (slice_get (unlinked key pools) own) refl (gone key pools single)
 
 -- as a handle links it
-relinked : (key : List ℕ) (m : Memory) (h : Handle) → items_at key m.pools ≤ 1 → h.key ≡ key → unlinked key (after_link m false h).pools ≡ unlinked key m.pools
-relinked key m h single same =
+relinked : (key : List ℕ) (m : Memory) (h : Handle) → AllFit m.pools → items_at key m.pools ≤ 1 → h.key ≡ key → unlinked key (after_link m false h).pools ≡ unlinked key m.pools
+relinked key m h fit single same =
     let at : is_at key (item_by false h) ≡ true = (bytes_eq-Decides key h.key).1 (sym same) in
-    (λ i. unlinked key (change_at h.pool (pushed (item_by false h)) (unlinked (same i) m.pools)))
-    ∙ unlinked-linked key (item_by false h) at m.pools h.pool single
+    (λ i. unlinked key (change_at h.pool (added (item_by false h)) (unlinked (same i) m.pools)))
+    ∙ unlinked-linked key (item_by false h) at m.pools h.pool fit single
 
 -- what is linked early hangs on the other keys' items alone
 pub early-same : (key : List ℕ) (h : Handle) (hs : List Handle) (m : Memory) (pools : List Pool) → unlinked key m.pools ≡ unlinked key pools → h.key ≡ key → AllByRecursion (λ (g : Handle). g.key ≡ key) hs → early (h ∷ hs) m ≡ early (h ∷ hs) (record m { pools = pools })
 early-same key h [] m pools e same all =
     let e' : unlinked h.key m.pools ≡ unlinked h.key pools = (λ i. unlinked (same i) m.pools) ∙ e ∙ (λ i. unlinked (sym same i) pools) in
-    λ i. record { flash = m.flash; pools = change_at h.pool (pushed (item_by false h)) (e' i); charges = closed h.number m.charges; made = m.made }
+    λ i. record { flash = m.flash; pools = change_at h.pool (added (item_by false h)) (e' i); charges = closed h.number m.charges; made = m.made }
 early-same key h (g ∷ hs) m pools e same all = early-same key g hs (after_free m h.number) pools e all.0 all.1
 
-early-first : (key : List ℕ) (h : Handle) (hs : List Handle) (m : Memory) → items_at key m.pools ≤ 1 → h.key ≡ key → AllByRecursion (λ (g : Handle). g.key ≡ key) hs → early (h ∷ hs) m ≡ early hs (after_link m false h)
-early-first key h [] m single same all = refl
-early-first key h (g ∷ hs) m single same all = early-same key g hs (after_free m h.number) (after_link m false h).pools (sym (relinked key m h single same)) all.0 all.1
+early-first : (key : List ℕ) (h : Handle) (hs : List Handle) (m : Memory) → AllFit m.pools → items_at key m.pools ≤ 1 → h.key ≡ key → AllByRecursion (λ (g : Handle). g.key ≡ key) hs → early (h ∷ hs) m ≡ early hs (after_link m false h)
+early-first key h [] m fit single same all = refl
+early-first key h (g ∷ hs) m fit single same all = early-same key g hs (after_free m h.number) (after_link m false h).pools (sym (relinked key m h fit single same)) all.0 all.1
 
 -- the first is linked as well
-pub early-link : (h : Handle) (hs : List Handle) (m : Memory) → items_at h.key m.pools ≤ 1 → AllByRecursion (λ (g : Handle). g.key ≡ h.key) hs → early (h ∷ hs) m ≡ early hs (after_link m false h)
-early-link h hs m single all = early-first h.key h hs m single refl all
+pub early-link : (h : Handle) (hs : List Handle) (m : Memory) → AllFit m.pools → items_at h.key m.pools ≤ 1 → AllByRecursion (λ (g : Handle). g.key ≡ h.key) hs → early (h ∷ hs) m ≡ early hs (after_link m false h)
+early-link h hs m fit single all = early-first h.key h hs m fit single refl all

@@ -5,7 +5,7 @@ use Rattle.std.specs.List.{position_or_len}
 use Rattle.hc_types.specs.Tally.{tally, count}
 use Rattle.hc_types.proofs.Tallies.{tally-where}
 use Rattle.hc_memory.specs.Item.{Open, Handle, charge_by, item_by}
-use Rattle.hc_memory.specs.Pool.{Pool}
+use Rattle.hc_memory.specs.Pool.{Pool, added}
 use Rattle.hc_memory.specs.Charges.{Book, has_number, charge_at, closed, all_closed, is_open}
 use Rattle.hc_memory.specs.Memory.{change_at, unlinked}
 use Rattle.hc_memory.specs.Sound.{Sound}
@@ -85,6 +85,6 @@ closed-behind f number numbers charges one =
 
 -- the item is linked, and its charge ends behind others
 pub linked-behind : (pools : List Pool) (charges : List Open) (made : ℕ) (numbers : List ℕ) (handle : Handle) (clean : Bool) → Sound pools charges made → is_open (charge_by handle) charges ≡ true
-    → Sound (change_at handle.pool (λ p. record p { items = p.items ++ item_by clean handle ∷ [] }) (unlinked handle.key pools)) (closed handle.number (all_closed numbers charges)) made
+    → Sound (change_at handle.pool (added (item_by clean handle)) (unlinked handle.key pools)) (closed handle.number (all_closed numbers charges)) made
 linked-behind pools charges made numbers handle clean s mine =
-    sound-fewer (change_at handle.pool (λ p. record p { items = p.items ++ item_by clean handle ∷ [] }) (unlinked handle.key pools)) (closed handle.number charges) (closed handle.number (all_closed numbers charges)) made (linked-sound pools charges made handle clean s mine) (λ f. closed-behind f handle.number numbers charges (s.unique handle.number))
+    sound-fewer (change_at handle.pool (added (item_by clean handle)) (unlinked handle.key pools)) (closed handle.number charges) (closed handle.number (all_closed numbers charges)) made (linked-sound pools charges made handle clean s mine) (λ f. closed-behind f handle.number numbers charges (s.unique handle.number))

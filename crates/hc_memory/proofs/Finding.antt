@@ -5,15 +5,16 @@ use Rattle.std.proofs.lemmas.List.{set-get_or}
 use Rattle.std.proofs.lemmas.Option.{get_or_from_slice_get}
 use Rattle.hc_types.specs.Tally.{tally}
 use Rattle.hc_types.specs.declared.config.FlashConfig.{FlashConfig}
-use Rattle.hc_types.proofs.Tallies.{tally-push}
 use Rattle.hc_memory.specs.Item.{Item, Open}
-use Rattle.hc_memory.specs.Pool.{Pool, item_at, without, used, unexpired, value_then}
+use Rattle.hc_memory.specs.Pool.{Pool, item_at, unexpired, value_then}
+use Rattle.hc_memory.specs.Pool.{found as found_in}
 use Rattle.hc_memory.specs.Memory.{home_of, value_at, copied, change_home, used_in}
 use Rattle.hc_memory.specs.Clean.{Listing, Listed}
 use Rattle.hc_memory.specs.Sound.{Sound}
 use Rattle.hc_memory.proofs.Homes.{home, away}
 use Rattle.hc_memory.proofs.Looking.{passed, arrived}
-use Rattle.hc_memory.proofs.Keyed.{mapped-none, is_some-mapped, tally-without, unexpired-some, unexpired-none}
+use Rattle.hc_memory.proofs.Keyed.{mapped-none, is_some-mapped, unexpired-some, unexpired-none}
+use Rattle.hc_memory.proofs.Turns.{found-tally}
 use Rattle.hc_memory.proofs.Linking.{sound-home, shrinks-used, unexpired-is}
 use Rattle.hc_memory.proofs.Making.{at-home}
 use Rattle.hc_memory.proofs.Handing.{untouched}
@@ -34,7 +35,7 @@ hit-place {V} home o at value is place = subst (λ (o : Option (ℕ × V)). IfSo
 
 -- the pool with an item under the key uses it, unless it's expired
 abbrev pub uses : List ℕ → ℕ → Pool → Pool
-uses key now pool = record pool { items = used key (unexpired now (item_at key pool.items)) pool.items }
+uses key now pool = found_in key (unexpired now (item_at key pool.items)) pool
 
 -- an item that is promoted
 pub record Found (key : List ℕ) (now : ℕ) (old after : List Pool) (charges : List Open) (made : ℕ) : Type 0 where
@@ -42,19 +43,19 @@ pub record Found (key : List ℕ) (now : ℕ) (old after : List Pool) (charges :
   pub sound : Sound after charges made
 
 pub found : (key : List ℕ) (now : ℕ) (pools : List Pool) (charges : List Open) (made i : ℕ) (there new : Pool) → Sound pools charges made → home_of key pools ≡ Some i → is_some (value_at now key pools) ≡ true → there ≡ get_or pools i there
-    → new ≡ record { size = there.size; items = used key (item_at key there.items) there.items } → Found key now pools (slice_set pools i new) charges made
+    → new ≡ found_in key (item_at key there.items) there → Found key now pools (slice_set pools i new) charges made
 found key now pools charges made i there new s place hit read is =
     let item = (at-home key pools i there there (λ p. p) place read refl).item in
     let fresh : unexpired now (item_at key there.items) ≡ item_at key there.items = unexpired-some now (item_at key there.items) (ap (λ o. is_some (option_map (λ (i : Item). i.value) (unexpired now o))) item ∙ hit) in
-    let after = (at-home key pools i there new (uses key now) place read (is ∙ (λ j. record { size = there.size; items = used key (sym fresh j) there.items }))).set in
-    record { pools = after; sound = rw after (sound-home key (uses key now) pools charges made (λ p. shrinks-used key now p) s) }
+    let after = (at-home key pools i there new (uses key now) place read (is ∙ ap (λ o. found_in key o there) (sym fresh))).set in
+    record { pools = after; sound = rw after (sound-home key (uses key now) pools charges made (shrinks-used key now) s) }
 
 missed_step : (key : List ℕ) (now : ℕ) (pools : List Pool) (o : Option ℕ) → home_of key pools ≡ o → None ≡ value_at now key pools → change_home key (uses key now) pools ≡ pools
 missed_step key now pools None e miss = (away key pools e).change (uses key now)
 missed_step key now pools (Some i) e miss =
     let h = home key pools i e in
     let none : unexpired now (item_at key h.pool.items) ≡ None = unexpired-none now (item_at key h.pool.items) (ap (λ o. is_some (option_map (λ (i : Item). i.value) (unexpired now o))) (sym h.linked) ∙ sym (ap is_some miss)) in
-    h.change (uses key now) ∙ (λ j. slice_set pools i (record h.pool { items = used key (none j) h.pool.items })) ∙ ap (slice_set pools i) (sym (get_or_from_slice_get pools i h.pool h.pool h.found)) ∙ set-get_or pools i h.pool
+    h.change (uses key now) ∙ (λ j. slice_set pools i (found_in key (none j) h.pool)) ∙ ap (slice_set pools i) (sym (get_or_from_slice_get pools i h.pool h.pool h.found)) ∙ set-get_or pools i h.pool
 
 -- an expired item stays where it is
 pub missed : (key : List ℕ) (now : ℕ) (pools : List Pool) → None ≡ value_at now key pools → change_home key (uses key now) pools ≡ pools
@@ -94,7 +95,7 @@ pub elsewhere : (key : List ℕ) (now : ℕ) (old pools : List Pool) (i : ℕ) (
     → filled ≡ copied (value_then now (item_at key there.items)) buffer → new ≡ uses key now there → option_map (λ n. i + n) (home_of key (drop i old)) ≡ home_of key old → Elsewhere key old (slice_set pools i new) i buffer filled
 elsewhere key now old pools i there new buffer filled same lt read value fill is so =
     let none = mapped-none (λ (x : Item). option_map length (value_then now (Some x))) (item_at key there.items) (sym value) in
-    let stays : new ≡ there = is ∙ (λ j. record { size = there.size; items = used key (unexpired now (none j)) there.items }) in
+    let stays : new ≡ there = is ∙ (λ j. found_in key (unexpired now (none j)) there) in
     record {
       same = untouched pools i there new (omega (arith, lt, ap length same)) read stays ∙ same;
       rest = passed key old i there lt (read ∙ ap (λ ps. get_or ps i there) same) (ap is_some none) so;
@@ -103,15 +104,11 @@ elsewhere key now old pools i there new buffer filled same lt read value fill is
 
 -- ---- all pools
 
-tally-unexpired : (f : Item → ℕ) (key : List ℕ) (now : ℕ) (items : List Item) (o : Option Item) → unexpired now (item_at key items) ≡ o → tally f (used key o items) ≤ tally f items
-tally-unexpired f key now items None e = omega arith
-tally-unexpired f key now items (Some x) e = omega (arith, tally-push f (without key items) x, tally-without f key items x (unexpired-is now (item_at key items) x e))
-
 home_listed : (flash : Option FlashConfig) (listing : Listing) (key : List ℕ) (now : ℕ) (pools : List Pool) (o : Option ℕ) → home_of key pools ≡ o → Listed flash listing pools → Listed flash listing (used_in now key pools)
 home_listed flash listing key now pools None e l = rw ((away key pools e).change (uses key now)) l
 home_listed flash listing key now pools (Some i) e l =
     let h = home key pools i e in
-    rw (h.change (uses key now)) (listed-set flash listing pools i h.pool (uses key now h.pool) l h.found (λ f. tally-unexpired f key now h.pool.items (unexpired now (item_at key h.pool.items)) refl))
+    rw (h.change (uses key now)) (listed-set flash listing pools i h.pool (uses key now h.pool) l h.found (λ f. omega (arith, found-tally f key (unexpired now (item_at key h.pool.items)) h.pool (λ y e. unexpired-is now (item_at key h.pool.items) y e))))
 
 -- what is listed is so after a find
 pub listed-find : (flash : Option FlashConfig) (listing : Listing) (key : List ℕ) (now : ℕ) (pools : List Pool) → Listed flash listing pools → Listed flash listing (used_in now key pools)

@@ -7,7 +7,7 @@ use Rattle.std.proofs.lemmas.Slice.Eq.{bytes_eq-Decides}
 use Rattle.hc_types.specs.Tally.{tally, count}
 use Rattle.hc_types.proofs.Tallies.{tally-push}
 use Rattle.hc_memory.specs.Item.{Item}
-use Rattle.hc_memory.specs.Pool.{is_at, item_at, without, used, is_expired, unexpired, value_then, unmarked_where}
+use Rattle.hc_memory.specs.Pool.{is_at, item_at, without, is_expired, unexpired, value_then, unmarked_where}
 
 -- what is nothing under a function is nothing
 pub mapped-none : {X Y : Type 0} (f : X → Y) (o : Option X) → option_map f o ≡ None → o ≡ None
@@ -103,14 +103,6 @@ removed_step k x y items false h none = ap (λ ys. y ∷ ys) (h none)
 pub without-pushed : (k : List ℕ) (items : List Item) (x : Item) → is_at k x ≡ true → item_at k items ≡ None → without k (items ++ x ∷ []) ≡ items
 without-pushed k [] x same none = ap (λ b. cond b [] (x ∷ [])) same
 without-pushed k (y ∷ items) x same none = removed_step k x y items (is_at k y) (without-pushed k items x same) none
-
-used_step : (f : Item → ℕ) (key : List ℕ) (items : List Item) (o : Option Item) → item_at key items ≡ o → tally f (used key o items) ≡ tally f items
-used_step f key items None found = refl
-used_step f key items (Some x) found = omega (arith, tally-push f (without key items) x, tally-without f key items x found)
-
--- what is used is still there
-pub tally-used : (f : Item → ℕ) (key : List ℕ) (items : List Item) → tally f (used key (item_at key items) items) ≡ tally f items
-tally-used f key items = used_step f key items (item_at key items) refl
 
 -- ---- what is expired
 

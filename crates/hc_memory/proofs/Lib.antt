@@ -3,6 +3,10 @@ pub mod Books
 pub mod Places
 pub mod Putting
 pub mod Keyed
+pub mod Turns
+pub mod Hands
+pub mod ByUse
+mod SieveRows
 pub mod Orders
 pub mod Rooms
 pub mod Homes

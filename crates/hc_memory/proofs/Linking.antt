@@ -1,16 +1,19 @@
 -- What unlinking, using and linking an item do to the pools.
-use Rattle.std.proofs.Common.{◌≡◌, ◌≢◌, ⊎_elim, ℕ, ◌+◌, ◌≤◌, ◌==◌, ◌++◌, Bool, true, false, List, [], ◌∷◌, Option, Some, None, refl, ap, sym, ◌∙◌, arith, subst, not, nat_lt, eq-eqb, length, drop, slice_get, slice_set}
+use Rattle.std.proofs.Common.{◌≡◌, ◌≢◌, ⊎_elim, ℕ, ◌+◌, ◌≤◌, ◌==◌, ◌++◌, Bool, true, false, List, [], ◌∷◌, Option, Some, None, refl, ap, sym, ◌∙◌, arith, subst, not, nat_lt, eq-eqb, length, slice_get, slice_set}
 use Rattle.std.proofs.lemmas.List.{length_push, length-set, set-set, set_comm}
 use mathlib.Core.Bool.{cond}
 use Rattle.hc_types.specs.Tally.{tally, count}
-use Rattle.hc_types.proofs.Tallies.{tally-push, tally-set, tally-drop}
+use Rattle.hc_types.proofs.Tallies.{tally-push, tally-set}
 use Rattle.hc_memory.specs.Item.{Item, Open, cost, open_cost}
-use Rattle.hc_memory.specs.Pool.{Pool, is_at, item_at, without, used, unexpired, is_expired}
+use Rattle.hc_memory.specs.Order.{OrderFits, come}
+use Rattle.hc_memory.specs.Pool.{Pool, is_at, item_at, without, added, removed, found, unexpired, is_expired}
+use Rattle.hc_memory.proofs.Turns.{found-tally, found-size}
+use Rattle.hc_memory.proofs.Hands.{removed-none, fits-added, fits-removed, fits-found}
 use Rattle.hc_memory.specs.Charges.{has_number, usage_of}
 use Rattle.hc_memory.specs.Memory.{has, home_of, change_at, change_home, unlinked}
 use Rattle.hc_memory.specs.Sound.{IsWithin, Sound, items_at}
 use Rattle.hc_memory.proofs.Homes.{home, away}
-use Rattle.hc_memory.proofs.Keyed.{without-none, tally-without, item_at-is}
+use Rattle.hc_memory.proofs.Keyed.{tally-without, less-without, item_at-is}
 use Rattle.hc_memory.proofs.Keys.{get-set, get-set-other, elsewhere, nowhere, some_of, none_at}
 use Rattle.hc_memory.proofs.Sounds.{set-cases, Shrinks, sound-shrinks}
 
@@ -20,44 +23,16 @@ pub ones : {X : Type 0} (xs : List X) → length xs ≡ tally (λ _. 1) xs
 ones [] = refl
 ones (x ∷ xs) = omega (arith, ones xs)
 
-pub same_items : (pool : Pool) → Shrinks pool pool
-same_items pool = record { size = refl; bytes = omega arith; number = omega arith; keys = λ key. omega arith; strays = λ i. omega arith }
-
-less_step : (key : List ℕ) (pool : Pool) (o : Option Item) → item_at key pool.items ≡ o → Shrinks pool (record pool { items = without key pool.items })
-less_step key pool None e = rw (without-none key pool.items e) (same_items pool)
-less_step key pool (Some y) e = record {
-  size = refl;
-  bytes = omega (arith, tally-without cost key pool.items y e);
-  number = omega (arith, tally-without (λ _. 1) key pool.items y e, ones (without key pool.items), ones pool.items);
-  keys = λ k. omega (arith, tally-without (λ item. cond (is_at k item) 1 0) key pool.items y e);
-  strays = λ i. omega (arith, tally-without (λ item. cond (not (item.pool == i)) 1 0) key pool.items y e);
-}
-
 -- an item is taken out
-pub shrinks-without : (key : List ℕ) (pool : Pool) → Shrinks pool (record pool { items = without key pool.items })
-shrinks-without key pool = less_step key pool (item_at key pool.items) refl
-
--- the items that were used longest ago are dropped
-pub shrinks-drop : (n : ℕ) (pool : Pool) → Shrinks pool (record pool { items = drop n pool.items })
-shrinks-drop n pool = record {
+pub shrinks-removed : (key : List ℕ) (pool : Pool) → Shrinks pool (removed key pool)
+shrinks-removed key pool = record {
   size = refl;
-  bytes = tally-drop cost n pool.items;
-  number = omega (arith, tally-drop (λ _. 1) n pool.items, ones (drop n pool.items), ones pool.items);
-  keys = λ k. tally-drop (λ item. cond (is_at k item) 1 0) n pool.items;
-  strays = λ i. tally-drop (λ item. cond (not (item.pool == i)) 1 0) n pool.items;
+  bytes = less-without cost key pool.items;
+  number = omega (arith, less-without (λ _. 1) key pool.items, ones (without key pool.items), ones pool.items);
+  keys = λ k. less-without (λ item. cond (is_at k item) 1 0) key pool.items;
+  strays = λ i. less-without (λ item. cond (not (item.pool == i)) 1 0) key pool.items;
+  order = fits-removed key pool;
 }
-
-used_step : (key : List ℕ) (pool : Pool) (o : Option Item) → ((y : Item) → o ≡ Some y → item_at key pool.items ≡ Some y) → Shrinks pool (record pool { items = used key o pool.items })
-used_step key pool None same = same_items pool
-used_step key pool (Some y) same =
-    let e = same y refl in
-    record {
-      size = refl;
-      bytes = omega (arith, tally-without cost key pool.items y e, tally-push cost (without key pool.items) y);
-      number = omega (arith, tally-without (λ _. 1) key pool.items y e, ones (without key pool.items ++ y ∷ []), ones pool.items, tally-push (λ _. 1) (without key pool.items) y);
-      keys = λ k. omega (arith, tally-without (λ item. cond (is_at k item) 1 0) key pool.items y e, tally-push (λ item. cond (is_at k item) 1 0) (without key pool.items) y);
-      strays = λ i. omega (arith, tally-without (λ item. cond (not (item.pool == i)) 1 0) key pool.items y e, tally-push (λ item. cond (not (item.pool == i)) 1 0) (without key pool.items) y);
-    }
 
 expiry_step : (now : ℕ) (x y : Item) (b : Bool) → cond b None (Some x) ≡ Some y → x ≡ y
 expiry_step now x y true h = absurd cc
@@ -67,9 +42,20 @@ pub unexpired-is : (now : ℕ) (o : Option Item) (y : Item) → unexpired now o 
 unexpired-is now None y h = absurd cc
 unexpired-is now (Some x) y h = ap (λ z. Some z) (expiry_step now x y (is_expired now x) h)
 
--- an item is used
-pub shrinks-used : (key : List ℕ) (now : ℕ) (pool : Pool) → Shrinks pool (record pool { items = used key (unexpired now (item_at key pool.items)) pool.items })
-shrinks-used key now pool = used_step key pool (unexpired now (item_at key pool.items)) (λ y e. unexpired-is now (item_at key pool.items) y e)
+-- an item is found
+pub shrinks-found : (key : List ℕ) (o : Option Item) (pool : Pool) → ((y : Item) → o ≡ Some y → item_at key pool.items ≡ Some y) → Shrinks pool (found key o pool)
+shrinks-found key o pool same = record {
+  size = found-size key o pool;
+  bytes = omega (arith, found-tally cost key o pool same);
+  number = omega (arith, found-tally (λ _. 1) key o pool same, ones (found key o pool).items, ones pool.items);
+  keys = λ k. omega (arith, found-tally (λ item. cond (is_at k item) 1 0) key o pool same);
+  strays = λ i. omega (arith, found-tally (λ item. cond (not (item.pool == i)) 1 0) key o pool same);
+  order = fits-found key o pool;
+}
+
+-- an item is found, unless it is expired
+pub shrinks-used : (key : List ℕ) (now : ℕ) (pool : Pool) → Shrinks pool (found key (unexpired now (item_at key pool.items)) pool)
+shrinks-used key now pool = shrinks-found key (unexpired now (item_at key pool.items)) pool (λ y e. unexpired-is now (item_at key pool.items) y e)
 
 -- ---- the key's item goes, in whichever pool
 
@@ -81,16 +67,16 @@ pub sound-home : (key : List ℕ) (f : Pool → Pool) (pools : List Pool) (charg
 sound-home key f pools charges made less s = home_step key f pools charges made (home_of key pools) refl less s
 
 gone_step : (key : List ℕ) (pools : List Pool) (o : Option ℕ) → home_of key pools ≡ o → items_at key pools ≤ 1 → items_at key (unlinked key pools) ≡ 0
-gone_step key pools None e single = rw ((away key pools e).change (λ pool. record pool { items = without key pool.items })) (none_at key pools e)
+gone_step key pools None e single = rw ((away key pools e).change (removed key)) (none_at key pools e)
 gone_step key pools (Some i) e single =
     let h = home key pools i e in
-    let bare : Pool = record h.pool { items = without key h.pool.items } in
+    let bare : Pool = removed key h.pool in
     let x = some_of (item_at key h.pool.items) h.holds in
     let is = item_at-is key h.pool.items x.0 x.1 in
     let sum = tally-set (λ (p : Pool). count (is_at key) p.items) pools i h.pool bare h.found in
     let term = tally-without (λ item. cond (is_at key item) 1 0) key h.pool.items x.0 x.1 in
     let less = rw is at term in
-    rw (h.change (λ pool. record pool { items = without key pool.items })) (omega (arith, single, sum, less))
+    rw (h.change (removed key)) (omega (arith, single, sum, less))
 
 -- the key's item is gone
 pub gone : (key : List ℕ) (pools : List Pool) → items_at key pools ≤ 1 → items_at key (unlinked key pools) ≡ 0
@@ -99,7 +85,7 @@ gone key pools single = gone_step key pools (home_of key pools) refl single
 -- ---- an item is linked
 
 -- the item's pool: what was open is linked
-linked_in : (charges rest : List Open) (c : Open) (pool : Pool) (item : Item) → cost item ≡ open_cost c → ((f : Open → ℕ) → tally f rest + f c ≡ tally f charges) → IsWithin (usage_of c.pool charges) pool → IsWithin (usage_of c.pool rest) (record pool { items = pool.items ++ item ∷ [] })
+linked_in : (charges rest : List Open) (c : Open) (pool : Pool) (item : Item) → cost item ≡ open_cost c → ((f : Open → ℕ) → tally f rest + f c ≡ tally f charges) → IsWithin (usage_of c.pool charges) pool → IsWithin (usage_of c.pool rest) (added item pool)
 linked_in charges rest c pool item costs sum w =
     let e = eq-eqb c.pool c.pool refl in
     let sb = sum (λ (charge : Open). cond (charge.pool == c.pool) (open_cost charge) 0) in
@@ -119,14 +105,14 @@ linked_not_in charges rest c i pool sum w =
     let wn = w.number in
     record { size = w.size; bytes = omega (arith, bytes, wb); number = omega (arith, number, wn) }
 
-single_step : (pools : List Pool) (i : ℕ) (pool : Pool) (item : Item) (key : List ℕ) (b : Bool) → is_at key item ≡ b → slice_get pools i ≡ Some pool → items_at key pools ≤ 1 → (b ≡ true → items_at key pools ≡ 0) → items_at key (slice_set pools i (record pool { items = pool.items ++ item ∷ [] })) ≤ 1
+single_step : (pools : List Pool) (i : ℕ) (pool : Pool) (item : Item) (key : List ℕ) (b : Bool) → is_at key item ≡ b → slice_get pools i ≡ Some pool → items_at key pools ≤ 1 → (b ≡ true → items_at key pools ≡ 0) → items_at key (slice_set pools i (added item pool)) ≤ 1
 single_step pools i pool item key true e at single none =
-    let sum = tally-set (λ (p : Pool). count (is_at key) p.items) pools i pool (record pool { items = pool.items ++ item ∷ [] }) at in
+    let sum = tally-set (λ (p : Pool). count (is_at key) p.items) pools i pool (added item pool) at in
     let push = tally-push (λ (x : Item). cond (is_at key x) 1 0) pool.items item in
     let one = rw e at push in
     omega (arith, sum, one, none refl)
 single_step pools i pool item key false e at single none =
-    let sum = tally-set (λ (p : Pool). count (is_at key) p.items) pools i pool (record pool { items = pool.items ++ item ∷ [] }) at in
+    let sum = tally-set (λ (p : Pool). count (is_at key) p.items) pools i pool (added item pool) at in
     let push = tally-push (λ (x : Item). cond (is_at key x) 1 0) pool.items item in
     let one = rw e at push in
     omega (arith, sum, one, single)
@@ -139,9 +125,9 @@ own_step items item i is z =
     omega (arith, one, z)
 
 -- an open charge ends, and an item of its cost is linked in its pool
-pub sound-linked : (pools : List Pool) (charges rest : List Open) (made : ℕ) (c : Open) (pool : Pool) (item : Item) → Sound pools charges made → slice_get pools c.pool ≡ Some pool → item.pool ≡ c.pool → cost item ≡ open_cost c → ((f : Open → ℕ) → tally f rest + f c ≡ tally f charges) → ((key : List ℕ) → is_at key item ≡ true → items_at key pools ≡ 0) → Sound (slice_set pools c.pool (record pool { items = pool.items ++ item ∷ [] })) rest made
+pub sound-linked : (pools : List Pool) (charges rest : List Open) (made : ℕ) (c : Open) (pool : Pool) (item : Item) → Sound pools charges made → slice_get pools c.pool ≡ Some pool → item.pool ≡ c.pool → cost item ≡ open_cost c → ((f : Open → ℕ) → tally f rest + f c ≡ tally f charges) → ((key : List ℕ) → is_at key item ≡ true → items_at key pools ≡ 0) → Sound (slice_set pools c.pool (added item pool)) rest made
 sound-linked pools charges rest made c pool item s at is costs sum none =
-    let next : Pool = record pool { items = pool.items ++ item ∷ [] } in
+    let next : Pool = added item pool in
     let less : (f : Open → ℕ) → tally f rest ≤ tally f charges = λ f. omega (arith, sum f) in
     record {
       some = omega (arith, s.some, length-set pools c.pool next);
@@ -154,6 +140,10 @@ sound-linked pools charges rest made c pool item s at is costs sum none =
           (λ (both : (j ≡ c.pool) × (there ≡ next)). subst (λ (p : Pool). count (λ (x : Item). not (x.pool == j)) p.items ≡ 0) (sym both.1) (subst (λ (n : ℕ). count (λ (x : Item). not (x.pool == n)) next.items ≡ 0) (sym both.0) (own_step pool.items item c.pool is (s.own c.pool pool at))))
           (λ (e : slice_get pools j ≡ Some there). s.own j there e)
           (set-cases pools c.pool j next there found);
+      order = λ j there found. ⊎_elim
+          (λ (both : (j ≡ c.pool) × (there ≡ next)). subst (λ (p : Pool). OrderFits p.order (length p.items)) (sym both.1) (fits-added item pool (s.order c.pool pool at)))
+          (λ (e : slice_get pools j ≡ Some there). s.order j there e)
+          (set-cases pools c.pool j next there found);
       single = λ key. single_step pools c.pool pool item key (is_at key item) refl at (s.single key) (λ e. none key e);
       fresh = λ number later. omega (arith, s.fresh number later, less (λ (charge : Open). cond (has_number number charge) 1 0));
       unique = λ number. omega (arith, s.unique number, less (λ (charge : Open). cond (has_number number charge) 1 0));
@@ -163,24 +153,24 @@ sound-linked pools charges rest made c pool item s at is costs sum none =
 -- ---- linking, as the code does it: the item replaces the one of its own pool first
 
 pub link-away : (key : List ℕ) (pools : List Pool) (i : ℕ) (pool : Pool) (item : Item) → home_of key pools ≡ None → slice_get pools i ≡ Some pool
-    → slice_set pools i (record pool { items = without key pool.items ++ item ∷ [] }) ≡ change_at i (λ p. record p { items = p.items ++ item ∷ [] }) (unlinked key pools)
-link-away key pools i pool item e at = rw ((away key pools e).change (λ p. record p { items = without key p.items })) (rw at (rw (without-none key pool.items (nowhere key pools i pool e at)) refl))
+    → slice_set pools i (added item (removed key pool)) ≡ change_at i (added item) (unlinked key pools)
+link-away key pools i pool item e at = rw ((away key pools e).change (removed key)) (rw at (ap (λ (p : Pool). slice_set pools i (added item p)) (removed-none key pool (nowhere key pools i pool e at))))
 
 pub link-home : (key : List ℕ) (pools : List Pool) (i : ℕ) (pool : Pool) (item : Item) → home_of key pools ≡ Some i → slice_get pools i ≡ Some pool
-    → slice_set pools i (record pool { items = without key pool.items ++ item ∷ [] }) ≡ change_at i (λ p. record p { items = p.items ++ item ∷ [] }) (unlinked key pools)
+    → slice_set pools i (added item (removed key pool)) ≡ change_at i (added item) (unlinked key pools)
 link-home key pools i pool item e at =
     let h = home key pools i e in
     let same : h.pool ≡ pool = let f = h.found in cc in
-    let bare : Pool = record h.pool { items = without key h.pool.items } in
-    rw (h.change (λ p. record p { items = without key p.items })) (rw (get-set pools i h.pool bare h.found) (rw same (sym (set-set pools i (record pool { items = without key pool.items }) (record pool { items = without key pool.items ++ item ∷ [] })))))
+    let bare : Pool = removed key h.pool in
+    rw (h.change (removed key)) (rw (get-set pools i h.pool bare h.found) (rw same (sym (set-set pools i (removed key pool) (added item (removed key pool))))))
 
 pub link-other : (key : List ℕ) (pools : List Pool) (h i : ℕ) (there pool : Pool) (item : Item) → items_at key pools ≤ 1 → home_of key pools ≡ Some h → slice_get pools h ≡ Some there → slice_get pools i ≡ Some pool → i ≢ h
-    → slice_set (slice_set pools i (record pool { items = without key pool.items ++ item ∷ [] })) h (record there { items = without key there.items }) ≡ change_at i (λ p. record p { items = p.items ++ item ∷ [] }) (unlinked key pools)
-link-other key pools h i there pool item single e at found other =
+    → slice_set (slice_set pools i (added item (removed key pool))) h (removed key there) ≡ change_at i (added item) (unlinked key pools)
+link-other key pools h i there pool item single e at at_own other =
     let home = home key pools h e in
     let same : home.pool ≡ there = let f = home.found in cc in
-    let bare : Pool = record there { items = without key there.items } in
-    let next : Pool = record pool { items = pool.items ++ item ∷ [] } in
+    let bare : Pool = removed key there in
+    let next : Pool = added item pool in
     let holds : has key there ≡ true = subst (λ (p : Pool). has key p ≡ true) same home.holds in
-    let kept : slice_get (slice_set pools h bare) i ≡ Some pool = get-set-other pools h i bare other ∙ found in
-    rw (home.change (λ p. record p { items = without key p.items })) (rw same (rw kept (rw (without-none key pool.items (elsewhere key pools h i there pool single at holds found other)) (set_comm pools i h next bare other))))
+    let kept : slice_get (slice_set pools h bare) i ≡ Some pool = get-set-other pools h i bare other ∙ at_own in
+    rw (home.change (removed key)) (rw same (rw kept (ap (λ (p : Pool). slice_set (slice_set pools i (added item p)) h bare) (removed-none key pool (elsewhere key pools h i there pool single at holds at_own other)) ∙ set_comm pools i h next bare other)))

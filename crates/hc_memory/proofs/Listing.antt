@@ -13,11 +13,12 @@ use Rattle.hc_types.specs.declared.config.PoolSize.{PoolSize}
 use Rattle.hc_types.specs.declared.config.FlashConfig.{FlashConfig}
 use Rattle.hc_memory.specs.Sound.{items_at}
 use Rattle.hc_memory.specs.Item.{Item}
-use Rattle.hc_memory.specs.Pool.{Pool, item_at, without, used, is_at}
+use Rattle.hc_memory.specs.Pool.{Pool, item_at, added, removed, found, next_items, next_left, is_at}
 use Rattle.hc_memory.specs.Memory.{empty_pool, home_of, change_at, unlinked}
 use Rattle.hc_memory.specs.Clean.{Listing, keys_at, has_key, with_key, large_at, is_listed, is_told, is_missed, Listed}
 use Rattle.hc_memory.proofs.Homes.{home, away}
-use Rattle.hc_memory.proofs.Keyed.{less-without, tally-used}
+use Rattle.hc_memory.proofs.Keyed.{less-without}
+use Rattle.hc_memory.proofs.Turns.{found-tally, next-parts}
 
 -- ---- one key more
 
@@ -56,31 +57,31 @@ pub listed-set : (flash : Option FlashConfig) (listing : Listing) (pools : List 
 listed-set flash listing pools i old new l at less = omega (arith, l, set-less (one flash listing) pools i old new at (less (one flash listing)))
 
 home_less : (f : Item → ℕ) (key : List ℕ) (pools : List Pool) (o : Option ℕ) → home_of key pools ≡ o → all f (unlinked key pools) ≤ all f pools
-home_less f key pools None e = rw ((away key pools e).change (λ pool. record pool { items = without key pool.items })) (omega arith)
+home_less f key pools None e = rw ((away key pools e).change (removed key)) (omega arith)
 home_less f key pools (Some i) e =
     let h = home key pools i e in
-    rw (h.change (λ pool. record pool { items = without key pool.items })) (set-less f pools i h.pool (record h.pool { items = without key h.pool.items }) h.found (less-without f key h.pool.items))
+    rw (h.change (removed key)) (set-less f pools i h.pool (removed key h.pool) h.found (less-without f key h.pool.items))
 
 pub listed-unlinked : (flash : Option FlashConfig) (listing : Listing) (key : List ℕ) (pools : List Pool) → Listed flash listing pools → Listed flash listing (unlinked key pools)
 listed-unlinked flash listing key pools l = omega (arith, l, home_less (one flash listing) key pools (home_of key pools) refl)
 
-change_more : (f : Item → ℕ) (i : ℕ) (item : Item) (pools : List Pool) (o : Option Pool) → slice_get pools i ≡ o → all f (option_map_or (λ pool. slice_set pools i (record pool { items = pool.items ++ item ∷ [] })) o pools) ≤ all f pools + f item
+change_more : (f : Item → ℕ) (i : ℕ) (item : Item) (pools : List Pool) (o : Option Pool) → slice_get pools i ≡ o → all f (option_map_or (λ pool. slice_set pools i (added item pool)) o pools) ≤ all f pools + f item
 change_more f i item pools None e = omega arith
-change_more f i item pools (Some pool) e = omega (arith, tally-push f pool.items item, tally-set (λ (p : Pool). tally f p.items) pools i pool (record pool { items = pool.items ++ item ∷ [] }) e)
+change_more f i item pools (Some pool) e = omega (arith, tally-push f pool.items item, tally-set (λ (p : Pool). tally f p.items) pools i pool (added item pool) e)
 
 -- an item that isn't missed is linked
-pub listed-linked : (flash : Option FlashConfig) (listing : Listing) (own : ℕ) (key : List ℕ) (item : Item) (pools : List Pool) → Listed flash listing pools → is_missed flash listing item ≡ false → Listed flash listing (change_at own (λ pool. record pool { items = pool.items ++ item ∷ [] }) (unlinked key pools))
+pub listed-linked : (flash : Option FlashConfig) (listing : Listing) (own : ℕ) (key : List ℕ) (item : Item) (pools : List Pool) → Listed flash listing pools → is_missed flash listing item ≡ false → Listed flash listing (change_at own (added item) (unlinked key pools))
 listed-linked flash listing own key item pools l e =
     let none : one flash listing item ≡ 0 = rw e refl in
     omega (arith, listed-unlinked flash listing key pools l, none, change_more (one flash listing) own item (unlinked key pools) (slice_get (unlinked key pools) own) refl)
 
 -- an item is used
-pub listed-used : (flash : Option FlashConfig) (listing : Listing) (key : List ℕ) (pools : List Pool) (i : ℕ) (old new : Pool) → Listed flash listing pools → slice_get pools i ≡ Some old → new ≡ record { size = old.size; items = used key (item_at key old.items) old.items } → Listed flash listing (slice_set pools i new)
-listed-used flash listing key pools i old new l at is = listed-set flash listing pools i old new l at (λ f. omega (arith, ap (λ (p : Pool). tally f p.items) is, tally-used f key old.items))
+pub listed-used : (flash : Option FlashConfig) (listing : Listing) (key : List ℕ) (pools : List Pool) (i : ℕ) (old new : Pool) → Listed flash listing pools → slice_get pools i ≡ Some old → new ≡ found key (item_at key old.items) old → Listed flash listing (slice_set pools i new)
+listed-used flash listing key pools i old new l at is = listed-set flash listing pools i old new l at (λ f. omega (arith, ap (λ (p : Pool). tally f p.items) is, found-tally f key (item_at key old.items) old (λ y e. e)))
 
--- the items that were used longest ago go
-pub listed-dropped : (flash : Option FlashConfig) (listing : Listing) (pools : List Pool) (i count : ℕ) (old new : Pool) → Listed flash listing pools → slice_get pools i ≡ Some old → new ≡ record { size = old.size; items = drop count old.items } → Listed flash listing (slice_set pools i new)
-listed-dropped flash listing pools i count old new l at is = listed-set flash listing pools i old new l at (λ f. omega (arith, ap (λ (p : Pool). tally f p.items) is, tally-drop f count old.items))
+-- the next in turn go
+pub listed-dropped : (flash : Option FlashConfig) (listing : Listing) (pools : List Pool) (i count : ℕ) (old new : Pool) → Listed flash listing pools → slice_get pools i ≡ Some old → new ≡ next_left count old → Listed flash listing (slice_set pools i new)
+listed-dropped flash listing pools i count old new l at is = listed-set flash listing pools i old new l at (λ f. omega (arith, ap (λ (p : Pool). tally f p.items) is, next-parts f count old))
 
 -- no item is there
 pub listed-new : (flash : Option FlashConfig) (listing : Listing) (sizes : List PoolSize) → Listed flash listing (map empty_pool sizes)
@@ -193,7 +194,7 @@ taken_count f (suc n) [] = refl
 taken_count f (suc n) (x ∷ items) = omega (arith, taken_count f n items)
 
 -- no key of theirs is left
-pub evicted-single : (pools : List Pool) (i count : ℕ) (there new : Pool) (gone : List Item) (key : List ℕ) → items_at key pools ≤ 1 → slice_get pools i ≡ Some there → new ≡ record { size = there.size; items = drop count there.items } → gone ≡ take count there.items → items_at key (slice_set pools i new) + tally (λ (x : Item). cond (is_at key x) 1 0) gone ≤ 1
+pub evicted-single : (pools : List Pool) (i count : ℕ) (there new : Pool) (gone : List Item) (key : List ℕ) → items_at key pools ≤ 1 → slice_get pools i ≡ Some there → new ≡ next_left count there → gone ≡ next_items count there → items_at key (slice_set pools i new) + tally (λ (x : Item). cond (is_at key x) 1 0) gone ≤ 1
 evicted-single pools i count there new gone key single at is went =
     let f : Item → ℕ = λ x. cond (is_at key x) 1 0 in
-    omega (arith, single, tally-set (λ (p : Pool). tally f p.items) pools i there new at, ap (λ (p : Pool). tally f p.items) is, ap (tally f) went, taken_count f count there.items)
+    omega (arith, single, tally-set (λ (p : Pool). tally f p.items) pools i there new at, ap (λ (p : Pool). tally f p.items) is, ap (tally f) went, next-parts f count there)

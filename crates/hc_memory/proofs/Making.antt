@@ -1,6 +1,7 @@
 -- New pools, and room that is made in one.
-use Rattle.std.proofs.Common.{◌≡◌, ℕ, zero, suc, ◌+◌, ◌<◌, ◌≤◌, leb, ◌-◌, Bool, true, false, not, List, [], ◌∷◌, ◌++◌, length, take, drop, map, append_assoc, Option, Some, None, Result, Ok, Err, IfOk, refl, ap, sym, ◌∙◌, arith, subst, slice_get, slice_set, get_or}
+use Rattle.std.proofs.Common.{◌≡◌, ◌==◌, ℕ, zero, suc, ◌+◌, ◌<◌, ◌≤◌, leb, ◌-◌, Bool, true, false, not, List, [], ◌∷◌, ◌++◌, length, take, drop, map, append_assoc, Option, Some, None, Result, Ok, Err, IfOk, refl, ap, sym, ◌∙◌, arith, subst, slice_get, slice_set, get_or}
 use mathlib.Core.Bool.{cond}
+use Rattle.std.specs.Option.{option_map_or}
 use Rattle.hc_types.specs.Config.{Config}
 use Rattle.hc_types.specs.Limits.{pool_fits, all_fit, pools_fit, page_fits, regions_fit, queue_fits, is_within, wrong_behind, first_wrong}
 use Rattle.hc_types.specs.declared.config.PoolSize.{PoolSize}
@@ -9,8 +10,8 @@ use Rattle.hc_types.specs.declared.refusal.Refusal.{Refusal}
 use Rattle.hc_types.specs.declared.refusal.Refusal.TheVariants.{BadPool, BadPage, BadBuckets, BadRegions, BadSmallMax, BadQueue, BadBits}
 use Rattle.hc_types.specs.Tally.{tally, count}
 use Rattle.hc_memory.specs.declared.usage.Usage.{Usage}
-use Rattle.hc_memory.specs.Item.{Item, Open, open_cost}
-use Rattle.hc_memory.specs.Pool.{Pool, item_at, is_full, kept, dropped}
+use Rattle.hc_memory.specs.Item.{Item, Open, cost, open_cost}
+use Rattle.hc_memory.specs.Pool.{Pool, Turn, is_at, item_at, is_full, next, next_items, next_left, kept, dropped}
 use Rattle.hc_memory.specs.Charges.{usage_of, charge_at, closed}
 use Rattle.std.proofs.lemmas.Bool.{and_parts}
 use Rattle.std.proofs.lemmas.List.{length-map, length-take-le, drop_more}
@@ -20,15 +21,17 @@ use Rattle.hc_memory.proofs.Homes.{home}
 use Rattle.hc_memory.proofs.Looking.{read-there}
 use Rattle.hc_memory.proofs.Sounds.{Shrinks, sound-shrinks, sound-charged}
 use Rattle.hc_memory.proofs.Keys.{get-set}
-use Rattle.hc_memory.proofs.Linking.{shrinks-drop}
-use Rattle.hc_memory.specs.Memory.{Memory, empty_pool, change_home, home_of, linked_at, is_hopeless, victims_of, after_room}
+use Rattle.hc_memory.proofs.Linking.{ones}
+use Rattle.hc_memory.proofs.Turns.{Goes, next-goes, length-next, stays-next, both-parts, same-size, kept-fits}
+use Rattle.hc_memory.proofs.Hands.{PoolFits, FitsLeft, fits-none, next-fits, stays-fits}
+use Rattle.hc_memory.specs.Memory.{Memory, empty_pool, change_home, home_of, linked_at, is_hopeless, victims_of, without_next, after_room}
 use Rattle.hc_memory.specs.Sound.{IsWithin, Sound, FlashFits, items_at}
 
 -- ---- new pools
 
-made_of : (sizes : List PoolSize) (i : ℕ) (pool : Pool) → all_fit sizes ≡ true → slice_get (map empty_pool sizes) i ≡ Some pool → (pool_fits pool.size ≡ true) × (pool.items ≡ [])
+made_of : (sizes : List PoolSize) (i : ℕ) (pool : Pool) → all_fit sizes ≡ true → slice_get (map empty_pool sizes) i ≡ Some pool → (pool_fits pool.size ≡ true) × (pool.items ≡ []) × (PoolFits pool)
 made_of [] i pool fit at = absurd cc
-made_of (size ∷ sizes) zero pool fit at = let same : empty_pool size ≡ pool = cc in subst (λ (p : Pool). (pool_fits p.size ≡ true) × (p.items ≡ [])) same ((and_parts (pool_fits size) (all_fit sizes) fit).0, refl)
+made_of (size ∷ sizes) zero pool fit at = let same : empty_pool size ≡ pool = cc in subst (λ (p : Pool). (pool_fits p.size ≡ true) × (p.items ≡ []) × (PoolFits p)) same ((and_parts (pool_fits size) (all_fit sizes) fit).0, refl, fits-none size.turns)
 made_of (size ∷ sizes) (suc i) pool fit at = made_of sizes i pool (and_parts (pool_fits size) (all_fit sizes) fit).1 at
 
 none_at_all : (key : List ℕ) (sizes : List PoolSize) → items_at key (map empty_pool sizes) ≡ 0
@@ -45,6 +48,7 @@ sound_of sizes some few fit = record {
     number = rw m.1 (omega arith);
   };
   own = λ i pool at. let m = made_of sizes i pool fit at in rw m.1 refl;
+  order = λ i pool at. (made_of sizes i pool fit at).2;
   single = λ key. omega (arith, none_at_all key sizes);
   fresh = λ number later. refl;
   unique = λ number. omega arith;
@@ -96,18 +100,18 @@ sound-new config h =
 -- ---- room in a pool that is there
 
 pub record Known (memory : Memory) (number want : ℕ) (pool : Pool) : Type 0 where
-  pub victims : victims_of memory number want ≡ dropped pool.size (usage_of number memory.charges) want pool.items
+  pub victims : victims_of memory number want ≡ dropped (usage_of number memory.charges) want pool
   pub hopeless : is_hopeless memory number want ≡ is_full pool.size (usage_of number memory.charges) want []
-  pub room : after_room memory number want ≡ record memory { pools = slice_set memory.pools number (record pool { items = kept pool.size (usage_of number memory.charges) want pool.items }) }
+  pub room : after_room memory number want ≡ record memory { pools = slice_set memory.pools number (kept (usage_of number memory.charges) want pool) }
 
 pub known : (memory : Memory) (number want : ℕ) (pool : Pool) → slice_get memory.pools number ≡ Some pool → Known memory number want pool
 known memory number want pool at = record { victims = rw at refl; hopeless = rw at refl; room = rw at refl }
 
 -- ---- what results lift
 
-pub count-lifted : (r : Result ℕ Refusal) (items vs : List Item) → IfOk r (λ n. n ≤ length items) → IfOk r (λ n. take n items ≡ vs) → IfOk r (λ n. n ≡ length vs)
-count-lifted (Ok n) items vs some go = sym (length-take-le n items some) ∙ ap length go
-count-lifted (Err e) items vs some go = go
+pub count-lifted : (r : Result ℕ Refusal) (pool : Pool) (vs : List Item) → IfOk r (λ n. n ≤ length pool.items) → IfOk r (λ n. next_items n pool ≡ vs) → IfOk r (λ n. n ≡ length vs)
+count-lifted (Ok n) pool vs some go = sym (length-next n pool some) ∙ ap length go
+count-lifted (Err e) pool vs some go = go
 
 -- ---- a charge that ends
 
@@ -149,68 +153,65 @@ there-at pools number i there lt same read = read-there pools number there lt (r
 pub within-there : (pools : List Pool) (charges : List Open) (made number : ℕ) (there : Pool) (usage : Usage) → Sound pools charges made → slice_get pools number ≡ Some there → usage ≡ usage_of number charges → IsWithin usage there
 within-there pools charges made number there usage s at is = subst (λ (u : Usage). IsWithin u there) (sym is) (s.within number there at)
 
--- the pool after evictions
-pub evicted-sound : (pools : List Pool) (charges : List Open) (made number i count : ℕ) (there again new : Pool) → Sound pools charges made → i ≡ number → slice_get pools number ≡ Some there → again ≡ get_or pools i again → new ≡ record { size = again.size; items = drop count again.items } → Sound (slice_set pools i new) charges made
-evicted-sound pools charges made number i count there again new s same at read is =
+-- the pool, once the next in turn went
+pub shrinks-next : (pool : Pool) → Shrinks pool (without_next pool)
+shrinks-next pool = step (next pool) (next-goes pool) (next-fits pool)
+  where
+    step : (o : Option Turn) → Goes pool o → FitsLeft pool o → Shrinks pool (option_map_or (λ (turn : Turn). turn.left) o pool)
+    step None g f = record { size = refl; bytes = omega arith; number = omega arith; keys = λ key. omega arith; strays = λ i. omega arith; order = λ h. h }
+    step (Some turn) g f = record {
+      size = g.1;
+      bytes = omega (arith, g.0 cost);
+      number = omega (arith, g.0 (λ _. 1), ones turn.left.items, ones pool.items);
+      keys = λ k. omega (arith, g.0 (λ item. cond (is_at k item) 1 0));
+      strays = λ i. omega (arith, g.0 (λ item. cond (not (item.pool == i)) 1 0));
+      order = f;
+    }
+
+-- the pool, once one went
+pub evicted-sound : (pools : List Pool) (charges : List Open) (made number i : ℕ) (there again new : Pool) → Sound pools charges made → i ≡ number → slice_get pools number ≡ Some there → again ≡ get_or pools i again → new ≡ without_next again → Sound (slice_set pools i new) charges made
+evicted-sound pools charges made number i there again new s same at read is =
     let there' : again ≡ there = same-there pools number again there at (read ∙ ap (λ n. get_or pools n again) same) in
-    let new' : new ≡ record there { items = drop count there.items } = is ∙ ap (λ (p : Pool). record p { items = drop count p.items }) there' in
-    rw (same, new') (sound-shrinks pools charges made number there (record there { items = drop count there.items }) s at (shrinks-drop count there))
+    let new' : new ≡ without_next there = is ∙ ap without_next there' in
+    rw (same, new') (sound-shrinks pools charges made number there (without_next there) s at (shrinks-next there))
 
--- ---- what goes, and what stays
-
-drop_step : (size : PoolSize) (usage : Usage) (want : ℕ) (x : Item) (items : List Item) (b : Bool) → take (length (dropped size usage want items)) items ≡ dropped size usage want items → take (length (cond b (x ∷ dropped size usage want items) [])) (x ∷ items) ≡ cond b (x ∷ dropped size usage want items) []
-drop_step size usage want x items true h = ap (λ l. x ∷ l) h
-drop_step size usage want x items false h = refl
-
-pub take-dropped : (size : PoolSize) (usage : Usage) (want : ℕ) (items : List Item) → take (length (dropped size usage want items)) items ≡ dropped size usage want items
-take-dropped size usage want [] = refl
-take-dropped size usage want (x ∷ items) = drop_step size usage want x items (is_full size usage want (x ∷ items)) (take-dropped size usage want items)
-
-keep_step : (size : PoolSize) (usage : Usage) (want : ℕ) (x : Item) (items : List Item) (b : Bool) → drop (length (dropped size usage want items)) items ≡ kept size usage want items → drop (length (cond b (x ∷ dropped size usage want items) [])) (x ∷ items) ≡ cond b (kept size usage want items) (x ∷ items)
-keep_step size usage want x items true h = h
-keep_step size usage want x items false h = refl
-
-pub drop-dropped : (size : PoolSize) (usage : Usage) (want : ℕ) (items : List Item) → drop (length (dropped size usage want items)) items ≡ kept size usage want items
-drop-dropped size usage want [] = refl
-drop-dropped size usage want (x ∷ items) = keep_step size usage want x items (is_full size usage want (x ∷ items)) (drop-dropped size usage want items)
-
-few_step : (size : PoolSize) (usage : Usage) (want : ℕ) (x : Item) (items : List Item) (b : Bool) → length (dropped size usage want items) ≤ length items → length (cond b (x ∷ dropped size usage want items) []) ≤ length (x ∷ items)
-few_step size usage want x items true h = omega (arith, h)
-few_step size usage want x items false h = omega arith
-
-pub dropped-few : (size : PoolSize) (usage : Usage) (want : ℕ) (items : List Item) → length (dropped size usage want items) ≤ length items
-dropped-few size usage want [] = omega arith
-dropped-few size usage want (x ∷ items) = few_step size usage want x items (is_full size usage want (x ∷ items)) (dropped-few size usage want items)
-
-fit_step : (size : PoolSize) (usage : Usage) (want : ℕ) (x : Item) (items : List Item) (b : Bool) → is_full size usage want (x ∷ items) ≡ b → is_full size usage want (kept size usage want items) ≡ false → is_full size usage want (cond b (kept size usage want items) (x ∷ items)) ≡ false
-fit_step size usage want x items true e h = h
-fit_step size usage want x items false e h = e
-
-pub kept-fits : (size : PoolSize) (usage : Usage) (want : ℕ) (items : List Item) → is_full size usage want [] ≡ false → is_full size usage want (kept size usage want items) ≡ false
-kept-fits size usage want [] h = h
-kept-fits size usage want (x ∷ items) h = fit_step size usage want x items (is_full size usage want (x ∷ items)) refl (kept-fits size usage want items h)
+pub dropped-few : (usage : Usage) (want : ℕ) (pool : Pool) → length (dropped usage want pool) ≤ length pool.items
+dropped-few usage want pool = omega (arith, both-parts (λ _. 1) (length pool.items) usage want pool, ones (dropped usage want pool), ones pool.items)
 
 -- the pool where room is made
 pub record Roomy (pools : List Pool) (i number want : ℕ) (usage : Usage) (there new : Pool) : Type 0 where
-  pub left : new ≡ record there { items = kept there.size usage want there.items }
-  pub set : slice_set pools i new ≡ slice_set pools number (record there { items = kept there.size usage want there.items })
+  pub left : new ≡ kept usage want there
+  pub set : slice_set pools i new ≡ slice_set pools number (kept usage want there)
 
-pub roomy : (pools : List Pool) (i number want count : ℕ) (usage : Usage) (there again new : Pool) → i ≡ number → slice_get pools number ≡ Some there → again ≡ get_or pools i again → new ≡ record { size = again.size; items = drop count again.items } → count ≡ length (dropped there.size usage want there.items) → Roomy pools i number want usage there new
+pub roomy : (pools : List Pool) (i number want count : ℕ) (usage : Usage) (there again new : Pool) → i ≡ number → slice_get pools number ≡ Some there → again ≡ get_or pools i again → new ≡ next_left count again → count ≡ length (dropped usage want there) → Roomy pools i number want usage there new
 roomy pools i number want count usage there again new same at read is counted =
     let there' : again ≡ there = same-there pools number again there at (read ∙ ap (λ n. get_or pools n again) same) in
-    let left : new ≡ record there { items = kept there.size usage want there.items } =
-    is ∙ ap (λ (p : Pool). record { size = p.size; items = drop count p.items }) there' ∙ ap (λ n. record { size = there.size; items = drop n there.items }) counted ∙ ap (λ (l : List Item). record { size = there.size; items = l }) (drop-dropped there.size usage want there.items) in
+    let left : new ≡ kept usage want there = is ∙ ap (next_left count) there' ∙ ap (λ n. next_left n there) counted ∙ stays-next (length there.items) usage want there in
     record { left = left; set = λ j. slice_set pools (same j) (left j) }
 
+-- the pool, once room is made in it
+pub shrinks-kept : (usage : Usage) (want : ℕ) (pool : Pool) → Shrinks pool (kept usage want pool)
+shrinks-kept usage want pool =
+    let left = kept usage want pool in
+    let n = length pool.items in
+    record {
+      size = same-size n usage want pool;
+      bytes = omega (arith, both-parts cost n usage want pool);
+      number = omega (arith, both-parts (λ _. 1) n usage want pool, ones left.items, ones pool.items);
+      keys = λ k. omega (arith, both-parts (λ item. cond (is_at k item) 1 0) n usage want pool);
+      strays = λ i. omega (arith, both-parts (λ item. cond (not (item.pool == i)) 1 0) n usage want pool);
+      order = stays-fits n usage want pool;
+    }
+
 pub charged-sound : (pools : List Pool) (charges : List Open) (made number want : ℕ) (there : Pool) (c : Open) → Sound pools charges made → slice_get pools number ≡ Some there → is_full there.size (usage_of number charges) want [] ≡ false → c.pool ≡ number → c.number ≡ made + 1 → open_cost c ≡ want
-    → Sound (slice_set pools number (record there { items = kept there.size (usage_of number charges) want there.items })) (charges ++ c ∷ []) (made + 1)
+    → Sound (slice_set pools number (kept (usage_of number charges) want there)) (charges ++ c ∷ []) (made + 1)
 charged-sound pools charges made number want there c s at room own next costs =
-    let new : Pool = record there { items = kept there.size (usage_of number charges) want there.items } in
-    let n = length (dropped there.size (usage_of number charges) want there.items) in
-    let less : Shrinks there new = subst (λ (l : List Item). Shrinks there (record there { items = l })) (drop-dropped there.size (usage_of number charges) want there.items) (shrinks-drop (length (dropped there.size (usage_of number charges) want there.items)) there) in
-    let s' = sound-shrinks pools charges made number there new s at less in
+    let usage = usage_of number charges in
+    let new : Pool = kept usage want there in
+    let s' = sound-shrinks pools charges made number there new s at (shrinks-kept usage want there) in
     let at' : slice_get (slice_set pools number new) c.pool ≡ Some new = subst (λ (m : ℕ). slice_get (slice_set pools number new) m ≡ Some new) (sym own) (get-set pools number there new at) in
-    let fits : is_full new.size (usage_of c.pool charges) (open_cost c) new.items ≡ false = (λ i. is_full there.size (usage_of (own i) charges) (costs i) (kept there.size (usage_of number charges) want there.items)) ∙ kept-fits there.size (usage_of number charges) want there.items room in
+    let fits : is_full new.size (usage_of c.pool charges) (open_cost c) new.items ≡ false =
+    (λ i. is_full (same-size (length there.items) usage want there i) (usage_of (own i) charges) (costs i) new.items) ∙ kept-fits (length there.items) usage want there (omega arith) room in
     sound-charged (slice_set pools number new) charges made c new s' at' next fits
 
 -- a pool whose number is below how many there are

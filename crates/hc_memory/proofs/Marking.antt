@@ -11,7 +11,7 @@ use Rattle.hc_types.specs.Places.{kept_of, bucket_at, is_small_by}
 use Rattle.hc_types.specs.Tally.{tally, count}
 use Rattle.hc_types.specs.declared.config.FlashConfig.{FlashConfig}
 use Rattle.hc_memory.specs.Item.{Item, Open}
-use Rattle.hc_memory.specs.Pool.{Pool, is_at, unmarked_where, is_covered}
+use Rattle.hc_memory.specs.Pool.{Pool, is_at, added, next_items, next_left, unmarked_where, is_covered}
 use Rattle.hc_memory.specs.Memory.{Memory, all_unmarked, linked_at, victims_of}
 use Rattle.hc_memory.specs.Clean.{Listing, keys_at, has_key, large_at, is_listed, is_told, is_missed, Listed}
 use Rattle.hc_memory.specs.Marks.{is_stale, settled, marked, Numbered}
@@ -48,7 +48,7 @@ module _ (one two : Item → Bool) (same : (x : Item) → one (bare x) ≡ one x
 
   pub turn-pools : (pools : List Pool) → map (pool_off one) (map (pool_off two) pools) ≡ map (pool_off two) (map (pool_off one) pools)
   turn-pools [] = refl
-  turn-pools (p ∷ pools) = λ i. record { size = p.size; items = turn_items p.items i } ∷ turn-pools pools i
+  turn-pools (p ∷ pools) = λ i. record { size = p.size; items = turn_items p.items i; order = p.order } ∷ turn-pools pools i
 
 -- marks that a scope takes are taken of what is marked, or before
 pub unmarked-marked : (flash : Option FlashConfig) (lost : List ℕ) (scope : Scope) (pools : List Pool) → marked flash lost (all_unmarked flash scope pools) ≡ all_unmarked flash scope (marked flash lost pools)
@@ -129,7 +129,7 @@ module _ (flash : FlashConfig) (lost : List ℕ) (bucket : ℕ) (listing : Listi
 
   lose_pools : (pools : List Pool) → Listed (Some flash) listing pools → marked (Some flash) after pools ≡ all_unmarked (Some flash) (Bucket bucket) (marked (Some flash) lost pools)
   lose_pools [] none = refl
-  lose_pools (p ∷ pools) none = λ i. record { size = p.size; items = lose_items p.items (omega (arith, none)) i } ∷ lose_pools pools (omega (arith, none)) i
+  lose_pools (p ∷ pools) none = λ i. record { size = p.size; items = lose_items p.items (omega (arith, none)) i; order = p.order } ∷ lose_pools pools (omega (arith, none)) i
 
 none_items : (items : List Item) → map (λ (x : Item). x) items ≡ items
 none_items [] = refl
@@ -137,7 +137,7 @@ none_items (x ∷ items) = ap (λ ys. x ∷ ys) (none_items items)
 
 none_pools : (bucket : ℕ) (pools : List Pool) → all_unmarked None (Bucket bucket) pools ≡ pools
 none_pools bucket [] = refl
-none_pools bucket (p ∷ pools) = λ i. record { size = p.size; items = none_items p.items i } ∷ none_pools bucket pools i
+none_pools bucket (p ∷ pools) = λ i. record { size = p.size; items = none_items p.items i; order = p.order } ∷ none_pools bucket pools i
 
 -- the marks of a bucket's items are gone once its number is the newest
 pub lose-marked : (flash : Option FlashConfig) (lost : List ℕ) (bucket : ℕ) (listing : Listing) (pools : List Pool) → FlashFits flash → IfSome flash (λ f. f.buckets ≤ length lost) → Listed flash listing pools
@@ -223,17 +223,17 @@ pub settled-key : (flash : Option FlashConfig) (lost : List ℕ) (x : Item) → 
 settled-key flash lost x = keeps (λ (y : Item). y.key) x (is_stale flash lost x) refl
 
 -- no key of the items that went is left, whose marks are settled
-pub evicted-marked : (test : Item → Bool) (pools : List Pool) (i count : ℕ) (there new : Pool) (gone : List Item) (key : List ℕ) → items_at key pools ≤ 1 → slice_get pools i ≡ Some there → new ≡ record { size = there.size; items = drop count there.items }
-    → gone ≡ unmarked_where test (take count there.items) → items_at key (slice_set pools i new) + tally (λ (x : Item). cond (is_at key x) 1 0) gone ≤ 1
+pub evicted-marked : (test : Item → Bool) (pools : List Pool) (i count : ℕ) (there new : Pool) (gone : List Item) (key : List ℕ) → items_at key pools ≤ 1 → slice_get pools i ≡ Some there → new ≡ next_left count there
+    → gone ≡ unmarked_where test (next_items count there) → items_at key (slice_set pools i new) + tally (λ (x : Item). cond (is_at key x) 1 0) gone ≤ 1
 evicted-marked test pools i count there new gone key single at is went =
     let f : Item → ℕ = λ x. cond (is_at key x) 1 0 in
-    omega (arith, evicted-single pools i count there new (take count there.items) key single at is refl, ap (tally f) went, tally-unmarked f test (λ y. refl) (take count there.items))
+    omega (arith, evicted-single pools i count there new (next_items count there) key single at is refl, ap (tally f) went, tally-unmarked f test (λ y. refl) (next_items count there))
 
-pub brought-marked : (test : Item → Bool) (pools : List Pool) (i n : ℕ) (there new : Pool) (gone : List Item) (x : Item) (other : List ℕ) → items_at x.key pools ≡ 0 → items_at other pools ≤ 1 → slice_get pools i ≡ Some there → new ≡ record { size = there.size; items = drop n there.items ++ x ∷ [] }
-    → gone ≡ unmarked_where test (take n there.items) → items_at other (slice_set pools i new) + count (is_at other) gone ≤ 1
+pub brought-marked : (test : Item → Bool) (pools : List Pool) (i n : ℕ) (there new : Pool) (gone : List Item) (x : Item) (other : List ℕ) → items_at x.key pools ≡ 0 → items_at other pools ≤ 1 → slice_get pools i ≡ Some there → new ≡ added x (next_left n there)
+    → gone ≡ unmarked_where test (next_items n there) → items_at other (slice_set pools i new) + count (is_at other) gone ≤ 1
 brought-marked test pools i n there new gone x other none single at is went =
     let f : Item → ℕ = λ y. cond (is_at other y) 1 0 in
-    omega (arith, brought-single pools i n there new (take n there.items) x other none single at is refl, ap (tally f) went, tally-unmarked f test (λ y. refl) (take n there.items))
+    omega (arith, brought-single pools i n there new (next_items n there) x other none single at is refl, ap (tally f) went, tally-unmarked f test (λ y. refl) (next_items n there))
 
 -- ---- an item that comes in
 

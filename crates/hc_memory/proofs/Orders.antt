@@ -14,11 +14,12 @@ use Rattle.lru.specs.LruCache.{lru_cache, last_entry, promoted, put_entries}
 use Rattle.lru.proofs.Pairs.{pops_last}
 use Rattle.hc_types.specs.Tally.{count}
 use Rattle.hc_memory.specs.Item.{Item, cost}
-use Rattle.hc_memory.specs.Pool.{bytes_of, is_at, item_at, without, used, is_expired, unmarked_where}
+use Rattle.hc_memory.specs.Pool.{bytes_of, is_at, item_at, without, is_expired, unmarked_where}
+use Rattle.hc_memory.proofs.ByUse.{moved, tally-moved}
 use Rattle.hc_memory.specs.Seen.{item_of, items_of}
 use Rattle.hc_types.proofs.Tallies.{tally-push}
 use Rattle.hc_memory.specs.declared.item.Held.{Held}
-use Rattle.hc_memory.proofs.Keyed.{same_bytes, count-none, item_at-push, item_at-pushed, without-push, without-pushed, without-none, tally-without, tally-used, unmarked-push, unmarked-none}
+use Rattle.hc_memory.proofs.Keyed.{same_bytes, count-none, item_at-push, item_at-pushed, without-push, without-pushed, without-none, tally-without, unmarked-push, unmarked-none}
 
 -- no key has two items
 abbrev pub AreUnique : List Item → Type 0
@@ -76,20 +77,20 @@ module _ {A : Type 0} where
   items_of-remove key [] one = refl
   items_of-remove key (e ∷ es) one = gone_step key e es (bytes_eq key e.0) refl one (items_of-remove key es (fewer key e es one))
 
-  promoted_step : (key : List ℕ) (es : List (List ℕ × Held A)) (o : Option (List ℕ × Held A)) → items_of (remove_entry (bytes_eq key) es) ≡ without key (items_of es) → items_of (option_map_or (λ e. e ∷ remove_entry (bytes_eq key) es) o es) ≡ used key (option_map item_of o) (items_of es)
+  promoted_step : (key : List ℕ) (es : List (List ℕ × Held A)) (o : Option (List ℕ × Held A)) → items_of (remove_entry (bytes_eq key) es) ≡ without key (items_of es) → items_of (option_map_or (λ e. e ∷ remove_entry (bytes_eq key) es) o es) ≡ moved key (option_map item_of o) (items_of es)
   promoted_step key es None h = refl
   promoted_step key es (Some e) h = ap (λ ys. ys ++ item_of e ∷ []) h
 
   -- the entry that goes first is the item that is used
-  pub items_of-promoted : (key : List ℕ) (es : List (List ℕ × Held A)) → count (is_at key) (items_of es) ≤ 1 → items_of (promoted (bytes_eq key) es) ≡ used key (item_at key (items_of es)) (items_of es)
-  items_of-promoted key es one = promoted_step key es (lookup_entry (bytes_eq key) es) (items_of-remove key es one) ∙ ap (λ o. used key o (items_of es)) (sym (item_at-entry key es one))
+  pub items_of-promoted : (key : List ℕ) (es : List (List ℕ × Held A)) → count (is_at key) (items_of es) ≤ 1 → items_of (promoted (bytes_eq key) es) ≡ moved key (item_at key (items_of es)) (items_of es)
+  items_of-promoted key es one = promoted_step key es (lookup_entry (bytes_eq key) es) (items_of-remove key es one) ∙ ap (λ o. moved key o (items_of es)) (sym (item_at-entry key es one))
 
   -- what the books say of the items holds after that too
   pub promoted-books : (key : List ℕ) (es : List (List ℕ × Held A)) (bytes until : ℕ) → count (is_at key) (items_of es) ≤ 1 → bytes ≡ bytes_of (items_of es) → count (is_expired until) (items_of es) ≡ 0 → (bytes ≡ bytes_of (items_of (promoted (bytes_eq key) es))) × (count (is_expired until) (items_of (promoted (bytes_eq key) es)) ≡ 0)
   promoted-books key es bytes until one charged fresh =
       let first = items_of-promoted key es one in (
-        charged ∙ sym (ap bytes_of first ∙ tally-used cost key (items_of es)),
-        ap (count (is_expired until)) first ∙ tally-used (λ (i : Item). cond (is_expired until i) 1 0) key (items_of es) ∙ fresh,
+        charged ∙ sym (ap bytes_of first ∙ tally-moved cost key (items_of es)),
+        ap (count (is_expired until)) first ∙ tally-moved (λ (i : Item). cond (is_expired until i) 1 0) key (items_of es) ∙ fresh,
       )
 
   first_step : (found : Option Item) (es rest : List (List ℕ × Held A)) (o : Option (List ℕ × Held A)) (k : List ℕ) (h : Held A) → found ≡ option_map item_of o → is_some found ≡ true → Some (k, h) ≡ slice_get (option_map_or (λ e. e ∷ rest) o es) 0 → found ≡ Some (item_of (k, h))

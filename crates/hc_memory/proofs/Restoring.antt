@@ -1,26 +1,28 @@
 -- What pools hand out at rest fills the same pools again, to what they were.
 use Rattle.std.proofs.Common.{◌≡◌, ℕ, zero, suc, ◌+◌, ◌<◌, ◌≤◌, ◌==◌, ◌++◌, nat_lt, nat_le, not, ◌&&◌, ◌||◌, Bool, true, false, List, [], ◌∷◌, Option, Some, None, is_some, map, refl, ap, sym, ◌∙◌, arith, subst, length, slice_get, slice_set, get_or, append-nil, append_assoc, length-append, eq-eqb}
 use mathlib.Core.Bool.{cond}
+use Rattle.std.specs.Prelude.{option_map}
 use Rattle.std.specs.Option.{option_map_or}
 use Rattle.std.proofs.lemmas.Bool.{leb-true, le-leb, lt-ltb, eqb-true}
-use Rattle.std.proofs.lemmas.List.{set-set}
+use Rattle.std.proofs.lemmas.List.{set-set, length-map}
 use Rattle.std.proofs.lemmas.Option.{slice_get_within}
 use Rattle.std.proofs.lemmas.Slice.Eq.{bytes_eq-Decides}
 use Rattle.hc_types.specs.Tally.{count}
 use Rattle.hc_types.specs.Places.{bucket_at, is_small_by}
 use Rattle.hc_types.specs.declared.config.FlashConfig.{FlashConfig}
 use Rattle.hc_types.specs.declared.config.PoolSize.{PoolSize}
-use Rattle.hc_types.proofs.Tallies.{tally-push, tally-append, tally-set, tally-get}
+use Rattle.hc_types.proofs.Tallies.{tally-push, tally-append, tally-map, tally-set, tally-get}
 use Rattle.hc_memory.specs.declared.builder.Misfit.{Misfit}
 use Rattle.hc_memory.specs.declared.builder.Misfit.TheVariants.{NoPool, NoNumber, KeyTwice, NoRoom}
 use Rattle.hc_memory.specs.declared.usage.Usage.{Usage}
 use Rattle.hc_memory.specs.Item.{Item, Open, cost}
-use Rattle.hc_memory.specs.Pool.{Pool, is_at, item_at, is_full, bytes_of}
+use Rattle.hc_memory.specs.Order.{Order, come}
+use Rattle.hc_memory.specs.Pool.{Pool, is_at, item_at, added, is_full, bytes_of}
 use Rattle.hc_memory.specs.Charges.{usage_of}
 use Rattle.hc_memory.specs.Marks.{is_stale, marked}
 use Rattle.hc_memory.specs.Memory.{Memory, empty_pool, linked_at, change_at}
 use Rattle.hc_memory.specs.Sound.{IsWithin, Sound, items_at}
-use Rattle.hc_memory.specs.Resting.{all_items, is_numbered, is_full_at, misfit_of, after_restore, restored, AreMade, ComeAgain}
+use Rattle.hc_memory.specs.Resting.{all_items, is_numbered, is_full_at, misfit_of, after_restore, orders_of, with_orders, after_orders, restored, AreMade, ComeAgain}
 use Rattle.hc_memory.proofs.Keyed.{count-none}
 use Rattle.hc_memory.proofs.Keys.{get-set}
 use Rattle.hc_memory.proofs.Marking.{sound-marked}
@@ -53,8 +55,8 @@ room_step size usage want bytes number false true e f small few = let same = eqb
 room_step size usage want bytes number false false e f small few = refl
 
 -- where it fits beside the items before it
-has_room : (size : PoolSize) (usage : Usage) (pre ys : List Item) (y : Item) → IsWithin usage (record { size = size; items = pre ++ y ∷ ys }) → is_full size usage (cost y) pre ≡ false
-has_room size usage pre ys y w =
+has_room : (size : PoolSize) (usage : Usage) (pre ys : List Item) (y : Item) (order : Order) → IsWithin usage (record { size = size; items = pre ++ y ∷ ys; order = order }) → is_full size usage (cost y) pre ≡ false
+has_room size usage pre ys y order w =
     let bytes : bytes_of (pre ++ y ∷ ys) ≡ bytes_of pre + (cost y + bytes_of ys) = tally-append cost pre (y ∷ ys) in
     let number : length (pre ++ y ∷ ys) ≡ length pre + length (y ∷ ys) = length-append pre (y ∷ ys) in
     let wb : usage.bytes + bytes_of (pre ++ y ∷ ys) ≤ size.bytes = w.bytes in
@@ -92,20 +94,25 @@ module _ (flash : Option FlashConfig) (charges : List Open) (made : ℕ) where
   restored-more [] ys m new h = let same : m ≡ new = cc in ap (restored ys) same
   restored-more (x ∷ xs) ys m new h = more_step xs ys (after_restore m x) new (is_some (misfit_of m x)) (restored-more xs ys (after_restore m x) new) h
 
-  key_step : (key : List ℕ) (pools : List Pool) (i n : ℕ) (pool : Pool) (y : Item) → slice_get pools i ≡ Some pool → items_at key pools + (cond (is_at key y) 1 0 + n) ≤ 1 → items_at key (slice_set pools i (record pool { items = pool.items ++ y ∷ [] })) + n ≤ 1
+  key_step : (key : List ℕ) (pools : List Pool) (i n : ℕ) (pool : Pool) (y : Item) → slice_get pools i ≡ Some pool → items_at key pools + (cond (is_at key y) 1 0 + n) ≤ 1 → items_at key (slice_set pools i (added y pool)) + n ≤ 1
   key_step key pools i n pool y at single =
-      omega (arith, single, tally-set (λ (p : Pool). count (is_at key) p.items) pools i pool (record pool { items = pool.items ++ y ∷ [] }) at, tally-push (λ (x : Item). cond (is_at key x) 1 0) pool.items y)
+      omega (arith, single, tally-set (λ (p : Pool). count (is_at key) p.items) pools i pool (added y pool) at, tally-push (λ (x : Item). cond (is_at key x) 1 0) pool.items y)
+
+  -- so many items came
+  abbrev comes : List Item → Order → Order
+  comes [] order = order
+  comes (x ∷ xs) order = comes xs (come order)
 
   -- the items of one pool
-  fill-pool : (pools : List Pool) (i : ℕ) (size : PoolSize) (pre ys : List Item) → slice_get pools i ≡ Some (record { size = size; items = pre }) → IsWithin (usage_of i charges) (record { size = size; items = pre ++ ys })
+  fill-pool : (pools : List Pool) (i : ℕ) (size : PoolSize) (pre ys : List Item) (order last : Order) → slice_get pools i ≡ Some (record { size = size; items = pre; order = order }) → IsWithin (usage_of i charges) (record { size = size; items = pre ++ ys; order = last })
       → count (λ (x : Item). not (x.pool == i)) ys ≡ 0 → count odd ys ≡ 0 → ((key : List ℕ) → items_at key pools + count (is_at key) ys ≤ 1)
-      → restored ys (mem pools) ≡ Some (mem (slice_set pools i (record { size = size; items = pre ++ ys })))
-  fill-pool pools i size pre [] at w own numbered single =
-      ap (λ ps. Some (mem ps)) (sym (ap (λ xs. slice_set pools i (record { size = size; items = xs })) (append-nil pre) ∙ set_there pools i (record { size = size; items = pre }) at))
-  fill-pool pools i size pre (y ∷ ys) at w own numbered single =
-      let there : Pool = record { size = size; items = pre } in
-      let next : Pool = record { size = size; items = pre ++ y ∷ [] } in
-      let all : Pool = record { size = size; items = pre ++ y ∷ ys } in
+      → restored ys (mem pools) ≡ Some (mem (slice_set pools i (record { size = size; items = pre ++ ys; order = comes ys order })))
+  fill-pool pools i size pre [] order last at w own numbered single =
+      ap (λ ps. Some (mem ps)) (sym (ap (λ xs. slice_set pools i (record { size = size; items = xs; order = order })) (append-nil pre) ∙ set_there pools i (record { size = size; items = pre; order = order }) at))
+  fill-pool pools i size pre (y ∷ ys) order last at w own numbered single =
+      let there : Pool = record { size = size; items = pre; order = order } in
+      let next : Pool = added y there in
+      let all : Pool = record { size = size; items = pre ++ y ∷ ys; order = comes ys (come order) } in
       let after = slice_set pools i next in
       let mine = zero_step (count (λ (x : Item). not (x.pool == i)) ys) (not (y.pool == i)) own in
       let its : y.pool ≡ i = eqb-true y.pool i (not_false (y.pool == i) mine.0) in
@@ -113,17 +120,16 @@ module _ (flash : Option FlashConfig) (charges : List Open) (made : ℕ) where
       let itself : ◌≡◌ {A = ℕ} (cond (is_at y.key y) 1 0) 1 = ap {B = ℕ} (λ b. cond b 1 0) ((bytes_eq-Decides y.key y.key).1 refl) in
       let most : items_at y.key pools + (cond (is_at y.key y) 1 0 + count (is_at y.key) ys) ≤ 1 = single y.key in
       let none : items_at y.key pools ≡ 0 = omega (arith, most, itself) in
-      let can = fits (mem pools) y i there its at (not_false (is_numbered flash made y) counted.0) none (has_room size (usage_of i charges) pre ys y w) in
-      let push : Pool → Pool = λ p. record p { items = p.items ++ y ∷ [] } in
+      let can = fits (mem pools) y i there its at (not_false (is_numbered flash made y) counted.0) none (has_room size (usage_of i charges) pre ys y last w) in
       let one : after_restore (mem pools) y ≡ mem after =
-      ap mem (ap (λ n. change_at n push pools) its ∙ ap (λ o. option_map_or (λ p. slice_set pools i (push p)) o pools) at) in
+      ap mem (ap (λ n. change_at n (added y) pools) its ∙ ap (λ o. option_map_or (λ p. slice_set pools i (added y p)) o pools) at) in
       let joined : (pre ++ y ∷ []) ++ ys ≡ pre ++ y ∷ ys = append_assoc pre (y ∷ []) ys in
-      let within' : IsWithin (usage_of i charges) (record { size = size; items = (pre ++ y ∷ []) ++ ys }) = subst (λ (xs : List Item). IsWithin (usage_of i charges) (record { size = size; items = xs })) (sym joined) w in
-      let rest = fill-pool after i size (pre ++ y ∷ []) ys (get-set pools i there next at) within' mine.1 counted.1 (λ key. key_step key pools i (count (is_at key) ys) there y at (single key)) in
+      let within' : IsWithin (usage_of i charges) (record { size = size; items = (pre ++ y ∷ []) ++ ys; order = last }) = subst (λ (xs : List Item). IsWithin (usage_of i charges) (record { size = size; items = xs; order = last })) (sym joined) w in
+      let rest = fill-pool after i size (pre ++ y ∷ []) ys (come order) last (get-set pools i there next at) within' mine.1 counted.1 (λ key. key_step key pools i (count (is_at key) ys) there y at (single key)) in
       ap (λ o. cond (is_some o) None (restored ys (after_restore (mem pools) y))) can
       ∙ ap (restored ys) one
       ∙ rest
-      ∙ ap (λ ps. Some (mem ps)) (ap (λ xs. slice_set after i (record { size = size; items = xs })) joined ∙ set-set pools i next all)
+      ∙ ap (λ ps. Some (mem ps)) (ap (λ xs. slice_set after i (record { size = size; items = xs; order = comes ys (come order) })) joined ∙ set-set pools i next all)
 
   bare-none : (key : List ℕ) (pools : List Pool) → items_at key (map (λ (p : Pool). empty_pool p.size) pools) ≡ 0
   bare-none key [] = refl
@@ -137,21 +143,37 @@ module _ (flash : Option FlashConfig) (charges : List Open) (made : ℕ) where
   set_seam [] rest x y = refl
   set_seam (d ∷ done) rest x y = ap (λ xs. d ∷ xs) (set_seam done rest x y)
 
+  -- the pool, once its items came
+  abbrev refilled : Pool → Pool
+  refilled p = record { size = p.size; items = p.items; order = comes p.items (empty_pool p.size).order }
+
+  one_more : (done : List Pool) (p : Pool) → map refilled done ++ refilled p ∷ [] ≡ map refilled (done ++ p ∷ [])
+  one_more [] p = refl
+  one_more (d ∷ done) p = ap (λ ps. refilled d ∷ ps) (one_more done p)
+
   -- the items of all pools but these
-  fill-all : (whole done pools : List Pool) → whole ≡ done ++ pools → Sound whole charges made → count odd (all_items pools) ≡ 0 → restored (all_items pools) (mem (done ++ map (λ (p : Pool). empty_pool p.size) pools)) ≡ Some (mem whole)
-  fill-all whole done [] is s numbered = ap (λ ps. Some (mem ps)) (sym is)
+  fill-all : (whole done pools : List Pool) → whole ≡ done ++ pools → Sound whole charges made → count odd (all_items pools) ≡ 0 → restored (all_items pools) (mem (map refilled done ++ map (λ (p : Pool). empty_pool p.size) pools)) ≡ Some (mem (map refilled whole))
+  fill-all whole done [] is s numbered = ap (λ ps. Some (mem ps)) (append-nil (map refilled done) ∙ ap (map refilled) (sym (append-nil done) ∙ sym is))
   fill-all whole done (p ∷ pools) is s numbered =
       let i = length done in
+      let old = map refilled done in
+      let long : length old ≡ i = length-map done refilled in
       let empties = map (λ (q : Pool). empty_pool q.size) pools in
       let at : slice_get whole i ≡ Some p = ap (λ ps. slice_get ps (length done)) is ∙ at_seam done pools p in
       let two : count odd p.items + count odd (all_items pools) ≡ 0 = sym (tally-append (λ (x : Item). cond (odd x) 1 0) p.items (all_items pools)) ∙ numbered in
-      let one = fill-pool (done ++ empty_pool p.size ∷ empties) i p.size [] p.items (at_seam done empties (empty_pool p.size)) (s.within i p at) (s.own i p at) (omega (arith, two))
-      (λ key. omega (arith, s.single key, ap (items_at key) is, tally-append (λ (q : Pool). count (is_at key) q.items) done (p ∷ pools), tally-append (λ (q : Pool). count (is_at key) q.items) done (empty_pool p.size ∷ empties), bare-none key pools)) in
-      let behind : done ++ p ∷ empties ≡ (done ++ p ∷ []) ++ empties = sym (append_assoc done (p ∷ []) empties) in
+      let one = fill-pool (old ++ empty_pool p.size ∷ empties) i p.size [] p.items (empty_pool p.size).order p.order (ap (slice_get (old ++ empty_pool p.size ∷ empties)) (sym long) ∙ at_seam old empties (empty_pool p.size)) (s.within i p at) (s.own i p at) (omega (arith, two))
+      (λ key. omega (arith, s.single key, ap (items_at key) is, tally-append (λ (q : Pool). count (is_at key) q.items) done (p ∷ pools), tally-append (λ (q : Pool). count (is_at key) q.items) old (empty_pool p.size ∷ empties), tally-map (λ (q : Pool). count (is_at key) q.items) refilled done, bare-none key pools)) in
+      let set : slice_set (old ++ empty_pool p.size ∷ empties) i (refilled p) ≡ old ++ refilled p ∷ empties = ap (λ n. slice_set (old ++ empty_pool p.size ∷ empties) n (refilled p)) (sym long) ∙ set_seam old empties (empty_pool p.size) (refilled p) in
+      let behind : old ++ refilled p ∷ empties ≡ map refilled (done ++ p ∷ []) ++ empties = sym (append_assoc old (refilled p ∷ []) empties) ∙ ap (λ ps. ps ++ empties) (one_more done p) in
       let rest = fill-all whole (done ++ p ∷ []) pools (is ∙ sym (append_assoc done (p ∷ []) pools)) s (omega (arith, two)) in
-      restored-more p.items (all_items pools) (mem (done ++ empty_pool p.size ∷ empties)) (mem (slice_set (done ++ empty_pool p.size ∷ empties) i p)) one
-      ∙ ap (λ ps. restored (all_items pools) (mem ps)) (set_seam done empties (empty_pool p.size) p ∙ behind)
+      restored-more p.items (all_items pools) (mem (old ++ empty_pool p.size ∷ empties)) (mem (slice_set (old ++ empty_pool p.size ∷ empties) i (refilled p))) one
+      ∙ ap (λ ps. restored (all_items pools) (mem ps)) (set ∙ behind)
       ∙ rest
+
+  -- with how their items took turns they are the same
+  ordered : (pools : List Pool) → with_orders (orders_of pools) (map refilled pools) ≡ pools
+  ordered [] = refl
+  ordered (p ∷ pools) = ap (λ ps. p ∷ ps) (ordered pools)
 
 -- ---- the numbers
 
@@ -217,4 +239,5 @@ numbered m are none = none-of (λ (x : Item). not (is_numbered m.flash m.made x)
 pub come-again : (flash : Option FlashConfig) (lost : List ℕ) (pools : List Pool) (charges : List Open) (made : ℕ) → Sound pools charges made → ComeAgain (record { flash = flash; pools = marked flash lost pools; charges = charges; made = made })
 come-again flash lost pools charges made s = λ are.
     let whole = marked flash lost pools in
-    fill-all flash charges made whole [] whole refl (sound-marked flash lost pools charges made s) (numbered (record { flash = flash; pools = whole; charges = charges; made = made }) are (settled_pools flash lost pools))
+    let filled = fill-all flash charges made whole [] whole refl (sound-marked flash lost pools charges made s) (numbered (record { flash = flash; pools = whole; charges = charges; made = made }) are (settled_pools flash lost pools)) in
+    ap (option_map (after_orders (orders_of whole))) filled ∙ ap (λ ps. Some (record { flash = flash; pools = ps; charges = charges; made = made })) (ordered flash charges made whole)

@@ -1,4 +1,4 @@
--- Who goes where room is made.
+-- Who goes where room is made, where items go by their use.
 use Rattle.std.proofs.Common.{◌≡◌, ℕ, zero, suc, ◌+◌, ◌<◌, ◌≤◌, ◌==◌, nat_lt, ◌||◌, length, ◌++◌, Bool, true, false, List, [], ◌∷◌, Some, None, take, drop, map, slice_get, refl, ap, sym, ◌∙◌, arith, append-nil, append_assoc}
 use mathlib.Core.Bool.{cond}
 use Rattle.std.proofs.Math.Seq.{take-add}
@@ -6,7 +6,8 @@ use Rattle.std.proofs.lemmas.Grind.{common_steps}
 use Rattle.hc_types.specs.declared.config.PoolSize.{PoolSize}
 use Rattle.hc_memory.specs.declared.usage.Usage.{Usage}
 use Rattle.hc_memory.specs.Item.{Item}
-use Rattle.hc_memory.specs.Pool.{bytes_of, is_full, kept, dropped}
+use Rattle.hc_memory.specs.Pool.{Pool, bytes_of, is_full, kept, dropped}
+use Rattle.hc_memory.proofs.ByUse.{by_use}
 
 -- what the code tests is whether there is room beside these items
 pub full-is : (s size : PoolSize) (usage : Usage) (want b n : ℕ) (items : List Item) → s ≡ size → b ≡ bytes_of items → n ≡ length items → (nat_lt s.bytes (usage.bytes + b + want) || (usage.number + n == s.items)) ≡ is_full size usage want items
@@ -18,18 +19,25 @@ within_step a b c room = grind (arith, common_steps)
 pub want-fits : (size : PoolSize) (usage : Usage) (want : ℕ) → is_full size usage want [] ≡ false → usage.bytes + want ≤ size.bytes
 want-fits size usage want room = omega (arith, within_step size.bytes (usage.bytes + 0 + want) (usage.number + 0 == size.items) room)
 
+-- those that stay of these items, and those that go
+abbrev pub kept_of : PoolSize → Usage → ℕ → List Item → Pool
+kept_of size usage want items = kept usage want (by_use size items)
+
+abbrev pub dropped_of : PoolSize → Usage → ℕ → List Item → List Item
+dropped_of size usage want items = dropped usage want (by_use size items)
+
 module _ (size : PoolSize) (usage : Usage) (want : ℕ) (x : Item) (items : List Item) where
-  pub kept-stop : is_full size usage want (x ∷ items) ≡ false → kept size usage want (x ∷ items) ≡ x ∷ items
-  kept-stop room = ap (λ b. cond b (kept size usage want items) (x ∷ items)) room
+  pub kept-stop : is_full size usage want (x ∷ items) ≡ false → kept_of size usage want (x ∷ items) ≡ by_use size (x ∷ items)
+  kept-stop room = ap (λ b. cond b (kept_of size usage want items) (by_use size (x ∷ items))) room
 
-  pub kept-go : is_full size usage want (x ∷ items) ≡ true → kept size usage want (x ∷ items) ≡ kept size usage want items
-  kept-go full = ap (λ b. cond b (kept size usage want items) (x ∷ items)) full
+  pub kept-go : is_full size usage want (x ∷ items) ≡ true → kept_of size usage want (x ∷ items) ≡ kept_of size usage want items
+  kept-go full = ap (λ b. cond b (kept_of size usage want items) (by_use size (x ∷ items))) full
 
-  pub dropped-stop : is_full size usage want (x ∷ items) ≡ false → dropped size usage want (x ∷ items) ≡ []
-  dropped-stop room = ap (λ b. cond b (x ∷ dropped size usage want items) []) room
+  pub dropped-stop : is_full size usage want (x ∷ items) ≡ false → dropped_of size usage want (x ∷ items) ≡ []
+  dropped-stop room = ap (λ b. cond b (x ∷ dropped_of size usage want items) []) room
 
-  pub dropped-go : is_full size usage want (x ∷ items) ≡ true → dropped size usage want (x ∷ items) ≡ x ∷ dropped size usage want items
-  dropped-go full = ap (λ b. cond b (x ∷ dropped size usage want items) []) full
+  pub dropped-go : is_full size usage want (x ∷ items) ≡ true → dropped_of size usage want (x ∷ items) ≡ x ∷ dropped_of size usage want items
+  dropped-go full = ap (λ b. cond b (x ∷ dropped_of size usage want items) []) full
 
 -- ---- one more
 

@@ -7,6 +7,7 @@ use Rattle.hc_types.specs.Tally.{tally, count}
 use Rattle.hc_types.proofs.Tallies.{tally-push, tally-set}
 use Rattle.hc_memory.specs.declared.usage.Usage.{Usage}
 use Rattle.hc_memory.specs.Item.{Item, Open, open_cost}
+use Rattle.hc_memory.specs.Order.{OrderFits}
 use Rattle.hc_memory.specs.Pool.{Pool, is_at, bytes_of, is_full}
 use Rattle.hc_memory.specs.Charges.{has_number, usage_of}
 use Rattle.hc_memory.specs.Sound.{IsWithin, Sound}
@@ -27,6 +28,7 @@ pub record Shrinks (old new : Pool) : Type 0 where
   pub number : length new.items ≤ length old.items
   pub keys : (key : List ℕ) → count (is_at key) new.items ≤ count (is_at key) old.items
   pub strays : (i : ℕ) → count (λ (item : Item). not (item.pool == i)) new.items ≤ count (λ (item : Item). not (item.pool == i)) old.items
+  pub order : OrderFits old.order (length old.items) → OrderFits new.order (length new.items)
 
 -- it is within the same limits
 pub within-less : (usage : Usage) (old new : Pool) → Shrinks old new → IsWithin usage old → IsWithin usage new
@@ -48,6 +50,10 @@ sound-shrinks pools charges made i old new s at less = record {
       (λ (both : (j ≡ i) × (pool ≡ new)). subst (λ (p : Pool). count (λ (item : Item). not (item.pool == j)) p.items ≡ 0) (sym both.1) (subst (λ (n : ℕ). count (λ (item : Item). not (item.pool == n)) new.items ≡ 0) (sym both.0) (omega (arith, less.strays i, s.own i old at))))
       (λ (e : slice_get pools j ≡ Some pool). s.own j pool e)
       (set-cases pools i j new pool found);
+  order = λ j pool found. ⊎_elim
+      (λ (both : (j ≡ i) × (pool ≡ new)). subst (λ (p : Pool). OrderFits p.order (length p.items)) (sym both.1) (less.order (s.order i old at)))
+      (λ (e : slice_get pools j ≡ Some pool). s.order j pool e)
+      (set-cases pools i j new pool found);
   single = λ key. omega (arith, s.single key, less.keys key, tally-set (λ (pool : Pool). count (is_at key) pool.items) pools i old new at);
   fresh = s.fresh;
   unique = s.unique;
@@ -66,6 +72,7 @@ sound-fewer pools charges rest made s less = record {
     number = omega (arith, w.number, less (λ (charge : Open). cond (charge.pool == i) 1 0));
   };
   own = s.own;
+  order = s.order;
   single = s.single;
   fresh = λ number later. omega (arith, s.fresh number later, less (λ (charge : Open). cond (has_number number charge) 1 0));
   unique = λ number. omega (arith, s.unique number, less (λ (charge : Open). cond (has_number number charge) 1 0));
@@ -127,6 +134,7 @@ sound-charged pools charges made c pool s at number room = record {
       (s.within i other found)
       (λ e. subst (λ (n : ℕ). HasRoom (usage_of n charges) pool (open_cost c)) (eqb-true c.pool i e) (has-room (usage_of c.pool charges) pool (open_cost c) room (s.within c.pool pool at)));
   own = s.own;
+  order = s.order;
   single = s.single;
   fresh = λ n later. fresh_step charges c n (has_number n c) refl (λ e. let same = eqb-true n c.number e in omega (arith, same, number, later)) (s.fresh n (omega (arith, later)));
   unique = λ n. unique_step charges c n (has_number n c) refl (λ e. let same = eqb-true n c.number e in omega (arith, s.fresh n (omega (arith, same, number)))) (s.unique n);

@@ -9,9 +9,10 @@ use Rattle.hc_types.specs.Charge.{charge_of}
 use Rattle.hc_types.specs.declared.config.PoolSize.{PoolSize}
 use Rattle.hc_memory.specs.declared.usage.Usage.{Usage}
 use Rattle.hc_memory.specs.Item.{Item, Handle, cost, item_by}
-use Rattle.hc_memory.specs.Pool.{Pool, bytes_of, linked_usage, is_at, item_at, without, used, is_expired, unexpired, value_then, is_full, kept, dropped, unmarked_where}
+use Rattle.hc_memory.specs.Order.{Order, ByUse, Sieve, left_out, come, seen_at, gone_at, turned, first_place}
+use Rattle.hc_memory.specs.Pool.{Pool, Turn, bytes_of, linked_usage, is_at, item_at, place_at, without, added, removed, found, found_by, turn_at, next, next_items, next_left, goes, stays, is_expired, unexpired, value_then, is_full, kept, dropped, unmarked_where}
 use Rattle.hc_memory.specs.Charges.{closed, usage_of}
-use Rattle.hc_memory.specs.Memory.{Memory, has, linked_at, value_at, empty_pool, change_at, change_home, unlinked, used_in, is_hopeless, victims_of, after_room, handle_for, after_charge, after_link}
+use Rattle.hc_memory.specs.Memory.{Memory, has, linked_at, value_at, empty_pool, change_at, change_home, unlinked, used_in, is_hopeless, victims_of, without_next, after_room, handle_for, after_charge, after_link}
 use Rattle.hc_memory.proofs.Keyed.{tally-unmarked, unmarked-push, is_some-mapped}
 
 -- ---- one item
@@ -77,25 +78,121 @@ module _ (test : Item → Bool) where
         let number : length (all_off items) ≡ length items = length-map items off in
         λ i. nat_lt size.bytes (usage.bytes + bytes i + want) || (usage.number + number i == size.items)
 
-    kept_step : (x : Item) (items : List Item) (b : Bool) → kept size usage want (all_off items) ≡ all_off (kept size usage want items) → cond b (kept size usage want (all_off items)) (all_off (x ∷ items)) ≡ all_off (cond b (kept size usage want items) (x ∷ items))
-    kept_step x items true h = h
-    kept_step x items false h = refl
+  -- ---- how they take turns
 
-    pub kept-off : (items : List Item) → kept size usage want (all_off items) ≡ all_off (kept size usage want items)
-    kept-off [] = refl
-    kept-off (x ∷ items) =
-        ap (λ b. cond b (kept size usage want (all_off items)) (all_off (x ∷ items))) (full-off (x ∷ items))
-        ∙ kept_step x items (is_full size usage want (x ∷ items)) (kept-off items)
+  place_step : (key : List ℕ) (b : Bool) (old new : Option ℕ) → new ≡ old → cond b (Some 0) (option_map suc new) ≡ cond b (Some 0) (option_map suc old)
+  place_step key b old new h = ap (λ o. cond b (Some 0) (option_map suc o)) h
 
-    dropped_step : (x : Item) (items : List Item) (b : Bool) → dropped size usage want (all_off items) ≡ all_off (dropped size usage want items) → cond b (off x ∷ dropped size usage want (all_off items)) [] ≡ all_off (cond b (x ∷ dropped size usage want items) [])
-    dropped_step x items true h = ap (λ ys. off x ∷ ys) h
-    dropped_step x items false h = refl
+  place-off : (key : List ℕ) (items : List Item) → place_at key (all_off items) ≡ place_at key items
+  place-off key [] = refl
+  place-off key (x ∷ items) =
+      ap (λ b. cond b (Some 0) (option_map suc (place_at key (all_off items)))) (at-off key x)
+      ∙ place_step key (is_at key x) (place_at key items) (place_at key (all_off items)) (place-off key items)
 
-    pub dropped-off : (items : List Item) → dropped size usage want (all_off items) ≡ all_off (dropped size usage want items)
-    dropped-off [] = refl
-    dropped-off (x ∷ items) =
-        ap (λ b. cond b (off x ∷ dropped size usage want (all_off items)) []) (full-off (x ∷ items))
-        ∙ dropped_step x items (is_full size usage want (x ∷ items)) (dropped-off items)
+  pub removed-off : (key : List ℕ) (pool : Pool) → removed key (pool_off pool) ≡ pool_off (removed key pool)
+  removed-off key pool = λ i. record { size = pool.size; items = without-off key pool.items i; order = gone_at pool.order (place-off key pool.items i) }
+
+  pub added-off : (x : Item) → off x ≡ x → (pool : Pool) → added x (pool_off pool) ≡ pool_off (added x pool)
+  added-off x stays pool = λ i. record { size = pool.size; items = sym (unmarked-push test pool.items x ∙ ap (λ y. all_off pool.items ++ y ∷ []) stays) i; order = come pool.order }
+
+  found_off_by : (key : List ℕ) (x : Item) (pool : Pool) (order : Order) → found_by order key (off x) (pool_off pool) ≡ pool_off (found_by order key x pool)
+  found_off_by key x pool ByUse = λ i. record { size = pool.size; items = (ap (λ ys. ys ++ off x ∷ []) (without-off key pool.items) ∙ sym (unmarked-push test (without key pool.items) x)) i; order = ByUse }
+  found_off_by key x pool (Sieve seen hand) = λ i. record { size = pool.size; items = all_off pool.items; order = seen_at (Sieve seen hand) (place-off key pool.items i) }
+
+  uses_off : (key : List ℕ) (pool : Pool) (o : Option Item) → found key (option_map off o) (pool_off pool) ≡ pool_off (found key o pool)
+  uses_off key pool None = refl
+  uses_off key pool (Some x) = found_off_by key x pool pool.order
+
+  left_off : (n : ℕ) (items : List Item) → left_out n (all_off items) ≡ all_off (left_out n items)
+  left_off n [] = refl
+  left_off zero (x ∷ items) = refl
+  left_off (suc n) (x ∷ items) = ap (λ ys. off x ∷ ys) (left_off n items)
+
+  -- the same goes, and the same stay
+  abbrev pub turn_off : Turn → Turn
+  turn_off turn = record { item = off turn.item; left = pool_off turn.left }
+
+  turn_step : (pool : Pool) (order : Order) (place : ℕ) (o : Option Item)
+      → option_map (λ (item : Item). record { item = item; left = record (pool_off pool) { items = left_out place (all_off pool.items); order = gone_at order (Some place) } }) (option_map off o)
+      ≡ option_map turn_off (option_map (λ (item : Item). record { item = item; left = record pool { items = left_out place pool.items; order = gone_at order (Some place) } }) o)
+  turn_step pool order place None = refl
+  turn_step pool order place (Some x) = λ i. Some (record { item = off x; left = record { size = pool.size; items = left_off place pool.items i; order = gone_at order (Some place) } })
+
+  pub next-off : (pool : Pool) → next (pool_off pool) ≡ option_map turn_off (next pool)
+  next-off pool =
+      let at : ℕ → Option Turn = λ n. turn_at (pool_off pool) (turned pool.order) (first_place (turned pool.order) n) in
+      let place = first_place (turned pool.order) (length pool.items) in
+      ap at (length-map pool.items off)
+      ∙ ap (option_map (λ (item : Item). record { item = item; left = record (pool_off pool) { items = left_out place (all_off pool.items); order = gone_at (turned pool.order) (Some place) } })) (slice_get-map off pool.items place)
+      ∙ turn_step pool (turned pool.order) place (slice_get pool.items place)
+
+  item_step : (o : Option Turn) → option_map (λ (t : Turn). t.item) (option_map turn_off o) ≡ option_map off (option_map (λ (t : Turn). t.item) o)
+  item_step None = refl
+  item_step (Some turn) = refl
+
+  pub turned-off : (pool : Pool) → option_map (λ (t : Turn). t.item) (next (pool_off pool)) ≡ option_map off (option_map (λ (t : Turn). t.item) (next pool))
+  turned-off pool = ap (option_map (λ (t : Turn). t.item)) (next-off pool) ∙ item_step (next pool)
+
+  -- those that go next, and the pool once they went
+  items_step : (n : ℕ) (o : Option Turn) → ((p : Pool) → next_items n (pool_off p) ≡ all_off (next_items n p)) → option_map_or (λ (t : Turn). t.item ∷ next_items n t.left) (option_map turn_off o) [] ≡ all_off (option_map_or (λ (t : Turn). t.item ∷ next_items n t.left) o [])
+  items_step n None more = refl
+  items_step n (Some turn) more = ap (λ ys. off turn.item ∷ ys) (more turn.left)
+
+  pub items-off : (n : ℕ) (pool : Pool) → next_items n (pool_off pool) ≡ all_off (next_items n pool)
+  items-off zero pool = refl
+  items-off (suc n) pool = ap (λ o. option_map_or (λ (t : Turn). t.item ∷ next_items n t.left) o []) (next-off pool) ∙ items_step n (next pool) (λ p. items-off n p)
+
+  rest_step : (n : ℕ) (pool : Pool) (o : Option Turn) → ((p : Pool) → next_left n (pool_off p) ≡ pool_off (next_left n p)) → option_map_or (λ (t : Turn). next_left n t.left) (option_map turn_off o) (pool_off pool) ≡ pool_off (option_map_or (λ (t : Turn). next_left n t.left) o pool)
+  rest_step n pool None more = refl
+  rest_step n pool (Some turn) more = more turn.left
+
+  pub rest-off : (n : ℕ) (pool : Pool) → next_left n (pool_off pool) ≡ pool_off (next_left n pool)
+  rest-off zero pool = refl
+  rest-off (suc n) pool = ap (λ o. option_map_or (λ (t : Turn). next_left n t.left) o (pool_off pool)) (next-off pool) ∙ rest_step n pool (next pool) (λ p. rest-off n p)
+
+  without_step-next : (pool : Pool) (o : Option Turn) → option_map_or (λ (t : Turn). t.left) (option_map turn_off o) (pool_off pool) ≡ pool_off (option_map_or (λ (t : Turn). t.left) o pool)
+  without_step-next pool None = refl
+  without_step-next pool (Some turn) = refl
+
+  pub without-next-off : (pool : Pool) → without_next (pool_off pool) ≡ pool_off (without_next pool)
+  without-next-off pool = ap (λ o. option_map_or (λ (t : Turn). t.left) o (pool_off pool)) (next-off pool) ∙ without_step-next pool (next pool)
+
+  module _ (usage : Usage) (want : ℕ) where
+    gone_step : (n : ℕ) (pool : Pool) (b : Bool) → ((p : Pool) → goes n usage want (pool_off p) ≡ all_off (goes n usage want p))
+        → cond b (option_map_or (λ (t : Turn). t.item ∷ goes n usage want t.left) (next (pool_off pool)) []) [] ≡ all_off (cond b (option_map_or (λ (t : Turn). t.item ∷ goes n usage want t.left) (next pool) []) [])
+    gone_step n pool false more = refl
+    gone_step n pool true more = ap (λ o. option_map_or (λ (t : Turn). t.item ∷ goes n usage want t.left) o []) (next-off pool) ∙ each (next pool)
+      where
+        each : (o : Option Turn) → option_map_or (λ (t : Turn). t.item ∷ goes n usage want t.left) (option_map turn_off o) [] ≡ all_off (option_map_or (λ (t : Turn). t.item ∷ goes n usage want t.left) o [])
+        each None = refl
+        each (Some turn) = ap (λ ys. off turn.item ∷ ys) (more turn.left)
+
+    goes_off : (n : ℕ) (pool : Pool) → goes n usage want (pool_off pool) ≡ all_off (goes n usage want pool)
+    goes_off zero pool = refl
+    goes_off (suc n) pool =
+        ap (λ b. cond b (option_map_or (λ (t : Turn). t.item ∷ goes n usage want t.left) (next (pool_off pool)) []) []) (full-off pool.size usage want pool.items)
+        ∙ gone_step n pool (is_full pool.size usage want pool.items) (λ p. goes_off n p)
+
+    pub dropped-off : (pool : Pool) → dropped usage want (pool_off pool) ≡ all_off (dropped usage want pool)
+    dropped-off pool = ap (λ n. goes n usage want (pool_off pool)) (length-map pool.items off) ∙ goes_off (length pool.items) pool
+
+    stay_step : (n : ℕ) (pool : Pool) (b : Bool) → ((p : Pool) → stays n usage want (pool_off p) ≡ pool_off (stays n usage want p))
+        → cond b (option_map_or (λ (t : Turn). stays n usage want t.left) (next (pool_off pool)) (pool_off pool)) (pool_off pool) ≡ pool_off (cond b (option_map_or (λ (t : Turn). stays n usage want t.left) (next pool) pool) pool)
+    stay_step n pool false more = refl
+    stay_step n pool true more = ap (λ o. option_map_or (λ (t : Turn). stays n usage want t.left) o (pool_off pool)) (next-off pool) ∙ each (next pool)
+      where
+        each : (o : Option Turn) → option_map_or (λ (t : Turn). stays n usage want t.left) (option_map turn_off o) (pool_off pool) ≡ pool_off (option_map_or (λ (t : Turn). stays n usage want t.left) o pool)
+        each None = refl
+        each (Some turn) = more turn.left
+
+    stays_off : (n : ℕ) (pool : Pool) → stays n usage want (pool_off pool) ≡ pool_off (stays n usage want pool)
+    stays_off zero pool = refl
+    stays_off (suc n) pool =
+        ap (λ b. cond b (option_map_or (λ (t : Turn). stays n usage want t.left) (next (pool_off pool)) (pool_off pool)) (pool_off pool)) (full-off pool.size usage want pool.items)
+        ∙ stay_step n pool (is_full pool.size usage want pool.items) (λ p. stays_off n p)
+
+    pub kept-off : (pool : Pool) → kept usage want (pool_off pool) ≡ pool_off (kept usage want pool)
+    kept-off pool = ap (λ n. stays n usage want (pool_off pool)) (length-map pool.items off) ∙ stays_off (length pool.items) pool
 
   -- ---- all pools
 
@@ -111,7 +208,7 @@ module _ (test : Item → Bool) where
       ∙ home_step key f pool pools (has key pool) (same pool) (home-off key f same pools)
 
   pub unlinked-off : (key : List ℕ) (pools : List Pool) → unlinked key (map pool_off pools) ≡ map pool_off (unlinked key pools)
-  unlinked-off key pools = home-off key (λ pool. record pool { items = without key pool.items }) (λ pool i. record { size = pool.size; items = without-off key pool.items i }) pools
+  unlinked-off key pools = home-off key (removed key) (removed-off key) pools
 
   number_step : (n : ℕ) (f : Pool → Pool) → ((pool : Pool) → f (pool_off pool) ≡ pool_off (f pool)) → (pools : List Pool) (o : Option Pool)
       → option_map_or (λ p. slice_set (map pool_off pools) n (f p)) (option_map pool_off o) (map pool_off pools) ≡ map pool_off (option_map_or (λ p. slice_set pools n (f p)) o pools)
@@ -125,11 +222,9 @@ module _ (test : Item → Bool) where
 
   -- an item is linked that keeps what mark it has
   pub linked-off : (own : ℕ) (key : List ℕ) (x : Item) → off x ≡ x → (pools : List Pool)
-      → change_at own (λ p. record p { items = p.items ++ x ∷ [] }) (unlinked key (map pool_off pools)) ≡ map pool_off (change_at own (λ p. record p { items = p.items ++ x ∷ [] }) (unlinked key pools))
+      → change_at own (added x) (unlinked key (map pool_off pools)) ≡ map pool_off (change_at own (added x) (unlinked key pools))
   linked-off own key x stays pools =
-      let push : Pool → Pool = λ p. record p { items = p.items ++ x ∷ [] } in
-      let each : (p : Pool) → push (pool_off p) ≡ pool_off (push p) = λ p. λ i. record { size = p.size; items = sym (unmarked-push test p.items x ∙ ap (λ y. all_off p.items ++ y ∷ []) stays) i } in
-      ap (change_at own push) (unlinked-off key pools) ∙ number-off own push each (unlinked key pools)
+      ap (change_at own (added x)) (unlinked-off key pools) ∙ number-off own (added x) (added-off x stays) (unlinked key pools)
 
   module _ {X : Type 0} (f : Item → X) (same : (x : Item) → f (bare x) ≡ f x) where
     pools_step : (pool : Pool) (b : Bool) (key : List ℕ) (old new : Option Item) → option_map f new ≡ option_map f old → option_map f (cond b (item_at key (all_off pool.items)) new) ≡ option_map f (cond b (item_at key pool.items) old)
@@ -186,34 +281,19 @@ module _ (test : Item → Bool) where
       ∙ ap (option_map (λ (i : Item). i.value)) (unexpired-off now (linked_at key pools))
       ∙ valued (unexpired now (linked_at key pools))
 
-  used_step : (key : List ℕ) (items : List Item) (o : Option Item) → used key (option_map off o) (all_off items) ≡ all_off (used key o items)
-  used_step key items None = refl
-  used_step key items (Some x) = ap (λ ys. ys ++ off x ∷ []) (without-off key items) ∙ sym (unmarked-push test (without key items) x)
-
-  uses-off : (key : List ℕ) (now : ℕ) (items : List Item) → used key (unexpired now (item_at key (all_off items))) (all_off items) ≡ all_off (used key (unexpired now (item_at key items)) items)
-  uses-off key now items =
-      ap (λ o. used key o (all_off items)) (ap (unexpired now) (item-off key items) ∙ unexpired-off now (item_at key items))
-      ∙ used_step key items (unexpired now (item_at key items))
+  fresh-uses : (key : List ℕ) (now : ℕ) (pool : Pool) → found key (unexpired now (item_at key (all_off pool.items))) (pool_off pool) ≡ pool_off (found key (unexpired now (item_at key pool.items)) pool)
+  fresh-uses key now pool =
+      ap (λ o. found key o (pool_off pool)) (ap (unexpired now) (item-off key pool.items) ∙ unexpired-off now (item_at key pool.items))
+      ∙ uses_off key pool (unexpired now (item_at key pool.items))
 
   -- a find
   pub find-off : (now : ℕ) (key : List ℕ) (pools : List Pool) → used_in now key (map pool_off pools) ≡ map pool_off (used_in now key pools)
-  find-off now key pools = home-off key (λ pool. record pool { items = used key (unexpired now (item_at key pool.items)) pool.items }) (λ pool i. record { size = pool.size; items = uses-off key now pool.items i }) pools
+  find-off now key pools = home-off key (λ pool. found key (unexpired now (item_at key pool.items)) pool) (fresh-uses key now) pools
 
-  -- ---- the items that were used longest ago
+  -- ---- the next in turn
 
-  pub drop-off : (n : ℕ) (items : List Item) → drop n (all_off items) ≡ all_off (drop n items)
-  drop-off zero items = refl
-  drop-off (suc n) [] = refl
-  drop-off (suc n) (x ∷ items) = drop-off n items
-
-  pub take-off : (n : ℕ) (items : List Item) → take n (all_off items) ≡ all_off (take n items)
-  take-off zero items = refl
-  take-off (suc n) [] = refl
-  take-off (suc n) (x ∷ items) = ap (λ ys. off x ∷ ys) (take-off n items)
-
-  -- the first goes
-  pub evict-off : (n : ℕ) (pools : List Pool) → change_at n (λ pool. record pool { items = drop 1 pool.items }) (map pool_off pools) ≡ map pool_off (change_at n (λ pool. record pool { items = drop 1 pool.items }) pools)
-  evict-off n pools = number-off n (λ pool. record pool { items = drop 1 pool.items }) (λ pool i. record { size = pool.size; items = drop-off 1 pool.items i }) pools
+  pub evict-off : (n : ℕ) (pools : List Pool) → change_at n without_next (map pool_off pools) ≡ map pool_off (change_at n without_next pools)
+  evict-off n pools = number-off n without_next without-next-off pools
 
   pub keys-off : (items : List Item) → map (λ (x : Item). x.key) (all_off items) ≡ map (λ (x : Item). x.key) items
   keys-off [] = refl
@@ -243,14 +323,14 @@ module _ (test : Item → Bool) where
       λ i. record { flash = m.flash; pools = sym pools i; charges = closed h.number m.charges; made = m.made }
 
   victims_step : (m : Memory) (pool want : ℕ) (o : Option Pool)
-      → option_map_or (λ p. dropped p.size (usage_of pool m.charges) want p.items) (option_map pool_off o) [] ≡ all_off (option_map_or (λ p. dropped p.size (usage_of pool m.charges) want p.items) o [])
+      → option_map_or (dropped (usage_of pool m.charges) want) (option_map pool_off o) [] ≡ all_off (option_map_or (dropped (usage_of pool m.charges) want) o [])
   victims_step m pool want None = refl
-  victims_step m pool want (Some p) = dropped-off p.size (usage_of pool m.charges) want p.items
+  victims_step m pool want (Some p) = dropped-off (usage_of pool m.charges) want p
 
   -- the items that go where room is made
   pub victims-off : (m : Memory) (pool want : ℕ) → victims_of (memory_off m) pool want ≡ all_off (victims_of m pool want)
   victims-off m pool want =
-      ap (λ o. option_map_or (λ (p : Pool). dropped p.size (usage_of pool m.charges) want p.items) o []) (slice_get-map pool_off m.pools pool)
+      ap (λ o. option_map_or (dropped (usage_of pool m.charges) want) o []) (slice_get-map pool_off m.pools pool)
       ∙ victims_step m pool want (slice_get m.pools pool)
 
   hopeless_step : (m : Memory) (pool want : ℕ) (o : Option Pool)
@@ -266,9 +346,7 @@ module _ (test : Item → Bool) where
   -- room is made
   pub room-off : (m : Memory) (pool want : ℕ) → memory_off (after_room m pool want) ≡ after_room (memory_off m) pool want
   room-off m pool want =
-      let each : (p : Pool) → record (pool_off p) { items = kept p.size (usage_of pool m.charges) want (all_off p.items) } ≡ pool_off (record p { items = kept p.size (usage_of pool m.charges) want p.items }) =
-      λ p. λ i. record { size = p.size; items = kept-off p.size (usage_of pool m.charges) want p.items i } in
-      let pools = number-off pool (λ (p : Pool). record p { items = kept p.size (usage_of pool m.charges) want p.items }) each m.pools in
+      let pools = number-off pool (kept (usage_of pool m.charges) want) (kept-off (usage_of pool m.charges) want) m.pools in
       λ i. record { flash = m.flash; pools = sym pools i; charges = m.charges; made = m.made }
 
   pub charge-off : (m : Memory) (pool : ℕ) (key : List ℕ) (size : ℕ) → memory_off (after_charge m pool key size) ≡ after_charge (memory_off m) pool key size

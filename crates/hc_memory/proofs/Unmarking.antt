@@ -12,6 +12,7 @@ use Rattle.hc_types.specs.Tally.{tally, count}
 use Rattle.hc_types.proofs.Tallies.{tally-mono, tally-get}
 use Rattle.hc_types.specs.declared.config.FlashConfig.{FlashConfig}
 use Rattle.hc_memory.specs.Item.{Item, Open, cost}
+use Rattle.hc_memory.specs.Order.{OrderFits}
 use Rattle.hc_memory.specs.Pool.{Pool, is_at, unmarked_where, is_covered, is_covered_at, item_at}
 use Rattle.hc_memory.specs.Charges.{usage_of}
 use Rattle.hc_memory.specs.Memory.{all_unmarked}
@@ -154,7 +155,7 @@ without_marks flash scope keys pool = record pool { items = keys_unmarked flash 
 all-covered : (flash : Option FlashConfig) (scope : Scope) (keys : List (List ℕ)) (pools : List Pool) → tally (λ (pool : Pool). count (is_left flash scope keys) pool.items) pools ≡ 0 → map (without_marks flash scope keys) pools ≡ all_unmarked flash scope pools
 all-covered flash scope keys [] none = refl
 all-covered flash scope keys (p ∷ pools) none =
-    (λ i. record { size = p.size; items = keys-covered flash scope keys p.items (omega (arith, none)) i } ∷ all-covered flash scope keys pools (omega (arith, none)) i)
+    (λ i. record { size = p.size; items = keys-covered flash scope keys p.items (omega (arith, none)) i; order = p.order } ∷ all-covered flash scope keys pools (omega (arith, none)) i)
 
 left_step : (a c l h : Bool) → (c ≡ true → l ≡ true → h ≡ true) → cond (a && (c && not h)) 1 0 ≤ cond (a && not l) 1 0
 left_step false c l h f = omega arith
@@ -235,6 +236,7 @@ shrinks-unmarked test pool = record {
   number = omega (arith, length-map pool.items (λ (item : Item). cond (test item) (bare item) item));
   keys = λ key. omega (arith, tally-unmarked (λ item. cond (is_at key item) 1 0) test (λ y. refl) pool.items);
   strays = λ i. omega (arith, tally-unmarked (λ item. cond (not (item.pool == i)) 1 0) test (λ y. refl) pool.items);
+  order = λ h. subst (OrderFits pool.order) (sym (length-map pool.items (λ (item : Item). cond (test item) (bare item) item))) h;
 }
 
 old_step : (f : Pool → Pool) (pool : Pool) (o : Option Pool) → option_map f o ≡ Some pool → (old : Pool) × (o ≡ Some old) × (pool ≡ f old)
@@ -256,6 +258,7 @@ sound-all f pools charges made s less = record {
   few = omega (arith, s.few, length-map pools f);
   within = λ i pool found. let b = before f pools i pool found in subst (λ (p : Pool). IsWithin (usage_of i charges) p) (sym b.2) (within-less (usage_of i charges) b.0 (f b.0) (less b.0) (s.within i b.0 b.1));
   own = λ i pool found. let b = before f pools i pool found in subst (λ (p : Pool). count (λ (item : Item). not (item.pool == i)) p.items ≡ 0) (sym b.2) (omega (arith, (less b.0).strays i, s.own i b.0 b.1));
+  order = λ i pool found. let b = before f pools i pool found in subst (λ (p : Pool). OrderFits p.order (length p.items)) (sym b.2) ((less b.0).order (s.order i b.0 b.1));
   single = λ key. omega (arith, s.single key, fewer_at key f less pools);
   fresh = s.fresh;
   unique = s.unique;

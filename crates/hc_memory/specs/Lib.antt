@@ -1,5 +1,6 @@
 -- Items and handles, one pool, and all pools with their open charges.
 pub mod Item
+pub mod Order
 pub mod Pool
 pub mod Charges
 pub mod Clean

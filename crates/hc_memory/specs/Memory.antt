@@ -1,5 +1,5 @@
 -- All pools, with what is open in them, and what each call does to them.
-use Rattle.std.specs.Prelude.{ℕ, ◌+◌, ◌==◌, Bool, true, false, List, [], ◌∷◌, ◌++◌, length, replicate, Option, Some, None, is_some, slice_get, slice_set, if◌then◌else◌, option_map, map, take, drop, nat_le, suc}
+use Rattle.std.specs.Prelude.{ℕ, ◌+◌, ◌==◌, Bool, true, false, List, [], ◌∷◌, ◌++◌, length, replicate, Option, Some, None, is_some, slice_get, slice_set, if◌then◌else◌, option_map, map, drop, nat_le, suc}
 use Rattle.std.specs.Option.{option_map_or}
 use Rattle.hc_types.specs.Charge.{charge_of}
 use Rattle.hc_types.specs.Loss as loss
@@ -8,7 +8,8 @@ use Rattle.hc_types.specs.declared.config.FlashConfig.{FlashConfig}
 use Rattle.hc_types.specs.declared.config.PoolSize.{PoolSize}
 use Rattle.hc_memory.specs.declared.usage.PoolUsage.{PoolUsage}
 use Rattle.hc_memory.specs.Item.{Item, Open, Handle, item_by}
-use Rattle.hc_memory.specs.Pool.{Pool, linked_usage, item_at, without, used, is_full, kept, dropped, unexpired, value_then, unmarked_where}
+use Rattle.hc_memory.specs.Order.{order_by}
+use Rattle.hc_memory.specs.Pool.{Pool, Turn, linked_usage, item_at, added, removed, found, next, next_items, is_full, kept, dropped, unexpired, value_then, unmarked_where}
 use Rattle.hc_memory.specs.Charges.{usage_of, closed, all_closed}
 
 -- The pools, the one with the number 0 first; the charges that are open; how many charges were made; and the flash
@@ -21,7 +22,7 @@ pub record Memory : Type 0 where
 
 -- a pool of this size without items
 abbrev pub empty_pool : PoolSize → Pool
-empty_pool size = record { size = size; items = [] }
+empty_pool size = record { size = size; items = []; order = order_by size.turns }
 
 -- ---- one pool of all
 
@@ -62,26 +63,28 @@ pool_usage memory number = option_map (λ (pool : Pool). record { limits = pool.
 abbrev pub is_hopeless : Memory → ℕ → ℕ → Bool
 is_hopeless memory number want = option_map_or (λ pool. is_full pool.size (usage_of number memory.charges) want []) (slice_get memory.pools number) true
 
--- the items that go where room is made, the one that was used longest ago first
+-- the items that go where room is made, the one that goes first first
 abbrev pub victims_of : Memory → ℕ → ℕ → List Item
-victims_of memory number want = option_map_or (λ pool. dropped pool.size (usage_of number memory.charges) want pool.items) (slice_get memory.pools number) []
+victims_of memory number want = option_map_or (dropped (usage_of number memory.charges) want) (slice_get memory.pools number) []
 
--- the keys of so many items of a pool that were used longest ago, that one first
+-- the keys of so many items of a pool that go next, in that order
 abbrev pub oldest_keys : Memory → ℕ → ℕ → List (List ℕ)
-oldest_keys memory number count = option_map_or (λ pool. map (λ (item : Item). item.key) (take count pool.items)) (slice_get memory.pools number) []
+oldest_keys memory number count = option_map_or (λ pool. map (λ (item : Item). item.key) (next_items count pool)) (slice_get memory.pools number) []
 
--- the item of a pool that was used longest ago
+-- the item of a pool that goes next
 abbrev pub oldest_of : Memory → ℕ → Option Item
-oldest_of memory number = option_map_or (λ pool. slice_get pool.items 0) (slice_get memory.pools number) None
+oldest_of memory number = option_map_or (λ pool. option_map (λ (turn : Turn). turn.item) (next pool)) (slice_get memory.pools number) None
+
+-- the pool, once it went
+abbrev pub without_next : Pool → Pool
+without_next pool = option_map_or (λ (turn : Turn). turn.left) (next pool) pool
 
 -- it is taken out
 abbrev pub after_evict : Memory → ℕ → Memory
-after_evict memory number = record memory { pools = change_at number (λ pool. record pool { items = drop 1 pool.items }) memory.pools }
+after_evict memory number = record memory { pools = change_at number without_next memory.pools }
 
 abbrev pub after_room : Memory → ℕ → ℕ → Memory
-after_room memory number want = record memory {
-  pools = change_at number (λ pool. record pool { items = kept pool.size (usage_of number memory.charges) want pool.items }) memory.pools;
-}
+after_room memory number want = record memory { pools = change_at number (kept (usage_of number memory.charges) want) memory.pools }
 
 -- ---- charges and links
 
@@ -102,7 +105,7 @@ after_charge memory number key size = record (after_room memory number (charge_o
 
 -- the pools without the item under a key
 abbrev pub unlinked : List ℕ → List Pool → List Pool
-unlinked key pools = change_home key (λ pool. record pool { items = without key pool.items }) pools
+unlinked key pools = change_home key (removed key) pools
 
 abbrev pub after_unlink : Memory → List ℕ → Memory
 after_unlink memory key = record memory { pools = unlinked key memory.pools }
@@ -114,16 +117,16 @@ after_free memory number = record memory { charges = closed number memory.charge
 abbrev pub after_frees : List ℕ → Memory → Memory
 after_frees numbers memory = record memory { charges = all_closed numbers memory.charges }
 
--- the handle's item is the one that was used last in its pool, and the only one under its key
+-- the handle's item comes behind the others of its pool, and is the only one under its key
 abbrev pub after_link : Memory → Bool → Handle → Memory
 after_link memory clean handle = record (after_free memory handle.number) {
-  pools = change_at handle.pool (λ pool. record pool { items = pool.items ++ item_by clean handle ∷ [] }) (unlinked handle.key memory.pools);
+  pools = change_at handle.pool (added (item_by clean handle)) (unlinked handle.key memory.pools);
 }
 
 -- the handle's item is charged and linked at once: its charge is never open
 abbrev pub after_put : Memory → Handle → Memory
 after_put memory handle = record memory {
-  pools = change_at handle.pool (λ pool. record pool { items = pool.items ++ item_by false handle ∷ [] }) (unlinked handle.key memory.pools);
+  pools = change_at handle.pool (added (item_by false handle)) (unlinked handle.key memory.pools);
   made = handle.number;
 }
 
@@ -149,9 +152,9 @@ abbrev pub copied : Option (List ℕ) → List ℕ → List ℕ
 copied None buffer = buffer
 copied (Some value) buffer = if nat_le (length value) (length buffer) then value ++ drop (length value) buffer else buffer
 
--- an unexpired item that is found is the one that was used last
+-- an item that is found, unless it is expired
 abbrev pub used_in : ℕ → List ℕ → List Pool → List Pool
-used_in now key pools = change_home key (λ pool. record pool { items = used key (unexpired now (item_at key pool.items)) pool.items }) pools
+used_in now key pools = change_home key (λ pool. found key (unexpired now (item_at key pool.items)) pool) pools
 
 abbrev pub after_find : Memory → ℕ → List ℕ → Memory
 after_find memory now key = record memory { pools = used_in now key memory.pools }

@@ -1,17 +1,21 @@
--- One pool: its items in the order of their use, and who goes where room is made.
-use Rattle.std.specs.Prelude.{ℕ, ◌+◌, ◌==◌, nat_lt, Bool, false, not, ◌&&◌, ◌||◌, List, [], ◌∷◌, ◌++◌, map, length, Option, Some, None, option_map, if◌then◌else◌}
+-- One pool: its items, how they take turns, and who goes where room is made.
+use Rattle.std.specs.Prelude.{ℕ, zero, suc, ◌+◌, ◌==◌, nat_lt, Bool, false, not, ◌&&◌, ◌||◌, List, [], ◌∷◌, ◌++◌, map, length, Option, Some, None, option_map, slice_get, if◌then◌else◌}
 use Rattle.std.specs.Str.{bytes_eq}
+use Rattle.std.specs.Option.{option_map_or}
 use Rattle.hc_types.specs.Tally.{tally}
 use Rattle.hc_types.specs.Loss.{Scope, covers}
 use Rattle.hc_types.specs.declared.config.PoolSize.{PoolSize}
 use Rattle.hc_types.specs.declared.config.FlashConfig.{FlashConfig}
 use Rattle.hc_memory.specs.declared.usage.Usage.{Usage}
 use Rattle.hc_memory.specs.Item.{Item, cost}
+use Rattle.hc_memory.specs.Order.{Order, ByUse, Sieve, left_out, come, seen_at, gone_at, turned, first_place}
 
--- its size, and its items that can be found, the one that was used longest ago first
+-- its size; its items that can be found, the one that was used longest ago first, or where they don't go by their use the one that
+-- came first; and how they take turns
 pub record Pool : Type 0 where
   pub size : PoolSize
   pub items : List Item
+  pub order : Order
 
 abbrev pub is_at : List ℕ → Item → Bool
 is_at key item = bytes_eq key item.key
@@ -34,10 +38,53 @@ abbrev pub without : List ℕ → List Item → List Item
 without key [] = []
 without key (item ∷ items) = if is_at key item then items else item ∷ without key items
 
--- an item that is used is the last
-abbrev pub used : List ℕ → Option Item → List Item → List Item
-used key None items = items
-used key (Some item) items = without key items ++ item ∷ []
+-- the place of the item under a key
+abbrev pub place_at : List ℕ → List Item → Option ℕ
+place_at key [] = None
+place_at key (item ∷ items) = if is_at key item then Some 0 else option_map suc (place_at key items)
+
+-- ---- items that come, are found, and leave
+
+-- an item comes, behind the others
+abbrev pub added : Item → Pool → Pool
+added item pool = record pool { items = pool.items ++ item ∷ []; order = come pool.order }
+
+-- the item under a key leaves
+abbrev pub removed : List ℕ → Pool → Pool
+removed key pool = record pool { items = without key pool.items; order = gone_at pool.order (place_at key pool.items) }
+
+-- an item is found: by use it is the last from now on
+abbrev pub found_by : Order → List ℕ → Item → Pool → Pool
+found_by ByUse key item pool = record { size = pool.size; items = without key pool.items ++ item ∷ []; order = ByUse }
+found_by (Sieve seen hand) key item pool = record pool { order = seen_at (Sieve seen hand) (place_at key pool.items) }
+
+abbrev pub found : List ℕ → Option Item → Pool → Pool
+found key None pool = pool
+found key (Some item) pool = found_by pool.order key item pool
+
+-- ---- who goes next
+
+-- the item that goes, and the pool without it
+pub record Turn : Type 0 where
+  pub item : Item
+  pub left : Pool
+
+-- the item at this place goes, the hand having gone there
+abbrev pub turn_at : Pool → Order → ℕ → Option Turn
+turn_at pool order place = option_map (λ (item : Item). record { item = item; left = record pool { items = left_out place pool.items; order = gone_at order (Some place) } }) (slice_get pool.items place)
+
+abbrev pub next : Pool → Option Turn
+next pool = turn_at pool (turned pool.order) (first_place (turned pool.order) (length pool.items))
+
+-- so many that go next
+abbrev pub next_items : ℕ → Pool → List Item
+next_items zero pool = []
+next_items (suc n) pool = option_map_or (λ (turn : Turn). turn.item ∷ next_items n turn.left) (next pool) []
+
+-- the pool, once so many went
+abbrev pub next_left : ℕ → Pool → Pool
+next_left zero pool = pool
+next_left (suc n) pool = option_map_or (λ (turn : Turn). next_left n turn.left) (next pool) pool
 
 -- ---- room
 
@@ -45,15 +92,21 @@ used key (Some item) items = without key items ++ item ∷ []
 abbrev pub is_full : PoolSize → Usage → ℕ → List Item → Bool
 is_full size usage want items = nat_lt size.bytes (usage.bytes + bytes_of items + want) || (usage.number + length items == size.items)
 
--- the items that stay when room is made: none goes while there is room
-abbrev pub kept : PoolSize → Usage → ℕ → List Item → List Item
-kept size usage want [] = []
-kept size usage want (item ∷ items) = if is_full size usage want (item ∷ items) then kept size usage want items else item ∷ items
+-- the items that go where room is made, in order, so many at most: none goes while there is room
+abbrev pub goes : ℕ → Usage → ℕ → Pool → List Item
+goes zero usage want pool = []
+goes (suc n) usage want pool = if is_full pool.size usage want pool.items then option_map_or (λ (turn : Turn). turn.item ∷ goes n usage want turn.left) (next pool) [] else []
 
--- the items that go, in order
-abbrev pub dropped : PoolSize → Usage → ℕ → List Item → List Item
-dropped size usage want [] = []
-dropped size usage want (item ∷ items) = if is_full size usage want (item ∷ items) then item ∷ dropped size usage want items else []
+-- the pool once they went
+abbrev pub stays : ℕ → Usage → ℕ → Pool → Pool
+stays zero usage want pool = pool
+stays (suc n) usage want pool = if is_full pool.size usage want pool.items then option_map_or (λ (turn : Turn). stays n usage want turn.left) (next pool) pool else pool
+
+abbrev pub dropped : Usage → ℕ → Pool → List Item
+dropped usage want pool = goes (length pool.items) usage want pool
+
+abbrev pub kept : Usage → ℕ → Pool → Pool
+kept usage want pool = stays (length pool.items) usage want pool
 
 -- ---- what is read
 

@@ -6,14 +6,15 @@ use Rattle.hc_types.specs.declared.config.FlashConfig.{FlashConfig}
 use Rattle.hc_memory.specs.declared.builder.Misfit.{Misfit}
 use Rattle.hc_memory.specs.declared.builder.Misfit.TheVariants.{NoPool, NoNumber, KeyTwice, NoRoom}
 use Rattle.hc_memory.specs.Item.{Item, cost}
-use Rattle.hc_memory.specs.Pool.{Pool, is_full}
+use Rattle.hc_memory.specs.Order.{Order, gone_at}
+use Rattle.hc_memory.specs.Pool.{Pool, added, is_full}
 use Rattle.hc_memory.specs.Charges.{usage_of}
 use Rattle.hc_memory.specs.Marks.{is_stale}
 use Rattle.hc_memory.specs.Memory.{Memory, empty_pool, linked_at, change_at}
 
 -- ---- handed out
 
--- all items: those of one pool after those of the other, in each the one that was used longest ago first
+-- all items: those of one pool after those of the other, in each in the order in which they stand
 abbrev pub all_items : List Pool → List Item
 all_items [] = []
 all_items (pool ∷ pools) = pool.items ++ all_items pools
@@ -23,10 +24,14 @@ abbrev pub first_pool : List Pool → Option ℕ
 first_pool [] = None
 first_pool (pool ∷ pools) = if length pool.items == 0 then option_map suc (first_pool pools) else Some 0
 
+-- a pool without the item that stands first
+abbrev pub behind_first : Pool → Pool
+behind_first pool = record pool { items = drop 1 pool.items; order = gone_at pool.order (Some 0) }
+
 -- the pools without the first of all items
 abbrev pub without_first : List Pool → List Pool
 without_first [] = []
-without_first (pool ∷ pools) = if length pool.items == 0 then pool ∷ without_first pools else record pool { items = drop 1 pool.items } ∷ pools
+without_first (pool ∷ pools) = if length pool.items == 0 then pool ∷ without_first pools else behind_first pool ∷ pools
 
 abbrev pub after_hand_out : Memory → Memory
 after_hand_out memory = record memory { pools = without_first memory.pools }
@@ -51,9 +56,24 @@ misfit_of memory item =
     else (if is_full_at memory item.pool (cost item) then Some NoRoom
     else None)))
 
--- the item is linked as it was kept, as the one of its pool that was used last
+-- the item is linked as it was kept, behind the others of its pool
 abbrev pub after_restore : Memory → Item → Memory
-after_restore memory item = record memory { pools = change_at item.pool (λ pool. record pool { items = pool.items ++ item ∷ [] }) memory.pools }
+after_restore memory item = record memory { pools = change_at item.pool (added item) memory.pools }
+
+-- ---- how items take turns
+
+-- those of each pool: which of its items were found, and where the hand stands
+abbrev pub orders_of : List Pool → List Order
+orders_of pools = map (λ (pool : Pool). pool.order) pools
+
+-- the pools with these, the first pool with the first
+abbrev pub with_orders : List Order → List Pool → List Pool
+with_orders [] pools = pools
+with_orders (order ∷ orders) [] = []
+with_orders (order ∷ orders) (pool ∷ pools) = record pool { order = order } ∷ with_orders orders pools
+
+abbrev pub after_orders : List Order → Memory → Memory
+after_orders orders memory = record memory { pools = with_orders orders memory.pools }
 
 -- ---- both
 
@@ -70,6 +90,6 @@ emptied memory = record memory { pools = map (λ (pool : Pool). empty_pool pool.
 abbrev pub AreMade : Memory → Type 0
 AreMade memory = (number : ℕ) → memory.made < number → count (λ (item : Item). item.number == number) (all_items memory.pools) ≡ 0
 
--- what these pools hand out fills them again, to what they were
+-- what these pools hand out fills them again, and with how their items took turns they are what they were
 abbrev pub ComeAgain : Memory → Type 0
-ComeAgain memory = AreMade memory → restored (all_items memory.pools) (emptied memory) ≡ Some memory
+ComeAgain memory = AreMade memory → option_map (after_orders (orders_of memory.pools)) (restored (all_items memory.pools) (emptied memory)) ≡ Some memory

@@ -5,6 +5,7 @@ use Rattle.hc_types.specs.Limits.{pool_fits}
 use Rattle.hc_types.specs.declared.config.FlashConfig.{FlashConfig}
 use Rattle.hc_memory.specs.declared.usage.Usage.{Usage}
 use Rattle.hc_memory.specs.Item.{Item, Open}
+use Rattle.hc_memory.specs.Order.{OrderFits}
 use Rattle.hc_memory.specs.Pool.{Pool, is_at, bytes_of}
 use Rattle.hc_memory.specs.Charges.{has_number, usage_of}
 
@@ -25,6 +26,8 @@ pub record Sound (pools : List Pool) (charges : List Open) (made : ℕ) : Type 0
   pub within : (i : ℕ) (pool : Pool) → slice_get pools i ≡ Some pool → IsWithin (usage_of i charges) pool
   -- each item is in the list of its own pool
   pub own : (i : ℕ) (pool : Pool) → slice_get pools i ≡ Some pool → count (λ (item : Item). not (item.pool == i)) pool.items ≡ 0
+  -- how a pool's items take turns is known of these items
+  pub order : (i : ℕ) (pool : Pool) → slice_get pools i ≡ Some pool → OrderFits pool.order (length pool.items)
   -- no key has two items
   pub single : (key : List ℕ) → items_at key pools ≤ 1
   -- no two open charges have one number, and none has one that is still to come

@@ -2,7 +2,8 @@
 ghost use Rattle.std.specs.Prelude.{◌≡◌, ◌+◌, ◌<◌, ◌≤◌, ◌^◌, ◌++◌, ◌∷◌, [], ◌&&◌, nat_lt, nat_le, not, is_some, length, map, slice_get, Some, None, IfSome, IfOk, IfErr, OnOk, OnErr};
 ghost use Rattle.hc_types.specs.Limits.{first_wrong};
 ghost use Rattle.hc_memory.specs.Item.{cost};
-ghost use Rattle.hc_memory.specs.Pool.{Pool as Order, bytes_of, item_at};
+ghost use Rattle.hc_memory.specs.Order.{AllByUse};
+ghost use Rattle.hc_memory.specs.Pool.{Pool as Order, bytes_of, item_at, added};
 ghost use Rattle.hc_memory.specs.Marks.{is_stale};
 ghost use Rattle.hc_memory.specs.Memory.{empty_pool, linked_at, change_at};
 ghost use Rattle.hc_memory.specs.Resting.{is_numbered, is_full_at, misfit_of, after_restore};
@@ -66,9 +67,11 @@ impl<A: Allocator> Model for PoolsBuilder<A> {
 }
 
 impl<A: Allocator + Copy> PoolsBuilder<A> {
-    /// The pools of a configuration that was checked, without items, after so many charges.
+    /// The pools of a configuration that was checked, without items, after so many charges. In each of them items go by
+    /// their use.
     pub fn new(alloc: A, config: &Config<A>, made: u64) -> Result<PoolsBuilder<A>, AllocError>
-        requires { first_wrong config.now ≡ None }
+        requires right { first_wrong config.now ≡ None }
+        requires turns { AllByUse config.now.pools }
         ensures { IfOk result (λ pools. pools ≡ record { flash = config.now.flash; pools = map empty_pool config.now.pools; charges = []; made = made }) }
     {
         let sizes = config.pools.as_slice();
@@ -224,7 +227,7 @@ fn link_in<A: Allocator + Clone>(pools: &mut Vec<Pool<A>, A>, item: Item<A>) -> 
     requires place { item.pool < length pools.old.items }
     requires absent { (pool : Order) → slice_get pools.old.items item.pool ≡ Some pool → item_at item.key pool.items ≡ None }
     requires bytes { (pool : Order) → slice_get pools.old.items item.pool ≡ Some pool → bytes_of pool.items + cost item < 2 ^ 64 }
-    ensures pools { OnOk result (pools.new.items ≡ change_at item.pool (λ (pool : Order). record pool { items = pool.items ++ item ∷ [] }) pools.old.items) }
+    ensures pools { OnOk result (pools.new.items ≡ change_at item.pool (added item) pools.old.items) }
     ensures item_returned { IfErr result (λ back. back ≡ item) }
     ensures err { OnErr result (pools.new.items ≡ pools.old.items) }
 {

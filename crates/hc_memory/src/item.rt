@@ -1,6 +1,7 @@
 // The items of a pool.
-ghost use Rattle.std.specs.Prelude.{◌≡◌, ◌≤◌, ◌==◌, ◌&&◌, not, nat_lt, length};
-ghost use Rattle.hc_memory.specs.Pool.{is_expired};
+ghost use Rattle.std.specs.Prelude.{◌≡◌, ℕ, List, Some, ◌≤◌, ◌==◌, ◌&&◌, not, nat_lt, length, option_map};
+ghost use Rattle.hc_memory.specs.Pool.{is_expired, value_then};
+ghost use Rattle.hc_memory.specs.Memory.{copied};
 ghost use Rattle.hc_memory.specs.Seen.{item_of};
 
 use crate::value::ItemValue;
@@ -101,6 +102,17 @@ impl<A: Allocator> Held<A> {
             expiry,
             clean,
         }
+    }
+
+    /// Copies the value to the head of the buffer, unless it is expired at `now` (seconds), and answers how long it is.
+    pub(crate) fn copy_fresh(&self, now: u64, buffer: &mut [u8]) -> Option<usize>
+        ensures value { (key : List ℕ) → result ≡ option_map length (value_then now (Some (item_of (key, self.now)))) }
+        ensures buffer { (key : List ℕ) → buffer.new ≡ copied (value_then now (Some (item_of (key, self.now)))) buffer.old }
+    {
+        if is_expired(now, self.expiry) {
+            return None;
+        }
+        Some(self.value.copy_to(buffer))
     }
 }
 

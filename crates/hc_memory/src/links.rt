@@ -1,7 +1,7 @@
 // Handles that are spent: an item is linked, or given up.
 ghost use Rattle.std.specs.Prelude.{◌≡◌, ◌≢◌, ◌+◌, ◌<◌, ◌≤◌, ◌^◌, ◌++◌, ◌∷◌, [], true, false, length, slice_get, swap_remove, option_map, Some, IfOk, IfErr, OnOk, OnErr};
 ghost use Rattle.hc_memory.specs.Item.{Item as Meaning, Open, charge_by, cost};
-ghost use Rattle.hc_memory.specs.Pool.{Pool as Order, bytes_of};
+ghost use Rattle.hc_memory.specs.Pool.{Pool as Order, bytes_of, added};
 ghost use Rattle.hc_memory.specs.Seen.{item_of};
 ghost use Rattle.hc_memory.specs.Charges.{is_open, open_at};
 ghost use Rattle.hc_memory.specs.Sound.{items_at};
@@ -133,7 +133,7 @@ fn link_over<A: Allocator + Clone>(
     requires bytes { (pool : Order) → slice_get pools.old.items own ≡ Some pool → bytes_of pool.items + cost (item_of (key, held)) < 2 ^ 64 }
     requires single { items_at key pools.old.items ≤ 1 }
     ensures old { IfOk result (λ old. old ≡ option_map (λ (item : Meaning). item.number) (linked_at key pools.old.items)) }
-    ensures pools { OnOk result (pools.new.items ≡ change_at own (λ (pool : Order). record pool { items = pool.items ++ item_of (key, held) ∷ [] }) (unlinked key pools.old.items)) }
+    ensures pools { OnOk result (pools.new.items ≡ change_at own (added (item_of (key, held))) (unlinked key pools.old.items)) }
     ensures err { OnErr result (pools.new.items ≡ pools.old.items) }
     ensures value_returned { IfErr result (λ failed. failed.value ≡ (key, held)) }
 {
@@ -175,7 +175,7 @@ pub(crate) fn move_over<A: Allocator + Clone>(
     requires home { home_of key pools.old.items ≡ Some at }
     requires other { own ≢ at }
     ensures old { IfOk result (λ old. old ≡ option_map (λ (item : Meaning). item.number) (linked_at key pools.old.items)) }
-    ensures pools { OnOk result (pools.new.items ≡ change_at own (λ (pool : Order). record pool { items = pool.items ++ item_of (key, held) ∷ [] }) (unlinked key pools.old.items)) }
+    ensures pools { OnOk result (pools.new.items ≡ change_at own (added (item_of (key, held))) (unlinked key pools.old.items)) }
     ensures err { OnErr result (pools.new.items ≡ pools.old.items) }
     ensures value_returned { IfErr result (λ failed. failed.value ≡ (key, held)) }
 {

@@ -6,8 +6,10 @@ ghost use Rattle.std.specs.Str.{bytes_eq};
 ghost use Rattle.lru.specs.LruCache.{lru_cache, last_entry, put_entries};
 ghost use Rattle.hc_types.specs.Loss.{scope_of};
 ghost use Rattle.hc_memory.specs.Item.{cost as item_cost};
-ghost use Rattle.hc_memory.specs.Pool.{bytes_of, linked_usage, is_at, item_at, without, used, unmarked_where, is_covered, is_covered_at, is_full, kept, dropped, is_expired, unexpired, value_then};
-ghost use Rattle.hc_memory.specs.Memory.{copied};
+ghost use Rattle.hc_memory.specs.Order.{ByUse};
+ghost use Rattle.hc_memory.specs.Pool.{bytes_of, linked_usage, is_at, item_at, added, removed, found, next, next_items, next_left, unmarked_where, is_covered, is_covered_at, is_full, kept, dropped, is_expired, unexpired, value_then};
+ghost use Rattle.hc_memory.specs.Memory.{empty_pool, without_next, copied};
+ghost use Rattle.hc_types.specs.declared.turns.Turns.TheVariants as turns;
 ghost use Rattle.hc_memory.specs.Seen.{item_of};
 
 use crate::item::{Held, Item, is_expired};
@@ -52,20 +54,22 @@ pub struct Pool<A: Allocator = Global> {
 impl<A: Allocator> Model for Pool<A> {
     ghost use Rattle.std.specs.Prelude.{◌≡◌, ◌-◌, ◌≤◌, ◌^◌};
     ghost use Rattle.hc_types.specs.Tally.{count};
+    ghost use Rattle.hc_memory.specs.Order.{ByUse};
     ghost use Rattle.hc_memory.specs.Pool.{Pool as Order, bytes_of, is_expired};
     ghost use Rattle.hc_memory.specs.Seen.{items_of};
 
     ghost Value = { Order };
 
-    ghost view = { λ p. record { size = p.size; items = items_of p.cache.entries } };
+    ghost view = { λ p. record { size = p.size; items = items_of p.cache.entries; order = ByUse } };
 
     ghost invariant = { λ p. (p.bytes ≡ bytes_of (items_of p.cache.entries)) × (p.cache.cap ≡ 2 ^ 64 - 1) × (count (is_expired p.fresh_until) (items_of p.cache.entries) ≡ 0) };
 }
 
 impl<A: Allocator + Clone> Pool<A> {
-    /// A pool of no item.
+    /// A pool of no item, whose items go by their use.
     pub fn new(alloc: A, size: PoolSize) -> Result<Pool<A>, AllocError>
-        ensures { IfOk result (λ pool. pool ≡ record { size = size; items = [] }) }
+        requires { size.turns ≡ turns.ByUse }
+        ensures { IfOk result (λ pool. pool ≡ empty_pool size) }
     {
         Ok(Pool {
             cache: LruCache::unbounded(alloc)?,
@@ -96,10 +100,11 @@ impl<A: Allocator> Pool<A> {
         }
     }
 
-    /// Whether it has no item.
+    /// Whether it has no item. Its items go by their use.
     #[must_use]
     pub fn is_empty(&self) -> bool
-        ensures { result ≡ (length self.now.items == 0) }
+        ensures value { result ≡ (length self.now.items == 0) }
+        ensures order { self.now.order ≡ ByUse }
     {
         self.cache.len() == 0
     }
@@ -122,7 +127,7 @@ impl<A: Allocator> Pool<A> {
 
     /// The item under the key, if there is one, is now the one that was used last.
     pub fn promote(&mut self, key: &Key<A>)
-        ensures { self.new ≡ record { size = self.old.size; items = used key.now (item_at key.now self.old.items) self.old.items } }
+        ensures { self.new ≡ found key.now (item_at key.now self.old.items) self.old }
     {
         let _len = self.cache.len();
         self.cache.promote(key);
@@ -147,7 +152,7 @@ impl<A: Allocator> Pool<A> {
     fn use_into(&mut self, key: &Key<A>, buffer: &mut [u8]) -> Option<usize>
         ensures value { result ≡ option_map (λ i. length i.value) (item_at key.now self.old.items) }
         ensures buffer { buffer.new ≡ copied (option_map (λ i. i.value) (item_at key.now self.old.items)) buffer.old }
-        ensures items { self.new ≡ record { size = self.old.size; items = used key.now (item_at key.now self.old.items) self.old.items } }
+        ensures items { self.new ≡ found key.now (item_at key.now self.old.items) self.old }
     {
         let _len = self.cache.len();
         if !self.cache.promote(key) {
@@ -165,7 +170,7 @@ impl<A: Allocator> Pool<A> {
     pub fn find_into(&mut self, key: &Key<A>, now: u64, buffer: &mut [u8]) -> Option<Option<usize>>
         ensures value { result ≡ option_map (λ i. option_map length (value_then now (Some i))) (item_at key.now self.old.items) }
         ensures buffer { buffer.new ≡ copied (value_then now (item_at key.now self.old.items)) buffer.old }
-        ensures items { self.new ≡ record { size = self.old.size; items = used key.now (unexpired now (item_at key.now self.old.items)) self.old.items } }
+        ensures items { self.new ≡ found key.now (unexpired now (item_at key.now self.old.items)) self.old }
     {
         if self.has_expired(key, now) {
             return Some(None);
@@ -179,7 +184,7 @@ impl<A: Allocator> Pool<A> {
     /// Takes out the item under the key, and answers its number.
     pub fn unlink(&mut self, key: &Key<A>) -> Option<u64>
         ensures value { result ≡ option_map (λ i. i.number) (item_at key.now self.old.items) }
-        ensures items { self.new ≡ record { size = self.old.size; items = without key.now self.old.items } }
+        ensures items { self.new ≡ removed key.now self.old }
     {
         let _len = self.cache.len();
         let (number, freed) = taken(key.len() as u64, self.cache.pop(key));
@@ -187,10 +192,10 @@ impl<A: Allocator> Pool<A> {
         number
     }
 
-    /// Takes out the item that was used longest ago.
+    /// Takes out the item that goes next: the one that was used longest ago.
     pub fn evict_first(&mut self) -> Option<Item<A>>
-        ensures value { result ≡ slice_get self.old.items 0 }
-        ensures items { self.new ≡ record { size = self.old.size; items = drop 1 self.old.items } }
+        ensures value { result ≡ option_map (λ turn. turn.item) (next self.old) }
+        ensures items { self.new ≡ without_next self.old }
     {
         let (key, held) = pop_oldest(&mut self.cache)?;
         self.bytes -= cost(&key, &held);
@@ -209,10 +214,10 @@ impl<A: Allocator> Pool<A> {
     pub fn evict(&mut self, count: usize, victims: &mut Vec<Item<A>, A>)
         requires some { count ≤ length self.old.items }
         requires room { vec_len victims.old + count ≤ vec_capacity victims.old }
-        ensures victims { victims.new.items ≡ victims.old.items ++ take count self.old.items }
+        ensures victims { victims.new.items ≡ victims.old.items ++ next_items count self.old }
         ensures room { vec_capacity victims.new ≡ vec_capacity victims.old }
         ensures len { vec_len victims.new ≡ vec_len victims.old + count }
-        ensures items { self.new ≡ record { size = self.old.size; items = drop count self.old.items } }
+        ensures items { self.new ≡ next_left count self.old }
     {
         for _ in 0..count {
             match self.evict_first() {
@@ -224,7 +229,7 @@ impl<A: Allocator> Pool<A> {
 
     /// The item under the key, if there is one, loses its clean mark. It isn't used.
     fn unmark(&mut self, key: &Key<A>)
-        ensures { self.new ≡ record { size = self.old.size; items = unmarked_where (is_at key.now) self.old.items } }
+        ensures { self.new ≡ record { size = self.old.size; items = unmarked_where (is_at key.now) self.old.items; order = self.old.order } }
     {
         let _len = self.cache.len();
         if let Some(held) = self.cache.peek_mut(key) {
@@ -248,7 +253,7 @@ impl<A: Allocator> Pool<A> {
     pub fn unmark_covered(&mut self, flash: &Option<FlashConfig>, scope: &Scope<A>, key: &Key<A>)
         requires bits { IfSome flash.now (λ f. f.bits ≤ 64) }
         requires buckets { IfSome flash.now (λ f. 1 ≤ f.buckets) }
-        ensures { self.new ≡ record { size = self.old.size; items = unmarked_where (is_covered_at flash.now (scope_of scope.now) key.now) self.old.items } }
+        ensures { self.new ≡ record { size = self.old.size; items = unmarked_where (is_covered_at flash.now (scope_of scope.now) key.now) self.old.items; order = self.old.order } }
     {
         let _len = self.cache.len();
         if self.covers(flash, scope, key) {
@@ -275,9 +280,8 @@ impl<A: Allocator> Pool<A> {
         requires limit { self.now.size.bytes < 2 ^ 63 }
         requires room { is_full self.now.size usage want [] ≡ false }
         ensures bound { result ≤ length self.now.items }
-        ensures go { take result self.now.items ≡ dropped self.now.size usage want self.now.items }
-        ensures stay { drop result self.now.items ≡ kept self.now.size usage want self.now.items }
-        ensures fits { is_full self.now.size usage want (drop result self.now.items) ≡ false }
+        ensures go { next_items result self.now ≡ dropped usage want self.now }
+        ensures stay { next_left result self.now ≡ kept usage want self.now }
     {
         let size = self.size;
         let mut bytes = self.bytes;
@@ -299,7 +303,7 @@ impl<A: Allocator + Clone> Pool<A> {
     /// Copies of the keys of the items that were used longest ago, so many of them, in that order. Refused only where memory
     /// lacks.
     pub fn oldest_keys(&self, alloc: &A, count: usize) -> Result<Vec<Key<A>, A>, AllocError>
-        ensures { IfOk result (λ keys. keys.items ≡ map (λ item. item.key) (take count self.now.items)) }
+        ensures { IfOk result (λ keys. keys.items ≡ map (λ item. item.key) (next_items count self.now)) }
     {
         let mut keys = Vec::with_capacity(alloc.clone()?, count)?;
         let mut left = count;
@@ -323,7 +327,7 @@ impl<A: Allocator + Clone> Pool<A> {
     ) -> Result<Option<u64>, AllocFailed<(Key<A>, Held<A>)>>
         requires { bytes_of self.old.items + item_cost (item_of (key, held)) < 2 ^ 64 }
         ensures old { IfOk result (λ old. old ≡ option_map (λ i. i.number) (item_at key self.old.items)) }
-        ensures items { OnOk result (self.new ≡ record { size = self.old.size; items = without key self.old.items ++ item_of (key, held) ∷ [] }) }
+        ensures items { OnOk result (self.new ≡ added (item_of (key, held)) (removed key self.old)) }
         ensures err { OnErr result (self.new ≡ self.old) }
         ensures value_returned { IfErr result (λ failed. failed.value ≡ (key, held)) }
         ensures succeeds { IsSome (item_at key self.old.items) → IsOk result }
@@ -347,7 +351,7 @@ impl<A: Allocator + Clone> Pool<A> {
     pub fn add(&mut self, key: Key<A>, held: Held<A>) -> Result<(), AllocError>
         requires absent { item_at key self.old.items ≡ None }
         requires bytes { bytes_of self.old.items + item_cost (item_of (key, held)) < 2 ^ 64 }
-        ensures items { OnOk result (self.new ≡ record { size = self.old.size; items = without key self.old.items ++ item_of (key, held) ∷ [] }) }
+        ensures items { OnOk result (self.new ≡ added (item_of (key, held)) (removed key self.old)) }
         ensures err { OnErr result (self.new ≡ self.old) }
     {
         let _len = self.cache.len();
@@ -368,7 +372,7 @@ impl<A: Allocator + Clone> Pool<A> {
     pub fn replace(&mut self, key: &Key<A>, held: Held<A>) -> Result<(), Held<A>>
         requires { bytes_of self.old.items + item_cost (item_of (key.now, held)) < 2 ^ 64 }
         ensures some { OnOk result (is_some (item_at key.now self.old.items) ≡ true) }
-        ensures items { OnOk result (self.new ≡ record { size = self.old.size; items = without key.now self.old.items ++ item_of (key.now, held) ∷ [] }) }
+        ensures items { OnOk result (self.new ≡ added (item_of (key.now, held)) (removed key.now self.old)) }
         ensures none { OnErr result (item_at key.now self.old.items ≡ None) }
         ensures err { OnErr result (self.new ≡ self.old) }
         ensures value_returned { IfErr result (λ back. back ≡ held) }
@@ -401,10 +405,11 @@ impl<A: Allocator + Clone> Pool<A> {
         requires bytes { bytes_of self.old.items + item_cost (item_of (key, held)) < 2 ^ 64 }
         requires some { count ≤ length self.old.items }
         requires room { vec_len victims.old + count ≤ vec_capacity victims.old }
-        ensures victims { OnOk result (victims.new.items ≡ victims.old.items ++ take count self.old.items) }
-        ensures items { OnOk result (self.new ≡ record { size = self.old.size; items = drop count self.old.items ++ item_of (key, held) ∷ [] }) }
+        ensures victims { OnOk result (victims.new.items ≡ victims.old.items ++ next_items count self.old) }
+        ensures items { OnOk result (self.new ≡ added (item_of (key, held)) (next_left count self.old)) }
         ensures err { OnErr result (self.new ≡ self.old) }
     {
+        let _size = self.size;
         self.link(key, held)?;
         self.evict(count, victims);
         Ok(())

@@ -3,7 +3,8 @@ ghost use Rattle.std.specs.Prelude.{◌≡◌, ◌+◌, ◌<◌, ◌≤◌, [], 
 ghost use Rattle.hc_types.specs.Limits.{first_wrong};
 ghost use Rattle.hc_types.specs.Charge.{charge_of};
 ghost use Rattle.hc_memory.specs.Planned.{IsPlanned};
-ghost use Rattle.hc_memory.specs.Pool.{is_full, kept, dropped};
+ghost use Rattle.hc_memory.specs.Pool.{is_full, next_items, next_left, kept, dropped};
+ghost use Rattle.hc_memory.specs.Order.{AllByUse};
 ghost use Rattle.hc_memory.specs.Sound.{Sound, FlashFits, IsWithin};
 ghost use Rattle.hc_memory.specs.Seen.{item_of, filled, glance_of};
 ghost use Rattle.hc_memory.specs.Memory.{empty_pool, pool_usage, home_of, linked_at, value_at, copied, used_in, is_hopeless, victims_of, oldest_keys, oldest_of, handle_for, unlinked, after_evict, after_charge, after_unlink, after_find};
@@ -179,10 +180,31 @@ impl<A: Allocator> Pools<A> {
     }
 }
 
+impl<A: Allocator> Pools<A> {
+    /// Copies the value under this key, where its item isn't expired at `now` (seconds), to the head of the buffer, and answers
+    /// how long it is; into a shorter buffer nothing is copied. No item is used, and nothing is written here: many may look at once.
+    #[must_use]
+    pub fn look_into(&self, key: &Key<A>, now: u64, buffer: &mut [u8]) -> Option<usize>
+        ensures value { result ≡ option_map length (value_at now key.now self.now.pools) }
+        ensures buffer { buffer.new ≡ copied (value_at now key.now self.now.pools) buffer.old }
+    {
+        look_in(self.pools.as_slice(), key, now, buffer)
+    }
+
+    /// The item under this key is found, where it isn't expired at `now` (seconds): as `find` does it, but nothing is read.
+    pub fn touch(&mut self, key: &Key<A>, now: u64)
+        ensures { self.new ≡ after_find self.old now key.now }
+    {
+        let mut none = [];
+        let _ = self.find_into(key, now, &mut none);
+    }
+}
+
 impl<A: Allocator + Copy> Pools<A> {
-    /// The pools of a configuration that was checked, without items.
+    /// The pools of a configuration that was checked, without items. In each of them items go by their use.
     pub fn new(alloc: A, config: &Config<A>) -> Result<Pools<A>, AllocError>
-        requires { first_wrong config.now ≡ None }
+        requires right { first_wrong config.now ≡ None }
+        requires turns { AllByUse config.now.pools }
         ensures { IfOk result (λ pools. pools ≡ record { flash = config.now.flash; pools = map empty_pool config.now.pools; charges = []; made = 0 }) }
     {
         let sizes = config.pools.as_slice();
@@ -233,6 +255,23 @@ fn fresh_in<A: Allocator>(
     Ok(Some((at, held.value.to_bytes()?)))
 }
 
+/// Copies the value under this key, where its item isn't expired at `now` (seconds), to the head of the buffer, and answers
+/// how long it is. No item is used.
+fn look_in<A: Allocator>(
+    pools: &[Pool<A>],
+    key: &Key<A>,
+    now: u64,
+    buffer: &mut [u8],
+) -> Option<usize>
+    ensures value { result ≡ option_map length (value_at now key.now pools.now) }
+    ensures buffer { buffer.new ≡ copied (value_at now key.now pools.now) buffer.old }
+{
+    match held_in(pools, key) {
+        Some((_, held)) => held.copy_fresh(now, buffer),
+        None => None,
+    }
+}
+
 /// Finds the value under this key in the pool that has its item, as `Pool::find_into` does, and answers how long it is.
 fn find_in<A: Allocator>(
     pools: &mut Vec<Pool<A>, A>,
@@ -270,6 +309,7 @@ pub(crate) fn empty_pools<A: Allocator + Copy>(
     alloc: A,
     sizes: &[PoolSize],
 ) -> Result<Vec<Pool<A>, A>, AllocError>
+    requires { AllByUse sizes.now }
     ensures { IfOk result (λ pools. pools.items ≡ map empty_pool sizes.now) }
 {
     let mut pools = Vec::with_capacity(alloc, sizes.len())?;
@@ -296,10 +336,9 @@ pub(crate) fn room_for<A: Allocator + Clone>(
 fn victims_of_pool<A: Allocator>(pool: &Pool<A>, usage: Usage, want: u64) -> Result<usize, Refusal>
     requires { IsWithin usage pool.now }
     ensures some { IfOk result (λ count. count ≤ length pool.now.items) }
-    ensures go { IfOk result (λ count. take count pool.now.items ≡ dropped pool.now.size usage want pool.now.items) }
-    ensures stay { IfOk result (λ count. drop count pool.now.items ≡ kept pool.now.size usage want pool.now.items) }
+    ensures go { IfOk result (λ count. next_items count pool.now ≡ dropped usage want pool.now) }
+    ensures stay { IfOk result (λ count. next_left count pool.now ≡ kept usage want pool.now) }
     ensures room { OnOk result (is_full pool.now.size usage want [] ≡ false) }
-    ensures fits { IfOk result (λ count. is_full pool.now.size usage want (drop count pool.now.items) ≡ false) }
     ensures err { IfErr result (λ refusal. (refusal ≡ Refusal.NoRoom) × (is_full pool.now.size usage want [] ≡ true)) }
 {
     let size = pool.size();
@@ -323,7 +362,7 @@ impl<A: Allocator> Pools<A> {
         victims_of_pool(&self.pools[usize::from(pool)], usage, want)
     }
 
-    /// Takes out the pool's item that was used longest ago: the first of those that go where room is made, as `victims` says how
+    /// Takes out the pool's item that goes next: the first of those that go where room is made, as `victims` says how
     /// many. It takes no memory.
     pub fn evict_oldest(&mut self, pool: u8) -> Option<Item<A>>
         requires { pool < length self.old.pools }
@@ -342,7 +381,7 @@ impl<A: Allocator> Pools<A> {
 }
 
 impl<A: Allocator + Clone> Pools<A> {
-    /// Copies of the keys of the pool's items that were used longest ago, so many of them, in that order: those that go are
+    /// Copies of the keys of the pool's items that go next, so many of them, in that order: those that go where room is made are
     /// the first. Refused only when out of memory. It costs what it answers.
     pub fn oldest_keys(&self, pool: u8, count: usize) -> Result<Vec<Key<A>, A>, AllocError>
         requires { pool < length self.now.pools }

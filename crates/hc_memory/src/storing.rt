@@ -2,7 +2,7 @@
 ghost use Rattle.std.specs.Prelude.{◌≡◌, ◌+◌, ◌<◌, ◌≤◌, ◌^◌, ◌++◌, ◌∷◌, [], false, length, slice_get, None, Some, IfOk, OnOk, OnErr};
 ghost use Rattle.hc_types.specs.Charge.{charge_of};
 ghost use Rattle.hc_memory.specs.Item.{cost};
-ghost use Rattle.hc_memory.specs.Pool.{Pool as Order, bytes_of, item_at};
+ghost use Rattle.hc_memory.specs.Pool.{Pool as Order, bytes_of, item_at, added};
 ghost use Rattle.hc_memory.specs.Sound.{items_at};
 ghost use Rattle.hc_memory.specs.Seen.{item_of, filled};
 ghost use Rattle.hc_memory.specs.Memory.{change_at, unlinked, is_hopeless, victims_of, after_put};
@@ -85,7 +85,7 @@ fn store_in<A: Allocator + Clone>(
     requires place { own < length pools.old.items }
     requires bytes { (pool : Order) → slice_get pools.old.items own ≡ Some pool → bytes_of pool.items + cost (item_of (key, held)) < 2 ^ 64 }
     requires single { items_at key pools.old.items ≤ 1 }
-    ensures pools { OnOk result (pools.new.items ≡ change_at own (λ (pool : Order). record pool { items = pool.items ++ item_of (key, held) ∷ [] }) (unlinked key pools.old.items)) }
+    ensures pools { OnOk result (pools.new.items ≡ change_at own (added (item_of (key, held))) (unlinked key pools.old.items)) }
     ensures err { OnErr result (pools.new.items ≡ pools.old.items) }
 {
     match pools[own].replace(&key, held) {
@@ -105,7 +105,7 @@ fn store_new<A: Allocator + Clone>(
     requires bytes { (pool : Order) → slice_get pools.old.items own ≡ Some pool → bytes_of pool.items + cost (item_of (key, held)) < 2 ^ 64 }
     requires absent { (pool : Order) → slice_get pools.old.items own ≡ Some pool → item_at key pool.items ≡ None }
     requires single { items_at key pools.old.items ≤ 1 }
-    ensures pools { OnOk result (pools.new.items ≡ change_at own (λ (pool : Order). record pool { items = pool.items ++ item_of (key, held) ∷ [] }) (unlinked key pools.old.items)) }
+    ensures pools { OnOk result (pools.new.items ≡ change_at own (added (item_of (key, held))) (unlinked key pools.old.items)) }
     ensures err { OnErr result (pools.new.items ≡ pools.old.items) }
 {
     match home_beside(pools.as_slice(), own, &key) {

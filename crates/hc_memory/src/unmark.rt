@@ -92,7 +92,7 @@ fn unmark_in<A: Allocator>(
 )
     requires bits { IfSome flash.now (λ f. f.bits ≤ 64) }
     requires buckets { IfSome flash.now (λ f. 1 ≤ f.buckets) }
-    ensures { pool.new ≡ record { size = pool.old.size; items = keys_unmarked flash.now (scope_of scope.now) keys.now pool.old.items } }
+    ensures { pool.new ≡ record { size = pool.old.size; items = keys_unmarked flash.now (scope_of scope.now) keys.now pool.old.items; order = pool.old.order } }
 {
     for key in keys {
         unmark_one(pool, flash, scope, key);
@@ -108,7 +108,7 @@ fn unmark_one<A: Allocator>(
 )
     requires bits { IfSome flash.now (λ f. f.bits ≤ 64) }
     requires buckets { IfSome flash.now (λ f. 1 ≤ f.buckets) }
-    ensures { pool.new ≡ record { size = pool.old.size; items = unmarked_where (is_covered_at flash.now (scope_of scope.now) key.now) pool.old.items } }
+    ensures { pool.new ≡ record { size = pool.old.size; items = unmarked_where (is_covered_at flash.now (scope_of scope.now) key.now) pool.old.items; order = pool.old.order } }
 {
     if may_cover(flash, scope, key) {
         pool.unmark_covered(flash, scope, key);

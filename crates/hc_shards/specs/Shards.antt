@@ -26,7 +26,7 @@ abbrev pub share_of_number : ℕ → ℕ → ℕ
 share_of_number shards n = if shards == 0 then n else n / shards
 
 abbrev pub share_of_pool : ℕ → PoolSize → PoolSize
-share_of_pool shards pool = record { bytes = share_of_number shards pool.bytes; items = share_of_number shards pool.items }
+share_of_pool shards pool = record { bytes = share_of_number shards pool.bytes; items = share_of_number shards pool.items; turns = pool.turns }
 
 -- the configuration of one shard
 abbrev pub share_of : Sharded → Config

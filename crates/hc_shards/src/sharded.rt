@@ -113,13 +113,14 @@ fn shares_of<A: Allocator>(
     Ok(shares)
 }
 
-/// The share of the pool that one shard has.
+/// The share of the pool that one shard has. Its items take turns as the pool's.
 fn share_of_pool(shards: u8, pool: PoolSize) -> PoolSize
     ensures { result ≡ spec.share_of_pool shards pool }
 {
     PoolSize {
         bytes: share_of_number(shards, pool.bytes),
         items: share_of_number(shards, pool.items),
+        turns: pool.turns,
     }
 }
 

@@ -13,7 +13,8 @@ use Rattle.hc_memory.specs.Pool.{Pool, is_at}
 use Rattle.hc_memory.specs.Memory.{Memory, empty_pool, linked_at}
 use Rattle.hc_memory.specs.declared.builder.Misfit.{Misfit}
 use Rattle.hc_memory.specs.declared.builder.Misfit.TheVariants.{NoPool, NoNumber, KeyTwice, NoRoom}
-use Rattle.hc_memory.specs.Resting.{all_items, misfit_of, is_numbered, is_full_at, after_restore, restored, AreMade, ComeAgain}
+use Rattle.hc_memory.specs.Order.{Order}
+use Rattle.hc_memory.specs.Resting.{all_items, misfit_of, is_numbered, is_full_at, after_restore, orders_of, with_orders, after_orders, restored, AreMade, ComeAgain}
 use Rattle.hc_memory.proofs.Making.{there-of}
 use Rattle.hc_machine.specs.items.Items.{items_of, item_has, open_has}
 use Rattle.hc_machine.proofs.items.Flat.{pushed-flat}
@@ -22,7 +23,7 @@ use Rattle.hc_machine.specs.Cache.{Cache}
 use Rattle.hc_machine.specs.Calls.{waiting_at, queue_of}
 use Rattle.hc_invariant.specs.Structure.{Structured}
 use Rattle.hc_state.specs.declared.builder.Unfit.TheVariants as unfit
-use Rattle.hc_state.specs.Resting.{unfit_by, item_misfit, with_item, with_items, emptied, is_at_rest, begun, IsSized, ComesBack}
+use Rattle.hc_state.specs.Resting.{unfit_by, item_misfit, with_item, with_items, with_orders as turn_on, emptied, is_at_rest, begun, IsSized, ComesBack}
 use Rattle.hc_state.proofs.Rested.{no-charges, no-replies}
 
 -- ---- taken in one after another
@@ -127,12 +128,26 @@ begins-so cache rest sized =
       nvm = cache.nvm;
     }
 
+items_ordered : (orders : List Order) (pools : List Pool) → items_of (with_orders orders pools) ≡ items_of pools
+items_ordered [] pools = refl
+items_ordered (order ∷ orders) [] = refl
+items_ordered (order ∷ orders) (pool ∷ pools) = ap (λ xs. pool.items ++ xs) (items_ordered orders pools)
+
+-- what came of the items, before it was known how they took turns
+came_step : (orders : List Order) (o : Option Memory) (m : Memory) → option_map (after_orders orders) o ≡ Some m → (whole : Memory) × (o ≡ Some whole) × (after_orders orders whole ≡ m)
+came_step orders None m h = absurd cc
+came_step orders (Some whole) m h = (whole, refl, cc)
+
 pub comes-back : (cache : Cache) → Structured cache → is_at_rest cache ≡ true → IsSized cache → ComeAgain cache.memory → ComesBack cache
 comes-back cache s rest sized again =
     let items = items_of cache.memory.pools in
     let made : AreMade cache.memory = λ n later. ap (count (item_has n)) (flat cache.memory.pools) ∙ none_left n (s.fresh n later) in
-    let all = ap (λ xs. restored xs (emptied cache).memory) (sym (flat cache.memory.pools)) ∙ again made in
-    ap (with_items items) (sym (begins-so cache rest sized)) ∙ all-taken items (emptied cache) cache.memory (λ n. omega (arith, s.one_number n)) (λ key. omega (arith, s.one_place key)) all
+    let orders = orders_of cache.memory.pools in
+    let w = came_step orders (restored (all_items cache.memory.pools) (emptied cache).memory) cache.memory (again made) in
+    let all : restored items (emptied cache).memory ≡ Some w.0 = ap (λ xs. restored xs (emptied cache).memory) (sym (flat cache.memory.pools)) ∙ w.1 in
+    let same : items_of w.0.pools ≡ items = sym (items_ordered orders w.0.pools) ∙ ap (λ (m : Memory). items_of m.pools) w.2 in
+    let taken = all-taken items (emptied cache) w.0 (λ n. omega (arith, s.one_number n, ap (count (item_has n)) same)) (λ key. omega (arith, s.one_place key, ap (count (is_at key)) same)) all in
+    ap (λ (c : Cache). option_map (turn_on orders) (with_items items c)) (sym (begins-so cache rest sized)) ∙ ap (option_map (turn_on orders)) taken ∙ ap (λ (m : Memory). Some (record cache { memory = m })) w.2
   where
     none_left : (n : ℕ) → count (item_has n) (items_of cache.memory.pools) + count (open_has n) cache.memory.charges ≡ 0 → count (item_has n) (items_of cache.memory.pools) ≡ 0
     none_left n h = omega (arith, h)

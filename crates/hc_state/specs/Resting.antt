@@ -9,7 +9,8 @@ use Rattle.hc_memory.specs.Pool.{Pool}
 use Rattle.hc_memory.specs.Memory.{Memory, empty_pool}
 use Rattle.hc_memory.specs.declared.builder.Misfit.{Misfit}
 use Rattle.hc_memory.specs.declared.builder.Misfit.TheVariants as pools
-use Rattle.hc_memory.specs.Resting.{misfit_of, after_restore, emptied as without_items}
+use Rattle.hc_memory.specs.Order.{Order}
+use Rattle.hc_memory.specs.Resting.{misfit_of, after_restore, orders_of, after_orders, emptied as without_items}
 use Rattle.hc_machine.specs.items.Items.{items_of, item_has}
 use Rattle.hc_machine.specs.Nvm.{Nvm}
 use Rattle.hc_machine.specs.Cache.{Cache}
@@ -59,7 +60,7 @@ clash_of cache item =
 abbrev pub item_misfit : Cache → Item → Option Unfit
 item_misfit cache item = option_or (clash_of cache item) (option_map unfit_by (misfit_of cache.memory item))
 
--- it is the one of its pool that was used last
+-- it comes behind the others of its pool
 abbrev pub with_item : Item → Cache → Cache
 with_item item cache = record cache { memory = after_restore cache.memory item }
 
@@ -83,12 +84,16 @@ abbrev pub with_items : List Item → Cache → Option Cache
 with_items [] cache = Some cache
 with_items (item ∷ items) cache = if is_some (item_misfit cache item) then None else with_items items (with_item item cache)
 
+-- and it is known of the items of each pool how they took turns
+abbrev pub with_orders : List Order → Cache → Cache
+with_orders orders cache = record cache { memory = after_orders orders cache.memory }
+
 -- Its pools are of the configuration's sizes, and the same flash stands behind them. What a cache tells of itself says so
 -- (hc_invariant, `Tells`), its structure doesn't.
 pub record IsSized (cache : Cache) : Type 0 where
   pub sizes : map (λ (pool : Pool). pool.size) cache.memory.pools ≡ cache.config.pools
   pub flash : cache.memory.flash ≡ cache.config.flash
 
--- the items that the cache hands out make it that cache again
+-- the items that the cache hands out, and with them how they took turns, make it that cache again
 abbrev pub ComesBack : Cache → Type 0
-ComesBack cache = with_items (items_of cache.memory.pools) (begun cache.config cache.memory.made cache.now cache.calls cache.nvm) ≡ Some cache
+ComesBack cache = option_map (with_orders (orders_of cache.memory.pools)) (with_items (items_of cache.memory.pools) (begun cache.config cache.memory.made cache.now cache.calls cache.nvm)) ≡ Some cache

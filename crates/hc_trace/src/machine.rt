@@ -19,7 +19,7 @@ use hc_player::Player;
 use hc_trace_text::{
     Line, Order, Step, Work, add_fault, add_refusal, add_stats, add_verdict, line_in,
 };
-use hc_types::{Config, FlashConfig, PoolSize, Refusal};
+use hc_types::{Config, FlashConfig, PoolSize, Refusal, Turns};
 use std::alloc::{AllocError, Global};
 use std::mem;
 
@@ -192,6 +192,7 @@ fn obey(
             let size = PoolSize {
                 bytes: *bytes,
                 items: *items,
+                turns: Turns::ByUse,
             };
             take_pool(state, out, size, taken)
         }

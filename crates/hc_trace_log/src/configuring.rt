@@ -5,7 +5,7 @@ ghost use Rattle.hc_trace_log.specs.Beginning.{IsBegun};
 
 use crate::lines::first_line;
 use hc_trace_text::{Line, Order, line_in};
-use hc_types::{Config, PoolSize};
+use hc_types::{Config, PoolSize, Turns};
 use std::alloc::{AllocError, Global};
 
 /// How a trace begins.
@@ -28,7 +28,7 @@ pub fn configuration(alloc: Global, bytes: &[u8]) -> Result<Begun<'_>, AllocErro
         lines += 1;
         match line_in(line) {
             Line::Skipped => {}
-            Line::Says(Order::Pool(bytes, items)) => pools.push(PoolSize { bytes, items })?,
+            Line::Says(Order::Pool(bytes, items)) => pools.push(PoolSize { bytes, items, turns: Turns::ByUse })?,
             Line::Says(Order::NoFlash) => {
                 return Ok(Begun::Configured(Config::new(pools, None), later, lines));
             }

@@ -1,6 +1,7 @@
 -- One line after another, a trace comes to the output that it is said to have.
 use Rattle.std.proofs.Common.{◌≡◌, ℕ, ◌+◌, zero-add, List, [], ◌∷◌, ◌++◌, Option, None, Some, refl, sym, ◌∙◌, ap, append_assoc}
 use Rattle.hc_types.specs.Config.{Config}
+use Rattle.hc_types.specs.declared.turns.Turns.TheVariants.{ByUse}
 use Rattle.hc_types.specs.declared.config.PoolSize.{PoolSize}
 use Rattle.hc_types.specs.Limits.{first_wrong}
 use Rattle.hc_types.specs.declared.refusal.Refusal.{Refusal}
@@ -78,7 +79,7 @@ trace-line-same : (n : ℕ) (sizes : List PoolSize) (line : Line) (lines : List 
     → after_turn (turned n (Configuring sizes) line) (output_from (n + 1) (turned n (Configuring sizes) line).state lines)
     ≡ trace_output (trace_line n sizes line (λ sizes. trace_from (n + 1) sizes lines) (actions_from (n + 1) lines))
 trace-line-same n sizes Skipped lines later = later sizes
-trace-line-same n sizes (Says (Pool bytes items)) lines later = later (sizes ++ record { bytes = bytes; items = items } ∷ [])
+trace-line-same n sizes (Says (Pool bytes items)) lines later = later (sizes ++ record { bytes = bytes; items = items; turns = ByUse } ∷ [])
 trace-line-same n sizes (Says NoFlash) lines later = end-line n sizes (config_of sizes None) (first_wrong (config_of sizes None)) lines
 trace-line-same n sizes (Says (Flash flash)) lines later = end-line n sizes (config_of sizes (Some flash)) (first_wrong (config_of sizes (Some flash))) lines
 trace-line-same n sizes (Says (grammar.Do step)) lines later = refl

@@ -2,6 +2,7 @@
 use Rattle.std.specs.Prelude.{ℕ, ◌+◌, List, [], ◌∷◌, ◌++◌, Option, Some, None}
 use Rattle.hc_types.specs.Config.{Config}
 use Rattle.hc_types.specs.Limits.{first_wrong}
+use Rattle.hc_types.specs.declared.turns.Turns.TheVariants.{ByUse}
 use Rattle.hc_types.specs.declared.config.PoolSize.{PoolSize}
 use Rattle.hc_types.specs.declared.config.FlashConfig.{FlashConfig}
 use Rattle.hc_types.specs.declared.refusal.Refusal.{Refusal}
@@ -60,7 +61,7 @@ ended config rest = checked config (first_wrong config) rest
 -- what a line of the configuration says, where n lines stand before it, and these pools
 abbrev pub trace_line : ℕ → List PoolSize → Line → (List PoolSize → Trace) → Actions → Trace
 trace_line n sizes Skipped later rest = later sizes
-trace_line n sizes (Says (Pool bytes items)) later rest = later (sizes ++ record { bytes = bytes; items = items } ∷ [])
+trace_line n sizes (Says (Pool bytes items)) later rest = later (sizes ++ record { bytes = bytes; items = items; turns = ByUse } ∷ [])
 trace_line n sizes (Says NoFlash) later rest = ended (config_of sizes None) rest
 trace_line n sizes (Says (Flash flash)) later rest = ended (config_of sizes (Some flash)) rest
 trace_line n sizes line later rest = Faulty (n + 1)

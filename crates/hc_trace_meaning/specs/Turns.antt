@@ -2,6 +2,7 @@
 use Rattle.std.specs.Prelude.{◌≡◌, ℕ, ◌+◌, Bool, true, false, List, [], ◌∷◌, ◌++◌, Option, Some, None, if◌then◌else◌}
 use Rattle.hc_types.specs.Config.{Config}
 use Rattle.hc_types.specs.Limits.{first_wrong}
+use Rattle.hc_types.specs.declared.turns.Turns.TheVariants.{ByUse}
 use Rattle.hc_types.specs.declared.config.PoolSize.{PoolSize}
 use Rattle.hc_types.specs.declared.config.FlashConfig.{FlashConfig}
 use Rattle.hc_types.specs.declared.refusal.Refusal.{Refusal}
@@ -52,7 +53,7 @@ acted counts moved = goes (Running moved.world (counts_more counts moved.notes))
 
 -- an order, where n lines stand before it
 abbrev pub obeyed : ℕ → State → Order → Turn
-obeyed n (Configuring sizes) (Pool bytes items) = goes (Configuring (sizes ++ record { bytes = bytes; items = items } ∷ [])) []
+obeyed n (Configuring sizes) (Pool bytes items) = goes (Configuring (sizes ++ record { bytes = bytes; items = items; turns = ByUse } ∷ [])) []
 obeyed n (Configuring sizes) NoFlash = with_flash sizes None
 obeyed n (Configuring sizes) (Flash flash) = with_flash sizes (Some flash)
 obeyed n (Running w counts) (grammar.Do step) = acted counts (act (Do step) w)

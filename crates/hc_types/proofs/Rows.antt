@@ -9,6 +9,7 @@ use Rattle.hc_types.specs.Loss.{Key, Bucket, Hash, covers}
 use Rattle.hc_types.specs.Limits.{first_wrong}
 use Rattle.hc_types.specs.Refusals.{refusal_text}
 use Rattle.hc_types.specs.declared.config.PoolSize.{PoolSize}
+use Rattle.hc_types.specs.declared.turns.Turns.TheVariants.{ByUse, Sieve}
 use Rattle.hc_types.specs.declared.config.FlashConfig.{FlashConfig}
 use Rattle.hc_types.specs.declared.refusal.Refusal.{Refusal}
 use Rattle.hc_types.specs.declared.refusal.Refusal.TheVariants.{KeyEmpty, KeyTooLong, BadPool, BadPage, BadBuckets, BadRegions, BadSmallMax, BadQueue, BadBits, NoCleanRegion, TooLarge, OutOfItem, NoPool, ValueTooLong, NoRoom, ForeignHandle, Exists, UnknownCall, NotReady, UnknownJob, NoMemory, TooManyClients, BadShards, WrongShard}
@@ -47,10 +48,10 @@ kept_whole = refl
 -- ---- flash and pools at their limits
 
 abbrev least_pool : PoolSize
-least_pool = record { bytes = 64; items = 1 }
+least_pool = record { bytes = 64; items = 1; turns = ByUse }
 
 abbrev most_pool : PoolSize
-most_pool = record { bytes = 4294967296; items = 1048576 }
+most_pool = record { bytes = 4294967296; items = 1048576; turns = Sieve }
 
 abbrev least : FlashConfig
 least = record { page = 512; buckets = 1; regions = 2; region_pages = 1; clean = 1; small_max = 0; queue = 1; bits = 1; admit_min = 0; admit_max = 0 }
@@ -131,7 +132,7 @@ wrong_twice = record least { page = 0; bits = 0 }
 pub first_of_flash : flash_is wrong_twice ≡ Some BadPage
 first_of_flash = refl
 
-pub pools_before_flash : first_wrong (record { pools = record { bytes = 0; items = 0 } ∷ []; flash = Some wrong_twice }) ≡ Some BadPool
+pub pools_before_flash : first_wrong (record { pools = record { bytes = 0; items = 0; turns = ByUse } ∷ []; flash = Some wrong_twice }) ≡ Some BadPool
 pools_before_flash = refl
 
 -- ---- what a loss covers

@@ -3,14 +3,16 @@ ghost use Rattle.std.specs.Prelude.{◌≡◌, ◌↔◌, Some, None, IsOk, IfOk
 ghost use Rattle.hc_types.specs.Limits.{pool_fits, all_fit, regions_fit as all_regions_fit, first_wrong, flash_wrong};
 
 use crate::refusal::Refusal;
+use crate::turns::Turns;
 use std::alloc::{AllocError, Allocator, Global};
 use std::marker::Model;
 
-/// The limits of a pool: 64 to 4,294,967,296 bytes, and 1 to 1,048,576 items.
+/// The limits of a pool, 64 to 4,294,967,296 bytes and 1 to 1,048,576 items, and how its items take turns.
 #[derive(Clone, Copy, Debug, PartialEq, Eq)]
 pub struct PoolSize {
     pub bytes: u64,
     pub items: u64,
+    pub turns: Turns,
 }
 
 /// The flash behind the pools: `buckets` pages of BigHash for small items, then regions of BlockCache for large ones.

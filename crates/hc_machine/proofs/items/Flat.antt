@@ -6,10 +6,11 @@ use mathlib.Core.Bool.{cond}
 use Rattle.hc_types.specs.Tally.{tally}
 use Rattle.hc_types.proofs.Tallies.{tally-append, tally-push, tally-set}
 use Rattle.hc_memory.specs.Item.{Item}
-use Rattle.hc_memory.specs.Pool.{Pool, is_at, item_at, without, used, unexpired}
+use Rattle.hc_memory.specs.Pool.{Pool, is_at, item_at, without, found, unexpired, added, removed}
 use Rattle.hc_memory.specs.Memory.{has, linked_at, change_at, change_home, unlinked}
 use Rattle.hc_memory.proofs.Keyed.{tally-without}
 use Rattle.hc_memory.proofs.Linking.{unexpired-is}
+use Rattle.hc_memory.proofs.Turns.{found-tally}
 use Rattle.hc_machine.specs.items.Items.{items_of}
 
 pub tally-items : (f : Item → ℕ) (pools : List Pool) → tally f (items_of pools) ≡ tally (λ (pool : Pool). tally f pool.items) pools
@@ -60,7 +61,7 @@ out-there : (key : List ℕ) (xs ys : List Item) → is_some (item_at key xs) �
 out-there key [] ys h = refl
 out-there key (x ∷ xs) ys h = out_there_step key x xs ys (item_at key xs) (is_at key x) (out-there key xs ys) h
 
-unlinked_step : (key : List ℕ) (pool : Pool) (pools : List Pool) (b : Bool) → has key pool ≡ b → items_of (unlinked key pools) ≡ without key (items_of pools) → items_of (cond b (record pool { items = without key pool.items } ∷ pools) (pool ∷ unlinked key pools)) ≡ without key (pool.items ++ items_of pools)
+unlinked_step : (key : List ℕ) (pool : Pool) (pools : List Pool) (b : Bool) → has key pool ≡ b → items_of (unlinked key pools) ≡ without key (items_of pools) → items_of (cond b (removed key pool ∷ pools) (pool ∷ unlinked key pools)) ≡ without key (pool.items ++ items_of pools)
 unlinked_step key pool pools true e h = sym (out-here key pool.items (items_of pools) e)
 unlinked_step key pool pools false e h = ap (λ l. pool.items ++ l) h ∙ sym (out-there key pool.items (items_of pools) e)
 
@@ -76,22 +77,18 @@ changed-flat f i g pool pools at =
     let sum = tally-set (λ (p : Pool). tally f p.items) pools i pool (g pool) at in
     omega (arith, ap (λ ps. tally f (items_of ps)) changed, tally-items f (slice_set pools i (g pool)), tally-items f pools, sum)
 
-pub pushed-flat : (f : Item → ℕ) (i : ℕ) (item : Item) (pool : Pool) (pools : List Pool) → slice_get pools i ≡ Some pool → tally f (items_of (change_at i (λ p. record p { items = p.items ++ item ∷ [] }) pools)) ≡ tally f (items_of pools ++ item ∷ [])
+pub pushed-flat : (f : Item → ℕ) (i : ℕ) (item : Item) (pool : Pool) (pools : List Pool) → slice_get pools i ≡ Some pool → tally f (items_of (change_at i (added item) pools)) ≡ tally f (items_of pools ++ item ∷ [])
 pushed-flat f i item pool pools at =
-    omega (arith, changed-flat f i (λ p. record p { items = p.items ++ item ∷ [] }) pool pools at, tally-push f pool.items item, tally-push f (items_of pools) item)
+    omega (arith, changed-flat f i (added item) pool pools at, tally-push f pool.items item, tally-push f (items_of pools) item)
 
-used_step : (f : Item → ℕ) (key : List ℕ) (items : List Item) (o : Option Item) → ((y : Item) → o ≡ Some y → item_at key items ≡ Some y) → tally f (used key o items) ≡ tally f items
-used_step f key items None h = refl
-used_step f key items (Some y) h = omega (arith, tally-push f (without key items) y, tally-without f key items y (h y refl))
-
-home_step : (f : Item → ℕ) (key : List ℕ) (now : ℕ) (pool : Pool) (pools : List Pool) (b : Bool) → tally f (items_of (change_home key (λ p. record p { items = used key (unexpired now (item_at key p.items)) p.items }) pools)) ≡ tally f (items_of pools)
-    → tally f (items_of (cond b (record pool { items = used key (unexpired now (item_at key pool.items)) pool.items } ∷ pools) (pool ∷ change_home key (λ p. record p { items = used key (unexpired now (item_at key p.items)) p.items }) pools))) ≡ tally f (pool.items ++ items_of pools)
+home_step : (f : Item → ℕ) (key : List ℕ) (now : ℕ) (pool : Pool) (pools : List Pool) (b : Bool) → tally f (items_of (change_home key (λ p. found key (unexpired now (item_at key p.items)) p) pools)) ≡ tally f (items_of pools)
+    → tally f (items_of (cond b (found key (unexpired now (item_at key pool.items)) pool ∷ pools) (pool ∷ change_home key (λ p. found key (unexpired now (item_at key p.items)) p) pools))) ≡ tally f (pool.items ++ items_of pools)
 home_step f key now pool pools true h =
-    omega (arith, tally-append f (used key (unexpired now (item_at key pool.items)) pool.items) (items_of pools), tally-append f pool.items (items_of pools), used_step f key pool.items (unexpired now (item_at key pool.items)) (λ y e. unexpired-is now (item_at key pool.items) y e))
+    omega (arith, tally-append f (found key (unexpired now (item_at key pool.items)) pool).items (items_of pools), tally-append f pool.items (items_of pools), found-tally f key (unexpired now (item_at key pool.items)) pool (λ y e. unexpired-is now (item_at key pool.items) y e))
 home_step f key now pool pools false h =
-    omega (arith, tally-append f pool.items (items_of (change_home key (λ p. record p { items = used key (unexpired now (item_at key p.items)) p.items }) pools)), tally-append f pool.items (items_of pools), h)
+    omega (arith, tally-append f pool.items (items_of (change_home key (λ p. found key (unexpired now (item_at key p.items)) p) pools)), tally-append f pool.items (items_of pools), h)
 
 -- a find only moves an item
-pub used-flat : (f : Item → ℕ) (key : List ℕ) (now : ℕ) (pools : List Pool) → tally f (items_of (change_home key (λ p. record p { items = used key (unexpired now (item_at key p.items)) p.items }) pools)) ≡ tally f (items_of pools)
+pub used-flat : (f : Item → ℕ) (key : List ℕ) (now : ℕ) (pools : List Pool) → tally f (items_of (change_home key (λ p. found key (unexpired now (item_at key p.items)) p) pools)) ≡ tally f (items_of pools)
 used-flat f key now [] = refl
 used-flat f key now (pool ∷ pools) = home_step f key now pool pools (has key pool) (used-flat f key now pools)

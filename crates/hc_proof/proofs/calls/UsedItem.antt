@@ -7,11 +7,13 @@ use Rattle.hc_types.specs.Config.{Config}
 use Rattle.hc_types.specs.declared.config.PoolSize.{PoolSize}
 use Rattle.hc_types.specs.declared.config.FlashConfig.{FlashConfig}
 use Rattle.hc_memory.specs.Item.{Item}
-use Rattle.hc_memory.specs.Pool.{Pool, is_at, item_at, without, used, unexpired}
+use Rattle.hc_memory.specs.Order.{Order, ByUse, Sieve}
+use Rattle.hc_memory.specs.Pool.{Pool, is_at, item_at, without, found, found_by, unexpired}
+use Rattle.hc_memory.proofs.Turns.{found-size}
 use Rattle.hc_memory.specs.Memory.{Memory, has, linked_at, change_home, after_find}
 use Rattle.hc_memory.specs.Sound.{items_at}
 use Rattle.hc_memory.proofs.Keyed.{same_bytes, item_at-is, item_at-push, item_at-pushed}
-use Rattle.hc_memory.proofs.Linking.{sound-home, shrinks-used, unexpired-is}
+use Rattle.hc_memory.proofs.Linking.{sound-home, shrinks-found, unexpired-is}
 use Rattle.hc_machine.specs.items.Items.{items_of}
 use Rattle.hc_machine.proofs.items.Flat.{used-flat}
 use Rattle.hc_machine.proofs.items.Items.{item_at-gone, item_at-other, bytes_eq-sym}
@@ -30,9 +32,14 @@ use Rattle.hc_proof.proofs.frames.ItemOrder.{charges_sorted}
 
 -- ---- one pool
 
-used_step : (k key : List ℕ) (items : List Item) (o : Option Item) → ((y : Item) → o ≡ Some y → item_at key items ≡ Some y) → count (is_at key) items ≤ 1 → item_at k (used key o items) ≡ item_at k items
-used_step k key items None same one = refl
-used_step k key items (Some y) same one = step (bytes_eq k y.key) refl
+-- an item goes behind the others
+abbrev pub moved : List ℕ → Option Item → List Item → List Item
+moved key None items = items
+moved key (Some item) items = without key items ++ item ∷ []
+
+moved_step : (k key : List ℕ) (items : List Item) (o : Option Item) → ((y : Item) → o ≡ Some y → item_at key items ≡ Some y) → count (is_at key) items ≤ 1 → item_at k (moved key o items) ≡ item_at k items
+moved_step k key items None same one = refl
+moved_step k key items (Some y) same one = step (bytes_eq k y.key) refl
   where
     its : bytes_eq key y.key ≡ true
     its = item_at-is key items y (same y refl)
@@ -45,12 +52,20 @@ used_step k key items (Some y) same one = step (bytes_eq k y.key) refl
         let other : bytes_eq key k ≡ false = bytes_eq-sym key k ∙ ap (λ (x : List ℕ). bytes_eq k x) (same_bytes key y.key its) ∙ e in
         item_at-push k (without key items) y e ∙ item_at-other key k items other
 
+found_step : (k key : List ℕ) (pool : Pool) (o : Option Item) → ((y : Item) → o ≡ Some y → item_at key pool.items ≡ Some y) → count (is_at key) pool.items ≤ 1 → item_at k (found key o pool).items ≡ item_at k pool.items
+found_step k key pool None same one = refl
+found_step k key pool (Some y) same one = by pool.order
+  where
+    by : (order : Order) → item_at k (found_by order key y pool).items ≡ item_at k pool.items
+    by ByUse = moved_step k key pool.items (Some y) same one
+    by (Sieve seen hand) = refl
+
 -- the item that a find moves, in one pool
 abbrev pub moved_in : List ℕ → ℕ → Pool → Pool
-moved_in key now pool = record pool { items = used key (unexpired now (item_at key pool.items)) pool.items }
+moved_in key now pool = found key (unexpired now (item_at key pool.items)) pool
 
 same_item : (k key : List ℕ) (now : ℕ) (pool : Pool) → count (is_at key) pool.items ≤ 1 → item_at k (moved_in key now pool).items ≡ item_at k pool.items
-same_item k key now pool one = used_step k key pool.items (unexpired now (item_at key pool.items)) (λ y e. unexpired-is now (item_at key pool.items) y e) one
+same_item k key now pool one = found_step k key pool (unexpired now (item_at key pool.items)) (λ y e. unexpired-is now (item_at key pool.items) y e) one
 
 -- ---- all pools
 
@@ -68,7 +83,7 @@ sizes_used key now (pool ∷ pools) = step (has key pool) (sizes_used key now po
   where
     step : (b : Bool) → map (λ (pool : Pool). pool.size) (change_home key (moved_in key now) pools) ≡ map (λ (pool : Pool). pool.size) pools
         → map (λ (pool : Pool). pool.size) (cond b (moved_in key now pool ∷ pools) (pool ∷ change_home key (moved_in key now) pools)) ≡ pool.size ∷ map (λ (pool : Pool). pool.size) pools
-    step true h = refl
+    step true h = ap (λ (size : PoolSize). size ∷ map (λ (pool : Pool). pool.size) pools) (found-size key (unexpired now (item_at key pool.items)) pool)
     step false h = ap (λ (ss : List PoolSize). pool.size ∷ ss) h
 
 -- ---- the state
@@ -114,7 +129,7 @@ used_rest config older cache key moves r =
       own = r.own;
       sizes = sizes ∙ r.sizes;
       flash_is = r.flash_is;
-      sound = sound-home key (moved_in key now) pools cache.memory.charges cache.memory.made (λ p. shrinks-used key now p) r.sound;
+      sound = sound-home key (moved_in key now) pools cache.memory.charges cache.memory.made (λ p. shrinks-found key (unexpired now (item_at key p.items)) p (λ y e. unexpired-is now (item_at key p.items) y e)) r.sound;
       charges = charges_sorted older (items_of pools) (items_of (change_home key (moved_in key now) pools)) cache.memory.charges cache.memory.made (λ f. sym (used-flat f key now pools)) r.charges;
       placed = λ k here. placed_still config.flash older older cache (with_memory (after_find cache.memory cache.now key) cache) k (record { linked = same k; queued = refl; written = refl; buried = refl; small_one = refl; large_one = refl; map = refl }) (r.placed k here);
       sized = r.sized;

@@ -13,6 +13,7 @@ use Rattle.hc_types.proofs.Tallies.{tally-push, tally-append}
 use Rattle.hc_types.specs.FlashEntry.{FlashEntry}
 use Rattle.hc_memory.specs.Item.{Item, Open}
 use Rattle.hc_memory.specs.Pool.{Pool, item_at, kept, dropped}
+use Rattle.hc_memory.proofs.Turns.{same-size}
 use Rattle.hc_memory.specs.Charges.{usage_of}
 use Rattle.hc_memory.specs.Memory.{Memory, change_at, linked_at, is_hopeless, after_room}
 use Rattle.hc_memory.specs.Sound.{Sound}
@@ -119,10 +120,10 @@ module _ (config : Config) (older : List Note) (cache : Cache) (pool : ℕ) (key
   others = others_of pool pools
 
   abbrev left : List Item
-  left = kept there.size (usage_of pool cache.memory.charges) want there.items
+  left = (kept (usage_of pool cache.memory.charges) want there).items
 
   abbrev gone : List Item
-  gone = dropped there.size (usage_of pool cache.memory.charges) want there.items
+  gone = dropped (usage_of pool cache.memory.charges) want there
 
   abbrev roomy : Memory
   roomy = after_room cache.memory pool want
@@ -137,7 +138,7 @@ module _ (config : Config) (older : List Note) (cache : Cache) (pool : ℕ) (key
         arith,
         tally-append f left others,
         changed-flat f pool (λ p. record p { items = [] }) there pools at,
-        changed-flat f pool (λ p. record p { items = kept p.size (usage_of pool cache.memory.charges) want p.items }) there pools at,
+        changed-flat f pool (kept (usage_of pool cache.memory.charges) want) there pools at,
       )
 
   found : (k : List ℕ) → linked_at k pools ≡ item_at k (there.items ++ others)
@@ -157,7 +158,7 @@ module _ (config : Config) (older : List Note) (cache : Cache) (pool : ℕ) (key
   configured = sym (ap (λ xs. slice_get xs pool) rest.sizes) ∙ slice_get-map (λ (p : Pool). p.size) pools pool ∙ ap (option_map (λ (p : Pool). p.size)) at
 
   all_went : Gone config older (with_memory roomy cache) pool want cache.memory (left ++ others) (all_leave pool want gone (with_memory roomy cache))
-  all_went = all_gone config there.size pool want others cache.memory configured lt (others_none pools cache.memory.charges cache.memory.made pool there rest.sound at) there.items older (with_memory roomy cache) (rest.sound.own pool there at) begins
+  all_went = all_gone config there.size pool want others cache.memory configured lt (others_none pools cache.memory.charges cache.memory.made pool there rest.sound at) (length there.items) there older (with_memory roomy cache) refl (rest.sound.own pool there at) begins
 
   -- the cache, once they left
   abbrev emptier : List FlashEntry → Cache
@@ -182,12 +183,12 @@ module _ (config : Config) (older : List Note) (cache : Cache) (pool : ℕ) (key
       subst (λ (ps : List Pool). Sound ps (cache.memory.charges ++ c ∷ []) (cache.memory.made + 1)) (sym (ap (λ (m : Memory). m.pools) k.room))
       (charged-sound pools cache.memory.charges cache.memory.made pool want there c rest.sound at (sym k.hopeless ∙ hopeful) refl refl refl) in
       let less : (key : List ℕ) → linked_at key pools ≡ None → linked_at key memory.pools ≡ None = λ key e. sym (same_at key) ∙ l.none key e in
-      let pools_same : length memory.pools ≡ length pools = length_at pool (λ p. record p { items = kept p.size (usage_of pool cache.memory.charges) want p.items }) pools in
+      let pools_same : length memory.pools ≡ length pools = length_at pool (kept (usage_of pool cache.memory.charges) want) pools in
       record {
         lawful = lawful (note ∷ []) refl (number_new mid (left ++ others) cache.memory.charges cache.memory.made l.charges, tt);
         rest = rw whole (record {
           own = rest.own;
-          sizes = sizes_at pool (λ p. record p { items = kept p.size (usage_of pool cache.memory.charges) want p.items }) pools (λ p. refl) ∙ rest.sizes;
+          sizes = sizes_at pool (kept (usage_of pool cache.memory.charges) want) pools (λ p. same-size (length p.items) (usage_of pool cache.memory.charges) want p) ∙ rest.sizes;
           flash_is = rest.flash_is;
           sound = sound;
           charges = charges_sorted (note ∷ mid) (left ++ others) (items_of memory.pools) memory.charges memory.made sorted_left more;

@@ -8,7 +8,7 @@ use Rattle.hc_types.proofs.Tallies.{find-none}
 use Rattle.hc_types.specs.declared.refusal.Refusal.{Refusal}
 use Rattle.hc_types.specs.FlashEntry.{FlashEntry}
 use Rattle.hc_memory.specs.Item.{Item, Open, Handle, charge_by, item_by}
-use Rattle.hc_memory.specs.Pool.{Pool, item_at, without}
+use Rattle.hc_memory.specs.Pool.{Pool, item_at, without, added, removed}
 use Rattle.hc_memory.specs.Charges.{closed, is_open, charge_at, has_number}
 use Rattle.hc_memory.specs.Memory.{Memory, unlinked, linked_at, after_link}
 use Rattle.hc_memory.proofs.Books.{tally-closed, is_open-found, found-is_open}
@@ -46,7 +46,7 @@ use Rattle.hc_proof.proofs.evicting.FlashMemory.{StayOpen, open_more, flash_both
 use Rattle.hc_proof.proofs.frames.ItemOrder.{found_same, charges_sorted}
 
 bare_step : (key : List ℕ) (pool : Pool) (pools less : List Pool) (o : Option Item) → (linked_at key pools ≡ None → less ≡ pools) → (if is_some o then o else linked_at key pools) ≡ None
-    → (if is_some o then record pool { items = without key pool.items } ∷ pools else pool ∷ less) ≡ pool ∷ pools
+    → (if is_some o then removed key pool ∷ pools else pool ∷ less) ≡ pool ∷ pools
 bare_step key pool pools less None ih h = ap (λ (ps : List Pool). pool ∷ ps) (ih h)
 bare_step key pool pools less (Some x) ih h = absurd cc
 
@@ -189,7 +189,7 @@ module _ (config : Config) (older : List Note) (cache : Cache) (e : FlashEntry) 
       subst (λ (cs : List Open). StayOpen cache.memory.charges (closed handle.number cs)) (sym charged.charges) (still_open cache.memory.charges (charge_by handle) (λ m. subst (λ (cs : List Open). count (has_number m) cs ≤ 1) charged.charges (charged.rest.sound.unique m)) fresh) in
       subst (λ (n : Option Nvm). FlashMidst config.flash (Linked handle.number ∷ mid) after n none_moves) (sym queue_is)
       (flash_both config.flash older (Linked handle.number ∷ mid) cache.memory memory after cache.nvm charged.nvm.0 none_moves
-      (length-linked e.key e.pool (λ p. record p { items = p.items ++ item_by true handle ∷ [] }) memory.pools)
+      (length-linked e.key e.pool (added (item_by true handle)) memory.pools)
       (λ key some none. other_item key (not_own key some) ∙ none) open_ones b.rest.flash
       (subst (λ (n : Option Nvm). FlashMidst config.flash (Linked handle.number ∷ mid) memory n none_moves) queue_is f))
     where
@@ -203,7 +203,7 @@ module _ (config : Config) (older : List Note) (cache : Cache) (e : FlashEntry) 
   linked_rest : Rest config (Linked handle.number ∷ mid) (with_memory after one.cache) (items_of after.pools) none_moves
   linked_rest = record {
     own = charged.rest.own;
-    sizes = sizes_at e.pool (λ p. record p { items = p.items ++ item_by true handle ∷ [] }) (unlinked e.key memory.pools) (λ p. refl) ∙ ap sizes_of (unlinked_none e.key memory.pools bare) ∙ charged.rest.sizes;
+    sizes = sizes_at e.pool (added (item_by true handle)) (unlinked e.key memory.pools) (λ p. refl) ∙ ap sizes_of (unlinked_none e.key memory.pools bare) ∙ charged.rest.sizes;
     flash_is = charged.rest.flash_is;
     sound = linked-sound memory.pools memory.charges memory.made handle true charged.rest.sound mine;
     charges = charges_sorted (Linked handle.number ∷ mid) (items ++ item_by true handle ∷ []) (items_of after.pools) after.charges after.made sorted books;
@@ -224,7 +224,7 @@ module _ (config : Config) (older : List Note) (cache : Cache) (e : FlashEntry) 
         calls = rw whole (record { begun = c.begun; open_ones = c.open_ones; owed = c.owed; calls = c.calls; owes = c.owes });
         has = rw whole (charged.has e.key b.unlinked ∙ b.has);
         open_ones = subst (λ (cs : List Open). StayOpen cache.memory.charges (closed handle.number cs)) (sym charged.charges) (still_open cache.memory.charges (charge_by handle) (λ m. subst (λ (cs : List Open). count (has_number m) cs ≤ 1) charged.charges (charged.rest.sound.unique m)) fresh);
-        pools = length-linked e.key e.pool (λ p. record p { items = p.items ++ item_by true handle ∷ [] }) memory.pools ∙ charged.pools;
+        pools = length-linked e.key e.pool (added (item_by true handle)) memory.pools ∙ charged.pools;
         nvm = charged.nvm;
         fills = ap fills_of queue_is ∙ fills_queue charged.nvm.0 cache.nvm;
         queued = charged.queued e.key b.unlinked;

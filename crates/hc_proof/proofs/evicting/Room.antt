@@ -1,13 +1,17 @@
 -- All leave that make room: what they tell is lawful before the charge for which room is made.
-use Rattle.std.proofs.Common.{◌≡◌, inr, ℕ, ◌<◌, ◌==◌, Bool, true, false, not, List, [], ◌∷◌, ◌++◌, length, Option, Some, None, refl, arith, ap, sym, ◌∙◌, subst, slice_get}
+use Rattle.std.proofs.Common.{◌≡◌, inr, ℕ, zero, suc, ◌<◌, ◌==◌, Bool, true, false, not, List, [], ◌∷◌, ◌++◌, length, Option, Some, None, refl, arith, ap, sym, ◌∙◌, subst, slice_get}
 use Rattle.std.specs.Prelude.{if◌then◌else◌, IsSomeAnd}
 use Rattle.std.proofs.lemmas.List.{append_assoc}
 use Rattle.hc_types.specs.Config.{Config}
 use Rattle.hc_types.specs.declared.config.PoolSize.{PoolSize}
-use Rattle.hc_types.specs.Tally.{count}
+use Rattle.hc_types.specs.Tally.{tally, count}
 use Rattle.hc_types.specs.FlashEntry.{FlashEntry}
 use Rattle.hc_memory.specs.Item.{Item}
-use Rattle.hc_memory.specs.Pool.{is_at, item_at, is_full, kept, dropped}
+use Rattle.hc_memory.specs.Pool.{Pool, Turn, is_at, item_at, is_full, next, goes, stays}
+use Rattle.hc_memory.proofs.Turns.{Goes, next-goes, full-sums}
+use Rattle.hc_types.proofs.Tallies.{tally-append}
+use Rattle.std.specs.Option.{option_map_or}
+use Rattle.hc_proof.proofs.frames.ItemOrder.{found_same, charges_sorted}
 use Rattle.hc_memory.specs.Charges.{usage_of}
 use Rattle.hc_memory.specs.Memory.{Memory, linked_at}
 use Rattle.hc_history.specs.Note.{Note, Freed}
@@ -41,6 +45,19 @@ next_full config live pool want o e full = rw e (refl, full)
 queue_twice : (q r : List FlashEntry) (nvm : Option Nvm) → with_queue r (with_queue q nvm) ≡ with_queue r nvm
 queue_twice q r None = refl
 queue_twice q r (Some nvm) = refl
+
+-- in whichever order they stand
+leaves_sorted : (config : Config) (older : List Note) (nvm : Option Nvm) (now : ℕ) (before : Memory) (xs ys : List Item) → ((f : Item → ℕ) → tally f xs ≡ tally f ys) → Leaves config older nvm now before xs → Leaves config older nvm now before ys
+leaves_sorted config older nvm now before xs ys same l =
+    let found : (key : List ℕ) → item_at key xs ≡ item_at key ys = λ key. found_same key xs ys (l.charges.one_key key) same in
+    record {
+      charges = charges_sorted older xs ys before.charges before.made same l.charges;
+      placed = λ key. rw (found key) at (l.placed key);
+      sized = l.sized;
+      clock = l.clock;
+      flash = l.flash;
+      none = λ key e. sym (found key) ∙ l.none key e;
+    }
 
 other_key : (key : List ℕ) (x : Item) (items : List Item) → item_at key (x ∷ items) ≡ None → is_at key x ≡ false
 other_key key x items e = grind arith
@@ -88,14 +105,29 @@ module _ (config : Config) (size : PoolSize) (pool want : ℕ) (others : List It
     other = λ key e. (refl, refl);
   }
 
-  pub all_gone : (items : List Item) (older : List Note) (cache : Cache) → count (λ (item : Item). not (item.pool == pool)) items ≡ 0 → Leaves config older cache.nvm cache.now before (items ++ others)
-      → Gone config older cache pool want before (kept size (usage_of pool before.charges) want items ++ others) (all_leave pool want (dropped size (usage_of pool before.charges) want items) cache)
-  all_gone [] older cache own l = none_gone others older cache l
-  all_gone (x ∷ items) older cache own l =
-      step (is_full size (usage_of pool before.charges) want (x ∷ items)) refl (λ newer c m. all_gone items newer c (omega (arith, own)) m)
+  pub all_gone : (n : ℕ) (own_pool : Pool) (older : List Note) (cache : Cache) → own_pool.size ≡ size → count (λ (item : Item). not (item.pool == pool)) own_pool.items ≡ 0 → Leaves config older cache.nvm cache.now before (own_pool.items ++ others)
+      → Gone config older cache pool want before ((stays n (usage_of pool before.charges) want own_pool).items ++ others) (all_leave pool want (goes n (usage_of pool before.charges) want own_pool) cache)
+  all_gone zero p older cache sized own l = none_gone (p.items ++ others) older cache l
+  all_gone (suc n) p older cache sized own l =
+      step (λ q newer c s o m. all_gone n q newer c s o m) (is_full p.size (usage_of pool before.charges) want p.items) refl
     where
-      step : (b : Bool) → is_full size (usage_of pool before.charges) want (x ∷ items) ≡ b
-          → ((newer : List Note) (c : Cache) → Leaves config newer c.nvm c.now before (items ++ others) → Gone config newer c pool want before (kept size (usage_of pool before.charges) want items ++ others) (all_leave pool want (dropped size (usage_of pool before.charges) want items) c))
-          → Gone config older cache pool want before ((if b then kept size (usage_of pool before.charges) want items else x ∷ items) ++ others) (all_leave pool want (if b then x ∷ dropped size (usage_of pool before.charges) want items else []) cache)
-      step true over more = first_gone x items (kept size (usage_of pool before.charges) want items) older cache over own (dropped size (usage_of pool before.charges) want items) more l
-      step false over more = none_gone (x ∷ items ++ others) older cache l
+      More : Type 0
+      More = (q : Pool) (newer : List Note) (c : Cache) → q.size ≡ size → count (λ (item : Item). not (item.pool == pool)) q.items ≡ 0 → Leaves config newer c.nvm c.now before (q.items ++ others)
+          → Gone config newer c pool want before ((stays n (usage_of pool before.charges) want q).items ++ others) (all_leave pool want (goes n (usage_of pool before.charges) want q) c)
+
+      on : More → is_full p.size (usage_of pool before.charges) want p.items ≡ true → (o : Option Turn) → Goes p o
+          → Gone config older cache pool want before ((option_map_or (λ turn. stays n (usage_of pool before.charges) want turn.left) o p).items ++ others) (all_leave pool want (option_map_or (λ turn. turn.item ∷ goes n (usage_of pool before.charges) want turn.left) o []) cache)
+      on more over None g = none_gone (p.items ++ others) older cache l
+      on more over (Some turn) g =
+          let x = turn.item in
+          let rest = turn.left.items in
+          let same : (f : Item → ℕ) → tally f p.items ≡ tally f (x ∷ rest) = λ f. omega (arith, g.0 f) in
+          let own' : count (λ (item : Item). not (item.pool == pool)) (x ∷ rest) ≡ 0 = sym (same (λ item. if not (item.pool == pool) then 1 else 0)) ∙ own in
+          let over' : is_full size (usage_of pool before.charges) want (x ∷ rest) ≡ true = sym (ap (λ (s : PoolSize). is_full s (usage_of pool before.charges) want (x ∷ rest)) sized) ∙ sym (full-sums p.size (usage_of pool before.charges) want p.items (x ∷ rest) same) ∙ over in
+          let sorted : Leaves config older cache.nvm cache.now before (x ∷ rest ++ others) = leaves_sorted config older cache.nvm cache.now before (p.items ++ others) (x ∷ rest ++ others) (λ f. omega (arith, same f, tally-append f p.items others, tally-append f (x ∷ rest) others)) l in
+          first_gone x rest (stays n (usage_of pool before.charges) want turn.left).items older cache over' own' (goes n (usage_of pool before.charges) want turn.left) (λ newer c m. more turn.left newer c (g.1 ∙ sized) (omega (arith, own')) m) sorted
+
+      step : More → (b : Bool) → is_full p.size (usage_of pool before.charges) want p.items ≡ b
+          → Gone config older cache pool want before ((if b then option_map_or (λ turn. stays n (usage_of pool before.charges) want turn.left) (next p) p else p).items ++ others) (all_leave pool want (if b then option_map_or (λ turn. turn.item ∷ goes n (usage_of pool before.charges) want turn.left) (next p) [] else []) cache)
+      step more true over = on more over (next p) (next-goes p)
+      step more false over = none_gone (p.items ++ others) older cache l

@@ -4,7 +4,7 @@ use mathlib.Core.Bool.{cond}
 use Rattle.hc_types.specs.Tally.{tally, count}
 use Rattle.hc_types.proofs.Tallies.{tally-push}
 use Rattle.hc_memory.specs.Item.{Item, Open, Handle, charge_by, item_by}
-use Rattle.hc_memory.specs.Pool.{Pool, is_at, item_at, without, unmarked_where}
+use Rattle.hc_memory.specs.Pool.{Pool, is_at, item_at, without, unmarked_where, added, removed}
 use Rattle.hc_memory.specs.Charges.{closed, is_open}
 use Rattle.hc_memory.specs.Memory.{change_at, all_unmarked, unlinked}
 use Rattle.hc_memory.proofs.Handing.{known-place}
@@ -12,7 +12,7 @@ use Rattle.std.specs.Str.{bytes_eq}
 use Rattle.hc_machine.proofs.items.Items.{bytes_eq-sym}
 use Rattle.hc_memory.proofs.Keyed.{same_bytes, item_at-is, tally-without, without-none}
 use Rattle.hc_memory.proofs.Keys.{none-counted}
-use Rattle.hc_memory.proofs.Linking.{sound-home, shrinks-without}
+use Rattle.hc_memory.proofs.Linking.{sound-home, shrinks-removed}
 use Rattle.hc_memory.proofs.Making.{there-of}
 use Rattle.hc_memory.specs.Sound.{Sound}
 use Rattle.hc_machine.proofs.items.Flat.{unlinked-flat, pushed-flat}
@@ -106,10 +106,10 @@ charges_linked older items opens made handle clean sum gone t =
 
 -- the items of all pools once the handle's item is linked, in another order
 pub linked-order : (pools : List Pool) (opens : List Open) (made : ℕ) (handle : Handle) (clean : Bool) → Sound pools opens made → is_open (charge_by handle) opens ≡ true → (f : Item → ℕ)
-    → tally f (items_of (change_at handle.pool (λ p. record p { items = p.items ++ item_by clean handle ∷ [] }) (unlinked handle.key pools))) ≡ tally f (without handle.key (items_of pools) ++ item_by clean handle ∷ [])
+    → tally f (items_of (change_at handle.pool (added (item_by clean handle)) (unlinked handle.key pools))) ≡ tally f (without handle.key (items_of pools) ++ item_by clean handle ∷ [])
 linked-order pools opens made handle clean s mine f =
     let bare = unlinked handle.key pools in
-    let sound = sound-home handle.key (λ p. record p { items = without handle.key p.items }) pools opens made (shrinks-without handle.key) s in
+    let sound = sound-home handle.key (removed handle.key) pools opens made (shrinks-removed handle.key) s in
     let there = there-of bare handle.pool (known-place bare opens made handle sound mine) in
     pushed-flat f handle.pool (item_by clean handle) there.0 bare there.1 ∙ ap (λ items. tally f (items ++ item_by clean handle ∷ [])) (unlinked-flat handle.key pools)
 

@@ -6,14 +6,14 @@ use Rattle.std.specs.Str.{bytes_eq}
 use Rattle.hc_types.specs.Tally.{count}
 use Rattle.hc_types.specs.declared.config.PoolSize.{PoolSize}
 use Rattle.hc_memory.specs.Item.{Item, Open, Handle, charge_by, item_by}
-use Rattle.hc_memory.specs.Pool.{Pool, is_at, item_at, without}
+use Rattle.hc_memory.specs.Pool.{Pool, is_at, item_at, added, removed}
 use Rattle.hc_memory.specs.Charges.{has_number, charge_at, closed, is_same, is_open}
 use Rattle.hc_memory.specs.Memory.{Memory, has, linked_at, change_at, change_home, unlinked, after_link}
 use Rattle.hc_memory.specs.Sound.{Sound}
 use Rattle.hc_memory.proofs.Books.{tally-closed, closed-none, same-is, same-refl, is_open-found, found-is_open}
 use Rattle.hc_memory.proofs.Handing.{known-place}
 use Rattle.hc_memory.proofs.Keyed.{item_at-push, item_at-pushed}
-use Rattle.hc_memory.proofs.Linking.{sound-home, shrinks-without}
+use Rattle.hc_memory.proofs.Linking.{sound-home, shrinks-removed}
 use Rattle.hc_memory.proofs.Making.{there-of, closed-less}
 use Rattle.hc_machine.specs.items.Items.{items_of}
 use Rattle.hc_machine.proofs.items.Flat.{linked-flat, unlinked-flat}
@@ -55,18 +55,15 @@ home_length_step g pool pools rest false h = omega (arith, h)
 
 -- ---- the item of a key, once one is put last in a pool
 
-abbrev pushed : Item → Pool → Pool
-pushed item pool = record pool { items = pool.items ++ item ∷ [] }
-
-other_first : (k : List ℕ) (pool : Pool) (item : Item) (rest : Option Item) → is_at k item ≡ false → (if has k (pushed item pool) then item_at k (pushed item pool).items else rest) ≡ (if has k pool then item_at k pool.items else rest)
+other_first : (k : List ℕ) (pool : Pool) (item : Item) (rest : Option Item) → is_at k item ≡ false → (if has k (added item pool) then item_at k (added item pool).items else rest) ≡ (if has k pool then item_at k pool.items else rest)
 other_first k pool item rest other = ap (λ (o : Option Item). if is_some o then o else rest) (item_at-push k pool.items item other)
 
-other_set : (k : List ℕ) (item : Item) (pools : List Pool) (i : ℕ) (pool : Pool) → slice_get pools i ≡ Some pool → is_at k item ≡ false → linked_at k (slice_set pools i (pushed item pool)) ≡ linked_at k pools
+other_set : (k : List ℕ) (item : Item) (pools : List Pool) (i : ℕ) (pool : Pool) → slice_get pools i ≡ Some pool → is_at k item ≡ false → linked_at k (slice_set pools i (added item pool)) ≡ linked_at k pools
 other_set k item [] i pool at other = refl
 other_set k item (p ∷ pools) zero pool at other = let same : p ≡ pool = cc in rw (← same) (other_first k p item (linked_at k pools) other)
 other_set k item (p ∷ pools) (suc i) pool at other = ap (λ (o : Option Item). if has k p then item_at k p.items else o) (other_set k item pools i pool at other)
 
-other_at : (k : List ℕ) (item : Item) (pools : List Pool) (i : ℕ) (o : Option Pool) → slice_get pools i ≡ o → is_at k item ≡ false → linked_at k (option_map_or (λ pool. slice_set pools i (pushed item pool)) o pools) ≡ linked_at k pools
+other_at : (k : List ℕ) (item : Item) (pools : List Pool) (i : ℕ) (o : Option Pool) → slice_get pools i ≡ o → is_at k item ≡ false → linked_at k (option_map_or (λ pool. slice_set pools i (added item pool)) o pools) ≡ linked_at k pools
 other_at k item pools i None at other = refl
 other_at k item pools i (Some pool) at other = other_set k item pools i pool at other
 
@@ -75,7 +72,7 @@ pub linked-still : (memory : Memory) (clean : Bool) (handle : Handle) (k : List 
 linked-still memory clean handle k other back =
     other_at k (item_by clean handle) (unlinked handle.key memory.pools) handle.pool (slice_get (unlinked handle.key memory.pools) handle.pool) refl other ∙ linked-other handle.key k memory.pools back
 
-own_first : (key : List ℕ) (pool : Pool) (item : Item) (rest : Option Item) (o : Option Item) → item_at key pool.items ≡ o → (if is_some o then o else rest) ≡ None → is_at key item ≡ true → (if has key (pushed item pool) then item_at key (pushed item pool).items else rest) ≡ Some item
+own_first : (key : List ℕ) (pool : Pool) (item : Item) (rest : Option Item) (o : Option Item) → item_at key pool.items ≡ o → (if is_some o then o else rest) ≡ None → is_at key item ≡ true → (if has key (added item pool) then item_at key (added item pool).items else rest) ≡ Some item
 own_first key pool item rest None e none own = ap (λ (o : Option Item). if is_some o then o else rest) (item_at-pushed key pool.items item own e)
 own_first key pool item rest (Some x) e none own = absurd cc
 
@@ -83,12 +80,12 @@ rest_none : (key : List ℕ) (pool : Pool) (rest : Option Item) (o : Option Item
 rest_none key pool rest None e h = (h, refl)
 rest_none key pool rest (Some x) e h = absurd cc
 
-own_set : (key : List ℕ) (item : Item) (pools : List Pool) (i : ℕ) (pool : Pool) → slice_get pools i ≡ Some pool → is_at key item ≡ true → linked_at key pools ≡ None → linked_at key (slice_set pools i (pushed item pool)) ≡ Some item
+own_set : (key : List ℕ) (item : Item) (pools : List Pool) (i : ℕ) (pool : Pool) → slice_get pools i ≡ Some pool → is_at key item ≡ true → linked_at key pools ≡ None → linked_at key (slice_set pools i (added item pool)) ≡ Some item
 own_set key item [] i pool at own none = absurd cc
 own_set key item (p ∷ pools) zero pool at own none = let same : p ≡ pool = cc in rw (← same) (own_first key p item (linked_at key pools) (item_at key p.items) refl none own)
 own_set key item (p ∷ pools) (suc i) pool at own none =
     let both = rest_none key p (linked_at key pools) (item_at key p.items) refl none in
-    ap (λ (o : Option Item). if is_some o then o else linked_at key (slice_set pools i (pushed item pool))) both.1 ∙ own_set key item pools i pool at own both.0
+    ap (λ (o : Option Item). if is_some o then o else linked_at key (slice_set pools i (added item pool))) both.1 ∙ own_set key item pools i pool at own both.0
 
 -- no item is left of a key that was unlinked
 pub unlinked-none : (key : List ℕ) (pools : List Pool) → count (is_at key) (items_of pools) ≤ 1 → linked_at key (unlinked key pools) ≡ None
@@ -99,10 +96,10 @@ pub linked-own : (memory : Memory) (clean : Bool) (handle : Handle) → Sound me
     → linked_at handle.key (after_link memory clean handle).pools ≡ Some (item_by clean handle)
 linked-own memory clean handle s mine one =
     let bare = unlinked handle.key memory.pools in
-    let sound = sound-home handle.key (λ p. record p { items = without handle.key p.items }) memory.pools memory.charges memory.made (shrinks-without handle.key) s in
+    let sound = sound-home handle.key (removed handle.key) memory.pools memory.charges memory.made (shrinks-removed handle.key) s in
     let there = there-of bare handle.pool (known-place bare memory.charges memory.made handle sound mine) in
     let none : linked_at handle.key bare ≡ None = linked-flat handle.key bare ∙ ap (item_at handle.key) (unlinked-flat handle.key memory.pools) ∙ item_at-gone handle.key (items_of memory.pools) one in
-    ap (λ (o : Option Pool). linked_at handle.key (option_map_or (λ pool. slice_set bare handle.pool (pushed (item_by clean handle) pool)) o bare)) there.1
+    ap (λ (o : Option Pool). linked_at handle.key (option_map_or (λ pool. slice_set bare handle.pool (added (item_by clean handle) pool)) o bare)) there.1
     ∙ own_set handle.key (item_by clean handle) bare handle.pool there.0 there.1 (bytes_eq-refl handle.key) none
 
 -- ---- other open charges

@@ -8,13 +8,13 @@ use Rattle.hc_types.specs.declared.config.FlashConfig.{FlashConfig}
 use Rattle.hc_engines.specs.Engine.{Pages}
 use Rattle.hc_memory.specs.Item.{Item, Open, Handle, charge_by, item_by}
 use Rattle.hc_memory.specs.Pool as pool
-use Rattle.hc_memory.specs.Pool.{is_at, item_at}
+use Rattle.hc_memory.specs.Pool.{is_at, item_at, added, removed}
 use Rattle.hc_memory.specs.Charges.{has_number, closed, is_open}
 use Rattle.hc_memory.specs.Memory.{Memory, after_link, after_unlink}
 use Rattle.hc_memory.proofs.Books.{tally-closed, is_open-found}
 use Rattle.hc_memory.proofs.Handing.{linked-sound, length-linked}
 use Rattle.hc_memory.proofs.Keyed.{same_bytes, item_at-is, without-none}
-use Rattle.hc_memory.proofs.Linking.{sound-home, shrinks-without}
+use Rattle.hc_memory.proofs.Linking.{sound-home, shrinks-removed}
 use Rattle.hc_machine.specs.items.Items.{items_of}
 use Rattle.hc_machine.proofs.items.Flat.{unlinked-flat}
 use Rattle.hc_machine.proofs.items.Items.{item_at-gone, bytes_eq-sym}
@@ -119,8 +119,8 @@ flash_linked flash older memory clean nvm handle unique none f = go flash nvm no
         one_each = f.fills.one_each;
         one_add = f.fills.one_add;
       };
-      pools = rw (length-linked handle.key handle.pool (λ p. record p { items = p.items ++ item_by clean handle ∷ [] }) memory.pools) f.pools;
-      adds = rw (length-linked handle.key handle.pool (λ p. record p { items = p.items ++ item_by clean handle ∷ [] }) memory.pools) f.adds;
+      pools = rw (length-linked handle.key handle.pool (added (item_by clean handle)) memory.pools) f.pools;
+      adds = rw (length-linked handle.key handle.pool (added (item_by clean handle)) memory.pools) f.adds;
     }
 
 -- the rest, once the handle's item is linked in the place of one whose charge was freed
@@ -189,8 +189,8 @@ flash_unlinked (Some flash) older memory (Some nvm) key f = record {
     one_each = f.fills.one_each;
     one_add = f.fills.one_add;
   };
-  pools = rw (length-home key (λ p. record p { items = pool.without key p.items }) memory.pools) f.pools;
-  adds = rw (length-home key (λ p. record p { items = pool.without key p.items }) memory.pools) f.adds;
+  pools = rw (length-home key (removed key) memory.pools) f.pools;
+  adds = rw (length-home key (removed key) memory.pools) f.adds;
 }
 
 pub rest_unlinked : (config : Config) (older : List Note) (cache : Cache) (key : List ℕ) → Rest config older cache (items_less key cache.memory) (only key)
@@ -199,9 +199,9 @@ rest_unlinked config older cache key r =
     let memory = cache.memory in
     record {
       own = r.own;
-      sizes = sizes-home key (λ p. record p { items = pool.without key p.items }) memory.pools (λ p. refl) ∙ r.sizes;
+      sizes = sizes-home key (removed key) memory.pools (λ p. refl) ∙ r.sizes;
       flash_is = r.flash_is;
-      sound = sound-home key (λ p. record p { items = pool.without key p.items }) memory.pools memory.charges memory.made (shrinks-without key) r.sound;
+      sound = sound-home key (removed key) memory.pools memory.charges memory.made (shrinks-removed key) r.sound;
       charges = subst (λ (items : List Item). ChargesTell older items memory.charges memory.made) (sym (unlinked-flat key memory.pools)) r.charges;
       placed = λ k other. placed_still config.flash older older cache (with_memory (after_unlink memory key) cache) k
           (record { linked = linked-other key k memory.pools (bytes_eq-sym key k ∙ other); queued = refl; written = refl; buried = refl; small_one = refl; large_one = refl; map = refl }) (r.placed k other);

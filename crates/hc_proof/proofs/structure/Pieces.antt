@@ -11,7 +11,7 @@ use Rattle.hc_types.specs.FlashEntry.{FlashEntry}
 use Rattle.hc_engines.specs.small.BigHash as bighash
 use Rattle.hc_engines.specs.pair.Pair.{Pair, hash_in, is_indexed, take_index}
 use Rattle.hc_memory.specs.Item.{Item, Handle, charge_by, item_by}
-use Rattle.hc_memory.specs.Pool.{Pool, is_at, without}
+use Rattle.hc_memory.specs.Pool.{Pool, is_at, added, without}
 use Rattle.hc_memory.specs.Charges.{is_open}
 use Rattle.hc_memory.specs.Memory.{Memory, after_free, after_link, after_unlink, after_unmark, unlinked, change_at}
 use Rattle.hc_memory.proofs.Keyed.{same_bytes}
@@ -238,14 +238,11 @@ linked_fewer memory clean handle f = by (slice_get bare handle.pool) refl
     bare : List Pool
     bare = unlinked handle.key memory.pools
 
-    push : Pool → Pool
-    push p = record p { items = p.items ++ item_by clean handle ∷ [] }
-
     last : tally f (without handle.key (items_of memory.pools) ++ item_by clean handle ∷ []) ≡ tally f (items_of bare) + f (item_by clean handle)
     last = tally-push f (without handle.key (items_of memory.pools)) (item_by clean handle) ∙ ap (λ (n : ℕ). n + f (item_by clean handle)) (sym (ap (tally f) (unlinked-flat handle.key memory.pools)))
 
-    by : (o : Option Pool) → slice_get bare handle.pool ≡ o → tally f (items_of (change_at handle.pool push bare)) ≤ tally f (without handle.key (items_of memory.pools) ++ item_by clean handle ∷ [])
-    by None at = let same : change_at handle.pool push bare ≡ bare = ap (λ (o : Option Pool). option_map_or (λ pool. slice_set bare handle.pool (push pool)) o bare) at in omega (arith, ap (λ ps. tally f (items_of ps)) same, last)
+    by : (o : Option Pool) → slice_get bare handle.pool ≡ o → tally f (items_of (change_at handle.pool (added (item_by clean handle)) bare)) ≤ tally f (without handle.key (items_of memory.pools) ++ item_by clean handle ∷ [])
+    by None at = let same : change_at handle.pool (added (item_by clean handle)) bare ≡ bare = ap (λ (o : Option Pool). option_map_or (λ pool. slice_set bare handle.pool (added (item_by clean handle) pool)) o bare) at in omega (arith, ap (λ ps. tally f (items_of ps)) same, last)
     by (Some pool) at = omega (arith, pushed-flat f handle.pool (item_by clean handle) pool bare at, tally-push f (items_of bare) (item_by clean handle), last)
 
 -- in a cache where its key neither waits nor has a fill that is seen

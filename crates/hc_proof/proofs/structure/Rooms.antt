@@ -1,5 +1,5 @@
 -- Room is made, and a charge is opened.
-use Rattle.std.proofs.Common.{◌≡◌, ℕ, ◌+◌, ◌≤◌, Bool, true, false, List, [], ◌∷◌, ◌++◌, append_assoc, Option, Some, None, refl, ap, sym, ◌∙◌, arith, cond, subst, slice_get, slice_set}
+use Rattle.std.proofs.Common.{◌≡◌, ℕ, ◌+◌, ◌≤◌, Bool, true, false, List, [], ◌∷◌, ◌++◌, length, append_assoc, Option, Some, None, refl, ap, sym, ◌∙◌, arith, cond, subst, slice_get, slice_set}
 use Rattle.std.specs.Prelude.{if◌then◌else◌}
 use Rattle.std.specs.Option.{option_map_or}
 use Rattle.hc_types.specs.Charge.{charge_of}
@@ -9,7 +9,8 @@ use Rattle.hc_types.specs.Loss.{Cause}
 use Rattle.hc_types.specs.declared.config.PoolSize.{PoolSize}
 use Rattle.hc_memory.specs.declared.usage.Usage.{Usage}
 use Rattle.hc_memory.specs.Item.{Item}
-use Rattle.hc_memory.specs.Pool.{Pool, is_at, is_full, kept, dropped}
+use Rattle.hc_memory.specs.Pool.{Pool, is_at, kept, dropped}
+use Rattle.hc_memory.proofs.Turns.{both-parts}
 use Rattle.hc_memory.specs.Charges.{usage_of}
 use Rattle.hc_memory.specs.Memory.{Memory, change_at, victims_of, after_room}
 use Rattle.hc_machine.specs.items.Items.{items_of}
@@ -62,22 +63,14 @@ module _ (pool want : ℕ) (seen : List Fill → List Fill) (loose : List Fill) 
 
 -- ---- room
 
-both_parts : (f : Item → ℕ) (size : PoolSize) (usage : Usage) (want : ℕ) (items : List Item) → tally f (dropped size usage want items) + tally f (kept size usage want items) ≡ tally f items
-both_parts f size usage want [] = refl
-both_parts f size usage want (x ∷ items) = step (is_full size usage want (x ∷ items)) (both_parts f size usage want items)
-  where
-    step : (b : Bool) → tally f (dropped size usage want items) + tally f (kept size usage want items) ≡ tally f items → tally f (if b then x ∷ dropped size usage want items else []) + tally f (if b then kept size usage want items else x ∷ items) ≡ f x + tally f items
-    step true h = omega (arith, h)
-    step false h = omega arith
-
 room_fewer : (memory : Memory) (pool want : ℕ) → FewerItems (items_of memory.pools) (victims_of memory pool want ++ items_of (after_room memory pool want).pools)
 room_fewer memory pool want f same = by (slice_get memory.pools pool) refl
   where
     keep : Pool → Pool
-    keep p = record p { items = kept p.size (usage_of pool memory.charges) want p.items }
+    keep p = kept (usage_of pool memory.charges) want p
 
     drop_of : Pool → List Item
-    drop_of p = dropped p.size (usage_of pool memory.charges) want p.items
+    drop_of p = dropped (usage_of pool memory.charges) want p
 
     by : (o : Option Pool) → slice_get memory.pools pool ≡ o → tally f (victims_of memory pool want ++ items_of (change_at pool keep memory.pools)) ≤ tally f (items_of memory.pools)
     by None at =
@@ -86,7 +79,7 @@ room_fewer memory pool want f same = by (slice_get memory.pools pool) refl
         omega (arith, ap (λ xs. tally f (xs ++ items_of (change_at pool keep memory.pools))) none, ap (λ ps. tally f (items_of ps)) still)
     by (Some p) at =
         let gone : victims_of memory pool want ≡ drop_of p = ap (λ (o : Option Pool). option_map_or drop_of o []) at in
-        omega (arith, tally-append f (victims_of memory pool want) (items_of (change_at pool keep memory.pools)), ap (tally f) gone, changed-flat f pool keep p memory.pools at, both_parts f p.size (usage_of pool memory.charges) want p.items)
+        omega (arith, tally-append f (victims_of memory pool want) (items_of (change_at pool keep memory.pools)), ap (tally f) gone, changed-flat f pool keep p memory.pools at, both-parts f (length p.items) (usage_of pool memory.charges) want p)
 
 -- a cache in which room was made
 pub record Roomed (before after : Cache) (pool want : ℕ) (seen : List Fill → List Fill) (loose : List Fill) : Type 0 where

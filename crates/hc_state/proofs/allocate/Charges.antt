@@ -14,12 +14,12 @@ use Rattle.hc_history.specs.Losses.{losses_more}
 use Rattle.hc_history.specs.Told.{Heard, Nothing, Log, Counts, Sums, told_more, where_kept, counts_more, losses_of}
 use Rattle.hc_history.proofs.Telling.{told-twice, told-nothing, counts-charged}
 use Rattle.hc_memory.specs.Item.{Item, Open, Handle, charge_by}
-use Rattle.hc_memory.specs.Pool.{Pool, dropped}
+use Rattle.hc_memory.specs.Pool.{Pool, next_items, dropped}
 use Rattle.hc_memory.specs.Charges.{has_number, is_open, usage_of}
 use Rattle.hc_memory.specs.Memory.{Memory, victims_of, oldest_keys, after_room, after_charge, handle_for}
 use Rattle.hc_memory.specs.Sound.{Sound}
 use Rattle.hc_memory.proofs.Books.{found-is_open}
-use Rattle.hc_memory.proofs.Making.{take-dropped}
+use Rattle.hc_memory.proofs.Turns.{goes-next}
 use Rattle.hc_machine.specs.Nvm.{put_at}
 use Rattle.hc_machine.specs.Cache.{Cache, Told, with_memory, and_then}
 use Rattle.hc_machine.specs.Evicting.{all_leave, charge, make_charge}
@@ -35,13 +35,13 @@ use Rattle.hc_state.proofs.allocate.Evicts.{in_memory, all_leave-memory}
 -- ---- who goes
 
 victims_by : (memory : Memory) (pool want : ℕ) (there : Option Pool) → slice_get memory.pools pool ≡ there
-    → oldest_keys memory pool (length (option_map_or (λ (p : Pool). dropped p.size (usage_of pool memory.charges) want p.items) there [])) ≡ keys_of (option_map_or (λ (p : Pool). dropped p.size (usage_of pool memory.charges) want p.items) there [])
-victims_by memory pool want None at = ap (λ o. option_map_or (λ (p : Pool). map (λ (item : Item). item.key) (take 0 p.items)) o []) at
+    → oldest_keys memory pool (length (option_map_or (dropped (usage_of pool memory.charges) want) there [])) ≡ keys_of (option_map_or (dropped (usage_of pool memory.charges) want) there [])
+victims_by memory pool want None at = ap (λ o. option_map_or (λ (p : Pool). map (λ (item : Item). item.key) (next_items 0 p)) o []) at
 victims_by memory pool want (Some there) at =
-    ap (λ o. option_map_or (λ (p : Pool). map (λ (item : Item). item.key) (take (length (dropped there.size (usage_of pool memory.charges) want there.items)) p.items)) o []) at
-    ∙ ap (map (λ (item : Item). item.key)) (take-dropped there.size (usage_of pool memory.charges) want there.items)
+    ap (λ o. option_map_or (λ (p : Pool). map (λ (item : Item). item.key) (next_items (length (dropped (usage_of pool memory.charges) want there)) p)) o []) at
+    ∙ ap (map (λ (item : Item). item.key)) (goes-next (length there.items) (usage_of pool memory.charges) want there)
 
--- those that go are those that were used longest ago
+-- those that go are those that go next
 pub oldest-go : (memory : Memory) (pool want : ℕ) → oldest_keys memory pool (length (victims_of memory pool want)) ≡ keys_of (victims_of memory pool want)
 oldest-go memory pool want = victims_by memory pool want (slice_get memory.pools pool) refl
 

@@ -2,7 +2,7 @@
 use Rattle.std.proofs.Common.{◌≡◌, ℕ, ◌*◌, ◌≤◌, Bool, List, [], ◌∷◌, length, Option, Some, None, is_some, refl, sym, ap, ◌∙◌, subst, arith}
 use Rattle.hc_types.specs.FlashEntry.{FlashEntry}
 use Rattle.hc_memory.specs.Item.{Handle}
-use Rattle.hc_memory.specs.Pool.{Pool, without}
+use Rattle.hc_memory.specs.Pool.{Pool, without, removed}
 use Rattle.hc_memory.specs.Memory.{Memory, linked_at, early}
 use Rattle.hc_memory.specs.Sound.{Sound}
 use Rattle.hc_history.specs.Told.{Heard, told_more, is_log}
@@ -47,7 +47,7 @@ module _ {A : Type 0} (keeps : Bool) (key : List ℕ) (there : Option FlashEntry
 
 -- where no item is linked under the key, none goes for the last that is stored
 pub removed-bare : (key : List ℕ) (handles : List Handle) (m : Memory) → linked_at key m.pools ≡ None → removed_early key handles m ≡ early handles m
-removed-bare key [] m none = ap (λ (ps : List Pool). record m { pools = ps }) (unchanged-home key (λ (pool : Pool). record pool { items = without key pool.items }) m.pools (ap is_some none))
+removed-bare key [] m none = ap (λ (ps : List Pool). record m { pools = ps }) (unchanged-home key (removed key) m.pools (ap is_some none))
 removed-bare key (handle ∷ handles) m none = refl
 
 -- ---- by a plan
@@ -141,7 +141,7 @@ module _ {A : Type 0} (way : Way A) (key : List ℕ) (ending : Ending) (courses 
           let count = ap (λ (xs : List Waiter). length xs) own in
           let most = ap (λ (o : Option Nvm). most_told_in (losses_by ending) o) same_flash in
           let step = bare-step (is_log old.log) key courses filled taken (for_notes (most_told_in (losses_by ending) linked.cache.nvm)) (costs (6 * length waiters) 0 (length waiters) 0) (with_cache c linked) linked told new
-          bare.cannot all (record { single = can.sound.single key; long = refl }) none over.filled_is plan (λ i. record linked { cache = cache i }) over.does serves
+          bare.cannot all (record { single = can.sound.single key; long = refl; order = can.sound.order }) none over.filled_is plan (λ i. record linked { cache = cache i }) over.does serves
           (omega (arith, bare.room.notes, count, most)) in
           taken-step way (Took (take_of take)) taken old new taken_is (like-step taken (take_of take) old (with_cache c linked) new refl bare.log over.take_is step)
         where

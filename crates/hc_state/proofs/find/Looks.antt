@@ -3,7 +3,7 @@ use Rattle.std.proofs.Common.{◌≡◌, ℕ, ◌++◌, Bool, true, false, List,
 use Rattle.std.specs.Prelude.{option_map, option_to_list, is_some}
 use Rattle.std.specs.Option.{option_map_or}
 use Rattle.hc_memory.specs.Item.{Item}
-use Rattle.hc_memory.specs.Pool.{Pool, item_at, unexpired, is_expired, used}
+use Rattle.hc_memory.specs.Pool.{Pool, item_at, unexpired, is_expired, found}
 use Rattle.hc_memory.specs.Memory.{Memory, has, linked_at, value_at, change_home, after_find}
 use Rattle.hc_history.specs.Note.{Note, Reply, Begin, Did, End, Find}
 use Rattle.hc_history.specs.Told.{Heard, Nothing, Log, Counts, Sums, told_more, kind_of, where_kept}
@@ -39,7 +39,7 @@ unchanged-home key f (pool ∷ pools) none = go (has key pool) refl none (λ mor
 -- and nothing is used
 pub find-unlinked : (memory : Memory) (now : ℕ) (key : List ℕ) → is_some (linked_at key memory.pools) ≡ false → after_find memory now key ≡ memory
 find-unlinked memory now key none =
-    ap (λ (ps : List Pool). record memory { pools = ps }) (unchanged-home key (λ (pool : Pool). record pool { items = used key (unexpired now (item_at key pool.items)) pool.items }) memory.pools none)
+    ap (λ (ps : List Pool). record memory { pools = ps }) (unchanged-home key (λ (pool : Pool). found key (unexpired now (item_at key pool.items)) pool) memory.pools none)
 
 -- ---- the log after a find
 

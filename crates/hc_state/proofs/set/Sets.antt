@@ -10,13 +10,14 @@ use Rattle.hc_types.specs.declared.refusal.Refusal.{Refusal}
 use Rattle.hc_types.specs.declared.refusal.Refusal.TheVariants.{NoMemory}
 use Rattle.hc_memory.specs.declared.usage.Usage.{Usage}
 use Rattle.hc_memory.specs.Item.{Item, Handle}
-use Rattle.hc_memory.specs.Pool.{Pool, kept, dropped}
+use Rattle.hc_memory.specs.Pool.{Pool, next_left, kept, dropped}
 use Rattle.hc_memory.specs.Charges.{usage_of}
 use Rattle.hc_memory.specs.Memory.{Memory, victims_of, oldest_of, after_room, after_evict, after_put}
 use Rattle.hc_memory.specs.Sound.{Sound}
 use Rattle.hc_memory.proofs.Evicting.{first-goes, evict-length}
 use Rattle.hc_memory.proofs.Handing.{untouched}
-use Rattle.hc_memory.proofs.Making.{known, drop-dropped}
+use Rattle.hc_memory.proofs.Making.{known}
+use Rattle.hc_memory.proofs.Turns.{stays-next}
 use Rattle.hc_memory.proofs.Putting.{IsRoomy, room-made}
 use Rattle.hc_machine.specs.items.Allocating.{refusal_of, expiry_of, cause_for}
 use Rattle.hc_history.specs.Note.{Note, Stored, Freed, Lose}
@@ -54,18 +55,18 @@ refused-so pool key value ttl cache refusal e = ap (λ (o : Option Refusal). ref
 
 -- ---- no item has to go
 
-kept_all : (size : PoolSize) (usage : Usage) (want : ℕ) (items : List Item) → length (dropped size usage want items) ≡ 0 → kept size usage want items ≡ items
-kept_all size usage want items none = sym (drop-dropped size usage want items) ∙ ap (λ (n : ℕ). drop n items) none
+kept_all : (usage : Usage) (want : ℕ) (pool : Pool) → length (dropped usage want pool) ≡ 0 → kept usage want pool ≡ pool
+kept_all usage want pool none = sym (stays-next (length pool.items) usage want pool) ∙ ap (λ (n : ℕ). next_left n pool) none
 
 room_step : (memory : Memory) (number want : ℕ) (o : Option Pool) → slice_get memory.pools number ≡ o → length (victims_of memory number want) ≡ 0 → after_room memory number want ≡ memory
 room_step memory number want None at none =
-    ap (λ (o : Option Pool). record memory { pools = option_map_or (λ (p : Pool). slice_set memory.pools number (record p { items = kept p.size (usage_of number memory.charges) want p.items })) o memory.pools }) at
+    ap (λ (o : Option Pool). record memory { pools = option_map_or (λ (p : Pool). slice_set memory.pools number (kept (usage_of number memory.charges) want p)) o memory.pools }) at
 room_step memory number want (Some pool) at none =
     let usage = usage_of number memory.charges in
     let k = known memory number want pool at in
-    let all : kept pool.size usage want pool.items ≡ pool.items = kept_all pool.size usage want pool.items (sym (ap (λ (l : List Item). length l) k.victims) ∙ none) in
+    let all : kept usage want pool ≡ pool = kept_all usage want pool (sym (ap (λ (l : List Item). length l) k.victims) ∙ none) in
     let same : slice_set memory.pools number pool ≡ memory.pools = untouched memory.pools number pool pool (slice_get_within memory.pools number pool at) (sym (get_or_from_slice_get memory.pools number pool pool at)) refl in
-    k.room ∙ (λ i. record memory { pools = slice_set memory.pools number (record pool { items = all i }) }) ∙ (λ i. record memory { pools = same i })
+    k.room ∙ (λ i. record memory { pools = slice_set memory.pools number (all i) }) ∙ (λ i. record memory { pools = same i })
 
 pub room-is : (memory : Memory) (number want : ℕ) → length (victims_of memory number want) ≡ 0 → after_room memory number want ≡ memory
 room-is memory number want none = room_step memory number want (slice_get memory.pools number) refl none

@@ -326,7 +326,7 @@ module _ (pool : ℕ) (key value : List ℕ) (ttl : ℕ) (mid left : Whole) (str
       let planted : Told = planted_by standing it linked in
       let nobody : waiters_at began.nvm key ≡ [] = alone-waiters began.nvm key alone_linked in
       let there : Option FlashEntry = Some (entry_of_handle it) in
-      let over : store_by standing it (with_memory (early (stored_with it began) began.memory) began) ≡ store it began = store-over (length full.pools) standing it began (subst (λ (c : Cache). pool < length c.memory.pools) cache_is within) (subst (λ ws. AllFit key (length full.pools) ws) (sym nobody) tt) (record { single = sound_full.single key; long = refl }) is in
+      let over : store_by standing it (with_memory (early (stored_with it began) began.memory) began) ≡ store it began = store-over (length full.pools) standing it began (subst (λ (c : Cache). pool < length c.memory.pools) cache_is within) (subst (λ ws. AllFit key (length full.pools) ws) (sym nobody) tt) (record { single = sound_full.single key; long = refl; order = sound_full.order }) is in
       sym over
       ∙ (λ i. store_by standing it (with_memory (early (it ∷ all_stored began.now (nobody i) there) began.memory) began))
       ∙ (λ i. store_by standing it (record roomed.cache { memory = record (after_put full it) { charges = fresh i }; calls = roomed.cache.calls + 1 }))

@@ -224,7 +224,7 @@ module _ {A : Type 0} (keeps : Bool) (h : Handle) (courses : List (Course A)) (c
       store-as-by keeps h courses standing (linked_with h courses begun) plan
       ∙ ap (λ hs. store_by standing h (with_memory (early (h ∷ hs) cache.memory) begun)) stored_is
       ∙ store-over (length cache.memory.pools) standing h begun (known-place cache.memory.pools cache.memory.charges cache.memory.made h sound knows.is_there)
-      (all-fit h.key cache.memory (waiters_at cache.nvm h.key) sound wishes) (record { single = sound.single h.key; long = refl }) is
+      (all-fit h.key cache.memory (waiters_at cache.nvm h.key) sound wishes) (record { single = sound.single h.key; long = refl; order = sound.order }) is
       )
 
   pub insert-can : (whole : Whole) → is_log whole.log ≡ keeps → whole.cache ≡ linked_with h courses cache → CanServe h.key courses whole
@@ -262,5 +262,5 @@ module _ {A : Type 0} (keeps : Bool) (key : List ℕ) (courses : List (Course A)
       ap (behind part) (
       unstore-as-by keeps reply key courses standing (linked_without key courses begun) plan
       ∙ ap (λ hs. unstore_by standing reply key (with_memory (removed_early key hs cache.memory) begun)) those_stored
-      ∙ unstore-over (length cache.memory.pools) standing reply key begun (all-fit key cache.memory (waiters_at cache.nvm key) sound wish) (record { single = sound.single key; long = refl }) is
+      ∙ unstore-over (length cache.memory.pools) standing reply key begun (all-fit key cache.memory (waiters_at cache.nvm key) sound wish) (record { single = sound.single key; long = refl; order = sound.order }) is
       )

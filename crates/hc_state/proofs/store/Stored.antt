@@ -17,13 +17,14 @@ use Rattle.std.specs.Prelude.{is_some}
 use Rattle.hc_machine.specs.Cache.{Cache, Told, tells, and_then, behind, on_flash, on_flash_of, with_memory, with_nvm}
 use Rattle.hc_machine.specs.Waiting.{clear, plant, uproot, entry_of_handle, serve_fill, end_fill, end_fill_of, serve_all}
 use Rattle.hc_machine.specs.Calls.{replies_then, store}
-use Rattle.hc_memory.specs.Pool.{Pool, without}
+use Rattle.hc_memory.specs.Pool.{Pool, without, removed}
 use Rattle.hc_memory.specs.Sound.{items_at}
 use Rattle.hc_memory.proofs.Keyed.{count-none}
 use Rattle.hc_memory.proofs.Linking.{gone}
 use Rattle.hc_memory.proofs.Handing.{length-home}
 use Rattle.hc_memory.proofs.Commuting.{unmark-early, unmark-unlink}
 use Rattle.hc_memory.proofs.Early.{early-same, unlinked-none}
+use Rattle.hc_memory.proofs.Hands.{fits-unlinked}
 use Rattle.hc_proof.proofs.fresh.Calming.{fill_key}
 use Rattle.hc_state.specs.wait.Commit.{all_stored, all_served, waiters_at, without_calls, ended_by, stored_with, stored_without, store_by, unstore_by}
 use Rattle.hc_state.specs.store.Link.{removed_early}
@@ -132,7 +133,7 @@ unstore-over pools standing reply key c all fits is =
     let now : u.cache.now ≡ c.now = clear-now key c in
     let none = gone key cleared.cache.memory.pools after.single in
     let more = ended-over key pools None None u.cache (subst (AllFit key pools) (sym waiting) all)
-    (record { single = omega (arith, none); long = length-home key (λ pool. record pool { items = without key pool.items }) cleared.cache.memory.pools ∙ after.long })
+    (record { single = omega (arith, none); long = length-home key (removed key) cleared.cache.memory.pools ∙ after.long; order = fits-unlinked key cleared.cache.memory.pools after.order })
     (ap (option_map (λ (item : Item). item.number)) (sym (bare-none key (unlinked key cleared.cache.memory.pools) none))) in
     let then = λ (told : Told). behind u.part (behind (Did u.cache.calls reply ∷ []) (and_then told (tells (End u.cache.calls ∷ [])))) in
     ap (λ (told : Told). and_then told (replies_then reply (ended_by key None None))) (clear-over (removed_early key hs) (removed-commutes key hs) key standing c is)

@@ -1,6 +1,6 @@
 -- Calls that wait are served as the machine serves them, though the last item that they store is linked before anything is told.
 use Rattle.std.proofs.Common.{◌≡◌, ℕ, zero, suc, ◌+◌, ◌≤◌, ◌<◌, Bool, true, false, List, [], ◌∷◌, ◌++◌, length, Option, Some, None, is_some, refl, sym, ap, ◌∙◌, subst, arith, slice_get, slice_set}
-use Rattle.std.specs.Prelude.{option_map}
+use Rattle.std.specs.Prelude.{option_map, if◌then◌else◌}
 use Rattle.std.proofs.lemmas.Slice.Eq.{bytes_eq-Decides}
 use mathlib.Core.Bool.{cond}
 use Rattle.std.specs.Prelude.{⊤}
@@ -10,7 +10,7 @@ use Rattle.hc_types.specs.Loss.{Scope}
 use Rattle.hc_types.specs.FlashEntry.{FlashEntry}
 use Rattle.hc_memory.specs.Item.{Item, Handle, item_by}
 use Rattle.hc_types.specs.declared.config.FlashConfig.{FlashConfig}
-use Rattle.hc_memory.specs.Pool.{Pool, is_at, item_at, without, is_covered}
+use Rattle.hc_memory.specs.Pool.{Pool, is_at, item_at, without, is_covered, added, removed, unmarked_where}
 use Rattle.hc_memory.specs.Sound.{items_at}
 use Rattle.hc_memory.specs.Memory.{Memory, change_at, linked_at, unlinked, after_link, after_unmark, all_unmarked, early}
 use Rattle.hc_history.specs.Note.{Note, Lose, Linked, Stored}
@@ -20,6 +20,7 @@ use Rattle.hc_machine.specs.Cache.{Cache, Told, tells, and_then, behind, unmarke
 use Rattle.hc_machine.specs.Waiting.{freed_note, clear, plant, live, answer, serve, there_after, serve_all}
 use Rattle.hc_memory.proofs.Commuting.{unmark-early}
 use Rattle.hc_memory.proofs.Early.{early-link, linked-single}
+use Rattle.hc_memory.proofs.Hands.{AllFit as PoolsFit, fits-added, fits-unlinked, fits-at, fits-all, fits-mapped}
 use Rattle.hc_memory.proofs.Keyed.{count-none, item_at-pushed, tally-unmarked}
 use Rattle.hc_memory.proofs.Linking.{gone}
 use Rattle.hc_memory.proofs.Handing.{length-home, length-linked}
@@ -77,10 +78,11 @@ clear-over g same key standing c is =
 
 -- ---- the items of a key, as the machine goes on
 
--- no key has two items, and there are so many pools
+-- no key has two items, there are so many pools, and of their items it is known how they take turns
 pub record Fits (key : List ℕ) (pools : ℕ) (m : Memory) : Type 0 where
   pub single : items_at key m.pools ≤ 1
   pub long : length m.pools ≡ pools
+  pub order : PoolsFit m.pools
 
 items-unmarked : (key : List ℕ) (flash : Option FlashConfig) (scope : Scope) (pools : List Pool) → items_at key (all_unmarked flash scope pools) ≡ items_at key pools
 items-unmarked key flash scope [] = refl
@@ -95,6 +97,7 @@ fits-unmark : (key : List ℕ) (pools : ℕ) (m : Memory) (s : Scope) → Fits k
 fits-unmark key pools m s fits = record {
   single = omega (arith, fits.single, items-unmarked key m.flash s m.pools);
   long = length-unmarked m.flash s m.pools ∙ fits.long;
+  order = fits-all (λ (pool : Pool). record pool { items = unmarked_where (is_covered m.flash s) pool.items }) (fits-mapped (λ (x : Item). if is_covered m.flash s x then record x { clean = false } else x)) m.pools fits.order;
 }
 
 pub fits-unmarked : (key : List ℕ) (pools : ℕ) (part : List Note) (m : Memory) → Fits key pools m → Fits key pools (unmarked_by part m)
@@ -115,39 +118,37 @@ fits-clear own key pools c fits =
 
 pub fits-link : (key : List ℕ) (pools : ℕ) (m : Memory) (h : Handle) → h.key ≡ key → Fits key pools m → Fits key pools (after_link m false h)
 fits-link key pools m h same fits = record {
-  single = subst (λ (k : List ℕ). items_at key (change_at h.pool (λ pool. record pool { items = pool.items ++ item_by false h ∷ [] }) (unlinked k m.pools)) ≤ 1) (sym same) (linked-single key (item_by false h) m.pools h.pool fits.single);
-  long = length-linked h.key h.pool (λ pool. record pool { items = pool.items ++ item_by false h ∷ [] }) m.pools ∙ fits.long;
+  single = subst (λ (k : List ℕ). items_at key (change_at h.pool (added (item_by false h)) (unlinked k m.pools)) ≤ 1) (sym same) (linked-single key (item_by false h) m.pools h.pool fits.single);
+  long = length-linked h.key h.pool (added (item_by false h)) m.pools ∙ fits.long;
+  order = fits-at h.pool (added (item_by false h)) (fits-added (item_by false h)) (unlinked h.key m.pools) (fits-unlinked h.key m.pools fits.order);
 }
 
-found-pushed : (key : List ℕ) (x : Item) → is_at key x ≡ true → (pools : List Pool) (i : ℕ) → i < length pools → items_at key pools ≡ 0 → linked_at key (change_at i (λ pool. record pool { items = pool.items ++ x ∷ [] }) pools) ≡ Some x
+found-pushed : (key : List ℕ) (x : Item) → is_at key x ≡ true → (pools : List Pool) (i : ℕ) → i < length pools → items_at key pools ≡ 0 → linked_at key (change_at i (added x) pools) ≡ Some x
 found-pushed key x own [] i less none = absurd (omega (arith, less))
 found-pushed key x own (pool ∷ pools) zero less none =
     ap (λ (o : Option Item). cond (is_some o) o (linked_at key pools)) (item_at-pushed key pool.items x own (count-none key pool.items (omega (arith, none))))
 found-pushed key x own (pool ∷ pools) (suc i) less none =
     by (slice_get pools i) refl (found-pushed key x own pools i (omega (arith, less)) (omega (arith, none)))
   where
-    push : Pool → Pool
-    push p = record p { items = p.items ++ x ∷ [] }
-
     bare : item_at key pool.items ≡ None
     bare = count-none key pool.items (omega (arith, none))
 
     skip : (rest : List Pool) → linked_at key (pool ∷ rest) ≡ linked_at key rest
     skip rest = ap (λ (o : Option Item). cond (is_some o) o (linked_at key rest)) bare
 
-    by : (o : Option Pool) → slice_get pools i ≡ o → linked_at key (change_at i push pools) ≡ Some x → linked_at key (change_at (suc i) push (pool ∷ pools)) ≡ Some x
-    by None e more = ap (λ (o : Option Pool). linked_at key (option_map_or (λ (q : Pool). slice_set (pool ∷ pools) (suc i) (push q)) o (pool ∷ pools))) e ∙ skip pools ∙ ap (λ (o : Option Pool). linked_at key (option_map_or (λ (q : Pool). slice_set pools i (push q)) o pools)) (sym e) ∙ more
+    by : (o : Option Pool) → slice_get pools i ≡ o → linked_at key (change_at i (added x) pools) ≡ Some x → linked_at key (change_at (suc i) (added x) (pool ∷ pools)) ≡ Some x
+    by None e more = ap (λ (o : Option Pool). linked_at key (option_map_or (λ (q : Pool). slice_set (pool ∷ pools) (suc i) (added x q)) o (pool ∷ pools))) e ∙ skip pools ∙ ap (λ (o : Option Pool). linked_at key (option_map_or (λ (q : Pool). slice_set pools i (added x q)) o pools)) (sym e) ∙ more
     by (Some p) e more =
-        ap (λ (o : Option Pool). linked_at key (option_map_or (λ (q : Pool). slice_set (pool ∷ pools) (suc i) (push q)) o (pool ∷ pools))) e
-        ∙ skip (slice_set pools i (push p))
-        ∙ ap (λ (o : Option Pool). linked_at key (option_map_or (λ (q : Pool). slice_set pools i (push q)) o pools)) (sym e)
+        ap (λ (o : Option Pool). linked_at key (option_map_or (λ (q : Pool). slice_set (pool ∷ pools) (suc i) (added x q)) o (pool ∷ pools))) e
+        ∙ skip (slice_set pools i (added x p))
+        ∙ ap (λ (o : Option Pool). linked_at key (option_map_or (λ (q : Pool). slice_set pools i (added x q)) o pools)) (sym e)
         ∙ more
 
 pub linked-last : (key : List ℕ) (pools : ℕ) (m : Memory) (h : Handle) → h.key ≡ key → h.pool < pools → Fits key pools m → linked_at key (after_link m false h).pools ≡ Some (item_by false h)
 linked-last key pools m h same less fits =
     let at : is_at key (item_by false h) ≡ true = (bytes_eq-Decides key h.key).1 (sym same) in
-    (λ i. linked_at key (change_at h.pool (λ pool. record pool { items = pool.items ++ item_by false h ∷ [] }) (unlinked (same i) m.pools)))
-    ∙ found-pushed key (item_by false h) at (unlinked key m.pools) h.pool (omega (arith, less, length-home key (λ pool. record pool { items = without key pool.items }) m.pools, fits.long)) (gone key m.pools fits.single)
+    (λ i. linked_at key (change_at h.pool (added (item_by false h)) (unlinked (same i) m.pools)))
+    ∙ found-pushed key (item_by false h) at (unlinked key m.pools) h.pool (omega (arith, less, length-home key (removed key) m.pools, fits.long)) (gone key m.pools fits.single)
 
 -- ---- one call is served
 
@@ -177,7 +178,7 @@ pub plant-over : (key : List ℕ) (pools : ℕ) (standing : Option ℕ) (h : Han
 plant-over key pools standing h hs c same all fits is =
     let cleared = clear h.key c in
     ap (λ (told : Told). and_then told (tells (Linked h.number ∷ []))) (clear-over (early (h ∷ hs)) (λ m s. unmark-early (h ∷ hs) m s) h.key standing c is)
-    ∙ ap (λ (m : Memory). record { cache = with_memory m cleared.cache; part = cleared.part ++ Linked h.number ∷ [] }) (early-link h hs cleared.cache.memory (fits-clear h.key h.key pools c fits).single all)
+    ∙ ap (λ (m : Memory). record { cache = with_memory m cleared.cache; part = cleared.part ++ Linked h.number ∷ [] }) (early-link h hs cleared.cache.memory (fits-clear h.key h.key pools c fits).order (fits-clear h.key h.key pools c fits).single all)
 
 -- the items that are to be stored are the key's
 pub stored-keys : (key : List ℕ) (pools now : ℕ) (waiters : List Waiter) (there : Option FlashEntry) → AllFit key pools waiters → AllByRecursion (λ (g : Handle). g.key ≡ key) (all_stored now waiters there)
@@ -231,7 +232,7 @@ serve-now call (ToAdd handle) None c = clear-now handle.key c
 
 serve-fits : (key : List ℕ) (pools call : ℕ) (wish : Wish) (l : Option FlashEntry) (c : Cache) → WishFits key pools wish → Fits key pools c.memory → Fits key pools (serve call wish l c).cache.memory
 serve-fits key pools call ToFind l c fit fits = fits
-serve-fits key pools call (ToAdd handle) (Some entry) c fit fits = record { single = fits.single; long = fits.long }
+serve-fits key pools call (ToAdd handle) (Some entry) c fit fits = record { single = fits.single; long = fits.long; order = fits.order }
 serve-fits key pools call (ToAdd handle) None c fit fits = fits-link key pools (clear handle.key c).cache.memory handle fit.0 (fits-clear handle.key key pools c fits)
 
 serve-stands : (key : List ℕ) (pools call : ℕ) (wish : Wish) (l : Option FlashEntry) (standing : Option ℕ) (c : Cache) → WishFits key pools wish → Fits key pools c.memory → standing ≡ number_at key c.memory

@@ -13,7 +13,8 @@ use Rattle.hc_types.specs.FlashEntry.{FlashEntry}
 use Rattle.hc_memory.specs.Item.{Item, Handle, item_by}
 use Rattle.hc_types.specs.declared.config.PoolSize.{PoolSize}
 use Rattle.hc_memory.specs.declared.usage.Usage.{Usage}
-use Rattle.hc_memory.specs.Pool.{Pool, without, is_full, kept, dropped}
+use Rattle.hc_memory.specs.Pool.{Pool, without, kept, dropped}
+use Rattle.hc_memory.proofs.Turns.{both-parts}
 use Rattle.hc_memory.specs.Charges.{usage_of}
 use Rattle.hc_memory.specs.Memory.{Memory, linked_at, change_at, victims_of, after_room, after_unlink, after_unmark, after_link}
 use Rattle.hc_machine.specs.items.Items.{items_of, item_has}
@@ -238,24 +239,15 @@ all_leave_safe adds older pool want (x ∷ xs) cache h =
     both_safe adds older (tells (Freed x.number ∷ []) cache) (λ c. and_then (leaves pool want x c) (all_leave pool want xs)) freed
     (both_safe adds middle one (all_leave pool want xs) told (all_leave_safe adds (past middle one.part) pool want xs one.cache after))
 
-module _ (f : Item → ℕ) (size : PoolSize) (usage : Usage) (want : ℕ) where
-  both_parts : (items : List Item) → tally f (dropped size usage want items) + tally f (kept size usage want items) ≡ tally f items
-  both_parts [] = refl
-  both_parts (x ∷ items) = step (is_full size usage want (x ∷ items)) (both_parts items)
-    where
-      step : (b : Bool) → tally f (dropped size usage want items) + tally f (kept size usage want items) ≡ tally f items → tally f (if b then x ∷ dropped size usage want items else []) + tally f (if b then kept size usage want items else x ∷ items) ≡ f x + tally f items
-      step true h = omega (arith, h)
-      step false h = omega arith
-
 -- those that go, and those that stay
 room_parts : (f : Item → ℕ) (memory : Memory) (pool want : ℕ) → tally f (victims_of memory pool want ++ items_of (after_room memory pool want).pools) ≤ tally f (items_of memory.pools)
 room_parts f memory pool want = by (slice_get memory.pools pool) refl
   where
     keep : Pool → Pool
-    keep p = record p { items = kept p.size (usage_of pool memory.charges) want p.items }
+    keep p = kept (usage_of pool memory.charges) want p
 
     drop_of : Pool → List Item
-    drop_of p = dropped p.size (usage_of pool memory.charges) want p.items
+    drop_of p = dropped (usage_of pool memory.charges) want p
 
     by : (o : Option Pool) → slice_get memory.pools pool ≡ o → tally f (victims_of memory pool want ++ items_of (change_at pool keep memory.pools)) ≤ tally f (items_of memory.pools)
     by None at =
@@ -264,7 +256,7 @@ room_parts f memory pool want = by (slice_get memory.pools pool) refl
         omega (arith, ap (λ xs. tally f (xs ++ items_of (change_at pool keep memory.pools))) none, ap (λ ps. tally f (items_of ps)) still)
     by (Some p) at =
         let gone : victims_of memory pool want ≡ drop_of p = ap (λ (o : Option Pool). option_map_or drop_of o []) at in
-        omega (arith, tally-append f (victims_of memory pool want) (items_of (change_at pool keep memory.pools)), ap (tally f) gone, changed-flat f pool keep p memory.pools at, both_parts f p.size (usage_of pool memory.charges) want p.items)
+        omega (arith, tally-append f (victims_of memory pool want) (items_of (change_at pool keep memory.pools)), ap (tally f) gone, changed-flat f pool keep p memory.pools at, both-parts f (length p.items) (usage_of pool memory.charges) want p)
 
 pub room_safe : (adds : List Adding) (older : List Note) (pool want : ℕ) (cache : Cache) → Apart older (items_of cache.memory.pools) → Safe adds older (make_room pool want cache)
 room_safe adds older pool want cache h =

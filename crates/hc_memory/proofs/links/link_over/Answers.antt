@@ -2,7 +2,7 @@ use Rattle.std.proofs.Common.{◌≡◌, ◌++◌, ◌∷◌, [], Option, IfOk, 
 use Rattle.std.specs.Prelude.{option_map}
 use Rattle.std.proofs.lemmas.Result.{on_ok_weaker, on_err_weaker}
 use Rattle.hc_memory.specs.Item.{Item}
-use Rattle.hc_memory.specs.Pool.{Pool, without}
+use Rattle.hc_memory.specs.Pool.{added, removed}
 use Rattle.hc_memory.specs.Seen.{item_of}
 use Rattle.hc_memory.specs.Memory.{home_of, beside, change_at, unlinked}
 use Rattle.hc_memory.proofs.Handing.{replaced, untouched}
@@ -54,7 +54,7 @@ returns-in-None-clause-pools g c =
     let item : Item = item_of (c.args.key, c.args.held) in
     let none = c.in-None.ensures ∙ ap (λ ps. beside c.args.own (home_of c.args.key ps)) c.as_slice.ensures.value in
     let set = (replaced c.args.key c.args.pools.now.items c.args.own c.index_mut.result.now item none c.requires.place c.index_mut.ensures.value).set in
-    let after : c.link.new.self ≡ record { size = c.index_mut.result.now.size; items = without c.args.key c.index_mut.result.now.items ++ item ∷ [] } → slice_set c.args.pools.now.items c.args.own c.link.new.self ≡ change_at c.args.own (λ (p : Pool). record p { items = p.items ++ item ∷ [] }) (unlinked c.args.key c.args.pools.now.items) =
+    let after : c.link.new.self ≡ added item (removed c.args.key c.index_mut.result.now) → slice_set c.args.pools.now.items c.args.own c.link.new.self ≡ change_at c.args.own (added item) (unlinked c.args.key c.args.pools.now.items) =
     λ is. ap (λ p. slice_set c.args.pools.now.items c.args.own p) is ∙ set in
     on_ok_weaker c.link.result after c.link.ensures.items
 

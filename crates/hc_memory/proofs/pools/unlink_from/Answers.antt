@@ -1,6 +1,6 @@
 use Rattle.std.proofs.Common.{ap, length, option_map, refl, sym, ◌∙◌, arith}
 use Rattle.hc_memory.specs.Item.{Item}
-use Rattle.hc_memory.specs.Pool.{Pool, without}
+use Rattle.hc_memory.specs.Pool.{removed}
 use Rattle.hc_memory.specs.Memory.{home_of}
 use Rattle.hc_memory.proofs.Homes.{away}
 use Rattle.hc_memory.proofs.Looking.{unpassed, all-passed}
@@ -31,6 +31,5 @@ returns-clause-value g c =
 
 pub returns-clause-pools : goal.returns-clause-pools
 returns-clause-pools g c =
-    let out : Pool → Pool = λ p. record p { items = without c.args.key.now p.items } in
     let none = sym (all-passed c.args.key.now c.args.pools.now.items c.loop-i.i (omega (arith, c.loop-i-test.false)) c.loop-i.invariant.rest) in
-    c.loop-i.invariant.same ∙ sym ((away c.args.key.now c.args.pools.now.items none).change out)
+    c.loop-i.invariant.same ∙ sym ((away c.args.key.now c.args.pools.now.items none).change (removed c.args.key.now))

@@ -14,6 +14,3 @@ returns-clause-go g c = c.victims.ensures.go
 
 pub returns-clause-stay : goal.returns-clause-stay
 returns-clause-stay g c = c.victims.ensures.stay
-
-pub returns-clause-fits : goal.returns-clause-fits
-returns-clause-fits g c = c.victims.ensures.fits

@@ -2,7 +2,7 @@ use Rattle.std.proofs.Common.{◌∙◌, ◌++◌, ◌∷◌, [], ap, slice_set}
 use Rattle.std.proofs.lemmas.Result.{on_ok_weaker, on_err_weaker}
 use Rattle.hc_memory.specs.Item.{Item}
 use Rattle.hc_memory.specs.Memory.{change_at, unlinked}
-use Rattle.hc_memory.specs.Pool.{Pool}
+use Rattle.hc_memory.specs.Pool.{added}
 use Rattle.hc_memory.specs.Seen.{item_of}
 use Rattle.hc_memory.proofs.Handing.{untouched}
 use Rattle.hc_memory.proofs.Linking.{link-home}
@@ -23,7 +23,7 @@ pub returns-in-Err-clause-pools : goal.returns-in-Err-clause-pools
 returns-in-Err-clause-pools g c =
     let held = c.in-Err.ensures.value_returned in
     let same = untouched c.args.pools.now.items c.args.own c.index_mut.result.now c.replace.new.self c.requires.place c.index_mut.ensures.value c.in-Err.ensures.err in
-    on_ok_weaker c.store_new.result (λ is. is ∙ λ i. change_at c.args.own (λ (p : Pool). record p { items = p.items ++ item_of (c.args.key, held i) ∷ [] }) (unlinked c.args.key (same i))) c.store_new.ensures.pools
+    on_ok_weaker c.store_new.result (λ is. is ∙ λ i. change_at c.args.own (added (item_of (c.args.key, held i))) (unlinked c.args.key (same i))) c.store_new.ensures.pools
 
 pub returns-in-Err-clause-err : goal.returns-in-Err-clause-err
 returns-in-Err-clause-err g c =

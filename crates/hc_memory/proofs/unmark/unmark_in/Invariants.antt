@@ -7,5 +7,6 @@ use Rattle.hc_memory.proofs.unmark.unmark_in.Given as goal
 abbrev pub invariant-loop-key : goal.invariant-loop-key
 invariant-loop-key g l = record {
   size : l.pool.size ≡ l.initial.pool.size;
+  order : l.pool.order ≡ l.initial.pool.order;
   items : keys_unmarked l.flash (scope_of l.scope) (drop l.key-index l.keys) l.pool.items ≡ keys_unmarked l.flash (scope_of l.scope) l.keys l.initial.pool.items;
 }

@@ -4,6 +4,7 @@ use Rattle.hc_types.proofs.Tallies.{tally-push}
 use Rattle.hc_memory.specs.declared.item.Held.{Held}
 use Rattle.hc_memory.specs.Item.{cost}
 use Rattle.hc_types.specs.Tally.{count}
+use Rattle.hc_memory.specs.Order.{ByUse}
 use Rattle.hc_memory.specs.Pool.{bytes_of, without, is_expired}
 use Rattle.hc_memory.proofs.Fresh.{fresh-put}
 use Rattle.hc_memory.specs.Seen.{item_of, items_of}
@@ -56,7 +57,7 @@ returns-clause-items g c =
     let one = unique es c.len-len.ensures.valid.0 c.args.key in
     let cap = c.self.invariant.1 in
     let put = items_of-put es c.self.inside.cache.cap c.args.key c.args.held one (omega (arith, cap, c.len-len.ensures.fits, c.len-len.ensures.len)) in
-    rw (← c.self.view_is) (rw c.in-Ok.ensures.entries (λ i. record { size = c.self.inside.size; items = put i }))
+    rw (← c.self.view_is) (rw c.in-Ok.ensures.entries (λ i. record { size = c.self.inside.size; items = put i; order = ByUse }))
 
 pub cost-cost-requires : goal.cost-cost-requires
 cost-cost-requires g c = omega (arith, c.requires)
@@ -65,7 +66,7 @@ pub invariant_of-self : goal.invariant_of-self
 invariant_of-self g c = rw c.in-Err.ensures.err c.self.invariant
 
 pub returns-in-Err-clause-err : goal.returns-in-Err-clause-err
-returns-in-Err-clause-err g c = rw (← c.self.view_is) (λ i. record { size = c.self.inside.size; items = items_of (c.in-Err.ensures.err i).entries })
+returns-in-Err-clause-err g c = rw (← c.self.view_is) (λ i. record { size = c.self.inside.size; items = items_of (c.in-Err.ensures.err i).entries; order = ByUse })
 
 pub returns-in-Err-clause-value_returned : goal.returns-in-Err-clause-value_returned
 returns-in-Err-clause-value_returned g c = c.in-Err.ensures.value_returned

@@ -4,6 +4,7 @@ use Rattle.hc_types.proofs.Tallies.{tally-push}
 use Rattle.hc_memory.specs.declared.item.Held.{Held}
 use Rattle.hc_memory.specs.Item.{cost}
 use Rattle.hc_types.specs.Tally.{count}
+use Rattle.hc_memory.specs.Order.{ByUse}
 use Rattle.hc_memory.specs.Pool.{bytes_of, without, is_expired}
 use Rattle.hc_memory.proofs.Fresh.{fresh-put}
 use Rattle.hc_memory.specs.Seen.{item_of, items_of}
@@ -42,7 +43,7 @@ returns-in-Ok-clause-items g c =
     let one = unique es c.len-len.ensures.valid.0 c.args.key.now in
     let cap = c.self.invariant.1 in
     let put = items_of-put es c.self.inside.cache.cap c.args.key.now c.args.held one (omega (arith, cap, c.len-len.ensures.fits, c.len-len.ensures.len)) in
-    rw (← c.self.view_is) (rw c.in-Ok.ensures.entries (λ i. record { size = c.self.inside.size; items = put i }))
+    rw (← c.self.view_is) (rw c.in-Ok.ensures.entries (λ i. record { size = c.self.inside.size; items = put i; order = ByUse }))
 
 pub returns-in-Err-clause-none : goal.returns-in-Err-clause-none
 returns-in-Err-clause-none g c =

@@ -4,6 +4,7 @@ use Rattle.hc_memory.specs.declared.item.Held.{Held}
 use mathlib.Core.Bool.{cond}
 use Rattle.hc_types.specs.Tally.{count}
 use Rattle.hc_memory.specs.Item.{Item}
+use Rattle.hc_memory.specs.Order.{ByUse}
 use Rattle.hc_memory.specs.Pool.{bytes_of, is_expired}
 use Rattle.hc_memory.specs.Seen.{items_of}
 use Rattle.hc_memory.proofs.Keyed.{less-without}
@@ -49,4 +50,4 @@ pub returns-clause-items : goal.returns-clause-items
 returns-clause-items g c =
     let es = c.self.inside.cache.entries in
     let gone = items_of-remove c.args.key.now es (unique es c.len-len.ensures.valid.0 c.args.key.now) in
-    rw (← c.self.view_is) (rw c.pop.ensures.entries (λ i. record { size = c.self.inside.size; items = gone i }))
+    rw (← c.self.view_is) (rw c.pop.ensures.entries (λ i. record { size = c.self.inside.size; items = gone i; order = ByUse }))

@@ -4,6 +4,7 @@ use Rattle.hc_memory.specs.declared.item.Held.{Held}
 use mathlib.Core.Bool.{cond}
 use Rattle.hc_types.specs.Tally.{count}
 use Rattle.hc_memory.specs.Item.{Item, cost}
+use Rattle.hc_memory.specs.Order.{ByUse}
 use Rattle.hc_memory.specs.Pool.{bytes_of, is_at, is_expired}
 use Rattle.hc_memory.specs.Seen.{item_of, items_of}
 use Rattle.hc_memory.proofs.Keyed.{tally-unmarked, unmarked-none}
@@ -32,9 +33,9 @@ returns g c =
     rw (← c.self.view_is) (elim c.match-peek_mut.branch [
       | in-Some w ↦
           let marks = items_of-unmarked c.args.key.now es w.in-Some.held.now one (sym w.in-Some.ensures.value) in
-          rw w.self-inside-is (λ i. record { size = c.self.inside.size; items = marks i })
+          rw w.self-inside-is (λ i. record { size = c.self.inside.size; items = marks i; order = ByUse })
       | in_default w ↦
           let at = item_at-held c.args.key.now es one ∙ ap (option_map (λ (h : Held g.row.A.Denot). item_of (c.args.key.now, h))) (sym w.in_default.ensures.value) in
           let stay = sym (unmarked-none c.args.key.now (items_of es) at) in
-          rw w.self-inside-is (λ i. record { size = c.self.inside.size; items = stay i })
+          rw w.self-inside-is (λ i. record { size = c.self.inside.size; items = stay i; order = ByUse })
     ])

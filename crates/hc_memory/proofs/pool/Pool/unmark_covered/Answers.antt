@@ -14,7 +14,7 @@ returns-then-covers g c =
     let single = subst (λ (p : Pool). count (is_at key) p.items ≤ 1) c.self.view_is (unique c.self.inside.cache.entries c.len-len.ensures.valid.0 key) in
     let one = covered-item c.args.flash.now (scope_of c.args.scope.now) key items c.covers.result (item_at key items) single refl c.covers.ensures in
     let all = one ∙ ap (λ b. cond b (unmarked_where (is_at key) items) items) c.if-covers.true in
-    c.unmark.ensures ∙ (λ i. record { size = c.args.self.now.size; items = sym all i })
+    c.unmark.ensures ∙ (λ i. record { size = c.args.self.now.size; items = sym all i; order = c.args.self.now.order })
 
 pub returns-else-covers : goal.returns-else-covers
 returns-else-covers g c =
@@ -23,4 +23,4 @@ returns-else-covers g c =
     let single = subst (λ (p : Pool). count (is_at key) p.items ≤ 1) c.self.view_is (unique c.self.inside.cache.entries c.len-len.ensures.valid.0 key) in
     let one = covered-item c.args.flash.now (scope_of c.args.scope.now) key items c.covers.result (item_at key items) single refl c.covers.ensures in
     let all = one ∙ ap (λ b. cond b (unmarked_where (is_at key) items) items) c.if-covers.false in
-    λ i. record { size = c.args.self.now.size; items = sym all i }
+    λ i. record { size = c.args.self.now.size; items = sym all i; order = c.args.self.now.order }

@@ -1,9 +1,11 @@
 use Rattle.std.proofs.Common.{Some, sym, ◌∙◌, ap, length, slice_get}
 use Rattle.std.specs.Option.{option_map}
 use Rattle.hc_memory.specs.Item.{Item}
+use Rattle.hc_memory.specs.Order.{ByUse}
 use Rattle.hc_memory.specs.Pool.{item_at}
 use Rattle.hc_memory.specs.Memory.{copied}
 use Rattle.hc_memory.specs.Seen.{items_of}
+use Rattle.hc_memory.proofs.ByUse.{found-moved}
 use Rattle.hc_memory.proofs.Keyed.{none_of}
 use Rattle.hc_memory.proofs.Orders.{unique, items_of-promoted, promoted-books, is_some-held, promoted-first, promoted-there}
 use Rattle.hc_memory.proofs.pool.Pool.use_into.Goals as goal
@@ -32,7 +34,7 @@ pub returns-then-not-promote-clause-items : goal.returns-then-not-promote-clause
 returns-then-not-promote-clause-items g c =
     let es = c.self.inside.cache.entries in
     let first = items_of-promoted c.args.key.now es (unique es c.len-len.ensures.valid.0 c.args.key.now) in
-    rw (← c.self.view_is) (rw c.promote.ensures.entries (λ i. record { size = c.self.inside.size; items = first i }))
+    rw (← c.self.view_is) (rw c.promote.ensures.entries ((λ i. record { size = c.self.inside.size; items = first i; order = ByUse }) ∙ sym (found-moved c.self.inside.size (items_of es) c.args.key.now (item_at c.args.key.now (items_of es)))))
 
 pub unreachable-requires : goal.unreachable-requires
 unreachable-requires g c =
@@ -67,4 +69,4 @@ pub returns-clause-items : goal.returns-clause-items
 returns-clause-items g c =
     let es = c.self.inside.cache.entries in
     let first = items_of-promoted c.args.key.now es (unique es c.len-len.ensures.valid.0 c.args.key.now) in
-    rw (← c.self.view_is) (rw c.promote.ensures.entries (λ i. record { size = c.self.inside.size; items = first i }))
+    rw (← c.self.view_is) (rw c.promote.ensures.entries ((λ i. record { size = c.self.inside.size; items = first i; order = ByUse }) ∙ sym (found-moved c.self.inside.size (items_of es) c.args.key.now (item_at c.args.key.now (items_of es)))))

@@ -1,11 +1,12 @@
-use Rattle.std.proofs.Common.{◌≡◌, ◌∷◌, ◌++◌, [], sym, ◌∙◌, ap, arith, append-nil, append_assoc, length, length-append, length-drop, take, drop, slice_get}
+use Rattle.std.proofs.Common.{◌≡◌, ◌∷◌, ◌++◌, [], sym, ◌∙◌, ap, subst, arith, append-nil, append_assoc, length, length-append, length-drop, take, drop, slice_get}
 use Rattle.std.proofs.lemmas.List.{drop-drop}
 use Rattle.hc_types.proofs.Tallies.{tally-drop}
 use Rattle.hc_memory.specs.Item.{cost}
-use Rattle.hc_memory.specs.Pool.{Pool, bytes_of, is_full, kept, dropped}
+use Rattle.hc_memory.specs.Pool.{Pool, bytes_of, next_items, next_left, kept, dropped}
+use Rattle.hc_memory.proofs.ByUse.{by_use, firsts-next, firsts-gone}
 use Rattle.hc_memory.specs.Seen.{item_of, items_of}
 use Rattle.hc_memory.proofs.Orders.{items_of-push, length-items_of}
-use Rattle.hc_memory.proofs.Rooms.{full-is, want-fits, kept-stop, kept-go, dropped-stop, dropped-go, take-next}
+use Rattle.hc_memory.proofs.Rooms.{kept_of, dropped_of, full-is, want-fits, kept-stop, kept-go, dropped-stop, dropped-go, take-next}
 use Rattle.hc_memory.proofs.pool.Pool.victims.Goals as goal
 
 pub loop-key-init : goal.loop-key-init
@@ -20,8 +21,8 @@ loop-key-init g c =
       left = c.len-left.ensures.len ∙ sym (ap length all);
       rest = sym items;
       within = omega arith;
-      stay = ap (kept c.args.self.now.size c.args.usage c.args.want) items;
-      go = ap (dropped c.args.self.now.size c.args.usage c.args.want) items;
+      stay = ap (kept_of c.args.self.now.size c.args.usage c.args.want) items;
+      go = ap (dropped_of c.args.self.now.size c.args.usage c.args.want) items;
     }
 
 pub full-requires-clause-bytes : goal.full-requires-clause-bytes
@@ -40,32 +41,27 @@ full-requires-clause-items g c =
 
 pub returns-then-not-full-clause-go : goal.returns-then-not-full-clause-go
 returns-then-not-full-clause-go g c =
+    let S : Pool = c.args.self.now in
+    let shape : by_use S.size S.items ≡ S = λ i. record { size = S.size; items = S.items; order = ap (λ (p : Pool). p.order) c.self.view_is i } in
     let inv = c.loop-key.invariant in
     let items = c.args.self.now.items in
     let x = item_of (c.in-Some.key.now, c.in-Some.held.now) in
     let more = items_of c.next.new.self.iter in
     let rest : items_of c.loop-key.key-iterator.iter ≡ item_of (c.in-Some.key.now, c.in-Some.held.now) ∷ items_of c.next.new.self.iter = ap items_of c.in-Some.ensures.steps ∙ items_of-push c.next.new.self.iter (c.in-Some.key.now, c.in-Some.held.now) in
     let room = sym (full-is c.self.inside.size c.args.self.now.size c.args.usage c.args.want c.loop-key.bytes c.loop-key.left (x ∷ more) inv.limits (inv.bytes ∙ ap bytes_of rest) (inv.left ∙ sym (length-items_of c.loop-key.key-iterator.iter) ∙ ap length rest)) ∙ sym c.full.ensures ∙ c.if-not-full.true in
-    let stop = ap (dropped c.args.self.now.size c.args.usage c.args.want) rest ∙ dropped-stop c.args.self.now.size c.args.usage c.args.want x more room in
-    sym (append-nil (take c.loop-key.gone items)) ∙ ap (λ ys. take c.loop-key.gone items ++ ys) (sym stop) ∙ inv.go
+    let stop = ap (dropped_of c.args.self.now.size c.args.usage c.args.want) rest ∙ dropped-stop c.args.self.now.size c.args.usage c.args.want x more room in
+    subst (λ (p : Pool). next_items c.loop-key.gone p ≡ dropped c.args.usage c.args.want p) shape (firsts-next c.loop-key.gone S.size S.items ∙ sym (append-nil (take c.loop-key.gone items)) ∙ ap (λ ys. take c.loop-key.gone items ++ ys) (sym stop) ∙ inv.go)
 
 pub returns-then-not-full-clause-stay : goal.returns-then-not-full-clause-stay
 returns-then-not-full-clause-stay g c =
+    let S : Pool = c.args.self.now in
+    let shape : by_use S.size S.items ≡ S = λ i. record { size = S.size; items = S.items; order = ap (λ (p : Pool). p.order) c.self.view_is i } in
     let inv = c.loop-key.invariant in
     let x = item_of (c.in-Some.key.now, c.in-Some.held.now) in
     let more = items_of c.next.new.self.iter in
     let rest : items_of c.loop-key.key-iterator.iter ≡ item_of (c.in-Some.key.now, c.in-Some.held.now) ∷ items_of c.next.new.self.iter = ap items_of c.in-Some.ensures.steps ∙ items_of-push c.next.new.self.iter (c.in-Some.key.now, c.in-Some.held.now) in
     let room = sym (full-is c.self.inside.size c.args.self.now.size c.args.usage c.args.want c.loop-key.bytes c.loop-key.left (x ∷ more) inv.limits (inv.bytes ∙ ap bytes_of rest) (inv.left ∙ sym (length-items_of c.loop-key.key-iterator.iter) ∙ ap length rest)) ∙ sym c.full.ensures ∙ c.if-not-full.true in
-    inv.rest ∙ rest ∙ sym (kept-stop c.args.self.now.size c.args.usage c.args.want x more room) ∙ sym (ap (kept c.args.self.now.size c.args.usage c.args.want) rest) ∙ inv.stay
-
-pub returns-then-not-full-clause-fits : goal.returns-then-not-full-clause-fits
-returns-then-not-full-clause-fits g c =
-    let inv = c.loop-key.invariant in
-    let x = item_of (c.in-Some.key.now, c.in-Some.held.now) in
-    let more = items_of c.next.new.self.iter in
-    let rest : items_of c.loop-key.key-iterator.iter ≡ item_of (c.in-Some.key.now, c.in-Some.held.now) ∷ items_of c.next.new.self.iter = ap items_of c.in-Some.ensures.steps ∙ items_of-push c.next.new.self.iter (c.in-Some.key.now, c.in-Some.held.now) in
-    let room = sym (full-is c.self.inside.size c.args.self.now.size c.args.usage c.args.want c.loop-key.bytes c.loop-key.left (x ∷ more) inv.limits (inv.bytes ∙ ap bytes_of rest) (inv.left ∙ sym (length-items_of c.loop-key.key-iterator.iter) ∙ ap length rest)) ∙ sym c.full.ensures ∙ c.if-not-full.true in
-    ap (is_full c.args.self.now.size c.args.usage c.args.want) (inv.rest ∙ rest) ∙ room
+    subst (λ (p : Pool). next_left c.loop-key.gone p ≡ kept c.args.usage c.args.want p) shape (firsts-gone c.loop-key.gone S.size S.items ∙ ap (by_use S.size) (inv.rest ∙ rest) ∙ sym (kept-stop c.args.self.now.size c.args.usage c.args.want x more room) ∙ sym (ap (kept_of c.args.self.now.size c.args.usage c.args.want) rest) ∙ inv.stay)
 
 pub cost-bytes-requires : goal.cost-bytes-requires
 cost-bytes-requires g c =
@@ -95,8 +91,8 @@ loop-key-preserved g c =
     let rest : items_of c.loop-key.key-iterator.iter ≡ item_of (c.in-Some.key.now, c.in-Some.held.now) ∷ items_of c.next.new.self.iter = ap items_of c.in-Some.ensures.steps ∙ items_of-push c.next.new.self.iter (c.in-Some.key.now, c.in-Some.held.now) in
     let full = sym (full-is c.self.inside.size c.args.self.now.size c.args.usage c.args.want c.loop-key.bytes c.loop-key.left (x ∷ more) inv.limits (inv.bytes ∙ ap bytes_of rest) (inv.left ∙ sym (length-items_of c.loop-key.key-iterator.iter) ∙ ap length rest)) ∙ sym c.full.ensures ∙ c.if-not-full.false in
     let left = inv.rest ∙ rest in
-    let go = ap (dropped c.args.self.now.size c.args.usage c.args.want) rest ∙ dropped-go c.args.self.now.size c.args.usage c.args.want x more full in
-    let stay = ap (kept c.args.self.now.size c.args.usage c.args.want) rest ∙ kept-go c.args.self.now.size c.args.usage c.args.want x more full in
+    let go = ap (dropped_of c.args.self.now.size c.args.usage c.args.want) rest ∙ dropped-go c.args.self.now.size c.args.usage c.args.want x more full in
+    let stay = ap (kept_of c.args.self.now.size c.args.usage c.args.want) rest ∙ kept-go c.args.self.now.size c.args.usage c.args.want x more full in
     let next = take-next n items x (sym (ap (λ xs. slice_get xs 0) left)) in
     record {
       can = tt;
@@ -107,7 +103,7 @@ loop-key-preserved g c =
       rest = sym (drop-drop 1 n items) ∙ ap (drop 1) left;
       within = omega (arith, ap length left, length-drop n items, inv.within);
       stay = sym stay ∙ inv.stay;
-      go = ap (λ ys. ys ++ dropped c.args.self.now.size c.args.usage c.args.want more) next ∙ append_assoc (take n items) (x ∷ []) (dropped c.args.self.now.size c.args.usage c.args.want more) ∙ ap (λ ys. take n items ++ ys) (sym go) ∙ inv.go;
+      go = ap (λ ys. ys ++ dropped_of c.args.self.now.size c.args.usage c.args.want more) next ∙ append_assoc (take n items) (x ∷ []) (dropped_of c.args.self.now.size c.args.usage c.args.want more) ∙ ap (λ ys. take n items ++ ys) (sym go) ∙ inv.go;
     }
 
 pub returns-then-not-full-clause-bound : goal.returns-then-not-full-clause-bound
@@ -118,16 +114,15 @@ returns-clause-bound g c = c.loop-key.invariant.within
 
 pub returns-clause-go : goal.returns-clause-go
 returns-clause-go g c =
+    let S : Pool = c.args.self.now in
+    let shape : by_use S.size S.items ≡ S = λ i. record { size = S.size; items = S.items; order = ap (λ (p : Pool). p.order) c.self.view_is i } in
     let inv = c.loop-key.invariant in
-    sym (append-nil (take c.loop-key.gone c.args.self.now.items)) ∙ sym (ap (λ es. take c.loop-key.gone c.args.self.now.items ++ dropped c.args.self.now.size c.args.usage c.args.want (items_of es)) c.in-None.ensures.steps.0) ∙ inv.go
+    subst (λ (p : Pool). next_items c.loop-key.gone p ≡ dropped c.args.usage c.args.want p) shape (firsts-next c.loop-key.gone S.size S.items ∙ sym (append-nil (take c.loop-key.gone c.args.self.now.items)) ∙ sym (ap (λ es. take c.loop-key.gone c.args.self.now.items ++ dropped_of c.args.self.now.size c.args.usage c.args.want (items_of es)) c.in-None.ensures.steps.0) ∙ inv.go)
 
 pub returns-clause-stay : goal.returns-clause-stay
 returns-clause-stay g c =
+    let S : Pool = c.args.self.now in
+    let shape : by_use S.size S.items ≡ S = λ i. record { size = S.size; items = S.items; order = ap (λ (p : Pool). p.order) c.self.view_is i } in
     let inv = c.loop-key.invariant in
     let none = c.in-None.ensures.steps.0 in
-    inv.rest ∙ ap items_of none ∙ sym (ap (λ es. kept c.args.self.now.size c.args.usage c.args.want (items_of es)) none) ∙ inv.stay
-
-pub returns-clause-fits : goal.returns-clause-fits
-returns-clause-fits g c =
-    let inv = c.loop-key.invariant in
-    ap (is_full c.args.self.now.size c.args.usage c.args.want) (inv.rest ∙ ap items_of c.in-None.ensures.steps.0) ∙ c.requires.room
+    subst (λ (p : Pool). next_left c.loop-key.gone p ≡ kept c.args.usage c.args.want p) shape (firsts-gone c.loop-key.gone S.size S.items ∙ ap (by_use S.size) (inv.rest ∙ ap items_of none) ∙ sym (ap (λ es. kept_of c.args.self.now.size c.args.usage c.args.want (items_of es)) none) ∙ inv.stay)

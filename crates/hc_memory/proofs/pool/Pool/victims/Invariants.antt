@@ -1,5 +1,6 @@
 use Rattle.std.proofs.Common.{◌≡◌, ◌≤◌, ◌++◌, take, drop, length}
-use Rattle.hc_memory.specs.Pool.{bytes_of, kept, dropped}
+use Rattle.hc_memory.specs.Pool.{bytes_of}
+use Rattle.hc_memory.proofs.Rooms.{kept_of, dropped_of}
 use Rattle.hc_memory.specs.Seen.{items_of}
 use Rattle.hc_memory.proofs.pool.Pool.victims.Given as goal
 
@@ -13,6 +14,6 @@ invariant-loop-key g l = record {
   left : l.left ≡ length l.key-iterator.iter;
   rest : drop l.gone l.self.items ≡ items_of l.key-iterator.iter;
   within : l.gone ≤ length l.self.items;
-  stay : kept l.self.size l.usage l.want (items_of l.key-iterator.iter) ≡ kept l.self.size l.usage l.want l.self.items;
-  go : take l.gone l.self.items ++ dropped l.self.size l.usage l.want (items_of l.key-iterator.iter) ≡ dropped l.self.size l.usage l.want l.self.items;
+  stay : kept_of l.self.size l.usage l.want (items_of l.key-iterator.iter) ≡ kept_of l.self.size l.usage l.want l.self.items;
+  go : take l.gone l.self.items ++ dropped_of l.self.size l.usage l.want (items_of l.key-iterator.iter) ≡ dropped_of l.self.size l.usage l.want l.self.items;
 }

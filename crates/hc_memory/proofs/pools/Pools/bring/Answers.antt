@@ -1,13 +1,14 @@
-use Rattle.std.proofs.Common.{◌≡◌, refl, ℕ, ◌<◌, ◌≤◌, ◌^◌, subst, ◌+◌, ◌++◌, ◌∷◌, [], List, take, drop, length, true, sym, ◌∙◌, ap, arith, length-set}
+use Rattle.std.proofs.Common.{◌≡◌, refl, ℕ, ◌<◌, ◌≤◌, ◌^◌, subst, ◌+◌, ◌++◌, ◌∷◌, [], List, length, true, sym, ◌∙◌, ap, arith, length-set}
 use Rattle.std.proofs.lemmas.Result.{err_from_is_err_and}
 use Rattle.hc_types.specs.Charge.{charge_of}
 use Rattle.hc_memory.specs.Item.{Item, item_by}
-use Rattle.hc_memory.specs.Pool.{dropped, bytes_of, unmarked_where}
+use Rattle.hc_memory.specs.Pool.{added, next_items, next_left, dropped, bytes_of, unmarked_where}
 use Rattle.hc_memory.specs.Charges.{usage_of}
 use Rattle.hc_memory.specs.Clean.{Listing, is_listed}
 use Rattle.hc_memory.specs.Marks.{is_stale, marked, Numbered}
 use Rattle.hc_memory.specs.Memory.{Memory, handle_for}
-use Rattle.hc_memory.proofs.Making.{there-at, known, take-dropped, dropped-few}
+use Rattle.hc_memory.proofs.Making.{there-at, known, dropped-few}
+use Rattle.hc_memory.proofs.Turns.{goes-next}
 use Rattle.hc_memory.proofs.Listing.{listed-more, listed-evicted}
 use Rattle.hc_memory.proofs.Unmarked.{memory_off, hopeless-off, victims-off, bring-off}
 use Rattle.hc_memory.proofs.Unmarking.{bits-fit, buckets-fit}
@@ -44,7 +45,7 @@ bring-requires-clause-some g c =
     let want = charge_of c.args.key (length c.args.value) in
     let view : Memory = record { flash = c.self.inside.flash; pools = c.self.inside.pools.items; charges = c.self.inside.charges.charges; made = c.self.inside.made } in
     let at = there-at c.self.inside.pools.items c.args.pool c.from.result c.index_mut.result.now lt c.from.ensures c.index_mut.ensures.value in
-    let few = dropped-few c.index_mut.result.now.size (usage_of c.args.pool c.self.inside.charges.charges) want c.index_mut.result.now.items in
+    let few = dropped-few (usage_of c.args.pool c.self.inside.charges.charges) want c.index_mut.result.now in
     let same = ap (λ (l : List Item). length l) (known view c.args.pool want c.index_mut.result.now at).victims in
     omega (arith, few, counted, same)
 
@@ -69,18 +70,18 @@ invariant_of-self-2 g c =
     let there = c.index_mut.result.now in
     let view : Memory = record { flash = c.self.inside.flash; pools = c.self.inside.pools.items; charges = c.self.inside.charges.charges; made = c.self.inside.made } in
     let at = there-at c.self.inside.pools.items c.args.pool c.from.result c.index_mut.result.now lt c.from.ensures c.index_mut.ensures.value in
-    let count : c.args.count ≡ length (dropped c.index_mut.result.now.size (usage_of c.args.pool c.self.inside.charges.charges) (charge_of c.args.key (length c.args.value)) c.index_mut.result.now.items) = counted ∙ ap (λ (l : List Item). length l) (known view c.args.pool want there at).victims in
+    let count : c.args.count ≡ length (dropped (usage_of c.args.pool c.self.inside.charges.charges) (charge_of c.args.key (length c.args.value)) c.index_mut.result.now) = counted ∙ ap (λ (l : List Item). length l) (known view c.args.pool want there at).victims in
     let x : Item = item_by true (handle_for view c.args.pool c.args.key c.args.value c.args.expiry) in
     let numbered : c.in-Some.number ≡ c.self.inside.made + 1 = omega (arith, c.in-Some.ensures) in
-    let is : c.bring.new.self ≡ record { size = c.index_mut.result.now.size; items = drop c.args.count c.index_mut.result.now.items ++ item_by true (handle_for view c.args.pool c.args.key c.args.value c.args.expiry) ∷ [] } =
-    c.in_ok-bring.ensures.items ∙ (λ j. record { size = c.index_mut.result.now.size; items = drop c.args.count c.index_mut.result.now.items ++ record { number = numbered j; pool = c.args.pool; key = c.args.key; value = (c.new.ensures ∙ c.in_ok-value.ensures) j; expiry = c.args.expiry; clean = true } ∷ [] }) in
+    let is : c.bring.new.self ≡ added (item_by true (handle_for view c.args.pool c.args.key c.args.value c.args.expiry)) (next_left c.args.count c.index_mut.result.now) =
+    c.in_ok-bring.ensures.items ∙ (λ j. added (record { number = numbered j; pool = c.args.pool; key = c.args.key; value = (c.new.ensures ∙ c.in_ok-value.ensures) j; expiry = c.args.expiry; clean = true }) (next_left c.args.count c.index_mut.result.now)) in
     let set = brought-set c.self.inside.pools.items c.from.result c.args.pool want c.args.count (usage_of c.args.pool c.self.inside.charges.charges) there c.bring.new.self x c.from.ensures is count in
     let newer : c.list.new.self.newest ≤ c.set_newest.new.self.newest = omega (arith, c.list.ensures.newest, i.4.counted, numbered, ap (λ (l : Listing). l.newest) c.set_newest.ensures) in
     let more = listed-more c.self.inside.flash c.self.inside.clean c.list.new.self c.self.inside.pools.items i.3 (omega (arith, c.list.ensures.newest)) c.list.ensures.stay in
     let listed = listed-more c.self.inside.flash c.list.new.self c.set_newest.new.self c.self.inside.pools.items more newer (λ key len h. listed-same c.self.inside.flash c.list.new.self c.set_newest.new.self key len (ap (λ (l : Listing). l.large) c.set_newest.ensures) h) in
     let there-now = ap (λ (n : ℕ). is_listed c.self.inside.flash c.list.new.self c.args.key n) (sym c.len-len.ensures.value) ∙ c.in_ok-list.ensures.listed in
     let unmissed = told-unmissed c.self.inside.flash c.set_newest.new.self x (omega (arith, numbered, ap (λ (l : Listing). l.newest) c.set_newest.ensures)) (listed-same c.self.inside.flash c.list.new.self c.set_newest.new.self c.args.key (length c.args.value) (ap (λ (l : Listing). l.large) c.set_newest.ensures) there-now) in
-    let gone = c.as_slice.ensures.value ∙ c.settle_all.ensures ∙ ap (unmarked_where (is_stale c.self.inside.flash c.self.inside.marks)) (c.in_ok-bring.ensures.victims ∙ ap (λ (vs : List Item). vs ++ take c.args.count c.index_mut.result.now.items) c.in_ok-victims.ensures.empty) in (
+    let gone = c.as_slice.ensures.value ∙ c.settle_all.ensures ∙ ap (unmarked_where (is_stale c.self.inside.flash c.self.inside.marks)) (c.in_ok-bring.ensures.victims ∙ ap (λ (vs : List Item). vs ++ next_items c.args.count c.index_mut.result.now) c.in_ok-victims.ensures.empty) in (
       rw (set, numbered) (brought-sound view c.args.pool c.args.key c.args.value c.args.expiry there i.0 at none room),
       i.1 ∙ sym (length-set c.self.inside.pools.items c.from.result c.bring.new.self),
       i.2,
@@ -99,9 +100,9 @@ returns-clause-victims g c =
     let there = c.index_mut.result.now in
     let view : Memory = record { flash = c.self.inside.flash; pools = c.self.inside.pools.items; charges = c.self.inside.charges.charges; made = c.self.inside.made } in
     let at = there-at c.self.inside.pools.items c.args.pool c.from.result c.index_mut.result.now lt c.from.ensures c.index_mut.ensures.value in
-    let count : c.args.count ≡ length (dropped c.index_mut.result.now.size (usage_of c.args.pool c.self.inside.charges.charges) (charge_of c.args.key (length c.args.value)) c.index_mut.result.now.items) = counted ∙ ap (λ (l : List Item). length l) (known view c.args.pool want there at).victims in
-    let go = take-dropped c.index_mut.result.now.size (usage_of c.args.pool c.self.inside.charges.charges) want c.index_mut.result.now.items in
-    let all = c.in_ok-bring.ensures.victims ∙ ap (λ (vs : List Item). vs ++ take c.args.count c.index_mut.result.now.items) c.in_ok-victims.ensures.empty ∙ ap (λ n. take n c.index_mut.result.now.items) count ∙ go ∙ sym (known view c.args.pool want there at).victims in
+    let count : c.args.count ≡ length (dropped (usage_of c.args.pool c.self.inside.charges.charges) (charge_of c.args.key (length c.args.value)) c.index_mut.result.now) = counted ∙ ap (λ (l : List Item). length l) (known view c.args.pool want there at).victims in
+    let go = goes-next (length c.index_mut.result.now.items) (usage_of c.args.pool c.self.inside.charges.charges) want c.index_mut.result.now in
+    let all = c.in_ok-bring.ensures.victims ∙ ap (λ (vs : List Item). vs ++ next_items c.args.count c.index_mut.result.now) c.in_ok-victims.ensures.empty ∙ ap (λ n. next_items n c.index_mut.result.now) count ∙ go ∙ sym (known view c.args.pool want there at).victims in
     rw (← c.self.view_is) (c.settle_all.ensures ∙ ap (unmarked_where (is_stale c.self.inside.flash c.self.inside.marks)) all ∙ sym (victims-off (is_stale c.self.inside.flash c.self.inside.marks) view c.args.pool want))
 
 pub returns-clause-pools : goal.returns-clause-pools
@@ -114,11 +115,11 @@ returns-clause-pools g c =
     let there = c.index_mut.result.now in
     let view : Memory = record { flash = c.self.inside.flash; pools = c.self.inside.pools.items; charges = c.self.inside.charges.charges; made = c.self.inside.made } in
     let at = there-at c.self.inside.pools.items c.args.pool c.from.result c.index_mut.result.now lt c.from.ensures c.index_mut.ensures.value in
-    let count : c.args.count ≡ length (dropped c.index_mut.result.now.size (usage_of c.args.pool c.self.inside.charges.charges) (charge_of c.args.key (length c.args.value)) c.index_mut.result.now.items) = counted ∙ ap (λ (l : List Item). length l) (known view c.args.pool want there at).victims in
+    let count : c.args.count ≡ length (dropped (usage_of c.args.pool c.self.inside.charges.charges) (charge_of c.args.key (length c.args.value)) c.index_mut.result.now) = counted ∙ ap (λ (l : List Item). length l) (known view c.args.pool want there at).victims in
     let x : Item = item_by true (handle_for view c.args.pool c.args.key c.args.value c.args.expiry) in
     let numbered : c.in-Some.number ≡ c.self.inside.made + 1 = omega (arith, c.in-Some.ensures) in
-    let is : c.bring.new.self ≡ record { size = c.index_mut.result.now.size; items = drop c.args.count c.index_mut.result.now.items ++ item_by true (handle_for view c.args.pool c.args.key c.args.value c.args.expiry) ∷ [] } =
-    c.in_ok-bring.ensures.items ∙ (λ j. record { size = c.index_mut.result.now.size; items = drop c.args.count c.index_mut.result.now.items ++ record { number = numbered j; pool = c.args.pool; key = c.args.key; value = (c.new.ensures ∙ c.in_ok-value.ensures) j; expiry = c.args.expiry; clean = true } ∷ [] }) in
+    let is : c.bring.new.self ≡ added (item_by true (handle_for view c.args.pool c.args.key c.args.value c.args.expiry)) (next_left c.args.count c.index_mut.result.now) =
+    c.in_ok-bring.ensures.items ∙ (λ j. added (record { number = numbered j; pool = c.args.pool; key = c.args.key; value = (c.new.ensures ∙ c.in_ok-value.ensures) j; expiry = c.args.expiry; clean = true }) (next_left c.args.count c.index_mut.result.now)) in
     let set = brought-set c.self.inside.pools.items c.from.result c.args.pool want c.args.count (usage_of c.args.pool c.self.inside.charges.charges) there c.bring.new.self x c.from.ensures is count in
     let after = brought view c.args.pool c.args.key c.args.value c.args.expiry there i.0 at none in
     let kept = fresh-marked c.self.inside.flash c.self.inside.marks c.self.inside.clean.newest c.self.inside.made x i.4 (omega arith) in

@@ -1,14 +1,15 @@
-use Rattle.std.proofs.Common.{◌≡◌, ℕ, ◌+◌, ◌++◌, ◌∷◌, List, [], take, length, refl, sym, ◌∙◌, ap, arith, subst, length-set}
+use Rattle.std.proofs.Common.{◌≡◌, ℕ, ◌+◌, ◌++◌, ◌∷◌, List, [], length, refl, sym, ◌∙◌, ap, arith, subst, length-set}
 use Rattle.hc_types.specs.Charge.{charge_of}
 use Rattle.hc_types.proofs.Tallies.{find-none}
 use Rattle.hc_memory.specs.Item.{Item, Open}
-use Rattle.hc_memory.specs.Pool.{dropped, unmarked_where}
+use Rattle.hc_memory.specs.Pool.{next_items, dropped, unmarked_where}
 use Rattle.hc_memory.specs.Marks.{is_stale, marked, Numbered}
 use Rattle.hc_memory.specs.Charges.{usage_of, has_number}
 use Rattle.hc_memory.specs.Memory.{Memory}
 use Rattle.hc_memory.specs.Seen.{filled}
 use Rattle.hc_memory.proofs.Rooms.{want-fits}
-use Rattle.hc_memory.proofs.Making.{there-of, there-at, known, roomy, charged-sound, take-dropped, dropped-few, size-bound}
+use Rattle.hc_memory.proofs.Making.{there-of, there-at, known, roomy, charged-sound, dropped-few, size-bound}
+use Rattle.hc_memory.proofs.Turns.{goes-next}
 use Rattle.hc_memory.proofs.Listing.{listed-dropped, listed-evicted}
 use Rattle.hc_memory.proofs.Unmarked.{hopeless-off, victims-off, room-off}
 use Rattle.hc_memory.proofs.Marking.{within-marked, count-marked, evicted-marked, later-numbered}
@@ -41,7 +42,7 @@ evict-requires-clause-some g c =
     let view : Memory = record { flash = c.self.inside.flash; pools = c.self.inside.pools.items; charges = c.self.inside.charges.charges; made = c.self.inside.made } in
     let at = there-at c.self.inside.pools.items c.args.pool c.from.result c.index_mut.result.now lt c.from.ensures c.index_mut.ensures.value in
     let k = known view c.args.pool (charge_of c.args.key (length (filled c.args.fill))) c.index_mut.result.now at in
-    let few = dropped-few c.index_mut.result.now.size (usage_of c.args.pool c.self.inside.charges.charges) (charge_of c.args.key (length (filled c.args.fill))) c.index_mut.result.now.items in
+    let few = dropped-few (usage_of c.args.pool c.self.inside.charges.charges) (charge_of c.args.key (length (filled c.args.fill))) c.index_mut.result.now in
     let counted = (rw (← c.self.view_is) at c.requires.count) ∙ count-marked c.self.inside.flash c.self.inside.marks view c.args.pool (charge_of c.args.key (length (filled c.args.fill))) in
     let same = ap (λ (l : List Item). length l) k.victims in
     omega (arith, few, counted, same)
@@ -58,7 +59,7 @@ invariant_of-self-2 g c =
     let there = c.index_mut.result.now in
     let at = there-at c.self.inside.pools.items c.args.pool c.from.result c.index_mut.result.now lt c.from.ensures c.index_mut.ensures.value in
     let k = known view c.args.pool (charge_of c.args.key (length (filled c.args.fill))) c.index_mut.result.now at in
-    let counted : c.args.count ≡ length (dropped c.index_mut.result.now.size (usage_of c.args.pool c.self.inside.charges.charges) (charge_of c.args.key (length (filled c.args.fill))) c.index_mut.result.now.items) = (rw (← c.self.view_is) at c.requires.count) ∙ count-marked c.self.inside.flash c.self.inside.marks view c.args.pool (charge_of c.args.key (length (filled c.args.fill))) ∙ ap (λ (l : List Item). length l) k.victims in
+    let counted : c.args.count ≡ length (dropped (usage_of c.args.pool c.self.inside.charges.charges) (charge_of c.args.key (length (filled c.args.fill))) c.index_mut.result.now) = (rw (← c.self.view_is) at c.requires.count) ∙ count-marked c.self.inside.flash c.self.inside.marks view c.args.pool (charge_of c.args.key (length (filled c.args.fill))) ∙ ap (λ (l : List Item). length l) k.victims in
     let r = roomy c.self.inside.pools.items c.from.result c.args.pool (charge_of c.args.key (length (filled c.args.fill))) c.args.count (usage_of c.args.pool c.self.inside.charges.charges) c.index_mut.result.now c.index_mut.result.now c.evict.new.self c.from.ensures at c.index_mut.ensures.value c.evict.ensures.items counted in
     let opened : Open = record { number = c.self.inside.made + 1; pool = c.args.pool; key = c.in-Ok.plan.copy; size = c.len.result } in
     let s = charged-sound c.self.inside.pools.items c.self.inside.charges.charges c.self.inside.made c.args.pool (charge_of c.args.key (length (filled c.args.fill))) c.index_mut.result.now opened i.0 at (sym k.hopeless ∙ room) refl refl (λ j. charge_of (p.copy j) (c.len.ensures j)) in (
@@ -66,7 +67,7 @@ invariant_of-self-2 g c =
       ap (λ book. book.pools) c.in-Ok-begin.ensures.ok ∙ i.1 ∙ sym (length-set c.self.inside.pools.items c.from.result c.evict.new.self),
       i.2,
       listed-evicted c.self.inside.flash c.self.inside.clean c.forget_items.new.index _ c.as_slice.result.now (listed-dropped c.self.inside.flash c.self.inside.clean c.self.inside.pools.items c.from.result c.args.count c.index_mut.result.now c.evict.new.self i.3 (rw c.from.ensures at) c.evict.ensures.items)
-          (λ key. evicted-marked (is_stale c.self.inside.flash c.self.inside.marks) c.self.inside.pools.items c.from.result c.args.count c.index_mut.result.now c.evict.new.self c.as_slice.result.now key (i.0.single key) (rw c.from.ensures at) c.evict.ensures.items (c.as_slice.ensures.value ∙ c.settle_all.ensures ∙ ap (unmarked_where (is_stale c.self.inside.flash c.self.inside.marks)) (c.evict.ensures.victims ∙ ap (λ (vs : List Item). vs ++ take c.args.count c.index_mut.result.now.items) c.in-Ok.ensures.empty))) c.forget_items.ensures.newest c.forget_items.ensures.stay,
+          (λ key. evicted-marked (is_stale c.self.inside.flash c.self.inside.marks) c.self.inside.pools.items c.from.result c.args.count c.index_mut.result.now c.evict.new.self c.as_slice.result.now key (i.0.single key) (rw c.from.ensures at) c.evict.ensures.items (c.as_slice.ensures.value ∙ c.settle_all.ensures ∙ ap (unmarked_where (is_stale c.self.inside.flash c.self.inside.marks)) (c.evict.ensures.victims ∙ ap (λ (vs : List Item). vs ++ next_items c.args.count c.index_mut.result.now) c.in-Ok.ensures.empty))) c.forget_items.ensures.newest c.forget_items.ensures.stay,
       subst (λ (n : ℕ). Numbered c.self.inside.flash c.self.inside.marks n c.in-Ok.plan.number) (sym c.forget_items.ensures.newest) (later-numbered c.self.inside.flash c.self.inside.marks c.self.inside.clean.newest c.self.inside.made c.in-Ok.plan.number i.4 (omega (arith, p.number))),
     )
 
@@ -77,9 +78,9 @@ returns-clause-victims g c =
     let view : Memory = record { flash = c.self.inside.flash; pools = c.self.inside.pools.items; charges = c.self.inside.charges.charges; made = c.self.inside.made } in
     let at = there-at c.self.inside.pools.items c.args.pool c.from.result c.index_mut.result.now lt c.from.ensures c.index_mut.ensures.value in
     let k = known view c.args.pool (charge_of c.args.key (length (filled c.args.fill))) c.index_mut.result.now at in
-    let counted : c.args.count ≡ length (dropped c.index_mut.result.now.size (usage_of c.args.pool c.self.inside.charges.charges) (charge_of c.args.key (length (filled c.args.fill))) c.index_mut.result.now.items) = (rw (← c.self.view_is) at c.requires.count) ∙ count-marked c.self.inside.flash c.self.inside.marks view c.args.pool (charge_of c.args.key (length (filled c.args.fill))) ∙ ap (λ (l : List Item). length l) k.victims in
-    let go = take-dropped c.index_mut.result.now.size (usage_of c.args.pool c.self.inside.charges.charges) (charge_of c.args.key (length (filled c.args.fill))) c.index_mut.result.now.items in
-    let all = c.evict.ensures.victims ∙ ap (λ (vs : List Item). vs ++ take c.args.count c.index_mut.result.now.items) p.empty ∙ ap (λ n. take n c.index_mut.result.now.items) counted ∙ go ∙ sym k.victims in
+    let counted : c.args.count ≡ length (dropped (usage_of c.args.pool c.self.inside.charges.charges) (charge_of c.args.key (length (filled c.args.fill))) c.index_mut.result.now) = (rw (← c.self.view_is) at c.requires.count) ∙ count-marked c.self.inside.flash c.self.inside.marks view c.args.pool (charge_of c.args.key (length (filled c.args.fill))) ∙ ap (λ (l : List Item). length l) k.victims in
+    let go = goes-next (length c.index_mut.result.now.items) (usage_of c.args.pool c.self.inside.charges.charges) (charge_of c.args.key (length (filled c.args.fill))) c.index_mut.result.now in
+    let all = c.evict.ensures.victims ∙ ap (λ (vs : List Item). vs ++ next_items c.args.count c.index_mut.result.now) p.empty ∙ ap (λ n. next_items n c.index_mut.result.now) counted ∙ go ∙ sym k.victims in
     rw (← c.self.view_is) (c.settle_all.ensures ∙ ap (unmarked_where (is_stale c.self.inside.flash c.self.inside.marks)) all ∙ sym (victims-off (is_stale c.self.inside.flash c.self.inside.marks) view c.args.pool (charge_of c.args.key (length (filled c.args.fill)))))
 
 pub returns-clause-pools : goal.returns-clause-pools
@@ -89,7 +90,7 @@ returns-clause-pools g c =
     let view : Memory = record { flash = c.self.inside.flash; pools = c.self.inside.pools.items; charges = c.self.inside.charges.charges; made = c.self.inside.made } in
     let at = there-at c.self.inside.pools.items c.args.pool c.from.result c.index_mut.result.now lt c.from.ensures c.index_mut.ensures.value in
     let k = known view c.args.pool (charge_of c.args.key (length (filled c.args.fill))) c.index_mut.result.now at in
-    let counted : c.args.count ≡ length (dropped c.index_mut.result.now.size (usage_of c.args.pool c.self.inside.charges.charges) (charge_of c.args.key (length (filled c.args.fill))) c.index_mut.result.now.items) = (rw (← c.self.view_is) at c.requires.count) ∙ count-marked c.self.inside.flash c.self.inside.marks view c.args.pool (charge_of c.args.key (length (filled c.args.fill))) ∙ ap (λ (l : List Item). length l) k.victims in
+    let counted : c.args.count ≡ length (dropped (usage_of c.args.pool c.self.inside.charges.charges) (charge_of c.args.key (length (filled c.args.fill))) c.index_mut.result.now) = (rw (← c.self.view_is) at c.requires.count) ∙ count-marked c.self.inside.flash c.self.inside.marks view c.args.pool (charge_of c.args.key (length (filled c.args.fill))) ∙ ap (λ (l : List Item). length l) k.victims in
     let r = roomy c.self.inside.pools.items c.from.result c.args.pool (charge_of c.args.key (length (filled c.args.fill))) c.args.count (usage_of c.args.pool c.self.inside.charges.charges) c.index_mut.result.now c.index_mut.result.now c.evict.new.self c.from.ensures at c.index_mut.ensures.value c.evict.ensures.items counted in
     let rooms = ap (marked c.self.inside.flash c.self.inside.marks) (r.set ∙ sym (ap (λ (m : Memory). m.pools) k.room)) ∙ ap (λ (m : Memory). m.pools) (room-off (is_stale c.self.inside.flash c.self.inside.marks) view c.args.pool (charge_of c.args.key (length (filled c.args.fill)))) in
     let book : c.begin.new.self.charges ≡ c.self.inside.charges.charges ++ record { number = c.self.inside.made + 1; pool = c.args.pool; key = c.args.key; size = length (filled c.args.fill) } ∷ [] =

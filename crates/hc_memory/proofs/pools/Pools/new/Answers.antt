@@ -10,7 +10,7 @@ use Rattle.hc_memory.proofs.pools.Pools.new.Goals as goal
 
 pub invariant_of-result : goal.invariant_of-result
 invariant_of-result g c =
-    let h = rw (← c.config.view_is) at c.requires in
+    let h = rw (← c.config.view_is) at c.requires.right in
     let s = sound-new (record { pools = c.config.inside.pools.items; flash = c.config.inside.flash }) h in
     let made = c.in_ok-empty_pools.ensures ∙ ap (map empty_pool) c.as_slice-sizes.ensures.value in
     let many = ap (λ book. book.pools) c.in_ok-new.ensures ∙ sym (ap length c.in_ok-empty_pools.ensures ∙ length-map c.as_slice-sizes.result.now empty_pool) in
@@ -22,3 +22,6 @@ returns g c =
     let none = ap (λ book. book.charges) c.in_ok-new.ensures in
     let pools = ap (marked c.config.inside.flash c.in_ok-new-2.field-0) made ∙ none-off (is_stale c.config.inside.flash c.in_ok-new-2.field-0) c.config.inside.pools.items in
     rw (← c.config.view_is) (λ i. record { flash = c.config.inside.flash; pools = pools i; charges = none i; made = 0 })
+
+pub empty_pools-requires : goal.empty_pools-requires
+empty_pools-requires g c = rw c.as_slice-sizes.ensures.value (rw (← c.config.view_is) at c.requires.turns)

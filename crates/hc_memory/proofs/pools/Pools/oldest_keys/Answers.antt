@@ -1,9 +1,10 @@
-use Rattle.std.proofs.Common.{ℕ, List, IfOk, take, map, sym, ◌≡◌, ◌∙◌, ap, subst}
+use Rattle.std.proofs.Common.{ℕ, List, IfOk, map, sym, ◌≡◌, ◌∙◌, ap, subst}
 use Rattle.hc_memory.specs.Item.{Item}
+use Rattle.hc_memory.specs.Pool.{next_items}
 use Rattle.hc_memory.specs.Marks.{is_stale}
 use Rattle.hc_memory.proofs.Making.{there-at}
 use Rattle.hc_memory.proofs.Marking.{within-marked, there-marked}
-use Rattle.hc_memory.proofs.Unmarked.{take-off, keys-off}
+use Rattle.hc_memory.proofs.Unmarked.{items-off, keys-off}
 use Rattle.hc_memory.proofs.pools.Pools.oldest_keys.Goals as goal
 
 pub returns : goal.returns
@@ -12,5 +13,5 @@ returns g c =
     let at = there-at c.self.inside.pools.items c.args.pool c.from.result c.index.result.now lt c.from.ensures c.index.ensures in
     let there = there-marked c.self.inside.flash c.self.inside.marks c.self.inside.pools.items c.args.pool c.index.result.now at in
     let test = is_stale c.self.inside.flash c.self.inside.marks in
-    let same = ap (map (λ (x : Item). x.key)) (take-off test c.args.count c.index.result.now.items) ∙ keys-off test (take c.args.count c.index.result.now.items) in
+    let same = ap (map (λ (x : Item). x.key)) (items-off test c.args.count c.index.result.now) ∙ keys-off test (next_items c.args.count c.index.result.now) in
     rw (← c.self.view_is) (rw there (subst (λ (ks : List (List ℕ)). IfOk c.oldest_keys.result (λ keys. keys.items ≡ ks)) (sym same) c.oldest_keys.ensures))

@@ -2,7 +2,9 @@ use Rattle.std.proofs.Common.{◌≡◌, ℕ, false, ◌++◌, ◌∷◌, [], So
 use Rattle.std.proofs.lemmas.Option.{slice_get-get_or}
 use Rattle.hc_types.specs.Charge.{charge_of}
 use Rattle.hc_memory.specs.Item.{Handle, item_by}
-use Rattle.hc_memory.specs.Pool.{Pool}
+use Rattle.hc_types.specs.declared.turns.Turns.TheVariants as turns
+use Rattle.hc_memory.specs.Order.{ByUse}
+use Rattle.hc_memory.specs.Pool.{Pool, added}
 use Rattle.hc_memory.specs.Sound.{Sound}
 use Rattle.hc_memory.specs.Memory.{Memory, change_at, unlinked}
 use Rattle.hc_memory.specs.Marks.{is_stale, marked}
@@ -39,12 +41,12 @@ invariant_of-self g c =
     elim c.match-store_in.branch [
       | in-Ok w ↦
           let handle : Handle = record { number = c.args.number; pool = c.args.pool; key = c.args.key; expiry = c.args.expiry; value = c.args.value } in
-          let bare : Pool = record { size = record { bytes = 0; items = 0 }; items = [] } in
+          let bare : Pool = record { size = record { bytes = 0; items = 0; turns = turns.ByUse }; items = []; order = ByUse } in
           let pool : Pool = get_or pools c.args.pool bare in
           let at : slice_get pools c.args.pool ≡ Some pool = slice_get-get_or pools c.args.pool bare within in
-          let sound = subst (λ (n : ℕ). Sound (change_at c.args.pool (λ (p : Pool). record p { items = p.items ++ item_by false handle ∷ [] }) (unlinked c.args.key pools)) charges n) (sym number) (put-sound pools charges made handle pool i.0 number at (room-beside view c.args.pool want pool at room none)) in
+          let sound = subst (λ (n : ℕ). Sound (change_at c.args.pool (added (item_by false handle)) (unlinked c.args.key pools)) charges n) (sym number) (put-sound pools charges made handle pool i.0 number at (room-beside view c.args.pool want pool at room none)) in
           let listed = listed-linked c.self.inside.flash c.self.inside.clean c.args.pool c.args.key (item_by false handle) pools i.3 refl in
-          let is = w.in-Ok.ensures.pools ∙ ap (λ (n : ℕ). change_at n (λ (p : Pool). record p { items = p.items ++ item_by false handle ∷ [] }) (unlinked c.args.key pools)) c.from-own.ensures in
+          let is = w.in-Ok.ensures.pools ∙ ap (λ (n : ℕ). change_at n (added (item_by false handle)) (unlinked c.args.key pools)) c.from-own.ensures in
           rw is (sound, i.1 ∙ sym (length-linked c.args.key c.args.pool _ pools), i.2, listed, later)
       | in-Err w ↦ rw w.in-Err.ensures.err (sound-made pools charges made c.args.number number i.0, i.1, i.2, i.3, later)
     ]
@@ -54,7 +56,7 @@ returns-clause-ok g c = elim c.match-store_in.branch [
   | in-Ok w ↦
       let handle : Handle = record { number = c.args.number; pool = c.args.pool; key = c.args.key; expiry = c.args.expiry; value = c.args.value } in
       let raw = c.self.inside.pools.items in
-      let is = w.in-Ok.ensures.pools ∙ ap (λ (n : ℕ). change_at n (λ (p : Pool). record p { items = p.items ++ item_by false handle ∷ [] }) (unlinked c.args.key raw)) c.from-own.ensures in
+      let is = w.in-Ok.ensures.pools ∙ ap (λ (n : ℕ). change_at n (added (item_by false handle)) (unlinked c.args.key raw)) c.from-own.ensures in
       let pools = ap (marked c.self.inside.flash c.self.inside.marks) is ∙ sym (linked-off (is_stale c.self.inside.flash c.self.inside.marks) c.args.pool c.args.key (item_by false handle) (unclean handle (is_stale c.self.inside.flash c.self.inside.marks (item_by false handle))) raw) in
       rw w.result-is (rw (← c.self.view_is) (λ i. record { flash = c.self.inside.flash; pools = pools i; charges = c.self.inside.charges.charges; made = c.args.number }))
   | in-Err w ↦ rw w.result-is tt

@@ -1,8 +1,8 @@
 use Rattle.std.proofs.Common.{ℕ, ◌∙◌, refl, ap, length, sym, subst}
 use Rattle.hc_memory.specs.Item.{Item}
-use Rattle.hc_memory.specs.Pool.{Pool, without}
+use Rattle.hc_memory.specs.Pool.{removed}
 use Rattle.hc_memory.specs.Marks.{is_stale, marked, Numbered}
-use Rattle.hc_memory.proofs.Linking.{sound-home, shrinks-without, gone}
+use Rattle.hc_memory.proofs.Linking.{sound-home, shrinks-removed, gone}
 use Rattle.hc_memory.proofs.Handing.{length-home}
 use Rattle.hc_memory.proofs.Listing.{listed-unlinked, listed-forgot}
 use Rattle.hc_memory.proofs.Unmarked.{pools-found, unlinked-off}
@@ -11,10 +11,9 @@ use Rattle.hc_memory.proofs.pools.Pools.unlink.Goals as goal
 
 pub invariant_of-self : goal.invariant_of-self
 invariant_of-self g c =
-    let i = c.self.invariant in
-    let out : Pool → Pool = λ p. record p { items = without c.args.key.now p.items } in (
-      rw c.unlink_from-number.ensures.pools (sound-home c.args.key.now out c.self.inside.pools.items c.self.inside.charges.charges c.self.inside.made (shrinks-without c.args.key.now) i.0),
-      i.1 ∙ sym (ap length c.unlink_from-number.ensures.pools ∙ length-home c.args.key.now out c.self.inside.pools.items),
+    let i = c.self.invariant in (
+      rw c.unlink_from-number.ensures.pools (sound-home c.args.key.now (removed c.args.key.now) c.self.inside.pools.items c.self.inside.charges.charges c.self.inside.made (shrinks-removed c.args.key.now) i.0),
+      i.1 ∙ sym (ap length c.unlink_from-number.ensures.pools ∙ length-home c.args.key.now (removed c.args.key.now) c.self.inside.pools.items),
       i.2,
       rw c.unlink_from-number.ensures.pools (listed-forgot c.self.inside.flash c.self.inside.clean c.forget.new.self c.args.key.now _ (listed-unlinked c.self.inside.flash c.self.inside.clean c.args.key.now c.self.inside.pools.items i.3) (gone c.args.key.now c.self.inside.pools.items (i.0.single c.args.key.now)) c.forget.ensures.newest c.forget.ensures.stay),
       subst (λ (n : ℕ). Numbered c.self.inside.flash c.self.inside.marks n c.self.inside.made) (sym c.forget.ensures.newest) i.4,

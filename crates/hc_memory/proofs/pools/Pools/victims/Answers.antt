@@ -24,9 +24,9 @@ returns-clause-count g c =
     let view : Memory = record { flash = c.self.inside.flash; pools = c.self.inside.pools.items; charges = c.self.inside.charges.charges; made = c.self.inside.made } in
     let k = known view c.args.pool c.args.want c.index.result.now at in
     let there = c.index.result.now in
-    let same : dropped c.index.result.now.size c.usage-usage.result c.args.want c.index.result.now.items ≡ victims_of view c.args.pool c.args.want = ap (λ (u : Usage). dropped c.index.result.now.size u c.args.want c.index.result.now.items) c.usage-usage.ensures ∙ sym k.victims in
+    let same : dropped c.usage-usage.result c.args.want c.index.result.now ≡ victims_of view c.args.pool c.args.want = ap (λ (u : Usage). dropped u c.args.want c.index.result.now) c.usage-usage.ensures ∙ sym k.victims in
     let seen : length (victims_of view c.args.pool c.args.want) ≡ length (victims_of (memory_off (is_stale c.self.inside.flash c.self.inside.marks) view) c.args.pool c.args.want) = sym (count-marked c.self.inside.flash c.self.inside.marks view c.args.pool c.args.want) in
-    rw (← c.self.view_is) (subst (λ (m : ℕ). IfOk c.victims_of_pool.result (λ n. n ≡ m)) (ap (λ (vs : List Item). length vs) same ∙ seen) (count-lifted c.victims_of_pool.result c.index.result.now.items (dropped c.index.result.now.size c.usage-usage.result c.args.want c.index.result.now.items) c.victims_of_pool.ensures.some c.victims_of_pool.ensures.go))
+    rw (← c.self.view_is) (subst (λ (m : ℕ). IfOk c.victims_of_pool.result (λ n. n ≡ m)) (ap (λ (vs : List Item). length vs) same ∙ seen) (count-lifted c.victims_of_pool.result c.index.result.now (dropped c.usage-usage.result c.args.want c.index.result.now) c.victims_of_pool.ensures.some c.victims_of_pool.ensures.go))
 
 pub returns-clause-most : goal.returns-clause-most
 returns-clause-most g c =
