@@ -10,7 +10,7 @@ pub mod Leaving
 pub mod Turning
 pub mod Joining
 pub mod Ordered
-pub mod Pairs
+pub mod Leaves
 pub mod Works
 pub mod Segments
 pub mod Peeks

@@ -52,7 +52,7 @@ pub nowhere_above : (hash : ℕ) (xs : List Indexed) → AllAbove hash xs → pl
 nowhere_above hash [] above = refl
 nowhere_above hash (x ∷ xs) above = let other : (x.hash == hash) ≡ false = (let lt = above.0 in grind (arith, lt)) in rw other (nowhere_above hash xs above.1)
 
-found_here : (hash : ℕ) (xs ys : List Indexed) → place_at hash ys ≡ None → place_at hash (xs ++ ys) ≡ place_at hash xs
+pub found_here : (hash : ℕ) (xs ys : List Indexed) → place_at hash ys ≡ None → place_at hash (xs ++ ys) ≡ place_at hash xs
 found_here hash [] ys none = none
 found_here hash (x ∷ xs) ys none = ap (λ (o : Option Place). if x.hash == hash then Some x.place else o) (found_here hash xs ys none)
 
@@ -67,7 +67,7 @@ found shift hash segments apart = find_from shift 0 (segment_of shift hash) hash
 
 -- ---- a hash is taken out
 
-without_both : (hash : ℕ) (xs ys : List Indexed) → without hash (xs ++ ys) ≡ without hash xs ++ without hash ys
+pub without_both : (hash : ℕ) (xs ys : List Indexed) → without hash (xs ++ ys) ≡ without hash xs ++ without hash ys
 without_both hash [] ys = refl
 without_both hash (x ∷ xs) ys = go (x.hash == hash) (without_both hash xs ys)
   where
@@ -83,7 +83,7 @@ stays shift n hash (x ∷ xs) all other = go (x.hash == hash) refl (stays shift 
     go true t more = absurd (other (ap (segment_of shift) (sym (eqb-true x.hash hash t)) ∙ all.0))
     go false t more = ap (λ (zs : List Indexed). x ∷ zs) more
 
-stays_above : (hash : ℕ) (xs : List Indexed) → AllAbove hash xs → without hash xs ≡ xs
+pub stays_above : (hash : ℕ) (xs : List Indexed) → AllAbove hash xs → without hash xs ≡ xs
 stays_above hash [] above = refl
 stays_above hash (x ∷ xs) above = let other : (x.hash == hash) ≡ false = (let lt = above.0 in grind (arith, lt)) in rw other (ap (λ (zs : List Indexed). x ∷ zs) (stays_above hash xs above.1))
 
@@ -114,7 +114,7 @@ in_front hash place (y ∷ ys) above =
     let other : (y.hash == hash) ≡ false = (grind (arith, lt)) in
     rw (below, other) refl
 
-put_here : (hash : ℕ) (place : Place) (xs ys : List Indexed) → AllAbove hash ys → leading hash place (xs ++ ys) ≡ leading hash place xs ++ ys
+pub put_here : (hash : ℕ) (place : Place) (xs ys : List Indexed) → AllAbove hash ys → leading hash place (xs ++ ys) ≡ leading hash place xs ++ ys
 put_here hash place [] ys above = in_front hash place ys above
 put_here hash place (x ∷ xs) ys above = go (nat_lt x.hash hash) (x.hash == hash) (put_here hash place xs ys above)
   where
