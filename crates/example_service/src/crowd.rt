@@ -2,7 +2,8 @@
 use crate::profiles::SIZE;
 use crate::sharing::{judge, row};
 use hc_core::{Config, Core, Kept, Key, Refusal, Stats};
-use hc_threads::{Client, Shared};
+use hc_shared::{Shared, share};
+use hc_threads::Client;
 use std::alloc::Global;
 use std::sync::Wait;
 use std::thread;
@@ -15,7 +16,7 @@ pub const CLIENTS: usize = 4;
 fn open_shared(alloc: Global) -> Result<Shared<Kept>, Refusal> {
     let config = Config::in_memory(alloc, [SIZE].as_slice())?;
     let core = Core::new(alloc, &config, Kept::new(alloc))?;
-    match Shared::new(core) {
+    match share(core) {
         Ok(shared) => Ok(shared),
         Err(_) => Err(Refusal::NoMemory),
     }

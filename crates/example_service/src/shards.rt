@@ -6,8 +6,9 @@ use crate::profiles::{FLASH, HOUR, POOL, SIZE};
 use hc_core::{Blank, Config, Fill, Key, Refusal, Silent, Uncharged, Unlinked};
 use hc_file::FileDevice;
 use hc_paged::Device;
-use hc_shard_threads::{ShardClient, Shards};
+use hc_shard_threads::ShardClient;
 use hc_shards::{DevicePart, Sharded};
+use hc_shared::Shards;
 use hc_threads::Port;
 use std::alloc::Global;
 use std::fs::File;
@@ -63,7 +64,7 @@ fn parts_of(
 fn new_shards(alloc: Global, sharded: &Sharded) -> Result<Shards<Silent>, Refusal>
     ensures { IfOk result (λ shards. shards ≡ sharded.now) }
 {
-    Shards::new(alloc, sharded, || Silent::new())
+    hc_shared::new_shards(alloc, sharded, || Silent::new())
 }
 
 // Inserts what was written. The charge of what can't be is left.

@@ -11,7 +11,8 @@ ghost use Rattle.example_service.specs.Sharing.{row_of, IsLast, IsServed};
 use crate::profiles::{HOUR, POOL};
 use bytes::Bytes;
 use hc_core::{Fill, Kept, Key, Refusal, Sealed, Stats, Unlinked};
-use hc_threads::{Client, KeptItem, Looked, Shared, Ticket};
+use hc_shared::{Shared, close};
+use hc_threads::{Client, KeptItem, Looked, Ticket};
 use std::alloc::{AllocError, Global};
 use std::sync::Wait;
 
@@ -174,7 +175,7 @@ pub fn row<R: Wait>(
 pub fn judge(shared: Shared<Kept>, clients: &[Client]) -> Option<Stats>
     ensures { IfSome result (λ stats. (log : List Meaning) × Legal shared log × Reconciled log clients.now × (stats ≡ counts_of log)) }
 {
-    match shared.close(clients, 0) {
+    match close(shared, clients, 0) {
         Ok(report) if report.lie.is_none() => Some(report.stats),
         _ => None,
     }

@@ -8,7 +8,7 @@ use Rattle.hc_history.specs.Note as note
 use Rattle.hc_machine.specs.Cache.{Moved, Replied, Refused as RefusedBy, Waits as WaitsFor, Moment, Discarded}
 use Rattle.hc_machine.specs.Evicting.{allocate}
 use Rattle.hc_machine.specs.Calls.{find, remove, tick}
-use Rattle.hc_state.specs.declared.answers.Inserted.TheVariants as inserted
+use Rattle.hc_calls.specs.declared.answers.Inserted.TheVariants as inserted
 use Rattle.hc_core.specs.Logged.{Logged, IsCall}
 use Rattle.hc_core.specs.Plain.{set_step, add_step, give_up_step, MayRefuse, MayRefuseNew}
 use Rattle.hc_lease.specs.Turns.{without_turn}

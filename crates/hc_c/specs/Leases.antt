@@ -7,7 +7,7 @@ use Rattle.hc_core.specs.Plain.{MayRefuse}
 use Rattle.hc_lease.specs.Stamps.{ticket_at}
 use Rattle.hc_lease.specs.Turns.{busy_at, turned, without_turn}
 use Rattle.hc_leased.specs.Leased.{Leased, SameLeases, NothingStored, Keeps}
-use Rattle.hc_leased.specs.declared.answers.Kept.TheVariants as kept
+use Rattle.hc_calls.specs.declared.answers.Kept.TheVariants as kept
 use Rattle.hc_c.specs.Calls.{WhyKey}
 use Rattle.hc_c.specs.declared.status.Status.{Status}
 use Rattle.hc_c.specs.declared.status.Status.TheVariants.{Done, Refused, Waits, Idle, Stale}

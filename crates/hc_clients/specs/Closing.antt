@@ -4,7 +4,7 @@ use Rattle.std.specs.Fmt.{decimal}
 use Rattle.hc_history.specs.declared.stats.Stats.{Stats}
 use Rattle.hc_history.specs.Told.{no_counts}
 use Rattle.hc_trace_text.specs.Texts.{line_text, stats_text, verdict_text}
-use Rattle.hc_threads.specs.declared.close.Report.{Report}
+use Rattle.hc_shared.specs.declared.closing.Report.{Report}
 
 -- ---- counts
 

@@ -3,7 +3,8 @@ ghost use Rattle.std.specs.Prelude.{◌≡◌, length};
 
 use crate::answers::Answer;
 use hc_core::{Blank, Fill, Kept, Key, Refusal, Removed, Sealed, Uncharged, Unlinked};
-use hc_shard_threads::{ShardClient, Shards};
+use hc_shard_threads::ShardClient;
+use hc_shared::Shards;
 use hc_threads::{Added, Unadded};
 use hc_trace_text::{NewItem, Step, Value};
 use std::alloc::{AllocError, Global};

@@ -5,7 +5,7 @@ ghost use Rattle.hc_history.specs.Told.{no_counts};
 ghost use Rattle.hc_clients.specs.Closing as spec;
 
 use hc_history::Stats;
-use hc_threads::Report;
+use hc_shared::Report;
 use hc_trace_text::{add_number, add_stats, add_verdict};
 use std::alloc::{AllocError, Global};
 use std::io::{self, Write};

@@ -9,8 +9,9 @@ use crate::session::{Session, clients_of, sessions};
 use hc_core::{Kept, Refusal};
 use hc_flash::MemFlash;
 use hc_player::new_device;
-use hc_shard_threads::{ShardClient, Shards, Unclosed, serve};
+use hc_shard_threads::{ShardClient, serve};
 use hc_shards::Sharded;
+use hc_shared::{Shards, Unclosed, close_shards};
 use hc_threads::{NoGate, Port};
 use hc_trace_text::{add_fault, add_refusal};
 use std::alloc::{AllocError, Global};
@@ -96,7 +97,7 @@ fn perform<T: Threads + Wait + Sync, W: Write>(
 fn new_shards(alloc: Global, sharded: &Sharded) -> Result<Shards<Kept>, Refusal>
     ensures { IfOk result (λ shards. shards ≡ sharded.now) }
 {
-    Shards::new(
+    hc_shared::new_shards(
         alloc,
         sharded,
         || -> Kept
@@ -127,7 +128,7 @@ fn play<T: Threads + Wait + Sync, W: Write>(
     requires { 0 < clients }
 {
     let (clients, failures) = answered(rt, alloc, writer, &shards, plan, clients)?;
-    match shards.close(&clients, failures) {
+    match close_shards(shards, &clients, failures) {
         Ok(reports) => Ok(verdict(alloc, writer, &reports)),
         Err(Unclosed::Mismatch(_) | Unclosed::OtherClients(_)) => Ok(mismatch(writer)),
         Err(Unclosed::NoMemory(_)) => Err(io::Error::from(AllocError)),

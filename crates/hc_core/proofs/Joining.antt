@@ -20,8 +20,8 @@ use Rattle.hc_machine.specs.Calls.{begin, store, wait_for, in_memory, must_wait,
 use Rattle.hc_machine.specs.World.{then_inserted, inserted, given_up, put_new}
 use Rattle.hc_state.specs.Answers.{refusal_in, IsReason}
 use Rattle.hc_state.specs.store.Insert.{inserted_answer}
-use Rattle.hc_state.specs.declared.answers.Inserted.{Inserted}
-use Rattle.hc_state.specs.declared.answers.Inserted.TheVariants.{Stored, Waiting}
+use Rattle.hc_calls.specs.declared.answers.Inserted.{Inserted}
+use Rattle.hc_calls.specs.declared.answers.Inserted.TheVariants.{Stored, Waiting}
 use Rattle.hc_core.specs.Logged.{Logged, IsCall}
 use Rattle.hc_core.specs.Plain.{set_step, add_step, give_up_step, MayRefuse, MayRefuseNew}
 

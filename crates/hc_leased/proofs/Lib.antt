@@ -3,3 +3,4 @@ pub mod Runs
 pub mod Sized
 pub mod Ticketing
 pub mod Followed
+pub mod Asking

@@ -13,8 +13,8 @@ use Rattle.hc_machine.specs.Evicting.{handle_for, allocate_by, allocate}
 use Rattle.hc_machine.specs.items.Allocating.{refusal_of, expiry_of}
 use Rattle.hc_machine.specs.Calls.{insert_or_replace, insert, discard}
 use Rattle.hc_machine.specs.World.{then_inserted, given_up, put_new}
-use Rattle.hc_state.specs.declared.answers.Inserted.{Inserted}
-use Rattle.hc_state.specs.declared.answers.Inserted.TheVariants as inserted
+use Rattle.hc_calls.specs.declared.answers.Inserted.{Inserted}
+use Rattle.hc_calls.specs.declared.answers.Inserted.TheVariants as inserted
 use Rattle.hc_core.specs.Answers.{inserted_answer}
 use Rattle.hc_core.specs.Logged.{Logged, IsCall}
 use Rattle.hc_machine.specs.Call.{CacheCall, Allocates, Inserts, Adds, Discards, Finds, Removes, Replies, Ticks, Writes, Fills, Reclaims, Finishes, act, acts}

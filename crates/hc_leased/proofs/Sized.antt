@@ -16,8 +16,8 @@ use Rattle.hc_machine.specs.Waiting.{live}
 use Rattle.hc_machine.specs.Calls.{begin, is_known, is_kept_in, store, insert_or_replace, in_memory, add, insert}
 use Rattle.hc_invariant.specs.Good.{IsSized}
 use Rattle.hc_proof.proofs.calls.Adds.{and_both}
-use Rattle.hc_state.specs.declared.answers.Inserted.{Inserted}
-use Rattle.hc_state.specs.declared.answers.Inserted.TheVariants as inserted
+use Rattle.hc_calls.specs.declared.answers.Inserted.{Inserted}
+use Rattle.hc_calls.specs.declared.answers.Inserted.TheVariants as inserted
 use Rattle.hc_core.specs.Answers.{inserted_answer}
 use Rattle.hc_core.specs.Arguments.{CallFits}
 use Rattle.hc_core.specs.Holds.{is_long, AreShort}

@@ -6,19 +6,19 @@ use Rattle.hc_memory.specs.Item.{Handle}
 use Rattle.hc_history.specs.Note as note
 use Rattle.hc_machine.specs.Cache.{Answer, Replied, Waits, Discarded}
 use Rattle.hc_machine.specs.Calls.{insert_or_replace}
-use Rattle.hc_state.specs.declared.answers.Inserted.{Inserted}
-use Rattle.hc_state.specs.declared.answers.Inserted.TheVariants as inserted
+use Rattle.hc_calls.specs.declared.answers.Inserted.{Inserted}
+use Rattle.hc_calls.specs.declared.answers.Inserted.TheVariants as inserted
 use Rattle.hc_core.specs.Logged.{Logged, IsCall}
 use Rattle.hc_core.specs.Plain.{set_step, give_up_step}
 use Rattle.hc_lease.specs.Stamps.{Stamps, slot_of, stamped, changed, ticket_at, is_fresh, with_add_in}
 use Rattle.hc_lease.specs.Turns.{without_turn}
 use Rattle.hc_lease.specs.declared.turns.Turn.{Turn}
-use Rattle.hc_leased.specs.declared.answers.Lookup.{Lookup}
-use Rattle.hc_leased.specs.declared.answers.Lookup.TheVariants as lookup
-use Rattle.hc_leased.specs.declared.answers.Kept.{Kept}
-use Rattle.hc_leased.specs.declared.answers.Kept.TheVariants as kept
-use Rattle.hc_leased.specs.declared.answers.KeptItem.{KeptItem}
-use Rattle.hc_leased.specs.declared.answers.KeptItem.TheVariants as item
+use Rattle.hc_calls.specs.declared.answers.Lookup.{Lookup}
+use Rattle.hc_calls.specs.declared.answers.Lookup.TheVariants as lookup
+use Rattle.hc_calls.specs.declared.answers.Kept.{Kept}
+use Rattle.hc_calls.specs.declared.answers.Kept.TheVariants as kept
+use Rattle.hc_calls.specs.declared.answers.KeptItem.{KeptItem}
+use Rattle.hc_calls.specs.declared.answers.KeptItem.TheVariants as item
 
 -- the cache and what is heard of its log, when its keys were changed last, and who loads what
 pub record Leased : Type 0 where

@@ -1,5 +1,4 @@
 -- A cache with leases.
-pub mod Answers
 pub mod Leased
 pub mod Resting
 pub mod Runs

@@ -12,7 +12,7 @@ use Rattle.hc_history.specs.Told.{Log, losses_taken}
 use Rattle.hc_machine.specs.Cache.{Cache, Answer, Opened, Discarded, Replied, Refused, new_cache}
 use Rattle.hc_machine.specs.Evicting.{allocate}
 use Rattle.hc_machine.specs.Calls as calls
-use Rattle.hc_state.specs.declared.answers.Inserted.{Inserted}
+use Rattle.hc_calls.specs.declared.answers.Inserted.{Inserted}
 use Rattle.hc_core.specs.Answers.{inserted_answer}
 use Rattle.hc_core.specs.Logged.{IsCall}
 use Rattle.hc_core.specs.Plain.{set_step, add_step, give_up_step}
@@ -22,10 +22,10 @@ use Rattle.hc_lease.specs.Stamps.{ticket_at, changed, is_fresh, replied}
 use Rattle.hc_lease_log.specs.Log.{changes_of}
 use Rattle.hc_lease_steps.specs.Runs.{stamps_by}
 use Rattle.hc_leased.specs.Leased.{Leased, Become, stamps_added}
-use Rattle.hc_leased.specs.declared.answers.Kept.{Kept}
-use Rattle.hc_leased.specs.declared.answers.Kept.TheVariants as kept
-use Rattle.hc_leased.specs.declared.answers.KeptItem.{KeptItem}
-use Rattle.hc_leased.specs.declared.answers.KeptItem.TheVariants as item
+use Rattle.hc_calls.specs.declared.answers.Kept.{Kept}
+use Rattle.hc_calls.specs.declared.answers.Kept.TheVariants as kept
+use Rattle.hc_calls.specs.declared.answers.KeptItem.{KeptItem}
+use Rattle.hc_calls.specs.declared.answers.KeptItem.TheVariants as item
 
 -- what a call did
 pub data Call : Type 0 where

@@ -15,8 +15,8 @@ ghost use Rattle.hc_leased.specs.Leased.{Become, SameLeases, stamps_added, Keeps
 ghost use Rattle.hc_machine.specs.Call.{Allocates, Discards};
 ghost use Rattle.hc_leased.specs.Runs.{Does, Looks, Stores, Puts, item_call};
 
-use crate::answers::KeptItem;
 use crate::leased::Leased;
+use hc_calls::KeptItem;
 use hc_history::{Note, Notes};
 use hc_lease::Ticket;
 use hc_memory::{Blank, Fill, Sealed, Uncharged};

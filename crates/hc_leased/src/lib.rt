@@ -6,8 +6,8 @@
 //! device.
 #![tactic(auto)]
 
-mod answers;
 mod cache;
+mod guarded;
 mod handles_core;
 mod handles_tracked;
 mod laws;
@@ -23,7 +23,6 @@ mod resting_tracked;
 mod serving;
 mod storing;
 
-pub use answers::{Kept, KeptItem, Lookup};
 pub use cache::{Cache, Calls};
 pub use laws::{
     calls_are_runs, leased_never_stale, leased_replies_never_stale, leased_tickets_hold,
@@ -31,5 +30,6 @@ pub use laws::{
 pub use leased::{DEFAULT_PLACES, DEFAULT_SLOTS, Leased, slots_for};
 pub use resting_tracked::NotResumed;
 
-// The types of tickets, so that a caller needs no other crate.
+// What calls with tickets answer, and the type of tickets, so that a caller needs no other crate.
+pub use hc_calls::{Kept, KeptItem, Lookup};
 pub use hc_lease::Ticket;

@@ -11,9 +11,9 @@ ghost use Rattle.hc_leased.specs.Leased.{Become, SameLeases, lookup_answer, HasT
 ghost use Rattle.hc_machine.specs.Call.{Finds};
 ghost use Rattle.hc_leased.specs.Runs.{Does, Looks, Takes};
 
-use crate::answers::Lookup;
 use crate::cache::{Cache, Calls};
 use crate::leased::Leased;
+use hc_calls::Lookup;
 use hc_history::Reply;
 use hc_lease::Ticket;
 use hc_state::Found;

@@ -20,8 +20,8 @@ ghost use Rattle.hc_leased.specs.Leased.{Become, SameLeases, lookup_answer, HasT
 ghost use Rattle.hc_machine.specs.Call.{Finds, Finishes};
 ghost use Rattle.hc_leased.specs.Runs.{Does, Looks, Forgets, Sets, Tries, Deletes, kept_call};
 
-use crate::answers::{Kept, Lookup};
 use crate::leased::Leased;
+use hc_calls::{Kept, Lookup};
 use hc_core::Core;
 use hc_flash::IoResult;
 use hc_history::{Counting, Note, Notes};

@@ -3,8 +3,8 @@ use Rattle.std.specs.Prelude.{Bool, true, false}
 use Rattle.hc_flash.specs.Seen.{order_of}
 use Rattle.hc_machine.specs.Nvm.{Task, Putting, Deleting, Filling, Flushing}
 use Rattle.hc_machine.specs.Takes.{Take, Idle, Finished, Work}
-use Rattle.hc_nvm.specs.declared.settling.Take.{Take as Answers}
-use Rattle.hc_nvm.specs.declared.settling.Take.TheVariants as answers
+use Rattle.hc_calls.specs.declared.answers.Take.{Take as Answers}
+use Rattle.hc_calls.specs.declared.answers.Take.TheVariants as answers
 use Rattle.hc_nvm.specs.declared.jobs.Task.{Task as Tasks}
 use Rattle.hc_nvm.specs.declared.jobs.Task.TheVariants as tasks
 

@@ -13,8 +13,9 @@ ghost use Rattle.hc_waiting.specs.Fills.{IsFree};
 
 use crate::jobs::Task;
 use crate::nvm::Nvm;
-use crate::settling::{Outset, Take, launched};
+use crate::settling::{Outset, launched};
 use crate::starting::{NOTES_OF_AN_OPERATION, in_all, start_in};
+use hc_calls::Take;
 use hc_engines::Op;
 use hc_history::{Note, Notes};
 use hc_memory::Pools;

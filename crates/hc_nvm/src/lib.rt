@@ -27,4 +27,6 @@ pub use finishing::Unfinished;
 pub use nvm::Nvm;
 pub use outdating::Outdating;
 pub use resting::{Misfit, Unfit};
-pub use settling::Take;
+
+// What takes answer.
+pub use hc_calls::Take;

@@ -14,25 +14,13 @@ use crate::jobs::{Job, Task};
 use crate::orders::twice;
 use crate::raising::{raise_bucket, raise_key};
 use crate::telling;
+use hc_calls::Take;
 use hc_engines::{Answer, Loss, Next, Outcome};
-use hc_flash::Order;
 use hc_history::{Note, Notes};
 use hc_memory::Pools;
 use hc_types::{Entry, Scope};
 use hc_waiting::Tombstones;
 use std::alloc::{Allocator, Global};
-
-/// What a worker's take is answered.
-#[derive(Drop)]
-#[must_use]
-pub enum Take<A: Allocator = Global> {
-    /// There is nothing to do.
-    Idle,
-    /// What was taken is over already.
-    Finished,
-    /// The job with this number waits for this device operation.
-    Work(u64, Order<A>),
-}
 
 /// What an operation that was started came to.
 #[derive(Drop)]

@@ -16,8 +16,9 @@ ghost use Rattle.hc_nvm.specs.Taking.{IsTaken};
 
 use crate::jobs::Task;
 use crate::nvm::Nvm;
-use crate::settling::{Outset, Take, launched};
+use crate::settling::{Outset, launched};
 use crate::starting::{NOTES_OF_A_PUT, NOTES_OF_AN_OPERATION, in_all, start_in};
+use hc_calls::Take;
 use hc_engines::Op;
 use hc_history::{Note, Notes, Said};
 use hc_memory::Pools;

@@ -1,4 +1,4 @@
--- What clients did, a shard each, and what shards that are closed come to.
+-- What clients did, a shard each.
 use Rattle.std.proofs.Common.{◌≡◌, ◌<◌, ◌+◌, ℕ, List, [], ◌∷◌, ◌++◌, Some, All, map, length, drop, get_or, slice_get, sym, ◌∙◌, ap, subst, refl}
 use Rattle.std.proofs.lemmas.List.{drop_more, map-append, append_assoc}
 use Rattle.std.proofs.lemmas.Option.{slice_get_read}

@@ -1,3 +1,3 @@
 mod Rows
 mod Closing
-mod Shutting
+mod Fewer

@@ -9,11 +9,10 @@ ghost use Rattle.hc_threads.specs.Seen.{found_as, looked_as, removed_as, added_a
 ghost use Rattle.hc_shard_threads.specs.Rows.{AtShard, AreNew, ticked, ticked_in, forgotten};
 
 use crate::shards::Shards;
+use hc_calls::{Cached, Removed, Unlinked};
 use hc_client_records::Recorded;
-use hc_history::{Note, Notes};
 use hc_memory::{Blank, Fill, ReadHandle, Sealed, Uncharged};
 use hc_paged::Device;
-use hc_state::{Removed, Unlinked};
 use hc_threads::{Added, Client, KeptItem, Looked, Port, Ticket, Unadded};
 use hc_types::{Key, Refusal};
 use std::alloc::{Allocator, Global};
@@ -42,7 +41,7 @@ impl<A: Allocator> Model for ShardClient<A> {
     ghost view = { λ c. c.clients.items };
 }
 
-impl<N: Notes<Note<A>>, A: Allocator + Clone + Copy> Shards<N, A> {
+impl<C: Cached<A>, A: Allocator + Clone + Copy> Shards<C, A> {
     /// The next client. Refused with `TooManyClients` after the 64th, and with `NoMemory`; then the first shards may have
     /// given a number away that no client has.
     pub fn client<R: Wait>(&self, rt: &R, alloc: A) -> Result<ShardClient<A>, Refusal>
@@ -79,10 +78,10 @@ impl<A: Allocator + Clone + Copy> ShardClient<A> {
     /// Moves the clock of each shard on to the moment, in seconds, one after the other, each in a hold of its own, and
     /// records that. Answers the earliest of the moments that hold then. Refused with `NoMemory`; then the clocks of the
     /// first shards may have been moved.
-    pub fn tick<R: Wait, N: Notes<Note<A>>>(
+    pub fn tick<R: Wait, C: Cached<A>>(
         &mut self,
         rt: &R,
-        shards: &Shards<N, A>,
+        shards: &Shards<C, A>,
         moment: u64,
     ) -> Result<u64, Refusal>
         requires { length self.old ≡ shards.now.shards }
@@ -101,10 +100,10 @@ impl<A: Allocator + Clone + Copy> ShardClient<A> {
     }
 
     /// Allocates an item that begins as zeros, as `Core::allocate` does, in the key's shard, and is refused as that is.
-    pub fn allocate<R: Wait, N: Notes<Note<A>>>(
+    pub fn allocate<R: Wait, C: Cached<A>>(
         &self,
         rt: &R,
-        shards: &Shards<N, A>,
+        shards: &Shards<C, A>,
         pool: u8,
         key: Key<A>,
         size: u64,
@@ -119,10 +118,10 @@ impl<A: Allocator + Clone + Copy> ShardClient<A> {
     }
 
     /// Allocates an item that begins as `fill`, as `Core::allocate_with` does, in the key's shard.
-    pub fn allocate_with<R: Wait, N: Notes<Note<A>>>(
+    pub fn allocate_with<R: Wait, C: Cached<A>>(
         &self,
         rt: &R,
-        shards: &Shards<N, A>,
+        shards: &Shards<C, A>,
         pool: u8,
         key: Key<A>,
         fill: Fill<'_>,
@@ -138,10 +137,10 @@ impl<A: Allocator + Clone + Copy> ShardClient<A> {
     }
 
     /// Gives up an item that wasn't inserted, as `Core::discard` does.
-    pub fn discard<R: Wait, N: Notes<Note<A>>>(
+    pub fn discard<R: Wait, C: Cached<A>>(
         &self,
         rt: &R,
-        shards: &Shards<N, A>,
+        shards: &Shards<C, A>,
         sealed: Sealed<A>,
     ) -> Result<(), Sealed<A>>
         requires { length self.now ≡ shards.now.shards }
@@ -152,10 +151,10 @@ impl<A: Allocator + Clone + Copy> ShardClient<A> {
     }
 
     /// Gives up an item that wasn't sealed, as `Core::discard_blank` does.
-    pub fn discard_blank<R: Wait, N: Notes<Note<A>>>(
+    pub fn discard_blank<R: Wait, C: Cached<A>>(
         &self,
         rt: &R,
-        shards: &Shards<N, A>,
+        shards: &Shards<C, A>,
         blank: Blank<A>,
     ) -> Result<(), Blank<A>>
         requires { length self.now ≡ shards.now.shards }
@@ -166,10 +165,10 @@ impl<A: Allocator + Clone + Copy> ShardClient<A> {
     }
 
     /// Inserts the item, as `Core::insert_or_replace` does, in its key's shard, and records that.
-    pub fn insert_or_replace<R: Wait, N: Notes<Note<A>>>(
+    pub fn insert_or_replace<R: Wait, C: Cached<A>>(
         &mut self,
         rt: &R,
-        shards: &Shards<N, A>,
+        shards: &Shards<C, A>,
         sealed: Sealed<A>,
     ) -> Result<(), Unlinked<A>>
         requires { length self.old ≡ shards.now.shards }
@@ -185,10 +184,10 @@ impl<A: Allocator + Clone + Copy> ShardClient<A> {
 
     /// Inserts the item where the key has no unexpired value, as `Core::insert` does, in its key's shard, waits where one may
     /// be on flash, and records what came, as `Client::insert` does.
-    pub fn insert<R: Wait, N: Notes<Note<A>>>(
+    pub fn insert<R: Wait, C: Cached<A>>(
         &mut self,
         rt: &R,
-        shards: &Shards<N, A>,
+        shards: &Shards<C, A>,
         sealed: Sealed<A>,
     ) -> Result<Added, Unadded<A>>
         requires { length self.old ≡ shards.now.shards }
@@ -204,10 +203,10 @@ impl<A: Allocator + Clone + Copy> ShardClient<A> {
 
     /// Inserts the item in its key's shard, which was loaded after the ticket was handed out, where that is still fresh, and
     /// records that, as `Client::insert_leased` does. A ticket is good for the keys of the shard that handed it out.
-    pub fn insert_leased<R: Wait, N: Notes<Note<A>>>(
+    pub fn insert_leased<R: Wait, C: Cached<A>>(
         &mut self,
         rt: &R,
-        shards: &Shards<N, A>,
+        shards: &Shards<C, A>,
         ticket: Ticket,
         sealed: Sealed<A>,
     ) -> Result<KeptItem<A>, Unlinked<A>>
@@ -223,10 +222,10 @@ impl<A: Allocator + Clone + Copy> ShardClient<A> {
     }
 
     /// Takes what the key has out of its shard, as `Core::remove` does, and records that. Refused with `NoMemory`.
-    pub fn remove<R: Wait, N: Notes<Note<A>>>(
+    pub fn remove<R: Wait, C: Cached<A>>(
         &mut self,
         rt: &R,
-        shards: &Shards<N, A>,
+        shards: &Shards<C, A>,
         key: &Key<A>,
     ) -> Result<Removed, Refusal>
         requires { length self.old ≡ shards.now.shards }
@@ -241,10 +240,10 @@ impl<A: Allocator + Clone + Copy> ShardClient<A> {
 
     /// Finds the value under the key in its shard, as `Core::find` does, waits for it where it may be on flash, and records
     /// what came, as `Client::find` does. Refused with `NoMemory`.
-    pub fn find<R: Wait, N: Notes<Note<A>>>(
+    pub fn find<R: Wait, C: Cached<A>>(
         &mut self,
         rt: &R,
-        shards: &Shards<N, A>,
+        shards: &Shards<C, A>,
         key: &Key<A>,
     ) -> Result<Option<ReadHandle<A>>, Refusal>
         requires { length self.old ≡ shards.now.shards }
@@ -258,10 +257,10 @@ impl<A: Allocator + Clone + Copy> ShardClient<A> {
     }
 
     /// Finds the value under the key in its shard, as `find` does; a miss is handed a ticket, as by `Client::find_or_lease`.
-    pub fn find_or_lease<R: Wait, N: Notes<Note<A>>>(
+    pub fn find_or_lease<R: Wait, C: Cached<A>>(
         &mut self,
         rt: &R,
-        shards: &Shards<N, A>,
+        shards: &Shards<C, A>,
         key: &Key<A>,
     ) -> Result<Looked<A>, Refusal>
         requires { length self.old ≡ shards.now.shards }
@@ -276,10 +275,10 @@ impl<A: Allocator + Clone + Copy> ShardClient<A> {
 
     /// Finds the value under the key in its shard, for who loads what is missed, as `Client::find_or_load` does. Who is told
     /// that another loads it waits by `Shards::await_load`.
-    pub fn find_or_load<R: Wait, N: Notes<Note<A>>>(
+    pub fn find_or_load<R: Wait, C: Cached<A>>(
         &mut self,
         rt: &R,
-        shards: &Shards<N, A>,
+        shards: &Shards<C, A>,
         key: &Key<A>,
         patience: u64,
     ) -> Result<Looked<A>, Refusal>
@@ -295,10 +294,10 @@ impl<A: Allocator + Clone + Copy> ShardClient<A> {
 
     /// Finds the value under the key, as `find` does, and makes its reads itself, as `Client::find_filling` does, by a
     /// handle of the shard's.
-    pub fn find_filling<R: Wait, N: Notes<Note<A>>, D: Device<A>>(
+    pub fn find_filling<R: Wait, C: Cached<A>, D: Device<A>>(
         &mut self,
         rt: &R,
-        shards: &Shards<N, A>,
+        shards: &Shards<C, A>,
         ports: &[Port<D, A>],
         key: &Key<A>,
     ) -> Result<Option<ReadHandle<A>>, Refusal>
@@ -314,10 +313,10 @@ impl<A: Allocator + Clone + Copy> ShardClient<A> {
     }
 
     /// Finds the value under the key, as `find_or_load` does, and makes its reads itself, as `find_filling` does.
-    pub fn find_or_load_filling<R: Wait, N: Notes<Note<A>>, D: Device<A>>(
+    pub fn find_or_load_filling<R: Wait, C: Cached<A>, D: Device<A>>(
         &mut self,
         rt: &R,
-        shards: &Shards<N, A>,
+        shards: &Shards<C, A>,
         ports: &[Port<D, A>],
         key: &Key<A>,
         patience: u64,

@@ -3,7 +3,7 @@ ghost use Rattle.std.specs.Prelude.{◌≡◌, IfOk, IfErr, length};
 
 use crate::gate::{AtShard, ShardGate};
 use crate::shards::Shards;
-use hc_history::{Note, Notes};
+use hc_calls::Cached;
 use hc_paged::Device;
 use hc_threads::{Port, Shared, serve as serve_one};
 use hc_types::Refusal;
@@ -17,7 +17,7 @@ use std::thread::Threads;
 /// those begun are ended, `body` isn't called, and the answer is `NoMemory`.
 pub fn serve<
     R: Threads + Wait + Sync,
-    N: Notes<Note<A>> + Send,
+    C: Cached<A> + Send,
     A: Allocator + Clone + Copy + Send + Sync,
     D: Device<A> + Send,
     G: ShardGate + Sync,
@@ -25,7 +25,7 @@ pub fn serve<
     B: FnOnce() -> T + Drop,
 >(
     rt: &R,
-    shards: &Shards<N, A>,
+    shards: &Shards<C, A>,
     ports: &[Port<D, A>],
     fillers: u32,
     gate: &G,
@@ -43,7 +43,7 @@ pub fn serve<
 /// that the others' run.)
 fn serve_from<
     R: Threads + Wait + Sync,
-    N: Notes<Note<A>> + Send,
+    C: Cached<A> + Send,
     A: Allocator + Clone + Copy + Send + Sync,
     D: Device<A> + Send,
     G: ShardGate + Sync,
@@ -51,7 +51,7 @@ fn serve_from<
     B: FnOnce() -> T + Drop,
 >(
     rt: &R,
-    lanes: &[Shared<N, A>],
+    lanes: &[Shared<C, A>],
     ports: &[Port<D, A>],
     shard: u8,
     fillers: u32,

@@ -1,6 +1,5 @@
-// What calls answer.
-use hc_memory::{ReadHandle, Sealed};
-use hc_types::Refusal;
+// What finds answer.
+use hc_memory::ReadHandle;
 use std::alloc::{Allocator, Global};
 use std::fmt;
 
@@ -33,40 +32,4 @@ pub enum Copied {
     Miss,
     /// The value may be on flash: the call with this number waits for it, and its reply is taken later.
     Waiting(u64),
-}
-
-/// What an insert answers.
-#[derive(Clone, Copy, Debug, PartialEq, Eq)]
-pub enum Inserted {
-    /// The item can be found.
-    Stored,
-    /// The key may have a value on flash: the call with this number waits for it, and its reply is taken later.
-    Waiting(u64),
-}
-
-/// What a remove answers.
-#[derive(Clone, Copy, Debug, PartialEq, Eq)]
-pub enum Removed {
-    /// An item was in memory, expired or not.
-    FoundInMemory,
-    /// None was.
-    NotInMemory,
-}
-
-/// An item that wasn't inserted, with its handle. It doesn't become a `Refusal` by itself, since the handle must be spent
-/// first: discard the one, and answer the other.
-pub struct Unlinked<A: Allocator = Global> {
-    pub refusal: Refusal,
-    pub sealed: Sealed<A>,
-}
-
-impl<A: Allocator> fmt::Display for Unlinked<A> {
-    ghost use Rattle.std.specs.Prelude.{Some};
-    ghost use Rattle.hc_types.specs.Refusals.{refusal_text};
-
-    ghost output = { λ e. Some (refusal_text e.refusal) };
-
-    fn fmt<W: fmt::Write>(&self, f: &mut fmt::Formatter<W>) -> fmt::Result {
-        fmt::Display::fmt(&self.refusal, f)
-    }
 }

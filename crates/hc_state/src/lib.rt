@@ -18,9 +18,12 @@ mod tells;
 mod wait;
 mod workers;
 
-pub use answers::{Copied, Found, Inserted, Removed, Unlinked};
+pub use answers::{Copied, Found};
 pub use builder::{NotBegun, NotTaken, PartsBuilder, Unfit};
 pub use resting::Parts;
 pub use state::State;
 pub use wait::commit::Course;
 pub use wait::plan::There;
+
+// What the other calls answer.
+pub use hc_calls::{Inserted, Removed, Unlinked};

@@ -1,33 +1,13 @@
--- What a client's item is, and why its calls are refused.
-use Rattle.std.specs.Prelude.{◌≡◌, ◌⊎◌, ℕ, ◌<◌, ◌≤◌, List}
-use Rattle.hc_types.specs.declared.refusal.Refusal.{Refusal}
-use Rattle.hc_types.specs.declared.refusal.Refusal.TheVariants.{NoMemory, NoPool, ValueTooLong, NoRoom, ForeignHandle, Exists}
+-- Why a client's calls are refused.
+use Rattle.std.specs.Prelude.{◌≡◌, Option, None}
 use Rattle.hc_memory.specs.Item.{Handle}
+pub use Rattle.hc_calls.specs.Asked.{IsAsked, RefusesAllocation, RefusesInsert, RefusesAdd}
 use Rattle.hc_threads.specs.declared.adding.Unadded.{Unadded}
 use Rattle.hc_threads.specs.declared.adding.Unadded.TheVariants as unadded
 use Rattle.hc_threads.specs.declared.adding.Unstored.{Unstored}
 use Rattle.hc_threads.specs.declared.adding.Unstored.TheVariants as unstored
-
--- The handle is that of the item that was asked for: with this key, in this pool, with these bytes. It never expires where the
--- time to live is 0, and else no earlier than after so many seconds.
-pub record IsAsked (pool : ℕ) (key value : List ℕ) (ttl : ℕ) (handle : Handle) : Type 0 where
-  pub pool_is : handle.pool ≡ pool
-  pub key_is : handle.key ≡ key
-  pub value_is : handle.value ≡ value
-  pub never : ttl ≡ 0 → handle.expiry ≡ 0
-  pub later : 0 < ttl → ttl ≤ handle.expiry
-
--- why an allocation may be refused
-abbrev pub RefusesAllocation : Refusal → Type 0
-RefusesAllocation refusal = (refusal ≡ NoPool) ⊎ (refusal ≡ ValueTooLong) ⊎ (refusal ≡ NoRoom) ⊎ (refusal ≡ NoMemory)
-
--- why an insert that replaces may be refused
-abbrev pub RefusesInsert : Refusal → Type 0
-RefusesInsert refusal = (refusal ≡ ForeignHandle) ⊎ (refusal ≡ NoMemory)
-
--- why an insert that doesn't replace may be refused
-abbrev pub RefusesAdd : Refusal → Type 0
-RefusesAdd refusal = (refusal ≡ Exists) ⊎ (refusal ≡ ForeignHandle) ⊎ (refusal ≡ NoMemory)
+use Rattle.hc_threads.specs.declared.adding.Unanswered.{Unanswered}
+use Rattle.hc_threads.specs.declared.adding.Unanswered.TheVariants as unanswered
 
 -- one that wasn't answered
 abbrev pub RefusesAdding : {A : Type 0} → Unadded A → Type 0
@@ -38,3 +18,8 @@ RefusesAdding unadded.Unanswered = Unit {0}
 abbrev pub RefusesStoring : {A : Type 0} → Unstored A → Type 0
 RefusesStoring (unstored.Refused unlinked) = RefusesAdd unlinked.refusal
 RefusesStoring (unstored.Open call) = Unit {0}
+
+-- an insert that was lent its handle: it comes back where it was refused
+abbrev pub LeavesLent : Unanswered → Option Handle → Option Handle → Type 0
+LeavesLent (unanswered.Refused refusal) before after = RefusesAdd refusal × (after ≡ before)
+LeavesLent (unanswered.Open call) before after = after ≡ None

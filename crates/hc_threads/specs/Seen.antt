@@ -3,10 +3,10 @@ use Rattle.std.specs.Prelude.{◌≡◌, ℕ, List, Option, Some, None}
 use Rattle.hc_history.specs.Note.{Op, Insert, Reply, Stored, Exists, Hit, Miss, FoundInMemory, NotInMemory}
 use Rattle.hc_memory.specs.Item.{Handle}
 use Rattle.hc_client_records.specs.Records.{Record, IsRecorded, IsLeftOpen}
-use Rattle.hc_leased.specs.declared.answers.KeptItem.{KeptItem}
-use Rattle.hc_leased.specs.declared.answers.KeptItem.TheVariants as kept
-use Rattle.hc_state.specs.declared.answers.Removed.{Removed}
-use Rattle.hc_state.specs.declared.answers.Removed.TheVariants as removed
+use Rattle.hc_calls.specs.declared.answers.KeptItem.{KeptItem}
+use Rattle.hc_calls.specs.declared.answers.KeptItem.TheVariants as kept
+use Rattle.hc_calls.specs.declared.answers.Removed.{Removed}
+use Rattle.hc_calls.specs.declared.answers.Removed.TheVariants as removed
 use Rattle.hc_threads.specs.declared.adding.Added.{Added}
 use Rattle.hc_threads.specs.declared.adding.Added.TheVariants as added
 use Rattle.hc_threads.specs.declared.leasing.Looked.{Looked}

@@ -12,13 +12,12 @@ use crate::finding::Unfound;
 use crate::leasing::Looked;
 use crate::port::Port;
 use crate::shared::Shared;
+use hc_calls::{Cached, KeptItem, Removed, Ticket, Unlinked};
 use hc_client_records::{Entry, OpenCall, Record, Recorded};
 use hc_flash::MemFlash;
-use hc_history::{Listener, Note, Notes, Op, Reply};
-use hc_leased::{KeptItem, Ticket};
+use hc_history::{Op, Reply};
 use hc_memory::{Blank, Fill, ReadHandle, Sealed, Uncharged};
 use hc_paged::Device;
-use hc_state::{Removed, Unlinked};
 use hc_types::{Key, Refusal};
 use std::alloc::{AllocError, Allocator, Global};
 use std::marker::Model;
@@ -52,7 +51,7 @@ impl Recorded for Client {
     }
 }
 
-impl<N: Listener, A: Allocator + Clone + Copy> Shared<N, A> {
+impl<C: Cached<A>, A: Allocator + Clone + Copy> Shared<C, A> {
     /// The next client. Refused with `TooManyClients` after the 64th.
     pub fn client<R: Wait>(&self, rt: &R, alloc: A) -> Result<Client<A>, Refusal>
         ensures ok { IfOk result (λ client. (client.entries ≡ []) × (client.open_calls ≡ []) × (client.ticks ≡ []) × (client.client < 64)) }
@@ -93,10 +92,10 @@ impl<A: Allocator + Clone + Copy> Client<A> {
 
     /// Moves the clock on to the moment, in seconds, as `Core::tick` does, and records that. Answers the moment that holds
     /// then. Refused with `NoMemory`.
-    pub fn tick<R: Wait, N: Notes<Note<A>>>(
+    pub fn tick<R: Wait, C: Cached<A>>(
         &mut self,
         rt: &R,
-        shared: &Shared<N, A>,
+        shared: &Shared<C, A>,
         moment: u64,
     ) -> Result<u64, Refusal>
         ensures recorded { OnOk result (IsTicked self.old moment self.new) }
@@ -111,10 +110,10 @@ impl<A: Allocator + Clone + Copy> Client<A> {
     }
 
     /// Allocates an item that begins as zeros, as `Core::allocate` does, and is refused as that is.
-    pub fn allocate<R: Wait, N: Notes<Note<A>>>(
+    pub fn allocate<R: Wait, C: Cached<A>>(
         &self,
         rt: &R,
-        shared: &Shared<N, A>,
+        shared: &Shared<C, A>,
         pool: u8,
         key: Key<A>,
         size: u64,
@@ -128,10 +127,10 @@ impl<A: Allocator + Clone + Copy> Client<A> {
     }
 
     /// Allocates an item that begins as `fill`, as `Core::allocate_with` does.
-    pub fn allocate_with<R: Wait, N: Notes<Note<A>>>(
+    pub fn allocate_with<R: Wait, C: Cached<A>>(
         &self,
         rt: &R,
-        shared: &Shared<N, A>,
+        shared: &Shared<C, A>,
         pool: u8,
         key: Key<A>,
         fill: Fill<'_>,
@@ -145,10 +144,10 @@ impl<A: Allocator + Clone + Copy> Client<A> {
     }
 
     /// Gives up an item that wasn't inserted, as `Core::discard` does.
-    pub fn discard<R: Wait, N: Notes<Note<A>>>(
+    pub fn discard<R: Wait, C: Cached<A>>(
         &self,
         rt: &R,
-        shared: &Shared<N, A>,
+        shared: &Shared<C, A>,
         sealed: Sealed<A>,
     ) -> Result<(), Sealed<A>>
         ensures { IfErr result (λ back. back ≡ sealed) }
@@ -157,10 +156,10 @@ impl<A: Allocator + Clone + Copy> Client<A> {
     }
 
     /// Gives up an item that wasn't sealed, as `Core::discard_blank` does.
-    pub fn discard_blank<R: Wait, N: Notes<Note<A>>>(
+    pub fn discard_blank<R: Wait, C: Cached<A>>(
         &self,
         rt: &R,
-        shared: &Shared<N, A>,
+        shared: &Shared<C, A>,
         blank: Blank<A>,
     ) -> Result<(), Blank<A>>
         ensures { IfErr result (λ back. back ≡ blank) }
@@ -169,10 +168,10 @@ impl<A: Allocator + Clone + Copy> Client<A> {
     }
 
     /// Inserts the item, as `Core::insert_or_replace` does, and records that.
-    pub fn insert_or_replace<R: Wait, N: Notes<Note<A>>>(
+    pub fn insert_or_replace<R: Wait, C: Cached<A>>(
         &mut self,
         rt: &R,
-        shared: &Shared<N, A>,
+        shared: &Shared<C, A>,
         sealed: Sealed<A>,
     ) -> Result<(), Unlinked<A>>
         ensures recorded { OnOk result (IsRecorded self.old (Insert sealed.key sealed.value sealed.expiry) Stored self.new) }
@@ -194,10 +193,10 @@ impl<A: Allocator + Clone + Copy> Client<A> {
     /// Inserts the item, which was loaded after the ticket was handed out, as `Leased::insert_leased` does: exactly where the
     /// ticket is still fresh for its key, and records that. Else its handle comes back, to be given up, and nothing is
     /// recorded. Refused as `insert_or_replace` is; then the ticket is as good as before.
-    pub fn insert_leased<R: Wait, N: Notes<Note<A>>>(
+    pub fn insert_leased<R: Wait, C: Cached<A>>(
         &mut self,
         rt: &R,
-        shared: &Shared<N, A>,
+        shared: &Shared<C, A>,
         ticket: Ticket,
         sealed: Sealed<A>,
     ) -> Result<KeptItem<A>, Unlinked<A>>
@@ -223,10 +222,10 @@ impl<A: Allocator + Clone + Copy> Client<A> {
 
     /// Inserts the item where the key has no unexpired value, as `Core::insert` does, waits where one may be on flash, and
     /// records what came. Where it waits and is out of memory, it stays open, and is recorded so.
-    pub fn insert<R: Wait, N: Notes<Note<A>>>(
+    pub fn insert<R: Wait, C: Cached<A>>(
         &mut self,
         rt: &R,
-        shared: &Shared<N, A>,
+        shared: &Shared<C, A>,
         sealed: Sealed<A>,
     ) -> Result<Added, Unadded<A>>
         ensures recorded { IfOk result (λ added. IsRecorded self.old (Add sealed.key sealed.value sealed.expiry) (added_as added) self.new) }
@@ -258,10 +257,10 @@ impl<A: Allocator + Clone + Copy> Client<A> {
     }
 
     /// Takes what the key has out of the cache, as `Core::remove` does, and records that. Refused with `NoMemory`.
-    pub fn remove<R: Wait, N: Notes<Note<A>>>(
+    pub fn remove<R: Wait, C: Cached<A>>(
         &mut self,
         rt: &R,
-        shared: &Shared<N, A>,
+        shared: &Shared<C, A>,
         key: &Key<A>,
     ) -> Result<Removed, Refusal>
         ensures recorded { IfOk result (λ removed. IsRecorded self.old (Remove key.now) (removed_as removed) self.new) }
@@ -281,10 +280,10 @@ impl<A: Allocator + Clone + Copy> Client<A> {
     /// Where there is no memory for another owner of the value, the call is answered and recorded all the same. Where it lacks
     /// for the reply of a call that waited, or for a worker while none can get on, the call stays open. Refused with
     /// `NoMemory`.
-    pub fn find<R: Wait, N: Notes<Note<A>>>(
+    pub fn find<R: Wait, C: Cached<A>>(
         &mut self,
         rt: &R,
-        shared: &Shared<N, A>,
+        shared: &Shared<C, A>,
         key: &Key<A>,
     ) -> Result<Option<ReadHandle<A>>, Refusal>
         ensures recorded { IfOk result (λ found. IsRecorded self.old (Find key.now) (found_as found) self.new) }
@@ -299,10 +298,10 @@ impl<A: Allocator + Clone + Copy> Client<A> {
     }
 
     /// Finds the value under the key, as `find` does; a miss is handed a ticket, which is good for what is loaded from now on.
-    pub fn find_or_lease<R: Wait, N: Notes<Note<A>>>(
+    pub fn find_or_lease<R: Wait, C: Cached<A>>(
         &mut self,
         rt: &R,
-        shared: &Shared<N, A>,
+        shared: &Shared<C, A>,
         key: &Key<A>,
     ) -> Result<Looked<A>, Refusal>
         ensures recorded { IfOk result (λ looked. IsRecorded self.old (Find key.now) (looked_as looked) self.new) }
@@ -315,10 +314,10 @@ impl<A: Allocator + Clone + Copy> Client<A> {
     /// Finds the value under the key, as `find_or_lease` does, for who loads what is missed: of many who miss a key one is
     /// handed a ticket, and is to load it. The others are told so, for as long as `patience` seconds by the cache's clock: they
     /// wait by `Shared::await_load`, and find it again. No promise rests on whose turn it is.
-    pub fn find_or_load<R: Wait, N: Notes<Note<A>>>(
+    pub fn find_or_load<R: Wait, C: Cached<A>>(
         &mut self,
         rt: &R,
-        shared: &Shared<N, A>,
+        shared: &Shared<C, A>,
         key: &Key<A>,
         patience: u64,
     ) -> Result<Looked<A>, Refusal>
@@ -332,10 +331,10 @@ impl<A: Allocator + Clone + Copy> Client<A> {
     /// Finds the value under the key, as `find` does. But a call that waits makes the reads itself, by a handle of the
     /// device, as long as there are some which no other is making: its own, or those of calls that have waited longer. So
     /// it mostly wakes no worker and is woken by none. A read for which there is no memory is left to the fillers.
-    pub fn find_filling<R: Wait, N: Notes<Note<A>>, D: Device<A>>(
+    pub fn find_filling<R: Wait, C: Cached<A>, D: Device<A>>(
         &mut self,
         rt: &R,
-        shared: &Shared<N, A>,
+        shared: &Shared<C, A>,
         port: &Port<D, A>,
         key: &Key<A>,
     ) -> Result<Option<ReadHandle<A>>, Refusal>
@@ -351,10 +350,10 @@ impl<A: Allocator + Clone + Copy> Client<A> {
     }
 
     /// Finds the value under the key, as `find_or_load` does, and makes its reads itself, as `find_filling` does.
-    pub fn find_or_load_filling<R: Wait, N: Notes<Note<A>>, D: Device<A>>(
+    pub fn find_or_load_filling<R: Wait, C: Cached<A>, D: Device<A>>(
         &mut self,
         rt: &R,
-        shared: &Shared<N, A>,
+        shared: &Shared<C, A>,
         port: &Port<D, A>,
         key: &Key<A>,
         patience: u64,
@@ -367,10 +366,10 @@ impl<A: Allocator + Clone + Copy> Client<A> {
     }
 
     /// Finds the value, makes its reads itself where a port is there, and records what came.
-    fn find_by<R: Wait, N: Notes<Note<A>>, D: Device<A>>(
+    fn find_by<R: Wait, C: Cached<A>, D: Device<A>>(
         &mut self,
         rt: &R,
-        shared: &Shared<N, A>,
+        shared: &Shared<C, A>,
         port: Option<&Port<D, A>>,
         key: &Key<A>,
         patience: Option<u64>,
@@ -417,8 +416,8 @@ impl<A: Allocator + Clone + Copy> Client<A> {
 }
 
 /// No port, of whatever device.
-fn no_port<'x, N: Listener, A: Allocator + Clone + Copy>(
-    _shared: &'x Shared<N, A>,
+fn no_port<'x, C: Cached<A>, A: Allocator + Clone + Copy>(
+    _shared: &'x Shared<C, A>,
 ) -> Option<&'x Port<MemFlash<A>, A>>
     ensures { result ≡ None }
 {

@@ -4,13 +4,11 @@ use crate::gate::Worker;
 use crate::leasing::{Looked, missed};
 use crate::port::Port;
 use crate::shared::{Guarded, Shared};
+use hc_calls::{Cached, Lookup, Take};
 use hc_flash::{IoResult, Order};
-use hc_history::{Note, Notes, Reply};
-use hc_leased::Lookup;
+use hc_history::Reply;
 use hc_memory::ReadHandle;
-use hc_nvm::Take;
-use hc_paged::{Device, SipHash};
-use hc_tracked::digest_of;
+use hc_paged::Device;
 use hc_types::{Key, Refusal};
 use std::alloc::Allocator;
 use std::sync::{MutexGuard, Wait};
@@ -34,7 +32,7 @@ enum Asked<A: Allocator> {
     Waits(u64),
 }
 
-impl<N: Notes<Note<A>>, A: Allocator + Clone + Copy> Shared<N, A> {
+impl<C: Cached<A>, A: Allocator + Clone + Copy> Shared<C, A> {
     /// Answers the number of the call, and the value, or a ticket. A find that waits lets the lock go until its reply is there. It gives
     /// up where the workers are stuck, and where there is no memory for the reply. Where a port is there, it does what a filler
     /// would do, as long as there is something; it waits where all that there is to fill is under way elsewhere. Where it
@@ -72,8 +70,8 @@ impl<N: Notes<Note<A>>, A: Allocator + Clone + Copy> Shared<N, A> {
         &'x self,
         rt: &R,
         call: u64,
-        held: MutexGuard<'x, Guarded<N, A>>,
-    ) -> Result<MutexGuard<'x, Guarded<N, A>>, Unfound> {
+        held: MutexGuard<'x, Guarded<C>>,
+    ) -> Result<MutexGuard<'x, Guarded<C>>, Unfound> {
         if held.crew.is_stuck() {
             return Err(Unfound::Open(call));
         }
@@ -87,8 +85,8 @@ impl<N: Notes<Note<A>>, A: Allocator + Clone + Copy> Shared<N, A> {
         port: &Port<D, A>,
         client: u8,
         call: u64,
-        held: MutexGuard<'x, Guarded<N, A>>,
-    ) -> Result<MutexGuard<'x, Guarded<N, A>>, Unfound> {
+        held: MutexGuard<'x, Guarded<C>>,
+    ) -> Result<MutexGuard<'x, Guarded<C>>, Unfound> {
         let mut held = held;
         match self.take_fill(&mut held, client) {
             Ok(Take::Work(job, order)) => {
@@ -111,7 +109,7 @@ impl<N: Notes<Note<A>>, A: Allocator + Clone + Copy> Shared<N, A> {
     }
 
     /// What a client takes of the fillers' work: nothing while a job that it left isn't taken yet.
-    fn take_fill(&self, held: &mut Guarded<N, A>, client: u8) -> Result<Take<A>, Refusal> {
+    fn take_fill(&self, held: &mut Guarded<C>, client: u8) -> Result<Take<A>, Refusal> {
         if held.left.has(client) {
             return Ok(Take::Idle);
         }
@@ -127,7 +125,7 @@ impl<N: Notes<Note<A>>, A: Allocator + Clone + Copy> Shared<N, A> {
         client: u8,
         job: u64,
         first: Order<A>,
-    ) -> MutexGuard<'x, Guarded<N, A>> {
+    ) -> MutexGuard<'x, Guarded<C>> {
         let mut order = first;
         for _ in rt.forever() {
             let (mut held, finished) = match port.perform(rt, &order) {
@@ -157,27 +155,25 @@ impl<N: Notes<Note<A>>, A: Allocator + Clone + Copy> Shared<N, A> {
     }
 }
 
-impl<N: Notes<Note<A>>, A: Allocator + Clone + Copy> Shared<N, A> {
+impl<C: Cached<A>, A: Allocator + Clone + Copy> Shared<C, A> {
     /// Hands in what came of the operation of the job. The lock is held behind it.
     fn hand_in<'x, R: Wait>(
         &'x self,
         rt: &R,
         job: u64,
         came: IoResult<A>,
-    ) -> (MutexGuard<'x, Guarded<N, A>>, Result<Take<A>, Refusal>) {
-        let digest = digest_of(&SipHash, &came);
+    ) -> (MutexGuard<'x, Guarded<C>>, Result<Take<A>, Refusal>) {
+        let digest = C::digest_of(&came);
         let mut held = self.guarded.lock(rt);
-        let finished = match held.cache.finish(job, came, digest) {
-            Ok(take) => Ok(take),
-            Err(unfinished) => Err(unfinished.refusal),
-        };
+        let mut lent = Some(came);
+        let finished = held.cache.finish(job, &mut lent, digest);
         (held, finished)
     }
 }
 
 /// Asks for the value under the key.
-fn ask<N: Notes<Note<A>>, A: Allocator + Clone + Copy>(
-    held: &mut Guarded<N, A>,
+fn ask<C: Cached<A>, A: Allocator + Clone + Copy>(
+    held: &mut Guarded<C>,
     client: u8,
     key: &Key<A>,
     patience: Option<u64>,
@@ -194,8 +190,8 @@ fn ask<N: Notes<Note<A>>, A: Allocator + Clone + Copy>(
 }
 
 /// What the find that waits is answered, once it is.
-fn reply_to<N: Notes<Note<A>>, A: Allocator + Clone + Copy>(
-    held: &mut Guarded<N, A>,
+fn reply_to<C: Cached<A>, A: Allocator + Clone + Copy>(
+    held: &mut Guarded<C>,
     call: u64,
     key: &Key<A>,
     patience: Option<u64>,

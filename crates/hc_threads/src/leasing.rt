@@ -4,8 +4,7 @@ ghost use Rattle.hc_history.specs.Note.{Miss};
 ghost use Rattle.hc_threads.specs.Seen.{looked_as};
 
 use crate::shared::{Guarded, Shared};
-use hc_history::{Note, Notes};
-use hc_leased::Ticket;
+use hc_calls::{Cached, Ticket};
 use hc_memory::ReadHandle;
 use hc_types::Key;
 use std::alloc::{Allocator, Global};
@@ -37,7 +36,7 @@ impl<A: Allocator> fmt::Debug for Looked<A> {
     }
 }
 
-impl<N: Notes<Note<A>>, A: Allocator + Clone + Copy> Shared<N, A> {
+impl<C: Cached<A>, A: Allocator + Clone + Copy> Shared<C, A> {
     /// Waits while another loads the key, who began fewer than `patience` seconds ago by the cache's clock. Find it again then.
     /// A load is over as the key is stored, with a ticket or without, or removed, and by `end_turn`. Where who loads dies,
     /// those that wait go on once the clock is moved past `patience`.
@@ -62,8 +61,8 @@ impl<N: Notes<Note<A>>, A: Allocator + Clone + Copy> Shared<N, A> {
 
 /// What a find that misses is answered: the ticket, or where the caller would load the key and asks whose turn it is, that
 /// another loads it.
-pub(crate) fn missed<N: Notes<Note<A>>, A: Allocator + Clone + Copy>(
-    held: &mut Guarded<N, A>,
+pub(crate) fn missed<C: Cached<A>, A: Allocator + Clone + Copy>(
+    held: &mut Guarded<C>,
     key: &Key<A>,
     ticket: Option<Ticket>,
     patience: Option<u64>,

@@ -1,10 +1,9 @@
-//! A cache under one lock, for many clients, and workers in threads beside them. It has leases: what was loaded before a
-//! change of its key isn't stored after it.
+//! A cache under one lock, for many clients, and workers in threads beside them: over whatever has the calls of a cache. It has
+//! leases: what was loaded before a change of its key isn't stored after it. (`hc_shared` has it over the cache itself.)
 #![tactic(auto)]
 
 mod adding;
 mod client;
-mod close;
 mod crew;
 mod finding;
 mod gate;
@@ -17,13 +16,12 @@ mod workers;
 
 pub use adding::{Added, Unadded};
 pub use client::Client;
-pub use close::{Report, settle};
 pub use gate::{Gate, NoGate, Point, Worker};
 pub use leasing::Looked;
 pub use port::Port;
 pub use serving::serve;
 pub use shared::Shared;
 
-// The types of the calls' signatures, so that a caller needs no other crate but the core's.
-pub use hc_client_records::{Entry, Mismatch, OpenCall, Record, Recorded};
-pub use hc_leased::{DEFAULT_SLOTS, KeptItem, Ticket, slots_for};
+// The types of the calls' signatures, so that a caller needs no other crate but the cache's.
+pub use hc_calls::{KeptItem, Removed, Ticket, Unlinked};
+pub use hc_client_records::{Entry, OpenCall, Record, Recorded};

@@ -5,8 +5,8 @@ use crate::crew::Turn;
 use crate::gate::{Gate, Point, Worker};
 use crate::port::Port;
 use crate::shared::{Shared, Stage};
+use hc_calls::Cached;
 use hc_flash::{IoResult, Order};
-use hc_history::{Listener, Note, Notes};
 use hc_paged::Device;
 use hc_types::Refusal;
 use std::alloc::{AllocError, Allocator};
@@ -20,7 +20,7 @@ use std::thread::Threads;
 /// call at a time: a call that ends ends the workers of every other.
 pub fn serve<
     R: Threads + Wait + Sync,
-    N: Notes<Note<A>> + Send,
+    C: Cached<A> + Send,
     A: Allocator + Clone + Copy + Send + Sync,
     D: Device<A> + Send,
     G: Gate + Sync,
@@ -28,7 +28,7 @@ pub fn serve<
     B: FnOnce() -> T + Drop,
 >(
     rt: &R,
-    shared: &Shared<N, A>,
+    shared: &Shared<C, A>,
     port: &Port<D, A>,
     fillers: u32,
     gate: &G,
@@ -45,19 +45,19 @@ pub fn serve<
 }
 
 /// Where workers stand: what they share.
-struct Post<'x, N: Listener, A: Allocator, D: Device<A>, G> {
-    shared: &'x Shared<N, A>,
+struct Post<'x, C: Cached<A>, A: Allocator, D: Device<A>, G> {
+    shared: &'x Shared<C, A>,
     port: &'x Port<D, A>,
     gate: &'x G,
 }
 
-impl<'x, N: Listener, A: Allocator, D: Device<A>, G> Clone for Post<'x, N, A, D, G> {
-    fn clone(&self) -> Result<Post<'x, N, A, D, G>, AllocError> {
+impl<'x, C: Cached<A>, A: Allocator, D: Device<A>, G> Clone for Post<'x, C, A, D, G> {
+    fn clone(&self) -> Result<Post<'x, C, A, D, G>, AllocError> {
         Ok(*self)
     }
 }
 
-impl<'x, N: Listener, A: Allocator, D: Device<A>, G> Copy for Post<'x, N, A, D, G> {}
+impl<'x, C: Cached<A>, A: Allocator, D: Device<A>, G> Copy for Post<'x, C, A, D, G> {}
 
 /// Workers, of whatever cache. (Of the thread that begins them, a checker has to know no more.)
 trait Workers<R>: Copy {
@@ -108,8 +108,8 @@ fn run<R: Threads + Wait + Sync, P: Workers<R> + Send, T, B: FnOnce() -> T + Dro
     )
 }
 
-impl<'x, R: Wait, N: Notes<Note<A>>, A: Allocator + Clone + Copy, D: Device<A>, G: Gate> Workers<R>
-    for Post<'x, N, A, D, G> {
+impl<'x, R: Wait, C: Cached<A>, A: Allocator + Clone + Copy, D: Device<A>, G: Gate> Workers<R>
+    for Post<'x, C, A, D, G> {
     /// A take each round. The core's lock isn't held at a gate or during a device operation.
     fn work(self, rt: &R, worker: Worker) {
         let mut turn = Turn::new(worker);
@@ -132,9 +132,9 @@ impl<'x, R: Wait, N: Notes<Note<A>>, A: Allocator + Clone + Copy, D: Device<A>, 
     }
 }
 
-impl<'x, N: Notes<Note<A>>, A: Allocator + Clone + Copy, D: Device<A>, G: Gate> Post<
+impl<'x, C: Cached<A>, A: Allocator + Clone + Copy, D: Device<A>, G: Gate> Post<
     'x,
-    N,
+    C,
     A,
     D,
     G,

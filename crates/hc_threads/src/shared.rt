@@ -1,6 +1,5 @@
-// The core under one lock, as clients call it.
-ghost use Rattle.std.specs.Prelude.{◌≡◌, ◌<◌, ◌≤◌, ◌+◌, [], IfOk, IfErr, OnErr};
-ghost use Rattle.hc_history.specs.Told.{IfLog};
+// The cache under one lock, as clients call it.
+ghost use Rattle.std.specs.Prelude.{◌≡◌, ◌≢◌, ◌<◌, ◌≤◌, ◌+◌, ℕ, List, Some, None, IfOk, IfErr, OnOk, OnErr};
 ghost use Rattle.hc_memory.specs.Seen.{filled};
 ghost use Rattle.hc_threads.specs.Asked.{IsAsked, RefusesAllocation, RefusesInsert};
 ghost use Rattle.hc_threads.specs.Seen.{IsBack};
@@ -8,13 +7,8 @@ ghost use Rattle.hc_threads.specs.Seen.{IsBack};
 use crate::crew::Crew;
 use crate::gate::Worker;
 use crate::left::Left;
-use hc_core::Core;
-use hc_history::{Listener, Note, Notes};
-use hc_leased::{DEFAULT_SLOTS, KeptItem, Leased, Ticket};
+use hc_calls::{Cached, Kept, KeptItem, Removed, Ticket, Unlinked};
 use hc_memory::{Blank, Fill, Sealed, Uncharged};
-use hc_paged::SipHash;
-use hc_state::{Removed, Unlinked};
-use hc_tracked::TrackedCore;
 use hc_types::{Config, Key, Refusal};
 use std::alloc::{Allocator, Global};
 use std::marker::Model;
@@ -29,10 +23,10 @@ pub(crate) enum Stage {
     Ending,
 }
 
-/// What lies under the lock. Whoever takes the lock finds a cache with leases, and what is true of each is all that is known.
+/// What lies under the lock. Whoever takes the lock finds a cache, and what is true of each is all that is known.
 #[derive(Drop)]
-pub(crate) struct Guarded<N: Listener, A: Allocator> {
-    pub(crate) cache: Leased<TrackedCore<N, A, SipHash>, A>,
+pub(crate) struct Guarded<C: Drop> {
+    pub(crate) cache: C,
     pub(crate) stage: Stage,
     pub(crate) crew: Crew,
     pub(crate) left: Left,
@@ -55,10 +49,10 @@ fn numbered(clients: &mut u8) -> Result<u8, Refusal>
     Ok(number)
 }
 
-/// A core that clients and workers share: each call of the core is one hold of the one lock. Contracts see the
-/// configuration of the core that it was made of, of which it keeps a copy beside the lock.
-pub struct Shared<N: Listener, A: Allocator = Global> {
-    pub(crate) guarded: Mutex<Guarded<N, A>>,
+/// A cache that clients and workers share: each call of the cache is one hold of the one lock. Contracts see its
+/// configuration, of which a copy is kept beside the lock.
+pub struct Shared<C: Cached<A>, A: Allocator = Global> {
+    pub(crate) guarded: Mutex<Guarded<C>>,
     /// Wake workers, for work and to end.
     writer: Condvar,
     fillers: Condvar,
@@ -69,7 +63,7 @@ pub struct Shared<N: Listener, A: Allocator = Global> {
 }
 
 // (written out, so that who drops what is shared calls this one function, whatever lies under the lock)
-impl<N: Listener, A: Allocator> Drop for Shared<N, A> {
+impl<C: Cached<A>, A: Allocator> Drop for Shared<C, A> {
     fn drop(self) {
         let Shared {
             guarded: _,
@@ -82,7 +76,7 @@ impl<N: Listener, A: Allocator> Drop for Shared<N, A> {
     }
 }
 
-impl<N: Listener, A: Allocator> Model for Shared<N, A> {
+impl<C: Cached<A>, A: Allocator> Model for Shared<C, A> {
     ghost use Rattle.hc_types.specs.Config.{Config as Settings};
 
     ghost Value = { Settings };
@@ -90,41 +84,12 @@ impl<N: Listener, A: Allocator> Model for Shared<N, A> {
     ghost view = { λ shared. shared.config };
 }
 
-impl<N: Listener, A: Allocator + Clone + Copy> Shared<N, A> {
-    /// Shares a new core, with `DEFAULT_SLOTS` slots for leases. Refused as `with_slots` is.
-    pub fn new(core: Core<N, A>) -> Result<Shared<N, A>, Core<N, A>>
-        requires log { IfLog core.log (λ log. log ≡ []) }
-        ensures config { IfOk result (λ shared. shared ≡ core.cache.config) }
-        ensures core_returned { IfErr result (λ back. back ≡ core) }
+impl<C: Cached<A>, A: Allocator> Shared<C, A> {
+    /// Shares a cache. Contracts see the configuration that is handed in.
+    pub fn new(cache: C, config: Config<A>) -> Shared<C, A>
+        ensures { result ≡ config }
     {
-        Shared::with_slots(core, DEFAULT_SLOTS)
-    }
-
-    /// Shares a new core, with so many slots for leases, of 8 bytes each, and a sixteenth as many places for turns, of 24
-    /// bytes each; at least one of either. The more slots, the fewer tickets end without need. Where there is no memory for these, for the copy of its configuration or for the digests of its pages, which take 8
-    /// bytes a page, the core comes back, and so does one of which calls were made already.
-    pub fn with_slots(core: Core<N, A>, slots: usize) -> Result<Shared<N, A>, Core<N, A>>
-        requires log { IfLog core.log (λ log. log ≡ []) }
-        ensures config { IfOk result (λ shared. shared ≡ core.cache.config) }
-        ensures core_returned { IfErr result (λ back. back ≡ core) }
-    {
-        if core.calls() > 0 {
-            return Err(core);
-        }
-        let Ok(config) = core.config().clone() else {
-            return Err(core);
-        };
-        let alloc = *config.pools.allocator();
-        let tracked = TrackedCore::new(core, SipHash, alloc)?;
-        let places = (slots / 16).max(1);
-        let cache = match Leased::new(alloc, tracked, slots.max(1), places) {
-            Ok(cache) => cache,
-            Err(tracked) => {
-                let (core, _lies) = tracked.into_parts();
-                return Err(core);
-            }
-        };
-        Ok(Shared {
+        Shared {
             guarded: Mutex::new(Guarded {
                 cache,
                 stage: Stage::Beginning,
@@ -137,11 +102,9 @@ impl<N: Listener, A: Allocator + Clone + Copy> Shared<N, A> {
             reclaimer: Condvar::new(),
             replies: Condvar::new(),
             config,
-        })
+        }
     }
-}
 
-impl<N: Listener, A: Allocator> Shared<N, A> {
     /// The number of the next client. Refused with `TooManyClients` after the 64th.
     pub(crate) fn next_client<R: Wait>(&self, rt: &R) -> Result<u8, Refusal>
         ensures few { IfOk result (λ number. number < 64) }
@@ -151,8 +114,9 @@ impl<N: Listener, A: Allocator> Shared<N, A> {
         numbered(&mut held.clients)
     }
 
-    /// The core, and the configuration that was kept.
-    pub(crate) fn into_parts(self) -> (TrackedCore<N, A, SipHash>, Config<A>)
+    /// The cache, and the configuration that was kept.
+    #[must_use]
+    pub fn into_parts(self) -> (C, Config<A>)
         ensures { result.1 ≡ self }
     {
         let Shared {
@@ -170,22 +134,14 @@ impl<N: Listener, A: Allocator> Shared<N, A> {
             left: _,
             clients: _,
         } = guarded.into_inner();
-        (cache.into_cache(), config)
-    }
-
-    /// The core, which isn't judged.
-    #[must_use]
-    pub fn into_core(self) -> Core<N, A> {
-        let (tracked, _config) = self.into_parts();
-        let (core, _lies) = tracked.into_parts();
-        core
+        (cache, config)
     }
 
     /// How many reads of the device were lies so far: pages that were read otherwise than they were written, of which each
     /// is a failed read to the cache.
     #[must_use]
     pub fn lies<R: Wait>(&self, rt: &R) -> u64 {
-        self.guarded.lock(rt).cache.cache().lies()
+        self.guarded.lock(rt).cache.lies()
     }
 
     /// Has the workers try again what there was no memory for, and the calls that wait look again. For whoever gave memory back
@@ -212,28 +168,28 @@ impl<N: Listener, A: Allocator> Shared<N, A> {
     }
 
     /// Calls the workers of this kind.
-    pub(crate) fn call(&self, held: &mut Guarded<N, A>, worker: Worker) {
+    pub(crate) fn call(&self, held: &mut Guarded<C>, worker: Worker) {
         held.crew.call(worker);
         self.bell(worker).notify_all();
     }
 
     /// Calls all workers.
-    pub(crate) fn call_all(&self, held: &mut Guarded<N, A>) {
+    pub(crate) fn call_all(&self, held: &mut Guarded<C>) {
         held.crew.call_all();
         self.ring();
     }
 
     /// The same, and wakes the calls that wait.
-    pub(crate) fn wake(&self, held: &mut Guarded<N, A>) {
+    pub(crate) fn wake(&self, held: &mut Guarded<C>) {
         self.call_all(held);
         self.replies.notify_all();
     }
 }
 
-impl<N: Notes<Note<A>>, A: Allocator + Clone + Copy> Shared<N, A> {
+impl<C: Cached<A>, A: Allocator + Clone + Copy> Shared<C, A> {
     /// Calls the workers that find something to do behind a step, or all where one of them was out of memory. (A region is to
     /// be given up behind the writer's steps alone.)
-    pub(crate) fn stepped(&self, held: &mut Guarded<N, A>) {
+    pub(crate) fn stepped(&self, held: &mut Guarded<C>) {
         if held.crew.is_starved() {
             return self.call_all(held);
         }
@@ -247,13 +203,13 @@ impl<N: Notes<Note<A>>, A: Allocator + Clone + Copy> Shared<N, A> {
     }
 
     /// The same, and wakes the calls that wait.
-    pub(crate) fn answered(&self, held: &mut Guarded<N, A>) {
+    pub(crate) fn answered(&self, held: &mut Guarded<C>) {
         self.stepped(held);
         self.replies.notify_all();
     }
 }
 
-impl<N: Notes<Note<A>>, A: Allocator + Clone + Copy> Shared<N, A> {
+impl<C: Cached<A>, A: Allocator + Clone + Copy> Shared<C, A> {
     /// Moves the clock on, as `Core::tick` does, and answers the moment that holds then. Wakes who waits, since turns end by
     /// the clock.
     pub(crate) fn tick<R: Wait>(&self, rt: &R, moment: u64) -> Result<u64, Refusal>
@@ -264,6 +220,25 @@ impl<N: Notes<Note<A>>, A: Allocator + Clone + Copy> Shared<N, A> {
         let now = held.cache.tick(moment);
         self.replies.notify_all();
         now
+    }
+
+    fn allocate_lent<R: Wait>(
+        &self,
+        rt: &R,
+        pool: u8,
+        key: &mut Option<Key<A>>,
+        fill: Fill<'_>,
+        ttl: u32,
+    ) -> Result<Blank<A>, Refusal>
+        requires lent { key.old ≢ None }
+        ensures ok { IfOk result (λ blank. (bytes : List ℕ) → key.old ≡ Some bytes → IsAsked pool bytes (filled fill.entry) ttl blank) }
+        ensures why { IfErr result RefusesAllocation }
+        ensures key_kept { OnErr result (key.new ≡ key.old) }
+    {
+        let mut held = self.guarded.lock(rt);
+        let blank = held.cache.allocate_with(pool, key, fill, ttl);
+        self.stepped(&mut held);
+        blank
     }
 
     pub(crate) fn allocate_with<R: Wait>(
@@ -278,28 +253,61 @@ impl<N: Notes<Note<A>>, A: Allocator + Clone + Copy> Shared<N, A> {
         ensures why { IfErr result (λ e. RefusesAllocation e.refusal) }
         ensures key_returned { IfErr result (λ e. e.key ≡ key) }
     {
-        let mut held = self.guarded.lock(rt);
-        let blank = held.cache.allocate_with(pool, key, fill, ttl);
-        self.stepped(&mut held);
-        blank
+        let mut lent = Some(key);
+        let blank = self.allocate_lent(rt, pool, &mut lent, fill, ttl);
+        match blank {
+            Ok(blank) => Ok(blank),
+            Err(refusal) => match lent {
+                Some(key) => Err(Uncharged { refusal, key }),
+                None => unreachable!(),
+            },
+        }
     }
 
     pub(crate) fn discard<R: Wait>(&self, rt: &R, sealed: Sealed<A>) -> Result<(), Sealed<A>>
         ensures { IfErr result (λ back. back ≡ sealed) }
     {
+        let mut lent = Some(sealed);
         let mut held = self.guarded.lock(rt);
-        let discarded = held.cache.discard(sealed);
+        let _is_taken = held.cache.discard(&mut lent);
         self.stepped(&mut held);
-        discarded
+        drop(held);
+        match lent {
+            None => Ok(()),
+            Some(back) => Err(back),
+        }
     }
 
     pub(crate) fn discard_blank<R: Wait>(&self, rt: &R, blank: Blank<A>) -> Result<(), Blank<A>>
         ensures { IfErr result (λ back. back ≡ blank) }
     {
+        let mut lent = Some(blank);
         let mut held = self.guarded.lock(rt);
-        let discarded = held.cache.discard_blank(blank);
+        let _is_taken = held.cache.discard_blank(&mut lent);
         self.stepped(&mut held);
-        discarded
+        drop(held);
+        match lent {
+            None => Ok(()),
+            Some(back) => Err(back),
+        }
+    }
+
+    fn replace_lent<R: Wait>(
+        &self,
+        rt: &R,
+        client: u8,
+        sealed: &mut Option<Sealed<A>>,
+    ) -> Result<u64, Refusal>
+        requires lent { sealed.old ≢ None }
+        ensures taken { OnOk result (sealed.new ≡ None) }
+        ensures why { IfErr result RefusesInsert }
+        ensures sealed_kept { OnErr result (sealed.new ≡ sealed.old) }
+    {
+        let mut held = self.guarded.lock(rt);
+        held.cache.insert_or_replace(client, sealed)?;
+        let call = held.cache.calls();
+        self.answered(&mut held);
+        Ok(call)
     }
 
     /// Answers the number of the call.
@@ -312,11 +320,38 @@ impl<N: Notes<Note<A>>, A: Allocator + Clone + Copy> Shared<N, A> {
         ensures why { IfErr result (λ e. RefusesInsert e.refusal) }
         ensures sealed_returned { IfErr result (λ e. e.sealed ≡ sealed) }
     {
+        let mut lent = Some(sealed);
+        let call = self.replace_lent(rt, client, &mut lent);
+        match lent {
+            None => match call {
+                Ok(call) => Ok(call),
+                Err(_) => unreachable!(),
+            },
+            Some(sealed) => match call {
+                Ok(_) => unreachable!(),
+                Err(refusal) => Err(Unlinked { refusal, sealed }),
+            },
+        }
+    }
+
+    fn insert_lent<R: Wait>(
+        &self,
+        rt: &R,
+        client: u8,
+        ticket: Ticket,
+        sealed: &mut Option<Sealed<A>>,
+    ) -> Result<(u64, Kept), Refusal>
+        requires lent { sealed.old ≢ None }
+        ensures taken { IfOk result (λ kept. kept.1 ≡ Kept.Stored → sealed.new ≡ None) }
+        ensures stale { IfOk result (λ kept. kept.1 ≡ Kept.Stale → sealed.new ≡ sealed.old) }
+        ensures why { IfErr result RefusesInsert }
+        ensures sealed_kept { OnErr result (sealed.new ≡ sealed.old) }
+    {
         let mut held = self.guarded.lock(rt);
-        held.cache.insert_or_replace(client, sealed)?;
+        let kept = held.cache.insert_leased(ticket, client, sealed)?;
         let call = held.cache.calls();
         self.answered(&mut held);
-        Ok(call)
+        Ok((call, kept))
     }
 
     /// Answers the number of the call, and what came of the item: inserted, or handed back where its ticket isn't fresh any
@@ -332,11 +367,19 @@ impl<N: Notes<Note<A>>, A: Allocator + Clone + Copy> Shared<N, A> {
         ensures why { IfErr result (λ e. RefusesInsert e.refusal) }
         ensures sealed_returned { IfErr result (λ e. e.sealed ≡ sealed) }
     {
-        let mut held = self.guarded.lock(rt);
-        let kept = held.cache.insert_leased(ticket, client, sealed)?;
-        let call = held.cache.calls();
-        self.answered(&mut held);
-        Ok((call, kept))
+        let mut lent = Some(sealed);
+        let kept = self.insert_lent(rt, client, ticket, &mut lent);
+        match lent {
+            None => match kept {
+                Ok((call, Kept::Stored)) => Ok((call, KeptItem::Stored)),
+                _ => unreachable!(),
+            },
+            Some(sealed) => match kept {
+                Ok((call, Kept::Stale)) => Ok((call, KeptItem::Stale(sealed))),
+                Ok((_, Kept::Stored)) => unreachable!(),
+                Err(refusal) => Err(Unlinked { refusal, sealed }),
+            },
+        }
     }
 
     /// Answers the number of the call, and whether an item was in memory.

@@ -3,16 +3,13 @@
 use crate::crew::Turn;
 use crate::gate::Worker;
 use crate::shared::{Guarded, Shared, Stage};
+use hc_calls::{Cached, Take};
 use hc_flash::{IoResult, Order};
-use hc_history::{Listener, Note, Notes};
-use hc_nvm::{Take, Unfinished};
-use hc_paged::SipHash;
-use hc_tracked::digest_of;
 use hc_types::Refusal;
 use std::alloc::{AllocError, Allocator};
 use std::sync::Wait;
 
-impl<N: Listener, A: Allocator> Shared<N, A> {
+impl<C: Cached<A>, A: Allocator> Shared<C, A> {
     /// Has so many workers begin, which take no work yet.
     pub(crate) fn begin<R: Wait>(&self, rt: &R, workers: u32) {
         let mut held = self.guarded.lock(rt);
@@ -65,23 +62,23 @@ impl<N: Listener, A: Allocator> Shared<N, A> {
     }
 
     /// There was no memory for what the worker is at.
-    fn starve(&self, held: &mut Guarded<N, A>, turn: &mut Turn) {
+    fn starve(&self, held: &mut Guarded<C>, turn: &mut Turn) {
         held.crew.starve(turn);
         self.ring();
         self.tell_stuck(held);
     }
 
     /// Wakes the calls that wait where the workers are stuck.
-    fn tell_stuck(&self, held: &Guarded<N, A>) {
+    fn tell_stuck(&self, held: &Guarded<C>) {
         if held.crew.is_stuck() {
             self.replies.notify_all();
         }
     }
 }
 
-impl<N: Notes<Note<A>>, A: Allocator + Clone + Copy> Shared<N, A> {
+impl<C: Cached<A>, A: Allocator + Clone + Copy> Shared<C, A> {
     /// Behind a worker's job: calls those that find something to do, and wakes the calls that wait.
-    fn worked(&self, held: &mut Guarded<N, A>, worker: Worker) {
+    fn worked(&self, held: &mut Guarded<C>, worker: Worker) {
         if worker == Worker::Writer {
             self.call(held, Worker::Reclaimer);
         }
@@ -115,9 +112,10 @@ impl<N: Notes<Note<A>>, A: Allocator + Clone + Copy> Shared<N, A> {
         job: u64,
         came: IoResult<A>,
     ) -> Result<Option<Order<A>>, IoResult<A>> {
-        let digest = digest_of(&SipHash, &came);
+        let digest = C::digest_of(&came);
         let mut held = self.guarded.lock(rt);
-        match held.cache.finish(job, came, digest) {
+        let mut lent = Some(came);
+        match held.cache.finish(job, &mut lent, digest) {
             Ok(Take::Work(_, next)) => {
                 self.answered(&mut held);
                 Ok(Some(next))
@@ -126,14 +124,13 @@ impl<N: Notes<Note<A>>, A: Allocator + Clone + Copy> Shared<N, A> {
                 self.worked(&mut held, turn.worker);
                 Ok(None)
             }
-            Err(
-                Unfinished {
-                    refusal: Refusal::NoMemory,
-                    came,
-                },
-            ) => {
+            Err(Refusal::NoMemory) => {
                 self.starve(&mut held, turn);
-                Err(came)
+                drop(held);
+                match lent {
+                    Some(came) => Err(came),
+                    None => unreachable!(),
+                }
             }
             // (the job isn't known, which doesn't happen: the worker looks for another)
             Err(_) => {
@@ -145,8 +142,8 @@ impl<N: Notes<Note<A>>, A: Allocator + Clone + Copy> Shared<N, A> {
 }
 
 /// What the worker takes. A filler takes first what clients left.
-fn take_as<N: Notes<Note<A>>, A: Allocator + Clone + Copy>(
-    held: &mut Guarded<N, A>,
+fn take_as<C: Cached<A>, A: Allocator + Clone + Copy>(
+    held: &mut Guarded<C>,
     worker: Worker,
 ) -> Result<Take<A>, Refusal> {
     match worker {
@@ -163,11 +160,11 @@ fn take_as<N: Notes<Note<A>>, A: Allocator + Clone + Copy>(
 }
 
 /// A filler takes a job that was left, with the operation for which it waits, which is made anew.
-fn take_left<N: Notes<Note<A>>, A: Allocator + Clone + Copy>(
-    held: &mut Guarded<N, A>,
+fn take_left<C: Cached<A>, A: Allocator + Clone + Copy>(
+    held: &mut Guarded<C>,
     job: u64,
 ) -> Result<Take<A>, Refusal> {
-    let take = match held.cache.cache().order(job) {
+    let take = match held.cache.order(job) {
         Some(order) => Take::Work(job, again(order)?),
         None => Take::Finished,
     };

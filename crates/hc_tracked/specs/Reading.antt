@@ -9,11 +9,7 @@ use Rattle.hc_machine.specs.Takes.{Take}
 use Rattle.hc_machine.specs.Workers.{finish}
 use Rattle.hc_flash.specs.Operations.{Order, Write, IoResult, Page, Written, Failed}
 use Rattle.hc_tracked.specs.Resting.{pages_in}
-
--- the number is the digest of the page that was read, if one was
-abbrev pub IsDigestOf : (List ℕ → ℕ) → ℕ → IoResult → Type 0
-IsDigestOf digest mark (Page bytes) = (mark ≡ digest bytes) × (0 < mark)
-IsDigestOf digest mark result = Unit {0}
+pub use Rattle.hc_calls.specs.Digests.{IsDigestOf}
 
 -- what is told of a read is a failure, or a page with the digest that is known
 abbrev pub IsToldRead : (List ℕ → ℕ) → ℕ → IoResult → Type 0

@@ -13,7 +13,7 @@ use Rattle.hc_machine.specs.Workers.{after_take}
 use Rattle.hc_invariant.specs.Structure.{Structured}
 use Rattle.hc_nvm.specs.Endings.{Ending}
 use Rattle.hc_nvm.specs.Seen.{take_of}
-use Rattle.hc_nvm.specs.declared.settling.Take.{Take as Answers}
+use Rattle.hc_calls.specs.declared.answers.Take.{Take as Answers}
 use Rattle.hc_state.specs.store.Chosen.{all_stored_as}
 use Rattle.hc_state.specs.wait.Courses.{AreCourses, AllFit, AllMayFree, ended, all_served_as}
 use Rattle.hc_state.specs.fill.Plan.{taken_by, EndsBy, step_by, found_by, losses_by, IsOverBy, CanEnd, IsBare}

@@ -15,7 +15,7 @@ use Rattle.hc_machine.specs.Cache.{Cache, Told, Took, and_then, with_memory, tak
 use Rattle.hc_machine.specs.Waiting.{live, there_after}
 use Rattle.hc_nvm.specs.Endings.{Ending}
 use Rattle.hc_nvm.specs.Seen.{take_of}
-use Rattle.hc_nvm.specs.declared.settling.Take.{Take as Answers}
+use Rattle.hc_calls.specs.declared.answers.Take.{Take as Answers}
 use Rattle.hc_state.specs.wait.Courses.{AreCourses, AllFit, AllMayFree, ended, all_served_as}
 use Rattle.hc_state.specs.fill.Plan.{taken_by, EndsBy, step_by, losses_by, IsOverBy, CanEnd, IsBrought, IsLinked}
 use Rattle.hc_state.specs.store.Commit.{how_many}

@@ -9,7 +9,7 @@ use Rattle.hc_machine.specs.Calls.{is_known, in_memory, add, insert}
 use Rattle.hc_state.specs.store.Insert.{inserted_answer}
 use Rattle.hc_state.specs.wait.Begin.{OwesBegun}
 use Rattle.hc_state.specs.Whole.{Whole, IsStep, IsUnchanged}
-use Rattle.hc_state.specs.declared.answers.Inserted.{Inserted}
+use Rattle.hc_calls.specs.declared.answers.Inserted.{Inserted}
 use Rattle.hc_state.proofs.Begun.{insert-begun}
 
 -- the step, by whether the key has a value and the handle is known

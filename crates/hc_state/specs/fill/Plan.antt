@@ -16,7 +16,7 @@ use Rattle.hc_invariant.specs.Structure.{Structured}
 use Rattle.hc_nvm.specs.Endings.{Ending, IsEnding, IsEndingAtOnce}
 use Rattle.hc_nvm.specs.Seen.{take_of}
 use Rattle.hc_waiting.specs.Fills.{fill_under}
-use Rattle.hc_nvm.specs.declared.settling.Take.{Take as Answers}
+use Rattle.hc_calls.specs.declared.answers.Take.{Take as Answers}
 use Rattle.hc_state.specs.fill.Bring.{entry_coming}
 use Rattle.hc_state.specs.wait.Courses.{AreCourses}
 use Rattle.hc_state.specs.fill.Commit.{EndsIn, EndsAtOnceIn, finish_in, filler_take_in, most_told_in}

@@ -3,8 +3,8 @@ use Rattle.std.specs.Prelude.{ℕ, Option, Some, None}
 use Rattle.hc_history.specs.Note as note
 use Rattle.hc_history.specs.Note.{Reply}
 use Rattle.hc_machine.specs.Cache.{Answer, Replied}
-use Rattle.hc_state.specs.declared.answers.Removed.{Removed}
-use Rattle.hc_state.specs.declared.answers.Removed.TheVariants.{FoundInMemory, NotInMemory}
+use Rattle.hc_calls.specs.declared.answers.Removed.{Removed}
+use Rattle.hc_calls.specs.declared.answers.Removed.TheVariants.{FoundInMemory, NotInMemory}
 
 abbrev pub removed_reply : Removed → Reply
 removed_reply FoundInMemory = note.FoundInMemory

@@ -8,8 +8,8 @@ use Rattle.hc_machine.specs.Nvm.{Wish, ToFind, ToAdd}
 use Rattle.hc_machine.specs.Cache.{Cache, Moved, Answer, Replied, Waits, answers, and_then}
 use Rattle.hc_machine.specs.Calls.{begin, store}
 use Rattle.hc_state.specs.Whole.{Whole}
-use Rattle.hc_state.specs.declared.answers.Inserted.{Inserted}
-use Rattle.hc_state.specs.declared.answers.Inserted.TheVariants.{Stored, Waiting}
+use Rattle.hc_calls.specs.declared.answers.Inserted.{Inserted}
+use Rattle.hc_calls.specs.declared.answers.Inserted.TheVariants.{Stored, Waiting}
 use Rattle.hc_state.specs.declared.store.insert.Awaiting.{Awaiting}
 
 abbrev pub inserted_answer : Inserted → Answer

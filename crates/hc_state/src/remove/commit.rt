@@ -14,11 +14,11 @@ ghost use Rattle.hc_state.specs.set.Short.{is_plain as is_plain_seen};
 ghost use Rattle.hc_state.specs.store.Commit.{how_many, unstore_as, CanServe};
 ghost use Rattle.hc_state.specs.Whole.{Does, IsReady, IsStep, MayLack, Stays, costs};
 
-use crate::answers::Removed;
 use crate::begin::room_for_notes;
 use crate::state::{State, alloc_of};
 use crate::store::plan::{Clearing, Prepared, room_for_charges};
 use crate::wait::commit::Course;
+use hc_calls::Removed;
 use hc_history::{Kind, Note, Notes, Reply};
 use hc_nvm::Outdating;
 use hc_types::{Key, Refusal};

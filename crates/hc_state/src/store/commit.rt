@@ -15,11 +15,11 @@ ghost use Rattle.hc_state.specs.wait.Commit.{waiters_at};
 ghost use Rattle.hc_state.specs.store.Commit.{how_many, store_as, CanServe};
 ghost use Rattle.hc_state.specs.Whole.{Does, IsStep, Stays, costs, for_notes};
 
-use crate::answers::Unlinked;
 use crate::state::{State, alloc_of};
 use crate::store::plan::{Clearing, Prepared, room_for_charges};
 use crate::tells;
 use crate::wait::commit::Course;
+use hc_calls::Unlinked;
 use hc_history::{Note, Notes, Reply};
 use hc_memory::Sealed;
 use hc_nvm::Outdating;

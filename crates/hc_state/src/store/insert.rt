@@ -13,10 +13,10 @@ ghost use Rattle.hc_state.specs.store.Insert.{inserted_answer, is_add, AwaitsAdd
 ghost use Rattle.hc_state.specs.wait.Begin.{OwesBegun, owed_where, joined_where};
 ghost use Rattle.hc_state.specs.Whole.{IsReady, IsStep, Stays, IsUnchanged, nvm_of};
 
-use crate::answers::{Inserted, Unlinked};
 use crate::begin::room_for_notes;
 use crate::state::State;
 use crate::wait::begin::wait;
+use hc_calls::{Inserted, Unlinked};
 use hc_history::{Note, Notes};
 use hc_memory::{Parked, Pools, Sealed, is_expired};
 use hc_nvm::Nvm;

@@ -1,5 +1,5 @@
 use Rattle.std.proofs.Common.{◌*◌, ◌≤◌, length, arith, rules}
-use Rattle.hc_shard_threads.proofs.Shutting.{fewer-left}
+use Rattle.hc_shard_threads.proofs.Fewer.{fewer-left}
 use Rattle.hc_shard_threads.proofs.serving.+fn-serve_from-serve_one+serve_from.Goals as goal
 
 -- src/serving.rt:45:4

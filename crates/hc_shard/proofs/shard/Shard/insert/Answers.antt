@@ -1,7 +1,7 @@
 use Rattle.std.proofs.Common.{sym, ◌∙◌, ap}
 use Rattle.hc_types.specs.declared.refusal.Refusal.TheVariants.{ForeignHandle}
 use Rattle.hc_machine.specs.Calls.{insert}
-use Rattle.hc_state.specs.declared.answers.Unlinked.{Unlinked}
+use Rattle.hc_calls.specs.declared.answers.Unlinked.{Unlinked}
 use Rattle.hc_core.specs.Answers.{IsReason}
 use Rattle.hc_core.specs.Logged.{Logged}
 use Rattle.hc_shard.specs.Shard.{is_own}

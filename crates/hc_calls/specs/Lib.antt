@@ -1,0 +1,4 @@
+-- What is asked of a cache, and what it answers.
+pub mod Answers
+pub mod Asked
+pub mod Digests
